@@ -1,0 +1,31 @@
+-- The refusals' numbers.
+use Rattle.std.specs.Prelude.{ℕ}
+use Rattle.trace_book.specs.declared.refusal.Refusal.{Refusal}
+use Rattle.trace_book.specs.declared.refusal.Refusal.TheVariants.{NoSuchFile, NotReadable, NotWritable, BadValue, NoSuchEvent, EventExists, BadDefinition, TooBig, FilterSyntax, NoSuchField, WrongOperator, HistSyntax, BadSize, TriggerExists, NoSuchTrigger, TooMany, InstanceExists, NoSuchInstance, Busy, NoSuchCpu, BadRow, HistoryFull, Memory, Worn}
+
+-- the number that is printed for a refusal
+abbrev pub number_of : Refusal → ℕ
+number_of NoSuchFile = 1
+number_of NotReadable = 2
+number_of NotWritable = 3
+number_of BadValue = 4
+number_of NoSuchEvent = 5
+number_of EventExists = 6
+number_of (BadDefinition at) = 7
+number_of TooBig = 8
+number_of (FilterSyntax at) = 9
+number_of (NoSuchField at) = 10
+number_of (WrongOperator at) = 11
+number_of (HistSyntax at) = 12
+number_of BadSize = 13
+number_of TriggerExists = 14
+number_of NoSuchTrigger = 15
+number_of TooMany = 16
+number_of InstanceExists = 17
+number_of NoSuchInstance = 18
+number_of Busy = 19
+number_of NoSuchCpu = 20
+number_of (BadRow field) = 21
+number_of HistoryFull = 22
+number_of Memory = 23
+number_of Worn = 24
