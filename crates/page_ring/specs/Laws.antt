@@ -1,0 +1,1 @@
+-- The definitions once more, in the words of the subject.

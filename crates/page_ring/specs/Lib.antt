@@ -1,0 +1,13 @@
+pub mod Record
+pub mod Events
+pub mod Cut
+pub mod Account
+pub mod Shown
+pub mod Step
+pub mod Pages
+pub mod Sound
+pub mod Reads
+pub mod Unread
+pub mod Reading
+pub mod KeptRecords
+pub mod Laws

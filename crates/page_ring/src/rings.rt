@@ -1,0 +1,463 @@
+//! The ring.
+#![tactic(auto)]
+
+ghost use Rattle.std.specs.Prelude.{◌≡◌, ℕ, ◌+◌, ◌<◌, ◌≤◌, ◌^◌, ◌%◌, [], ◌∷◌, ◌++◌, length, max, List, nat_le, All, IfOk, OnOk, OnErr, IsNone};
+ghost use Rattle.std.specs.Vec.{vec_capacity};
+ghost use Rattle.std.specs.Option.{option_map};
+ghost use Rattle.std.specs.Iterator.{YieldsFirstBy, item_count};
+ghost use Rattle.page_ring.specs.Record.{IsRecord, timestamp};
+ghost use Rattle.page_ring.specs.Events as event;
+ghost use Rattle.page_ring.specs.Account.{put_answer, readings_of, stats_of, first, first_timestamp};
+ghost use Rattle.page_ring.specs.Pages.{kept_in};
+ghost use Rattle.std.specs.List.{AllByRecursion};
+ghost use Rattle.page_ring.specs.Shown.{StandsFor, offered};
+ghost use Rattle.page_ring.specs.Step.{after_put, put_answer_shown, without_first, readings_shown, stats_shown, overrun_by, left_by, appended, moved};
+
+use crate::heads::timestamp;
+use crate::pages::{Page, Pages, Stored, Unread};
+use std::alloc::{AllocError, Global};
+use std::collections::VecDeque;
+use std::marker::Model;
+use std::mem;
+
+/// What became of a record that was put.
+#[derive(Clone, Copy, Debug, PartialEq, Eq)]
+pub enum Put {
+    /// It is kept, and no kept record was lost.
+    Kept,
+    /// It is kept, and so many kept records were lost by it.
+    KeptLosing(u64),
+    /// It was dropped.
+    Dropped,
+}
+
+/// What `per_cpu/cpuN/stats` shows of a ring (ftrace.rst).
+#[derive(Clone, Copy, Debug, PartialEq, Eq)]
+pub struct RingStats {
+    /// How many records are kept.
+    pub entries: u64,
+    /// How many were lost to overwriting.
+    pub overrun: u64,
+    /// How many bytes the kept records take, heads included.
+    pub bytes: u64,
+    /// The timestamp of the first kept record, 0 where none is.
+    pub oldest: u64,
+    /// How many puts were dropped.
+    pub dropped: u64,
+    /// How many records were consumed.
+    pub read: u64,
+}
+
+/// A kept record, as a consuming read finds it.
+#[derive(Clone, Copy, Debug)]
+pub struct Kept<'a> {
+    /// How many accepted records lie between it and the one consumed before it.
+    pub lost: u64,
+    /// Its bytes.
+    pub rec: &'a [u8],
+}
+
+/// A ring of records for one CPU.
+#[derive(Drop)]
+pub struct Ring {
+    alloc: Global,
+    page_count: u64,
+    page_bytes: u64,
+    pages: Pages,
+    // The page of the last record taken, and the number after it.
+    reader_page: Option<u64>,
+    next: u64,
+    // The running counts.
+    entries: u64,
+    bytes: u64,
+    accepted: u64,
+    dropped: u64,
+    read: u64,
+    // Up to what length memory is at hand for a record: a slot in the circle, in the tail page and in
+    // a fresh list of records, and a buffer.
+    ready: usize,
+    fresh: VecDeque<Stored>,
+    buffer: Vec<u8>,
+}
+
+impl Model for Ring {
+    ghost use Rattle.page_ring.specs.Shown.{Seen};
+
+    ghost Value = { Seen };
+
+    ghost use Rattle.page_ring.specs.Sound.{seen, IsSound};
+
+    ghost view = { seen };
+
+    ghost invariant = { IsSound };
+}
+
+impl Ring {
+    ghost use Rattle.page_ring.specs.Reading.{reading};
+
+    /// An empty ring of so many pages in a circle, each for so many bytes of records.
+    pub fn new(alloc: Global, pages: u32, page_bytes: u32) -> Result<Ring, AllocError>
+        requires pages { (2 ≤ pages) × (pages ≤ 1024) }
+        requires page_bytes { (64 ≤ page_bytes) × (page_bytes ≤ 4080) × (page_bytes % 8 ≡ 0) }
+        ensures stands { IfOk result (λ ring. StandsFor ring []) }
+        ensures pages { IfOk result (λ ring. ring.pages ≡ pages) }
+        ensures page_bytes { IfOk result (λ ring. ring.page_bytes ≡ page_bytes) }
+        ensures offered { IfOk result (λ ring. offered ring ≡ 0) }
+    {
+        let circle = VecDeque::with_capacity(alloc, pages as usize)?;
+        Ok(Ring {
+            alloc,
+            page_count: pages as u64,
+            page_bytes: page_bytes as u64,
+            pages: Pages {
+                reader: Page::new(alloc, 0),
+                circle,
+                tail: Page::new(alloc, 0),
+            },
+            reader_page: None,
+            next: 0,
+            entries: 0,
+            bytes: 0,
+            accepted: 0,
+            dropped: 0,
+            read: 0,
+            ready: 0,
+            fresh: VecDeque::new(alloc),
+            buffer: Vec::new(alloc),
+        })
+    }
+
+    /// Makes room for one record of up to `len` bytes. It changes nothing that can be seen.
+    pub fn ready(&mut self, len: usize) -> Result<(), AllocError>
+        ensures stands { (events : List event.Event) → StandsFor self.old events
+            → StandsFor self.new events }
+        ensures seen { self.new ≡ record self.old { ready = self.new.ready } }
+        ensures room { OnOk result (self.new.ready ≡ max self.old.ready len) }
+        ensures err { OnErr result (self.new ≡ self.old) }
+    {
+        self.pages.circle.reserve(1)?;
+        self.pages.tail.records.reserve(1)?;
+        self.fresh.reserve(1)?;
+        self.buffer.reserve(len)?;
+        self.ready = self.ready.max(len);
+        Ok(())
+    }
+
+    /// Writes a record, over older ones where that is allowed and needed.
+    pub fn put(&mut self, rec: &[u8], overwrite: bool) -> Put
+        requires is_record { IsRecord rec.now }
+        requires fits { length rec.now ≤ self.old.page_bytes }
+        requires ready { length rec.now ≤ self.old.ready }
+        requires few { offered self.old < 2 ^ 32 }
+        ensures stands { (events : List event.Event) → StandsFor self.old events
+            → StandsFor self.new (events ++ event.Put rec.now overwrite ∷ []) }
+        ensures answer { (events : List event.Event) → StandsFor self.old events
+            → result ≡ put_answer self.old.pages self.old.page_bytes events rec.now overwrite }
+        ensures pages { self.new.pages ≡ self.old.pages }
+        ensures page_bytes { self.new.page_bytes ≡ self.old.page_bytes }
+        ensures offered { offered self.new ≡ offered self.old + 1 }
+    {
+        self.put_step(rec, overwrite)
+    }
+
+    // The same, by the visible facts alone.
+    fn put_step(&mut self, rec: &[u8], overwrite: bool) -> Put
+        requires is_record { IsRecord rec.now }
+        requires fits { length rec.now ≤ self.old.page_bytes }
+        requires ready { length rec.now ≤ self.old.ready }
+        requires few { offered self.old < 2 ^ 32 }
+        ensures shown { self.new.shown
+            ≡ after_put self.old.pages self.old.page_bytes self.old.shown rec.now overwrite }
+        ensures answer { result
+            ≡ put_answer_shown self.old.pages self.old.page_bytes self.old.shown rec.now overwrite }
+        ensures two_pages { 2 ≤ self.old.pages }
+        ensures pages { self.new.pages ≡ self.old.pages }
+        ensures page_bytes { self.new.page_bytes ≡ self.old.page_bytes }
+    {
+        if self.fits_tail(rec.len()) {
+            self.append(rec);
+            return Put::Kept;
+        }
+        let lost = self.lost_by_moving();
+        if lost > 0 && !overwrite {
+            self.refuse();
+            return Put::Dropped;
+        }
+        self.append_to_next(rec);
+        if lost == 0 {
+            Put::Kept
+        } else {
+            Put::KeptLosing(lost)
+        }
+    }
+
+    // Whether a record of this length fits the tail page; there it overwrites nothing.
+    fn fits_tail(&self, len: usize) -> bool
+        requires { len ≤ self.now.page_bytes }
+        ensures fits { result ≡ nat_le (self.now.shown.last_filled + len) self.now.page_bytes }
+        ensures none { overrun_by self.now.pages self.now.shown self.now.shown.last_page ≡ [] }
+        ensures two_pages { 2 ≤ self.now.pages }
+        ensures all { left_by self.now.pages self.now.shown self.now.shown.last_page ≡ self.now.shown.kept }
+    {
+        self.pages.tail.filled + len as u64 <= self.page_bytes
+    }
+
+    // How many records are lost where the tail moves on to the next page.
+    fn lost_by_moving(&self) -> u64
+        ensures { result
+            ≡ length (overrun_by self.now.pages self.now.shown (self.now.shown.last_page + 1)) }
+    {
+        self.pages.lost_by_moving(self.page_count).0
+    }
+
+    fn refuse(&mut self)
+        requires { offered self.old < 2 ^ 32 }
+        ensures shown { self.new.shown ≡ record self.old.shown { dropped = self.old.shown.dropped + 1 } }
+        ensures pages { self.new.pages ≡ self.old.pages }
+        ensures page_bytes { self.new.page_bytes ≡ self.old.page_bytes }
+    {
+        self.dropped += 1;
+        self.ready = 0;
+    }
+
+    // A copy of the record in the buffer at hand, as the next to be stored.
+    fn append(&mut self, rec: &[u8])
+        requires head { 16 ≤ length rec.now }
+        requires fits { self.old.shown.last_filled + length rec.now ≤ self.old.page_bytes }
+        requires ready { length rec.now ≤ self.old.ready }
+        requires few { offered self.old < 2 ^ 32 }
+        ensures shown { self.new.shown ≡ appended self.old.shown rec.now }
+        ensures pages { self.new.pages ≡ self.old.pages }
+        ensures page_bytes { self.new.page_bytes ≡ self.old.page_bytes }
+    {
+        let bytes = filled_from(mem::replace(&mut self.buffer, Vec::new(self.alloc)), rec);
+        self.pages.append(self.accepted, bytes);
+        self.entries += 1;
+        self.bytes += rec.len() as u64;
+        self.accepted += 1;
+        self.ready = 0;
+    }
+
+    fn append_to_next(&mut self, rec: &[u8])
+        requires full { self.old.page_bytes < self.old.shown.last_filled + length rec.now }
+        requires head { 16 ≤ length rec.now }
+        requires fits { length rec.now ≤ self.old.page_bytes }
+        requires ready { length rec.now ≤ self.old.ready }
+        requires few { offered self.old < 2 ^ 32 }
+        ensures shown { self.new.shown ≡ appended (moved self.old.pages self.old.shown) rec.now }
+        ensures pages { self.new.pages ≡ self.old.pages }
+        ensures page_bytes { self.new.page_bytes ≡ self.old.page_bytes }
+    {
+        let (lost, lost_bytes) = self.pages.lost_by_moving(self.page_count);
+        self.entries -= lost;
+        self.bytes -= lost_bytes;
+        let fresh = mem::replace(&mut self.fresh, VecDeque::new(self.alloc));
+        self.pages
+            .move_tail(self.page_count, self.reader_page, fresh);
+        let bytes = filled_from(mem::replace(&mut self.buffer, Vec::new(self.alloc)), rec);
+        self.pages.append(self.accepted, bytes);
+        self.entries += 1;
+        self.bytes += rec.len() as u64;
+        self.accepted += 1;
+        self.ready = 0;
+    }
+
+    /// The first kept record, which the next consuming read takes.
+    pub fn peek(&self) -> Option<Kept<'_>>
+        ensures { (events : List event.Event) → StandsFor self.now events
+            → option_map reading result ≡ first (readings_of self.now.pages self.now.page_bytes events) }
+    {
+        self.peek_step()
+    }
+
+    fn peek_step(&self) -> Option<Kept<'_>>
+        ensures { option_map reading result ≡ first (readings_shown self.now.shown) }
+    {
+        match self.pages.first() {
+            Some(record) => Some(Kept {
+                lost: record.number - self.next,
+                rec: &record.bytes,
+            }),
+            None => None,
+        }
+    }
+
+    /// The timestamp of the first kept record.
+    pub fn peek_ts(&self) -> Option<u64>
+        ensures { (events : List event.Event) → StandsFor self.now events
+            → result ≡ option_map (λ r. timestamp r.rec) (first (readings_of self.now.pages self.now.page_bytes events)) }
+    {
+        self.peek_ts_step()
+    }
+
+    fn peek_ts_step(&self) -> Option<u64>
+        ensures { result ≡ option_map (λ r. timestamp r.rec) (first (readings_shown self.now.shown)) }
+    {
+        match self.pages.first() {
+            Some(record) => Some(timestamp(&record.bytes)),
+            None => None,
+        }
+    }
+
+    /// Consumes the first kept record, and tells how many were lost before it. Where the reader page
+    /// has nothing unread, it is swapped with the head page first. With nothing kept it is `None`, and
+    /// nothing changes.
+    pub fn take(&mut self) -> Option<u64>
+        ensures stands { (events : List event.Event) → StandsFor self.old events
+            → StandsFor self.new (events ++ event.Take ∷ []) }
+        ensures answer { (events : List event.Event) → StandsFor self.old events
+            → result ≡ option_map (λ r. r.lost) (first (readings_of self.old.pages self.old.page_bytes events)) }
+        ensures none { (events : List event.Event) → IsNone result → StandsFor self.old events
+            → StandsFor self.new events }
+        ensures pages { self.new.pages ≡ self.old.pages }
+        ensures page_bytes { self.new.page_bytes ≡ self.old.page_bytes }
+        ensures offered { offered self.new ≡ offered self.old }
+    {
+        self.take_step()
+    }
+
+    fn take_step(&mut self) -> Option<u64>
+        ensures shown { self.new.shown ≡ without_first self.old.shown }
+        ensures answer { result ≡ option_map (λ r. r.lost) (first (readings_shown self.old.shown)) }
+        ensures none { IsNone result → self.new.shown ≡ self.old.shown }
+        ensures pages { self.new.pages ≡ self.old.pages }
+        ensures page_bytes { self.new.page_bytes ≡ self.old.page_bytes }
+    {
+        self.ready = 0;
+        let (page, record) = self.pages.take_first()?;
+        let lost = record.number - self.next;
+        self.entries -= 1;
+        self.bytes -= record.bytes.len() as u64;
+        self.read += 1;
+        self.next = record.number + 1;
+        self.reader_page = Some(page);
+        Some(lost)
+    }
+
+    /// The kept records in order, as consuming reads would find them.
+    pub fn kept(&self) -> KeptRecords<'_>
+        ensures records { (events : List event.Event) → StandsFor self.now events
+            → result ≡ readings_of self.now.pages self.now.page_bytes events }
+        ensures few { length result ≤ 2 ^ 32 }
+    {
+        self.kept_step()
+    }
+
+    fn kept_step(&self) -> KeptRecords<'_>
+        ensures records { result ≡ readings_shown self.now.shown }
+        ensures few { length result ≤ 2 ^ 32 }
+    {
+        KeptRecords {
+            next: self.next,
+            unread: self.pages.unread(),
+        }
+    }
+
+    /// Empties the ring: it is as when it was new, statistics too.
+    pub fn clear(&mut self)
+        ensures stands { StandsFor self.new [] }
+        ensures pages { self.new.pages ≡ self.old.pages }
+        ensures page_bytes { self.new.page_bytes ≡ self.old.page_bytes }
+        ensures offered { offered self.new ≡ 0 }
+    {
+        self.pages.reader = Page::new(self.alloc, 0);
+        self.pages.circle.clear();
+        self.pages.tail = Page::new(self.alloc, 0);
+        self.reader_page = None;
+        self.next = 0;
+        self.entries = 0;
+        self.bytes = 0;
+        self.accepted = 0;
+        self.dropped = 0;
+        self.read = 0;
+        self.ready = 0;
+    }
+
+    /// The statistics since the ring was new or cleared.
+    pub fn stats(&self) -> RingStats
+        ensures { (events : List event.Event) → StandsFor self.now events
+            → result ≡ stats_of self.now.pages self.now.page_bytes events }
+    {
+        self.stats_step()
+    }
+
+    fn stats_step(&self) -> RingStats
+        ensures { result ≡ stats_shown self.now.shown }
+    {
+        RingStats {
+            entries: self.entries,
+            overrun: self.accepted - self.entries - self.read,
+            bytes: self.bytes,
+            oldest: oldest(&self.pages),
+            dropped: self.dropped,
+            read: self.read,
+        }
+    }
+}
+
+/// The kept records of a ring, seen as the list of readings that are left.
+#[derive(Drop)]
+pub struct KeptRecords<'a> {
+    // The number after that of the record before.
+    next: u64,
+    unread: Unread<'a>,
+}
+
+impl<'a> Model for KeptRecords<'a> {
+    ghost use Rattle.std.specs.Prelude.{List};
+    ghost use Rattle.page_ring.specs.Account.{Reading};
+
+    ghost Value = { List Reading };
+
+    ghost use Rattle.page_ring.specs.KeptRecords.{readings_left, IsInOrder};
+
+    ghost view = { readings_left };
+
+    ghost invariant = { IsInOrder };
+}
+
+impl<'a> Iterator for KeptRecords<'a> {
+    ghost use Rattle.page_ring.specs.Reading.{reading};
+
+    type Item = Kept<'a>;
+
+    ghost next_gives = { YieldsFirstBy reading (λ rest. rest) };
+
+    ghost remaining = { item_count (λ rest. rest) };
+
+    fn next(&mut self) -> Option<Kept<'a>> {
+        match self.unread.next_unread() {
+            Some(record) => {
+                let lost = record.number - self.next;
+                self.next = record.number + 1;
+                Some(Kept {
+                    lost,
+                    rec: &record.bytes,
+                })
+            }
+            None => None,
+        }
+    }
+}
+
+// The record's bytes in the buffer at hand.
+fn filled_from(mut buffer: Vec<u8>, rec: &[u8]) -> Vec<u8>
+    requires empty { buffer.items ≡ [] }
+    requires room { length rec.now ≤ vec_capacity buffer }
+    ensures { result.items ≡ rec.now }
+{
+    buffer.extend_from_slice(rec).unwrap();
+    buffer
+}
+
+// The timestamp of the first unread record, 0 where there is none.
+fn oldest(pages: &Pages) -> u64
+    requires circle { All (λ p. 0 < length p.records.items) pages.now.circle.items }
+    requires records { AllByRecursion (λ r. 16 ≤ length r.bytes) (kept_in pages.now) }
+    ensures { result ≡ first_timestamp (kept_in pages.now) }
+{
+    match pages.first() {
+        Some(r) => timestamp(&r.bytes),
+        None => 0,
+    }
+}
