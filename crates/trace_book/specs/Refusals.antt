@@ -1,5 +1,5 @@
--- The refusals' numbers.
-use Rattle.std.specs.Prelude.{ℕ}
+-- The refusals' numbers, and answers that want of memory may take the place of.
+use Rattle.std.specs.Prelude.{◌≡◌, ◌≢◌, ℕ, Result, Ok, Err}
 use Rattle.trace_book.specs.declared.refusal.Refusal.{Refusal}
 use Rattle.trace_book.specs.declared.refusal.Refusal.TheVariants.{NoSuchFile, NotReadable, NotWritable, BadValue, NoSuchEvent, EventExists, BadDefinition, TooBig, FilterSyntax, NoSuchField, WrongOperator, HistSyntax, BadSize, TriggerExists, NoSuchTrigger, TooMany, InstanceExists, NoSuchInstance, Busy, NoSuchCpu, BadRow, HistoryFull, Memory, Worn}
 
@@ -29,3 +29,8 @@ number_of (BadRow field) = 21
 number_of HistoryFull = 22
 number_of Memory = 23
 number_of Worn = 24
+
+-- the answer is given, or memory was refused
+abbrev pub OrMemory : {A : Type 0} → Result A Refusal → Result A Refusal → Type 0
+OrMemory (Ok reply) answered = answered ≡ Ok reply
+OrMemory (Err refusal) answered = refusal ≢ Memory → answered ≡ Err refusal

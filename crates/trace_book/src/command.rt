@@ -1,8 +1,7 @@
 ghost use Rattle.std.specs.Prelude.{◌≡◌};
 
-use std::marker::Model;
-
 use crate::text::Text;
+use std::marker::Model;
 
 /// A field's name and the text of its value, in an emission.
 #[derive(Debug, Drop)]
@@ -63,7 +62,10 @@ pub enum Command {
         text: Text,
     },
     /// Reads a file; of a pipe at most `limit` records.
-    Read { path: Text, limit: Option<u64> },
+    Read {
+        path: Text,
+        limit: Option<u64>,
+    },
 }
 
 /// The answer to a command that was done.

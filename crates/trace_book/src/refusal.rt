@@ -1,10 +1,9 @@
 ghost use Rattle.std.specs.Prelude.{◌≡◌};
 ghost use Rattle.trace_book.specs.declared.refusal.Refusal.TheVariants.{Memory};
 
+use crate::text::Text;
 use std::alloc::{AllocError, AllocFailed};
 use thiserror::Error;
-
-use crate::text::Text;
 
 /// Why a command was refused. A refused command changes nothing and is not in the history.
 /// `at` counts bytes from 0 in the text as it was written.

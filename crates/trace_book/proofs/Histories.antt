@@ -1,0 +1,101 @@
+-- Histories with one entry more.
+use Rattle.std.proofs.Common.{◌≡◌, ℕ, suc, ◌-◌, get_or, ◌+◌, ◌<◌, ◌≤◌, ◌^◌, Bool, true, false, cond, ltb, List, [], ◌∷◌, ◌++◌, length, map, reverse, All, IsOk, is_ok, Result, Ok, Err, refl, sym, ap, ◌∙◌, arith, rules, length-append}
+use Rattle.std.proofs.lemmas.Bool.{lt-ltb}
+use Rattle.std.proofs.lemmas.Bool.Decides.{nat_tests}
+use Rattle.std.proofs.lemmas.List.{reverse-append, length-reverse, length-map, get_or-reverse}
+use Rattle.page_ring.specs.Shown as shown
+use Rattle.trace_book.specs.Configs.{IsInRange}
+use Rattle.trace_book.specs.Requests.{Request, request_of}
+use Rattle.trace_book.specs.History.{answer, unlimited_answer, within_limit, requests_of, past_of, IsLegalNewestFirst, IsLegal}
+use Rattle.trace_book.specs.Refusals.{OrMemory}
+use Rattle.trace_book.specs.States.{StandsFor, IsPrepared, IsUsable}
+use Rattle.trace_book.specs.declared.command.Config.{Config}
+use Rattle.trace_book.specs.declared.command.Entry.{Entry}
+use Rattle.trace_book.specs.declared.command.Reply.{Reply}
+use Rattle.trace_book.specs.declared.refusal.Refusal.{Refusal}
+use Rattle.trace_book.specs.declared.refusal.Refusal.TheVariants.{HistoryFull, Memory}
+use Rattle.trace_book.specs.declared.state.State.{State}
+
+-- ---- the requests of entries
+
+length-requests_of : (entries : List Entry) → length (requests_of entries) ≡ length entries
+length-requests_of [] = refl
+length-requests_of (entry ∷ entries) = ap (λ n. suc n) (length-requests_of entries)
+
+pub length-past_of : (entries : List Entry) → length (past_of entries) ≡ length entries
+unfolding past_of
+length-past_of entries = length-requests_of (reverse entries) ∙ length-reverse entries
+
+pub past_of-push : (entries : List Entry) (entry : Entry) → past_of (entries ++ entry ∷ []) ≡ request_of entry.command ∷ past_of entries
+unfolding past_of
+past_of-push entries entry = rw reverse-append refl
+
+-- ---- answers
+
+pub answer-done : (g : Config) (past : List Request) (request : Request) (reply : Reply) → unlimited_answer g past request ≡ Ok reply
+    → length past < g.history_limit → answer g past request ≡ Ok reply
+unfolding answer
+answer-done g past request reply given room = rw (given, lt-ltb (length past) g.history_limit room) refl
+
+pub answer-full : (g : Config) (past : List Request) (request : Request) (reply : Reply) → unlimited_answer g past request ≡ Ok reply
+    → g.history_limit ≤ length past → answer g past request ≡ Err HistoryFull
+unfolding answer
+answer-full g past request reply given full =
+    let no : ltb (length past) g.history_limit ≡ false = grind (arith, nat_tests) in
+    rw (given, no) refl
+
+pub answer-refused : (g : Config) (past : List Request) (request : Request) (refusal : Refusal) → unlimited_answer g past request ≡ Err refusal
+    → answer g past request ≡ Err refusal
+unfolding answer
+answer-refused g past request refusal given = rw given refl
+
+-- ---- legal histories
+
+-- what holds of each element of a list holds of each in the other order
+All-reverse : {A : Type 0} (P : A → Type 0) (xs : List A) → All P xs → All P (reverse xs)
+All-reverse P xs all = λ k d h.
+    let inside : k < length xs = omega (arith, length-reverse xs) in
+    rw (get_or-reverse xs k d inside) (all (length xs - 1 - k) d (omega arith))
+
+pub IsLegal-none : (g : Config) → IsLegal g []
+unfolding IsLegal
+IsLegal-none g = tt
+
+pub IsLegal-push : (g : Config) (entries : List Entry) (entry : Entry) → IsLegal g entries → All (λ (e : Entry). e.ticket < entry.ticket) entries
+    → IsOk (answer g (past_of entries) (request_of entry.command)) → IsLegal g (entries ++ entry ∷ [])
+unfolding IsLegal past_of
+IsLegal-push g entries entry legal below done = rw reverse-append (below_back, done, legal)
+  where
+    below_back : All (λ (e : Entry). e.ticket < entry.ticket) (reverse entries)
+    below_back = All-reverse (λ (e : Entry). e.ticket < entry.ticket) entries below
+
+-- ---- what a book keeps
+
+pub refused-reply : (g : Config) (past : List Request) (request : Request) (state : State) (refusal : Refusal)
+    → IsPrepared g past request state (Err refusal) → OrMemory (Err refusal) (answer g past request)
+refused-reply g past request state refusal prepared = λ other. answer-refused g past request refusal (prepared other)
+
+pub usable-from_stands : (g : Config) (state : State) (past : List Request) → IsInRange g → StandsFor g state past → length past ≤ 2 ^ 32 → IsUsable state
+usable-from_stands g state past in_range stands few = record {
+  early = omega (arith, stands.early);
+  wide = omega (arith, stands.page_bytes, in_range.some_bytes);
+  few_events = rw stands.events stands.few_events;
+  switches = rw (stands.enabled, stands.events) (length-map _ _);
+}
+
+-- a new book's state stands for no request
+pub stands-new : (g : Config) (state : State) → state.events.items ≡ [] → state.top.enabled ≡ [] → state.clock ≡ 0 → shown.StandsFor state.top.ring []
+    → state.top.ring.pages ≡ g.pages → state.top.ring.page_bytes ≡ g.page_bytes → shown.offered state.top.ring ≡ 0 → StandsFor g state (past_of [])
+unfolding past_of
+stands-new g state events enabled clock ring pages page_bytes offered = record {
+  events = events;
+  few_events = omega arith;
+  enabled = enabled;
+  unknown = λ name none. refl;
+  clock = clock;
+  early = omega arith;
+  ring = ring;
+  pages = pages;
+  page_bytes = page_bytes;
+  offered = omega (arith, offered);
+}

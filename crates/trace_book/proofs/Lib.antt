@@ -1,0 +1,10 @@
+pub mod Histories
+pub mod Parts
+pub mod Pieces
+pub mod Prepared
+pub mod Ready
+pub mod RowLemmas
+pub mod Steps
+pub mod Switching
+pub mod Trimming
+pub mod Values

@@ -1,0 +1,108 @@
+-- What is prepared for a request is what the definitions say of it.
+use Rattle.std.proofs.Common.{◌≡◌, ℕ, zero, suc, ℤ, ◌+◌, ◌<◌, ◌≤◌, ◌==◌, eqb, Bool, true, false, cond, ◌&&◌, List, [], ◌∷◌, ◌++◌, length, map, get_or, is_some, IsSome, Option, Some, None, Result, Ok, Err, refl, sym, ap, ◌∙◌, arith, Bor, Vec}
+use Rattle.std.specs.Option.{option_map, option_to_list, option_and_then}
+use Rattle.std.specs.Str.{bytes_eq}
+use Rattle.std.specs.Global.{Global}
+use Rattle.std.proofs.lemmas.Bool.{lt-ltb}
+use Rattle.std.proofs.lemmas.Slice.Eq.{bytes_eq-Decides}
+use Rattle.page_ring.specs.Events as ring
+use Rattle.trace_book.specs.Paths.{File, EventEnable}
+use Rattle.trace_book.specs.Refusals.{OrMemory}
+use Rattle.trace_book.specs.Requests.{Request, Emission, WriteFile, ReadFile}
+use Rattle.trace_book.specs.Rows.{row_of}
+use Rattle.trace_book.specs.Rings.{record_bytes, record_of_event, emitted_record, ring_event_of}
+use Rattle.trace_book.specs.Settings.{NumberedEvent, event_named, event_named_from, declared_events, is_enabled, now_of}
+use Rattle.trace_book.specs.History.{emission_answer, unlimited_answer, flag_text, whole_text}
+use Rattle.trace_book.specs.States.{StandsFor, IsChangeOf, IsPrepared, IsReady, numbered, with_nothing, bytes_in, written_record, puts_by}
+use Rattle.trace_book.specs.declared.command.Config.{Config}
+use Rattle.trace_book.specs.declared.command.Pair.{Pair}
+use Rattle.trace_book.specs.declared.command.Reply.{Reply}
+use Rattle.trace_book.specs.declared.command.Reply.TheVariants as reply
+use Rattle.trace_book.specs.declared.declaration.Declared.{Declared}
+use Rattle.trace_book.specs.declared.refusal.Refusal.{Refusal}
+use Rattle.trace_book.specs.declared.state.State.{State}
+use Rattle.trace_book.specs.declared.state.Found.{Found}
+use Rattle.trace_book.specs.declared.state.Change.TheVariants.{Nothing, Emit}
+
+-- a read changes nothing
+pub prepared-nothing : (g : Config) (past : List Request) (file : Option File) (limit : Option ℕ) (state : State) (answered : Result Reply Refusal)
+    → OrMemory answered (unlimited_answer g past (ReadFile file limit)) → IsPrepared g past (ReadFile file limit) state (with_nothing answered)
+prepared-nothing g past file limit state (Ok text) given = (
+  given,
+  record {
+    declares = refl;
+    fresh = λ event e. absurd (cc);
+    switches = λ event. refl;
+    addressed = λ name e. absurd (cc);
+    ticks = refl;
+    puts = refl;
+  },
+  tt,
+)
+prepared-nothing g past file limit state (Err refusal) given = given
+
+-- an event that was found among those of the state is the one that the requests declared
+pub named-found : (g : Config) (state : State) (past : List Request) (name : List ℕ) (found : Found) → StandsFor g state past
+    → Some (numbered found) ≡ event_named_from 1 name state.events.items → event_named name past ≡ Some (numbered found)
+named-found g state past name found stands named = rw (← stands.events) (sym named)
+
+-- an element of a mapped list of switches
+map_at : (f : Declared → Bool) (events : List Declared) (i : ℕ) (event : Declared) → i < length events → get_or (map f events) i false ≡ f (get_or events i event)
+map_at f [] i event within = absurd (omega arith)
+map_at f (e ∷ events) zero event within = refl
+map_at f (e ∷ events) (suc i) event within = map_at f events i event (omega arith)
+
+-- its switch is the one that the requests set
+pub enabled-found : (g : Config) (state : State) (past : List Request) (name : List ℕ) (found : Found) → StandsFor g state past
+    → found.index < length state.events.items → found.event.now ≡ get_or state.events.items found.index found.event.now
+    → bytes_eq found.event.now.name name ≡ true → get_or state.top.enabled found.index false ≡ is_enabled name past
+enabled-found g state past name found stands within at same =
+    let event = found.event.now in
+    let inside : found.index < length (declared_events past) = rw (← stands.events) within in
+    let there : get_or (declared_events past) found.index event ≡ event = rw (← stands.events) (sym at) in
+    let named : event.name ≡ name = (bytes_eq-Decides event.name name).0 same in
+    rw stands.enabled (map_at (λ (e : Declared). is_enabled e.name past) (declared_events past) found.index event inside
+    ∙ ap (λ (e : Declared). is_enabled e.name past) there ∙ ap (λ (n : List ℕ). is_enabled n past) named)
+
+-- the text of an event's switch
+pub reads-enable : (g : Config) (past : List Request) (name : List ℕ) (limit : Option ℕ) (k : NumberedEvent) (flag : Bool) (text : List ℕ)
+    → event_named name past ≡ Some k → is_some limit ≡ false → flag ≡ is_enabled name past → text ≡ flag_text flag
+    → unlimited_answer g past (ReadFile (Some (EventEnable name)) limit) ≡ Ok (reply.Text text)
+reads-enable g past name (Some n) k flag text there whole set is = absurd (cc)
+reads-enable g past name None k flag text there whole set is =
+    rw there (ap (λ (t : List ℕ). Ok (reply.Text t)) (sym (is ∙ ap flag_text set)))
+
+-- what an emission on the one CPU brings to its ring
+pub puts-emission : (g : Config) (state : State) (past : List Request) (name : List ℕ) (cpu : ℕ) (pid : ℤ) (pairs : List Pair) (found : Found) (value : ℕ)
+    (written : Option (Vec ℕ Global)) (flag : Bool) → StandsFor g state past → cpu ≡ 0 → event_named name past ≡ Some (numbered found)
+    → row_of found.event.now.field pairs ≡ Ok value → flag ≡ is_enabled name past → get_or state.top.enabled found.index false ≡ flag
+    → bytes_in written ≡ written_record state found.index pid value
+    → ring_event_of 0 past (Emission name cpu pid pairs) ≡ puts_by (Emit written)
+puts-emission g state past name cpu pid pairs found value None true stands first_cpu there row set at bytes =
+    absurd (let h = rw at at bytes in cc)
+puts-emission g state past name cpu pid pairs found value None false stands first_cpu there row set at bytes = rw (first_cpu, ← set) refl
+puts-emission g state past name cpu pid pairs found value (Some v) true stands first_cpu there row set at bytes =
+    let is : Some v.items ≡ Some (record_bytes (state.clock + 1) pid (found.index + 1) value) = rw at at bytes in
+    let clock = stands.clock in
+    let same : v.items ≡ record_bytes (now_of past + 1) pid (found.index + 1) value = cc in
+    rw (first_cpu, ← set, there, row, same) refl
+puts-emission g state past name cpu pid pairs found value (Some v) false stands first_cpu there row set at bytes =
+    absurd (let h = rw at at bytes in cc)
+
+-- an emission is done where its CPU and its event are there and its row is right
+pub answers-emission : (g : Config) (past : List Request) (name : List ℕ) (cpu : ℕ) (pairs : List Pair) (k : NumberedEvent) (value : ℕ) → cpu < g.cpus
+    → event_named name past ≡ Some k → row_of k.event.field pairs ≡ Ok value → emission_answer g past name cpu pairs ≡ Ok reply.Done
+unfolding emission_answer
+answers-emission g past name cpu pairs k value inside there row = rw (lt-ltb cpu g.cpus inside, there, row) refl
+
+-- an emission ticks the clock, and brings to the ring what was written ahead
+pub changes-emission : (past : List Request) (name : List ℕ) (cpu : ℕ) (pid : ℤ) (pairs : List Pair) (written : Option (Vec ℕ Global))
+    → ring_event_of 0 past (Emission name cpu pid pairs) ≡ puts_by (Emit written) → IsChangeOf past (Emission name cpu pid pairs) (Emit written)
+changes-emission past name cpu pid pairs written puts = record {
+  declares = refl;
+  fresh = λ event e. absurd (cc);
+  switches = λ event. refl;
+  addressed = λ n e. absurd (cc);
+  ticks = refl;
+  puts = puts;
+}

@@ -1,0 +1,138 @@
+-- A change keeps what the state stands for.
+use Rattle.std.proofs.Common.{◌≡◌, ℕ, ◌+◌, ◌<◌, ◌≤◌, Bool, true, false, cond, List, [], ◌∷◌, ◌++◌, length, map, IsSome, is_some, Option, Some, None, unwrap_or, refl, sym, ap, ◌∙◌, subst, arith, rules, add-one, append-nil, length-append}
+use Rattle.std.proofs.lemmas.Bool.{false≢true}
+use Rattle.std.proofs.lemmas.List.{map-append}
+use Rattle.std.specs.Option.{option_to_list}
+use Rattle.std.specs.Str.{bytes_eq}
+use Rattle.std.proofs.lemmas.Slice.Eq.{bytes_eq-Decides}
+use Rattle.page_ring.specs.Events as ring
+use Rattle.page_ring.specs.Shown as shown
+use Rattle.trace_book.specs.Requests.{Request}
+use Rattle.trace_book.specs.Settings.{NumberedEvent, event_named, event_named_from, declares, declared_events, switches, is_enabled, ticks, now_of}
+use Rattle.trace_book.specs.Switches.{switched_all}
+use Rattle.trace_book.specs.Rings.{ring_event_of, ring_events}
+use Rattle.trace_book.specs.States.{StandsFor, IsChangeOf, IsStep, declared_by, switched_by, addressed_by, ticks_by, puts_by, flags_after}
+use Rattle.trace_book.specs.declared.command.Config.{Config}
+use Rattle.trace_book.specs.declared.declaration.Declared.{Declared}
+use Rattle.trace_book.specs.declared.state.State.{State}
+use Rattle.trace_book.specs.declared.state.Change.{Change}
+use Rattle.trace_book.specs.declared.state.Change.TheVariants.{Nothing, Declare, Switch, Emit}
+
+-- two functions that agree everywhere map a list to one list
+map-same : {A B : Type 0} (f h : A → B) → ((x : A) → f x ≡ h x) → (xs : List A) → map f xs ≡ map h xs
+map-same f h agree [] = refl
+map-same f h agree (x ∷ xs) = let e = agree x in let es = map-same f h agree xs in cc
+
+-- an event that is not among more events is not among fewer
+event_named_from-fewer : (id : ℕ) (name : List ℕ) (events more : List Declared) → event_named_from id name (events ++ more) ≡ None
+    → event_named_from id name events ≡ None
+event_named_from-fewer id name [] more none = refl
+event_named_from-fewer id name (event ∷ events) more none =
+    by_name (bytes_eq event.name name) refl (event_named_from-fewer (id + 1) name events more) none
+  where
+    by_name : (same : Bool) → bytes_eq event.name name ≡ same
+        → (event_named_from (id + 1) name (events ++ more) ≡ None → event_named_from (id + 1) name events ≡ None)
+        → event_named_from id name ((event ∷ events) ++ more) ≡ None → event_named_from id name (event ∷ events) ≡ None
+    by_name true is fewer found = absurd (let h = rw is at found in cc)
+    by_name false is fewer found = rw is (fewer (rw is at found))
+
+-- what the switches are after one of them was written, event by event
+switched_all-map : (name : List ℕ) (flag : Bool) (old : Declared → Bool) (events : List Declared)
+    → switched_all name flag events (map old events) ≡ map (λ event. unwrap_or (cond (bytes_eq event.name name) (Some flag) None) (old event)) events
+switched_all-map name flag old [] = refl
+switched_all-map name flag old (event ∷ events) =
+    let rest = switched_all-map name flag old events in
+    let first : cond (bytes_eq event.name name) flag (old event) ≡ unwrap_or (cond (bytes_eq event.name name) (Some flag) None) (old event) = grind arith in
+    cc
+
+ticks_by-le : (change : Change) → ticks_by change ≤ 1
+ticks_by-le Nothing = omega arith
+ticks_by-le (Declare event) = omega arith
+ticks_by-le (Switch name flag) = omega arith
+ticks_by-le (Emit written) = omega arith
+
+-- a name that is not among the events after a request was not among them before
+event_named-before : (name : List ℕ) (past : List Request) (request : Request) → event_named name (request ∷ past) ≡ None → event_named name past ≡ None
+event_named-before name past request none = event_named_from-fewer 1 name (declared_events past) (option_to_list (declares request)) none
+
+-- one switch, after a request of which the change says how it sets it
+is_enabled-after : (name : List ℕ) (past : List Request) (request : Request) (set : Option Bool) → switches name request ≡ set
+    → is_enabled name (request ∷ past) ≡ unwrap_or set (is_enabled name past)
+is_enabled-after name past request set is = ap (λ (o : Option Bool). unwrap_or o (is_enabled name past)) is
+
+-- the switches after a request that sets none and declares nothing
+flags-same : (past : List Request) (request : Request) → declares request ≡ None → ((event : List ℕ) → switches event request ≡ None)
+    → map (λ (event : Declared). is_enabled event.name (request ∷ past)) (declared_events (request ∷ past))
+    ≡ map (λ (event : Declared). is_enabled event.name past) (declared_events past)
+flags-same past request nothing none =
+    rw (nothing, append-nil) (map-same (λ (event : Declared). is_enabled event.name (request ∷ past)) (λ (event : Declared). is_enabled event.name past)
+    (λ (event : Declared). is_enabled-after event.name past request None (none event.name)) (declared_events past))
+
+-- the switches of the declared events, after a change
+flags_after-map : (past : List Request) (request : Request) (change : Change) → IsChangeOf past request change
+    → ((name : List ℕ) → event_named name past ≡ None → is_enabled name past ≡ false)
+    → map (λ (event : Declared). is_enabled event.name (request ∷ past)) (declared_events (request ∷ past))
+    ≡ flags_after change (declared_events past) (map (λ (event : Declared). is_enabled event.name past) (declared_events past))
+flags_after-map past request Nothing is unknown = flags-same past request is.declares is.switches
+flags_after-map past request (Declare event) is unknown =
+    let old_same : map (λ (e : Declared). is_enabled e.name (request ∷ past)) (declared_events past) ≡ map (λ (e : Declared). is_enabled e.name past) (declared_events past) =
+    map-same (λ (e : Declared). is_enabled e.name (request ∷ past)) (λ (e : Declared). is_enabled e.name past)
+    (λ (e : Declared). is_enabled-after e.name past request None (is.switches e.name)) (declared_events past) in
+    let new_off : is_enabled event.name (request ∷ past) ≡ false =
+    is_enabled-after event.name past request None (is.switches event.name) ∙ unknown event.name (is.fresh event refl).0 in
+    rw (is.declares, map-append) (ap (λ (flags : List Bool). flags ++ is_enabled event.name (request ∷ past) ∷ []) old_same
+    ∙ ap (λ (flag : Bool). map (λ (e : Declared). is_enabled e.name past) (declared_events past) ++ flag ∷ []) new_off)
+flags_after-map past request (Switch name flag) is unknown =
+    rw (is.declares, append-nil) (map-same (λ (e : Declared). is_enabled e.name (request ∷ past))
+    (λ (e : Declared). unwrap_or (cond (bytes_eq e.name name) (Some flag) None) (is_enabled e.name past))
+    (λ (e : Declared). is_enabled-after e.name past request _ (is.switches e.name)) (declared_events past)
+    ∙ sym (switched_all-map name flag (λ (e : Declared). is_enabled e.name past) (declared_events past)))
+flags_after-map past request (Emit written) is unknown = flags-same past request is.declares is.switches
+
+-- a change does not switch what is not declared
+not_switched : (past : List Request) (change : Change) (name : List ℕ)
+    → ((n : List ℕ) → addressed_by change ≡ Some n → IsSome (event_named n past)) → event_named name past ≡ None → switched_by name change ≡ None
+not_switched past Nothing name addressed none = refl
+not_switched past (Declare event) name addressed none = refl
+not_switched past (Emit written) name addressed none = refl
+not_switched past (Switch switch flag) name addressed none = by_name (bytes_eq name switch) refl
+  where
+    by_name : (same : Bool) → bytes_eq name switch ≡ same → switched_by name (Switch switch flag) ≡ None
+    by_name false is = rw is refl
+    by_name true is =
+        let e : name ≡ switch = (bytes_eq-Decides name switch).0 is in
+        let there = addressed switch refl in
+        let gone : event_named switch past ≡ None = rw (← e) none in
+        let impossible : false ≡ true = rw gone at there in absurd (false≢true impossible)
+
+-- what is not declared is not enabled, after a change
+unknown-after : (past : List Request) (request : Request) (change : Change) → IsChangeOf past request change
+    → ((name : List ℕ) → event_named name past ≡ None → is_enabled name past ≡ false)
+    → (name : List ℕ) → event_named name (request ∷ past) ≡ None → is_enabled name (request ∷ past) ≡ false
+unknown-after past request change is unknown name none =
+    let before = event_named-before name past request none in
+    is_enabled-after name past request None (is.switches name ∙ not_switched past change name is.addressed before) ∙ unknown name before
+
+-- the events stay few
+few-after : (past : List Request) (request : Request) (declared : Option Declared) → declares request ≡ declared
+    → ((event : Declared) → declared ≡ Some event → length (declared_events past) < 64) → length (declared_events past) ≤ 64
+    → length (declared_events (request ∷ past)) ≤ 64
+few-after past request None is fresh few = rw (is, append-nil) few
+few-after past request (Some event) is fresh few =
+    let room = fresh event refl in
+    rw (is, length-append) (omega arith)
+
+pub stands_after : (g : Config) (old new : State) (past : List Request) (request : Request) (change : Change)
+    → StandsFor g old past → IsChangeOf past request change → IsStep old new change → StandsFor g new (request ∷ past)
+stands_after g old new past request change stands is step = record {
+  events = step.events ∙ (rw (stands.events, is.declares) refl);
+  few_events = few-after past request (declared_by change) is.declares (λ event e. (is.fresh event e).1) stands.few_events;
+  enabled = step.enabled ∙ (rw (stands.events, stands.enabled) (sym (flags_after-map past request change is stands.unknown)));
+  unknown = unknown-after past request change is stands.unknown;
+  clock = step.clock ∙ (rw (stands.clock, is.ticks) refl);
+  early = let small = ticks_by-le change in omega (arith, step.clock, stands.early);
+  ring = rw is.puts (step.ring (ring_events 0 past) stands.ring);
+  pages = step.pages ∙ stands.pages;
+  page_bytes = step.page_bytes ∙ stands.page_bytes;
+  offered = let small = ticks_by-le change in omega (arith, step.offered, stands.offered);
+}

@@ -1,0 +1,99 @@
+use Rattle.std.proofs.Common.{List, [], ◌∷◌, ◌++◌, All, subst, ◌≡◌, ◌+◌, ◌<◌, ◌≤◌, ◌^◌, Ok, Err, is_ok, true, length, arith, rules, refl, ap, sym, ◌∙◌, length-append}
+use Rattle.trace_book.specs.Requests.{request_of}
+use Rattle.trace_book.specs.History.{past_of, answer}
+use Rattle.trace_book.specs.States.{IsChangeOf}
+use Rattle.trace_book.specs.BookSeen.{BookSeen}
+use Rattle.trace_book.specs.declared.command.Entry.{Entry}
+use Rattle.trace_book.specs.declared.command.Reply.{Reply}
+use Rattle.trace_book.specs.declared.state.Change.{Change}
+use Rattle.trace_book.proofs.Histories.{usable-from_stands, length-past_of, past_of-push, answer-done, answer-full, refused-reply, IsLegal-push}
+use Rattle.trace_book.proofs.Steps.{stands_after}
+use Rattle.trace_book.proofs.book.Book.ask.Goals as goal
+
+pub prepare-requires-clause-usable : goal.prepare-requires-clause-usable
+prepare-requires-clause-usable c =
+    let book = c.self.inside in
+    usable-from_stands book.config book.state (past_of book.entries.items) c.self.invariant.in_range c.self.invariant.stands
+    (omega (arith, length-past_of book.entries.items, c.self.invariant.few))
+
+pub invariant_of-self : goal.invariant_of-self
+invariant_of-self c = record {
+  in_range = c.self.invariant.in_range;
+  few = c.self.invariant.few;
+  legal = c.self.invariant.legal;
+  stands = c.prepare.ensures.stands _ _ c.self.invariant.stands;
+}
+
+pub returns-in_err-change-clause-reply : goal.returns-in_err-change-clause-reply
+returns-in_err-change-clause-reply c =
+    let book = c.self.inside in
+    let past = past_of book.entries.items in
+    let out : c.from_residual.result ≡ Err c.in_err-change.field-0.0 = search rules in
+    let prepared = c.in_err-change.ensures.prepared past c.self.invariant.stands in
+    rw (← c.self.view_is, out) (refused-reply book.config past (request_of c.args.command) c.prepare.new.self c.in_err-change.field-0.0 prepared)
+
+pub invariant_of-self-then-len-self : goal.invariant_of-self-then-len-self
+invariant_of-self-then-len-self c = record {
+  in_range = c.self.invariant.in_range;
+  few = c.self.invariant.few;
+  legal = c.self.invariant.legal;
+  stands = c.prepare.ensures.stands _ _ c.self.invariant.stands;
+}
+
+pub returns-then-len-self-clause-reply : goal.returns-then-len-self-clause-reply
+returns-then-len-self-clause-reply c = λ other.
+    let book = c.self.inside in
+    let past = past_of book.entries.items in
+    let prepared = c.in_ok-change.ensures.prepared past c.self.invariant.stands in
+    rw (← c.self.view_is) (answer-full book.config past (request_of c.args.command) c.in_ok-change.reply (prepared.0 ∙ ap (λ (r : Reply). Ok r) c.in_ok-change.reply-is)
+    (omega (arith, length-past_of book.entries.items, c.len.ensures, book.entries.ok.0)))
+
+pub invariant_of-self-in_err-reserve : goal.invariant_of-self-in_err-reserve
+invariant_of-self-in_err-reserve c = record {
+  in_range = c.self.invariant.in_range;
+  few = rw c.reserve.ensures.items c.self.invariant.few;
+  legal = rw c.reserve.ensures.items c.self.invariant.legal;
+  stands = rw c.reserve.ensures.items (c.prepare.ensures.stands _ _ c.self.invariant.stands);
+}
+
+pub commit-requires-clause-early : goal.commit-requires-clause-early
+commit-requires-clause-early c =
+    let book = c.self.inside in
+    let stands = c.prepare.ensures.stands book.config (past_of book.entries.items) c.self.invariant.stands in
+    omega (arith, stands.early, length-past_of book.entries.items, c.len.ensures, book.entries.ok.0, c.self.invariant.in_range.few_entries)
+
+pub commit-requires-clause-few : goal.commit-requires-clause-few
+commit-requires-clause-few c =
+    let book = c.self.inside in
+    let stands = c.prepare.ensures.stands book.config (past_of book.entries.items) c.self.invariant.stands in
+    omega (arith, stands.offered, length-past_of book.entries.items, c.len.ensures, book.entries.ok.0, c.self.invariant.in_range.few_entries)
+
+pub invariant_of-self-2 : goal.invariant_of-self-2
+invariant_of-self-2 c =
+    let book = c.self.inside in
+    let g = book.config in
+    let past = past_of book.entries.items in
+    let request = request_of c.args.command in
+    let entry : Entry = record { ticket = c.args.ticket; by = c.args.by; command = c.args.command } in
+    let items : c.push_reserved.new.self.items ≡ book.entries.items ++ entry ∷ [] =
+    c.push_reserved.ensures.items ∙ ap (λ (entries : List Entry). entries ++ entry ∷ []) c.reserve.ensures.items in
+    let prepared = c.in_ok-change.ensures.prepared past c.self.invariant.stands in
+    let done = answer-done g past request c.in_ok-change.reply (prepared.0 ∙ ap (λ (r : Reply). Ok r) c.in_ok-change.reply-is)
+    (omega (arith, length-past_of book.entries.items, c.len.ensures, book.entries.ok.0)) in
+    let Below : BookSeen → Type 0 = λ seen. All (λ (e : Entry). e.ticket < c.args.ticket) seen.entries in
+    let below : All (λ (e : Entry). e.ticket < c.args.ticket) book.entries.items = subst Below (sym c.self.view_is) c.requires in
+    let stands = c.prepare.ensures.stands g past c.self.invariant.stands in
+    record {
+      in_range = c.self.invariant.in_range;
+      few = rw items (omega (arith, length-append book.entries.items (entry ∷ []), c.len.ensures, book.entries.ok.0, c.self.invariant.in_range.few_entries));
+      legal = rw items (IsLegal-push g book.entries.items entry c.self.invariant.legal below (rw done refl));
+      stands = rw (items, past_of-push) (stands_after g c.prepare.new.self c.commit.new.self past request c.in_ok-change.field-0.change stands prepared.1 c.commit.ensures);
+    }
+
+pub returns-clause-reply : goal.returns-clause-reply
+returns-clause-reply c =
+    let book = c.self.inside in
+    let past = past_of book.entries.items in
+    let prepared = c.in_ok-change.ensures.prepared past c.self.invariant.stands in
+    rw (← c.self.view_is) (answer-done book.config past (request_of c.args.command) c.in_ok-change.field-0.reply prepared.0
+    (omega (arith, length-past_of book.entries.items, c.len.ensures, book.entries.ok.0)))

@@ -1,0 +1,19 @@
+-- What contracts see of a book.
+use Rattle.std.specs.Prelude.{◌≡◌, ℕ, ◌^◌, ◌≤◌, List, length}
+use Rattle.trace_book.specs.Configs.{IsInRange}
+use Rattle.trace_book.specs.History.{past_of, IsLegal}
+use Rattle.trace_book.specs.States.{StandsFor}
+use Rattle.trace_book.specs.declared.command.Config.{Config}
+use Rattle.trace_book.specs.declared.command.Entry.{Entry}
+use Rattle.trace_book.specs.BookSeen.{BookSeen}
+use Rattle.trace_book.specs.declared.book.Book.TheInside.{Inside}
+
+abbrev pub seen : Inside → BookSeen
+seen book = record { config = book.config; entries = book.entries.items }
+
+-- the entries are a legal history, and what the book keeps is what they say
+pub record IsSound (book : Inside) : Type 0 where
+  pub in_range : IsInRange book.config
+  pub few : length book.entries.items ≤ 2 ^ 32
+  pub legal : IsLegal book.config book.entries.items
+  pub stands : StandsFor book.config book.state (past_of book.entries.items)

@@ -1,0 +1,136 @@
+-- The answer that the requests done so far give a request, and which histories are legal. The newest request stands first.
+use Rattle.std.specs.Prelude.{◌≡◌, ℕ, ◌<◌, nat_lt, Bool, true, false, not, ◌&&◌, is_some, IsOk, if◌then◌else◌, List, [], ◌∷◌, length, map, reverse, All, Option, Some, None, Result, Ok, Err, codes, ⊤}
+use Rattle.page_ring.specs.Account.{stats_of}
+use Rattle.trace_book.specs.Paths.{File, SyntheticEvents, EventEnable, CpuStats}
+use Rattle.trace_book.specs.Declarations.{declaration_of}
+use Rattle.trace_book.specs.declared.declaration.Declared.{Declared}
+use Rattle.trace_book.specs.Rows.{row_of}
+use Rattle.trace_book.specs.StatsText.{stats_text}
+use Rattle.trace_book.specs.Requests.{Request, Emission, MakeInstance, RemoveInstance, WriteFile, ReadFile, request_of}
+use Rattle.trace_book.specs.Settings.{NumberedEvent, event_named, declared_events, written_flag, is_enabled, now_of}
+use Rattle.trace_book.specs.Rings.{ring_events}
+use Rattle.trace_book.specs.declared.command.Pair.{Pair}
+use Rattle.trace_book.specs.declared.command.Config.{Config}
+use Rattle.trace_book.specs.declared.command.Entry.{Entry}
+use Rattle.trace_book.specs.declared.command.Reply.{Reply}
+use Rattle.trace_book.specs.declared.command.Reply.TheVariants.{Done, Text}
+use Rattle.trace_book.specs.declared.refusal.Refusal.{Refusal}
+use Rattle.trace_book.specs.declared.refusal.Refusal.TheVariants.{NoSuchFile, NotReadable, NotWritable, BadValue, NoSuchEvent, EventExists, TooMany, Busy, NoSuchCpu, HistoryFull}
+
+-- ---- emissions
+
+-- the row is read last
+abbrev pub row_answer : Result ℕ Refusal → Result Reply Refusal
+row_answer (Ok value) = Ok Done
+row_answer (Err refusal) = Err refusal
+
+abbrev pub event_answer : Option NumberedEvent → List Pair → Result Reply Refusal
+event_answer None pairs = Err NoSuchEvent
+event_answer (Some k) pairs = row_answer (row_of k.event.field pairs)
+
+-- an emission: first its CPU, then its event, then its row
+unfoldable pub emission_answer : Config → List Request → List ℕ → ℕ → List Pair → Result Reply Refusal
+emission_answer g past name cpu pairs = if nat_lt cpu g.cpus then event_answer (event_named name past) pairs else Err NoSuchCpu
+
+-- ---- what a write to each file answers
+
+-- how many events there may be, for now
+abbrev pub event_limit : ℕ
+event_limit = 1
+
+-- a declaration: first its text, then whether it may begin anew, then its name, then the number of events
+abbrev pub new_event_answer : List Request → Bool → Declared → Result Reply Refusal
+new_event_answer past append event =
+    if not append && nat_lt 0 (length (declared_events past)) then Err Busy
+    else (if is_some (event_named event.name past) then Err EventExists
+    else (if nat_lt (length (declared_events past)) event_limit then Ok Done else Err TooMany))
+
+abbrev pub read_declaration_answer : List Request → Bool → Result Declared Refusal → Result Reply Refusal
+read_declaration_answer past append (Ok event) = new_event_answer past append event
+read_declaration_answer past append (Err refusal) = Err refusal
+
+unfoldable pub declaration_answer : List Request → Bool → List ℕ → Result Reply Refusal
+declaration_answer past append text = read_declaration_answer past append (declaration_of text)
+
+-- a switch: 0 or 1
+unfoldable pub switch_answer : List ℕ → Result Reply Refusal
+switch_answer text = if is_some (written_flag text) then Ok Done else Err BadValue
+
+-- a write to a file; statistics can't be written
+abbrev pub write_answer : List Request → Bool → List ℕ → File → Result Reply Refusal
+write_answer past append text SyntheticEvents = declaration_answer past append text
+write_answer past append text (EventEnable event) = switch_answer text
+write_answer past append text (CpuStats cpu) = Err NotWritable
+
+-- ---- what each file shows
+
+-- a file that is no pipe takes no limit
+abbrev pub whole_text : Option ℕ → List ℕ → Result Reply Refusal
+whole_text None text = Ok (Text text)
+whole_text (Some limit) text = Err BadValue
+
+-- the text of a switch
+unfoldable pub flag_text : Bool → List ℕ
+flag_text flag = if flag then codes "1\n" else codes "0\n"
+
+-- the statistics of a CPU's ring
+unfoldable pub cpu_stats_text : Config → List Request → ℕ → List ℕ
+cpu_stats_text g past cpu = stats_text (stats_of g.pages g.page_bytes (ring_events cpu past)) (now_of past)
+
+-- a read of a file; the declarations can't be read for now
+abbrev pub read_answer : Config → List Request → Option ℕ → File → Result Reply Refusal
+read_answer g past limit SyntheticEvents = Err NotReadable
+read_answer g past limit (EventEnable event) = whole_text limit (flag_text (is_enabled event past))
+read_answer g past limit (CpuStats cpu) = whole_text limit (cpu_stats_text g past cpu)
+
+-- ---- the answer
+
+-- the CPU or the event of a path that is not there
+abbrev pub missing : Config → List Request → File → Option Refusal
+missing g past SyntheticEvents = None
+missing g past (EventEnable event) = if is_some (event_named event past) then None else Some NoSuchEvent
+missing g past (CpuStats cpu) = if nat_lt cpu g.cpus then None else Some NoSuchCpu
+
+-- a refusal, or else the answer
+abbrev pub unless_refused : Option Refusal → Result Reply Refusal → Result Reply Refusal
+unless_refused (Some refusal) answered = Err refusal
+unless_refused None answered = answered
+
+-- the answer, were there no limit on the history; for now there are no instances to make or remove
+abbrev pub unlimited_answer : Config → List Request → Request → Result Reply Refusal
+unlimited_answer g past (Emission name cpu pid pairs) = emission_answer g past name cpu pairs
+unlimited_answer g past (MakeInstance path) = Err NoSuchFile
+unlimited_answer g past (RemoveInstance path) = Err NoSuchFile
+unlimited_answer g past (WriteFile None append text) = Err NoSuchFile
+unlimited_answer g past (WriteFile (Some file) append text) = unless_refused (missing g past file) (write_answer past append text file)
+unlimited_answer g past (ReadFile None limit) = Err NoSuchFile
+unlimited_answer g past (ReadFile (Some file) limit) = unless_refused (missing g past file) (read_answer g past limit file)
+
+-- what would be done is refused where the history is full
+abbrev pub within_limit : Config → ℕ → Result Reply Refusal → Result Reply Refusal
+within_limit g count (Err refusal) = Err refusal
+within_limit g count (Ok reply) = if nat_lt count g.history_limit then Ok reply else Err HistoryFull
+
+-- the answer that the requests done so far give a request
+unfoldable pub answer : Config → List Request → Request → Result Reply Refusal
+answer g past request = within_limit g (length past) (unlimited_answer g past request)
+
+-- ---- histories
+
+-- the requests of entries, newest first
+abbrev pub requests_of : List Entry → List Request
+requests_of [] = []
+requests_of (entry ∷ entries) = request_of entry.command ∷ requests_of entries
+
+unfoldable pub past_of : List Entry → List Request
+past_of entries = requests_of (reverse entries)
+
+-- entries, newest first, are legal: tickets rise, and no entry was refused after those before it
+abbrev pub IsLegalNewestFirst : Config → List Entry → Type 0
+IsLegalNewestFirst g [] = ⊤
+IsLegalNewestFirst g (entry ∷ before) =
+    All (λ earlier. earlier.ticket < entry.ticket) before × IsOk (answer g (requests_of before) (request_of entry.command)) × IsLegalNewestFirst g before
+
+-- a legal history
+unfoldable pub IsLegal : Config → List Entry → Type 0
+IsLegal g entries = IsLegalNewestFirst g (reverse entries)

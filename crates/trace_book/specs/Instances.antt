@@ -1,0 +1,8 @@
+-- What contracts see of an instance.
+use Rattle.std.specs.Prelude.{ℕ, ◌<◌, ◌≤◌, Bool, List, length, vec_len, vec_capacity}
+use Rattle.page_ring.specs.Shown.{Seen}
+
+-- which events are enabled, in order of declaration, and the ring of its CPU
+pub record InstanceSeen : Type 0 where
+  pub enabled : List Bool
+  pub ring : Seen

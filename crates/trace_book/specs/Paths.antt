@@ -1,0 +1,59 @@
+-- The files of the tracing tree, and which file a path names.
+use Rattle.std.specs.Prelude.{ℕ, ◌+◌, ◌-◌, Bool, true, false, ◌&&◌, ◌||◌, not, nat_le, ◌==◌, if◌then◌else◌, List, [], ◌∷◌, length, Option, Some, None, take, drop, codes}
+use Rattle.std.specs.Option.{option_and_then}
+use Rattle.std.specs.List.{list_all, slice_split}
+use Rattle.std.specs.Str.{bytes_eq}
+use Rattle.trace_book.specs.Decimals.{is_digit, decimal_number, has_leading_zero}
+
+-- a letter or an underscore
+abbrev pub is_name_start : ℕ → Bool
+is_name_start b = (nat_le 65 b && nat_le b 90) || ((nat_le 97 b && nat_le b 122) || b == 95)
+
+-- a letter, a digit or an underscore
+abbrev pub is_name_byte : ℕ → Bool
+is_name_byte b = is_name_start b || is_digit b
+
+-- a name: 1 to 32 letters, digits or underscores, the first of them no digit
+abbrev pub is_name : List ℕ → Bool
+is_name [] = false
+is_name (b ∷ bs) = is_name_start b && (list_all is_name_byte bs && nat_le (length bs) 31)
+
+-- what stands between the slashes of a path
+abbrev pub parts : List ℕ → List (List ℕ)
+parts path = slice_split (λ b. b == 47) path
+
+-- a file; an event's by its name, a CPU's by its number
+pub data File : Type 0 where
+  SyntheticEvents : File
+  EventEnable : List ℕ → File
+  CpuStats : ℕ → File
+
+-- the number in `cpuN`: decimal, without leading zeros
+abbrev pub cpu_number : List ℕ → Option ℕ
+cpu_number part =
+    if bytes_eq (take 3 part) (codes "cpu") && not (has_leading_zero (drop 3 part)) then decimal_number (drop 3 part) else None
+
+-- a file at the top
+unfoldable pub top_file : List ℕ → Option File
+top_file name = if bytes_eq name (codes "synthetic_events") then Some SyntheticEvents else None
+
+-- a file of a CPU
+unfoldable pub cpu_file : ℕ → List ℕ → Option File
+cpu_file cpu name = if bytes_eq name (codes "stats") then Some (CpuStats cpu) else None
+
+-- a file of an event
+unfoldable pub event_file : List ℕ → List ℕ → Option File
+event_file event name = if bytes_eq name (codes "enable") then Some (EventEnable event) else None
+
+-- the file that the parts of a path name
+abbrev pub file_in : List (List ℕ) → Option File
+file_in (name ∷ []) = top_file name
+file_in (first ∷ second ∷ name ∷ []) =
+    if bytes_eq first (codes "per_cpu") then option_and_then (λ cpu. cpu_file cpu name) (cpu_number second) else None
+file_in (first ∷ second ∷ third ∷ name ∷ []) =
+    if bytes_eq first (codes "events") && (bytes_eq second (codes "synthetic") && is_name third) then event_file third name else None
+file_in _ = None
+
+-- the file that a path names
+unfoldable pub file_of : List ℕ → Option File
+file_of path = file_in (parts path)

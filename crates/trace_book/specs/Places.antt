@@ -1,0 +1,21 @@
+-- The files that borrowed parts of a path name.
+use Rattle.std.specs.Prelude.{ℕ, List, [], Option, Some, None}
+use Rattle.std.specs.Borrow.{Bor}
+use Rattle.trace_book.specs.Decimals.{value_after}
+use Rattle.trace_book.specs.Paths.{File, SyntheticEvents, EventEnable, CpuStats, parts}
+use Rattle.trace_book.specs.declared.place.Place.{Place}
+use Rattle.trace_book.specs.declared.place.Place.TheVariants as place
+
+-- the parts behind a slash, none where there is no slash
+abbrev pub parts_of : Option (Bor (List ℕ)) → List (List ℕ)
+parts_of None = []
+parts_of (Some rest) = parts rest.now
+
+-- the CPU's number that digits write
+abbrev pub cpu_at : Bor (List ℕ) → ℕ
+cpu_at digits = value_after 0 digits.now
+
+abbrev pub file_at : Place → File
+file_at place.SyntheticEvents = SyntheticEvents
+file_at (place.EventEnable name) = EventEnable name.now
+file_at (place.CpuStats digits) = CpuStats (cpu_at digits)

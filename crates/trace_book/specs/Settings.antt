@@ -1,0 +1,67 @@
+-- What the requests that were done say of events, their switches and the clock. The newest request stands first.
+use Rattle.std.specs.Prelude.{ℕ, suc, ◌+◌, ◌==◌, Bool, true, false, if◌then◌else◌, List, [], ◌∷◌, ◌++◌, Option, Some, None, Result, Ok, Err, unwrap_or}
+use Rattle.std.specs.Option.{option_and_then, option_to_list}
+use Rattle.std.specs.Result.{result_ok}
+use Rattle.std.specs.Str.{bytes_eq}
+use Rattle.trace_book.specs.Decimals.{written_number}
+use Rattle.trace_book.specs.Paths.{File, SyntheticEvents, EventEnable, CpuStats}
+use Rattle.trace_book.specs.Declarations.{declaration_of}
+use Rattle.trace_book.specs.declared.declaration.Declared.{Declared}
+use Rattle.trace_book.specs.Requests.{Request, Emission, MakeInstance, RemoveInstance, WriteFile, ReadFile}
+
+-- what the newest request that sets a setting says, or the default where none does
+abbrev pub setting : {A : Type 0} → (Request → Option A) → A → List Request → A
+setting sets default [] = default
+setting sets default (request ∷ past) = unwrap_or (sets request) (setting sets default past)
+
+-- the event that a request declares
+abbrev pub declares : Request → Option Declared
+declares (WriteFile (Some SyntheticEvents) append text) = result_ok (declaration_of text)
+declares _ = None
+
+-- the events, in order of declaration
+abbrev pub declared_events : List Request → List Declared
+declared_events [] = []
+declared_events (request ∷ past) = declared_events past ++ option_to_list (declares request)
+
+-- an event with its id: the events are numbered from 1 in order of declaration
+pub record NumberedEvent : Type 0 where
+  pub id : ℕ
+  pub event : Declared
+
+-- the event of this name, where the ids begin with this one
+abbrev pub event_named_from : ℕ → List ℕ → List Declared → Option NumberedEvent
+event_named_from id name [] = None
+event_named_from id name (event ∷ events) =
+    if bytes_eq event.name name then Some (record { id = id; event = event }) else event_named_from (id + 1) name events
+
+-- the event of this name that was declared
+abbrev pub event_named : List ℕ → List Request → Option NumberedEvent
+event_named name past = event_named_from 1 name (declared_events past)
+
+-- 0 is off, 1 is on, another number is neither
+abbrev pub flag_of : ℕ → Option Bool
+flag_of n = if n == 0 then Some false else (if n == 1 then Some true else None)
+
+-- the switch that is written to a file
+unfoldable pub written_flag : List ℕ → Option Bool
+written_flag text = option_and_then flag_of (written_number text)
+
+-- how a request switches an event
+abbrev pub switches : List ℕ → Request → Option Bool
+switches event (WriteFile (Some (EventEnable name)) append text) = if bytes_eq event name then written_flag text else None
+switches event _ = None
+
+-- an event is disabled until it is switched on
+abbrev pub is_enabled : List ℕ → List Request → Bool
+is_enabled event past = setting (switches event) false past
+
+-- how far a request moves the clock: each emission counts, recorded or not
+abbrev pub ticks : Request → ℕ
+ticks (Emission event cpu pid pairs) = 1
+ticks _ = 0
+
+-- the clock
+abbrev pub now_of : List Request → ℕ
+now_of [] = 0
+now_of (request ∷ past) = now_of past + ticks request

@@ -1,0 +1,123 @@
+-- When what a book keeps agrees with the requests that were done, and what a change does to it.
+use Rattle.std.specs.Prelude.{◌≡◌, ℕ, ◌^◌, ℤ, slice_index_or, Vec, ◌+◌, ◌<◌, ◌≤◌, Bool, true, false, List, [], ◌∷◌, ◌++◌, length, map, IsSome, Option, Some, None, Result, Ok, Err, ◌≢◌, vec_len, vec_capacity, if◌then◌else◌, ⊤}
+use Rattle.std.specs.Option.{option_to_list, option_map}
+use Rattle.std.specs.Global.{Global}
+use Rattle.std.specs.Str.{bytes_eq}
+use Rattle.page_ring.specs.Events as ring
+use Rattle.page_ring.specs.Record.{IsRecord}
+use Rattle.page_ring.specs.Shown as shown
+use Rattle.trace_book.specs.Requests.{Request}
+use Rattle.trace_book.specs.Settings.{NumberedEvent, event_named, declares, declared_events, switches, is_enabled, ticks, now_of}
+use Rattle.trace_book.specs.Rings.{record_bytes, ring_event_of, ring_events}
+use Rattle.trace_book.specs.Switches.{switched_all}
+use Rattle.trace_book.specs.History.{unlimited_answer}
+use Rattle.trace_book.specs.declared.command.Config.{Config}
+use Rattle.trace_book.specs.declared.command.Reply.{Reply}
+use Rattle.trace_book.specs.declared.declaration.Declared.{Declared}
+use Rattle.trace_book.specs.declared.refusal.Refusal.{Refusal}
+use Rattle.trace_book.specs.declared.refusal.Refusal.TheVariants.{Memory}
+use Rattle.trace_book.specs.declared.state.State.{State}
+use Rattle.trace_book.specs.declared.state.Found.{Found}
+use Rattle.trace_book.specs.declared.state.Change.{Change}
+use Rattle.trace_book.specs.declared.state.Change.TheVariants.{Nothing, Declare, Switch, Emit}
+use Rattle.trace_book.specs.declared.state.Prepared.{Prepared}
+
+-- an event that was found, with its id
+abbrev pub numbered : Found → NumberedEvent
+numbered found = record { id = found.index + 1; event = found.event.now }
+
+-- each part of the state is what the requests say of it
+pub record StandsFor (g : Config) (state : State) (past : List Request) : Type 0 where
+  pub events : state.events.items ≡ declared_events past
+  pub few_events : length (declared_events past) ≤ 64
+  pub enabled : state.top.enabled ≡ map (λ event. is_enabled event.name past) (declared_events past)
+  pub unknown : (name : List ℕ) → event_named name past ≡ None → is_enabled name past ≡ false
+  pub clock : state.clock ≡ now_of past
+  pub early : state.clock ≤ length past
+  pub ring : shown.StandsFor state.top.ring (ring_events 0 past)
+  pub pages : state.top.ring.pages ≡ g.pages
+  pub page_bytes : state.top.ring.page_bytes ≡ g.page_bytes
+  pub offered : shown.offered state.top.ring ≤ length past
+
+-- ---- what a change leaves, without the request
+
+abbrev pub declared_by : Change → Option Declared
+declared_by (Declare event) = Some event
+declared_by _ = None
+
+abbrev pub switched_by : List ℕ → Change → Option Bool
+switched_by event (Switch name flag) = if bytes_eq event name then Some flag else None
+switched_by event _ = None
+
+-- the event that a change switches
+abbrev pub addressed_by : Change → Option (List ℕ)
+addressed_by (Switch name flag) = Some name
+addressed_by _ = None
+
+abbrev pub ticks_by : Change → ℕ
+ticks_by (Emit written) = 1
+ticks_by _ = 0
+
+abbrev pub puts_by : Change → List ring.Event
+puts_by (Emit (Some bytes)) = ring.Put bytes.items true ∷ []
+puts_by _ = []
+
+-- the switches after a change
+abbrev pub flags_after : Change → List Declared → List Bool → List Bool
+flags_after (Declare event) events flags = flags ++ false ∷ []
+flags_after (Switch name flag) events flags = switched_all name flag events flags
+flags_after _ events flags = flags
+
+-- a change says of a request all that the definitions say of it, after this past
+pub record IsChangeOf (past : List Request) (request : Request) (change : Change) : Type 0 where
+  pub declares : declares request ≡ declared_by change
+  pub fresh : (event : Declared) → declared_by change ≡ Some event → (event_named event.name past ≡ None) × (length (declared_events past) < 64)
+  pub switches : (event : List ℕ) → switches event request ≡ switched_by event change
+  pub addressed : (name : List ℕ) → addressed_by change ≡ Some name → IsSome (event_named name past)
+  pub ticks : ticks request ≡ ticks_by change
+  pub puts : ring_event_of 0 past request ≡ puts_by change
+
+-- what was grown for a change is there
+abbrev pub IsReady : State → Change → Type 0
+IsReady state (Declare event) = (vec_len state.events < vec_capacity state.events) × (length state.top.enabled < 64)
+IsReady state (Switch name flag) = length state.events.items ≡ length state.top.enabled
+IsReady state (Emit (Some bytes)) =
+    IsRecord bytes.items × (length bytes.items ≤ state.top.ring.page_bytes) × (length bytes.items ≤ state.top.ring.ready)
+IsReady state _ = ⊤
+
+-- a change was made
+pub record IsStep (old new : State) (change : Change) : Type 0 where
+  pub events : new.events.items ≡ old.events.items ++ option_to_list (declared_by change)
+  pub enabled : new.top.enabled ≡ flags_after change old.events.items old.top.enabled
+  pub clock : new.clock ≡ old.clock + ticks_by change
+  pub ring : (events : List ring.Event) → shown.StandsFor old.top.ring events → shown.StandsFor new.top.ring (events ++ puts_by change)
+  pub pages : new.top.ring.pages ≡ old.top.ring.pages
+  pub page_bytes : new.top.ring.page_bytes ≡ old.top.ring.page_bytes
+  pub offered : shown.offered new.top.ring ≤ shown.offered old.top.ring + ticks_by change
+
+-- what was prepared for a request, or why it is refused
+abbrev pub IsPrepared : Config → List Request → Request → State → Result Prepared Refusal → Type 0
+IsPrepared g past request state (Ok prepared) =
+    (unlimited_answer g past request ≡ Ok prepared.reply) × IsChangeOf past request prepared.change × IsReady state prepared.change
+IsPrepared g past request state (Err refusal) = refusal ≢ Memory → unlimited_answer g past request ≡ Err refusal
+
+-- what every state of a book has, so that a command can be prepared without its past
+pub record IsUsable (state : State) : Type 0 where
+  pub early : state.clock ≤ 2 ^ 32
+  pub wide : 64 ≤ state.top.ring.page_bytes
+  pub few_events : length state.events.items ≤ 64
+  pub switches : length state.top.enabled ≡ length state.events.items
+
+-- the record that an emission writes, where its event is enabled
+abbrev pub written_record : State → ℕ → ℤ → ℕ → Option (List ℕ)
+written_record state index pid value =
+    if slice_index_or state.top.enabled index false then Some (record_bytes (state.clock + 1) pid (index + 1) value) else None
+
+-- the bytes of a record, if there is one
+abbrev pub bytes_in : Option (Vec ℕ Global) → Option (List ℕ)
+bytes_in written = option_map (λ v. v.items) written
+
+-- a reply to a command that changes nothing
+abbrev pub with_nothing : Result Reply Refusal → Result Prepared Refusal
+with_nothing (Ok reply) = Ok (record { change = Nothing; reply = reply })
+with_nothing (Err refusal) = Err refusal

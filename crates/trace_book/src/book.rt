@@ -1,0 +1,128 @@
+//! The book: a history of commands, and what it has come to.
+
+ghost use Rattle.std.specs.Prelude.{◌≡◌, ℕ, ◌+◌, ◌^◌, ◌≤◌, ◌<◌, [], ◌∷◌, ◌++◌, All, is_none, is_some, IfOk, IfErr, IfSome, OnOk, OnErr, ◌≢◌, true, false};
+ghost use Rattle.page_ring.specs.Shown as shown;
+ghost use Rattle.trace_book.specs.Configs.{IsInRange};
+ghost use Rattle.trace_book.specs.History.{answer, past_of, IsLegal};
+ghost use Rattle.trace_book.specs.Refusals.{OrMemory};
+ghost use Rattle.trace_book.specs.Requests.{request_of};
+ghost use Rattle.trace_book.specs.Rings.{ring_events};
+ghost use Rattle.trace_book.specs.Settings.{now_of};
+ghost use Rattle.trace_book.specs.declared.refusal.Refusal.TheVariants as refusal;
+
+use crate::command::{Command, Config, Entry, Reply};
+use crate::instance::Instance;
+use crate::refusal::Refusal;
+use crate::state::{Prepared, State};
+use std::alloc::Global;
+use std::marker::Model;
+
+/// A tracer's book: what it was made with, the history of what was done, and what that has come to. It is worked through files as
+/// ftrace.rst describes them, one command at a time.
+#[derive(Drop)]
+pub struct Book {
+    alloc: Global,
+    config: Config,
+    entries: Vec<Entry>,
+    state: State,
+}
+
+impl Model for Book {
+    ghost use Rattle.trace_book.specs.BookSeen.{BookSeen};
+
+    ghost Value = { BookSeen };
+
+    ghost use Rattle.trace_book.specs.Books.{seen, IsSound};
+
+    ghost view = { seen };
+
+    ghost invariant = { IsSound };
+}
+
+impl Book {
+    /// A book with no history. `BadValue` comes exactly where a number of the configuration is out of range.
+    pub fn new(alloc: Global, config: Config) -> Result<Book, Refusal>
+        ensures made { IfOk result (λ book. (book.config ≡ config) × (book.entries ≡ [])) }
+        ensures in_range { OnOk result (IsInRange config) }
+        ensures refused { IfErr result (λ r. r ≢ refusal.Memory → (r ≡ refusal.BadValue) × ¬ IsInRange config) }
+    {
+        if !is_in_range(&config) {
+            return Err(Refusal::BadValue);
+        }
+        Ok(Book {
+            alloc,
+            config,
+            entries: Vec::new(alloc),
+            state: State {
+                events: Vec::new(alloc),
+                clock: 0,
+                top: Instance::new(alloc, config.pages, config.page_bytes)?,
+            },
+        })
+    }
+
+    /// Does a command, or refuses it. The answer is the one that the history gives: a command that is done is the next entry of the
+    /// history, with this ticket and this caller's number; one that is refused changes nothing.
+    pub fn ask(&mut self, ticket: u64, by: u32, command: Command) -> Result<Reply, Refusal>
+        requires { All (λ entry. entry.ticket < ticket) self.old.entries }
+        ensures reply { OrMemory result (answer self.old.config (past_of self.old.entries) (request_of command)) }
+        ensures done { OnOk result (self.new.entries
+            ≡ self.old.entries ++ record { ticket = ticket; by = by; command = command } ∷ []) }
+        ensures refused { OnErr result (self.new.entries ≡ self.old.entries) }
+        ensures config { self.new.config ≡ self.old.config }
+    {
+        let Prepared { change, reply } = self.state.prepare(self.alloc, &self.config, &command)?;
+        if self.entries.len() as u64 >= self.config.history_limit {
+            return Err(Refusal::HistoryFull);
+        }
+        self.entries.reserve(1)?;
+        self.state.commit(change);
+        self.entries.push_reserved(Entry {
+            ticket,
+            by,
+            command,
+        });
+        Ok(reply)
+    }
+
+    /// The history, oldest entry first. It is legal: tickets rise, and each entry was done after those before it.
+    pub fn entries(&self) -> &[Entry]
+        ensures entries { result.now ≡ self.now.entries }
+        ensures legal { IsLegal self.now.config self.now.entries }
+    {
+        &self.entries
+    }
+
+    /// The clock: how many emissions were done.
+    pub fn now(&self) -> u64
+        ensures { result ≡ now_of (past_of self.now.entries) }
+    {
+        self.state.clock
+    }
+
+    /// The instance of this name, or the top one. For now there is no other.
+    pub fn instance(&self, name: Option<&[u8]>) -> Option<&Instance>
+        ensures there { is_some result ≡ is_none name.entry }
+        ensures stands { IfSome result (λ instance. shown.StandsFor instance.now.ring (ring_events 0 (past_of self.now.entries))) }
+        ensures shape { IfSome result (λ instance. (instance.now.ring.pages ≡ self.now.config.pages)
+            × (instance.now.ring.page_bytes ≡ self.now.config.page_bytes)) }
+    {
+        match name {
+            Some(_) => None,
+            None => Some(&self.state.top),
+        }
+    }
+}
+
+// Whether each number of a configuration is in its range.
+fn is_in_range(config: &Config) -> bool
+    ensures yes { result ≡ true → IsInRange config.now }
+    ensures no { result ≡ false → ¬ IsInRange config.now }
+{
+    config.cpus == 1
+        && (2..=1024).contains(&config.pages)
+        && (64..=4080).contains(&config.page_bytes)
+        && config.page_bytes % 8 == 0
+        && config.history_limit >= 1
+        && config.history_limit <= 1 << 32
+}

@@ -1,0 +1,176 @@
+//! Names, and the files that paths name.
+
+ghost use Rattle.std.specs.Prelude.{◌≡◌, [], ◌∷◌};
+ghost use Rattle.std.specs.List.{list_all};
+ghost use Rattle.std.specs.Option.{option_map};
+ghost use Rattle.trace_book.specs.Decimals.{value_after};
+ghost use Rattle.trace_book.specs.Paths as paths;
+ghost use Rattle.trace_book.specs.Places.{file_at, parts_of, cpu_at};
+
+use crate::decimal::{all_digits, has_leading_zero, is_digit};
+
+fn is_name_start(byte: u8) -> bool
+    ensures { result ≡ paths.is_name_start byte }
+{
+    byte.is_ascii_uppercase() || byte.is_ascii_lowercase() || byte == b'_'
+}
+
+fn is_name_byte(byte: u8) -> bool
+    ensures { result ≡ paths.is_name_byte byte }
+{
+    is_name_start(byte) || is_digit(byte)
+}
+
+/// Whether a text is a name: 1 to 32 letters, digits or underscores, the first of them no digit.
+pub(crate) fn is_name(text: &[u8]) -> bool
+    ensures { result ≡ paths.is_name text.now }
+{
+    match text.split_first() {
+        Some((first, rest)) => starts_name(*first, rest),
+        None => false,
+    }
+}
+
+// Whether a byte and those behind it are a name.
+fn starts_name(first: u8, rest: &[u8]) -> bool
+    ensures { result ≡ paths.is_name (first ∷ rest.now) }
+{
+    is_name_start(first) && all_name_bytes(rest) && rest.len() <= 31
+}
+
+fn all_name_bytes(text: &[u8]) -> bool
+    ensures { result ≡ list_all paths.is_name_byte text.now }
+{
+    text.iter().all(|byte| is_name_byte(*byte))
+}
+
+/// A file, as a path names it: an event's by its name, a CPU's by the digits of its number.
+pub(crate) enum Place<'a> {
+    SyntheticEvents,
+    EventEnable(&'a [u8]),
+    CpuStats(&'a [u8]),
+}
+
+// What stands before the first slash, and what stands behind it.
+fn cut(path: &[u8]) -> (&[u8], Option<&[u8]>)
+    ensures { paths.parts path.now ≡ result.0.now ∷ parts_of result.1 }
+{
+    for i in 0..path.len() {
+        if path[i] == b'/' {
+            return (&path[..i], Some(&path[i + 1..]));
+        }
+    }
+    (path, None)
+}
+
+/// The file that a path names.
+#[tactic(auto, unfolding(crate::specs::Paths::file_of))]
+pub(crate) fn place_of(path: &[u8]) -> Option<Place<'_>>
+    ensures { option_map file_at result ≡ paths.file_of path.now }
+{
+    let (first, rest) = cut(path);
+    match rest {
+        None => top_place(first),
+        Some(rest) => place_below(first, rest),
+    }
+}
+
+#[tactic(auto, unfolding(crate::specs::Paths::top_file))]
+fn top_place(name: &[u8]) -> Option<Place<'_>>
+    ensures { option_map file_at result ≡ paths.top_file name.now }
+{
+    if name == b"synthetic_events".as_slice() {
+        return Some(Place::SyntheticEvents);
+    }
+    None
+}
+
+fn place_below<'a>(first: &[u8], rest: &'a [u8]) -> Option<Place<'a>>
+    ensures { option_map file_at result ≡ paths.file_in (first.now ∷ paths.parts rest.now) }
+{
+    let (second, rest) = cut(rest);
+    match rest {
+        None => None,
+        Some(rest) => place_below_two(first, second, rest),
+    }
+}
+
+fn place_below_two<'a>(first: &[u8], second: &'a [u8], rest: &'a [u8]) -> Option<Place<'a>>
+    ensures { option_map file_at result ≡ paths.file_in (first.now ∷ second.now ∷ paths.parts rest.now) }
+{
+    let (third, rest) = cut(rest);
+    match rest {
+        None => cpu_place_in(first, second, third),
+        Some(rest) => place_below_three(first, second, third, rest),
+    }
+}
+
+fn place_below_three<'a>(
+    first: &[u8],
+    second: &[u8],
+    third: &'a [u8],
+    rest: &'a [u8],
+) -> Option<Place<'a>>
+    ensures { option_map file_at result
+        ≡ paths.file_in (first.now ∷ second.now ∷ third.now ∷ paths.parts rest.now) }
+{
+    let (fourth, rest) = cut(rest);
+    match rest {
+        None => event_place_in(first, second, third, fourth),
+        Some(_) => None,
+    }
+}
+
+fn cpu_place_in<'a>(first: &[u8], second: &'a [u8], name: &[u8]) -> Option<Place<'a>>
+    ensures { option_map file_at result ≡ paths.file_in (first.now ∷ second.now ∷ name.now ∷ []) }
+{
+    if first != b"per_cpu".as_slice() {
+        return None;
+    }
+    cpu_place(cpu_digits(second)?, name)
+}
+
+// The digits in `cpuN`.
+fn cpu_digits(part: &[u8]) -> Option<&[u8]>
+    ensures number { option_map cpu_at result ≡ paths.cpu_number part.now }
+{
+    let digits = part.strip_prefix(b"cpu".as_slice())?;
+    if digits.is_empty() || has_leading_zero(digits) || !all_digits(digits) {
+        return None;
+    }
+    Some(digits)
+}
+
+#[tactic(auto, unfolding(crate::specs::Paths::cpu_file))]
+fn cpu_place<'a>(digits: &'a [u8], name: &[u8]) -> Option<Place<'a>>
+    ensures { option_map file_at result ≡ paths.cpu_file (value_after 0 digits.now) name.now }
+{
+    if name == b"stats".as_slice() {
+        return Some(Place::CpuStats(digits));
+    }
+    None
+}
+
+fn event_place_in<'a>(
+    first: &[u8],
+    second: &[u8],
+    event: &'a [u8],
+    name: &[u8],
+) -> Option<Place<'a>>
+    ensures { option_map file_at result ≡ paths.file_in (first.now ∷ second.now ∷ event.now ∷ name.now ∷ []) }
+{
+    if first != b"events".as_slice() || second != b"synthetic".as_slice() || !is_name(event) {
+        return None;
+    }
+    event_place(event, name)
+}
+
+#[tactic(auto, unfolding(crate::specs::Paths::event_file))]
+fn event_place<'a>(event: &'a [u8], name: &[u8]) -> Option<Place<'a>>
+    ensures { option_map file_at result ≡ paths.event_file event.now name.now }
+{
+    if name == b"enable".as_slice() {
+        return Some(Place::EventEnable(event));
+    }
+    None
+}

@@ -1,0 +1,308 @@
+//! Commands are prepared before anything changes: all memory that they need is taken here.
+
+ghost use Rattle.std.specs.Prelude.{◌≡◌, ◌^◌, ◌≤◌, ◌<◌, Bool, List, Option, Some, None, nat_lt, length, if◌then◌else◌, IfOk};
+ghost use Rattle.trace_book.specs.Decimals.{value_after};
+ghost use Rattle.trace_book.specs.Configs.{IsInRange};
+ghost use Rattle.trace_book.specs.History as history;
+ghost use Rattle.trace_book.specs.Refusals.{OrMemory};
+ghost use Rattle.trace_book.specs.Paths.{SyntheticEvents, EventEnable, CpuStats};
+ghost use Rattle.trace_book.specs.Requests.{Request, Emission, WriteFile, ReadFile};
+ghost use Rattle.trace_book.specs.Requests as requests;
+ghost use Rattle.trace_book.specs.Settings as settings;
+ghost use Rattle.trace_book.specs.States.{StandsFor, IsPrepared, IsReady, IsUsable, bytes_in, written_record, with_nothing};
+ghost use Rattle.trace_book.specs.Places.{file_at};
+ghost use Rattle.trace_book.specs.declared.command.Config.{Config};
+ghost use Rattle.trace_book.specs.declared.state.Change.TheVariants as change;
+
+use crate::command::{Command, Config, Pair, Reply};
+use crate::decimal::{digits_value, written_number};
+use crate::declaration::declaration;
+use crate::place::{Place, place_of};
+use crate::refusal::Refusal;
+use crate::row::{record, row};
+use crate::state::{Change, Prepared, State, find};
+use crate::stats_text::stats_text;
+use crate::text::Text;
+use std::alloc::{AllocError, Global};
+
+/// How many events there may be, for now.
+const EVENT_LIMIT: usize = 1;
+
+impl State {
+    /// Takes all memory that a command needs, and tells what it will change and its reply.
+    pub(crate) fn prepare(
+        &mut self,
+        alloc: Global,
+        config: &Config,
+        command: &Command,
+    ) -> Result<Prepared, Refusal>
+        requires usable { IsUsable self.old }
+        requires in_range { IsInRange config.now }
+        ensures stands { (g : Config) (past : List Request) → StandsFor g self.old past → StandsFor g self.new past }
+        ensures prepared { (past : List Request) → StandsFor config.now self.old past
+            → IsPrepared config.now past (requests.request_of command.now) self.new result }
+    {
+        match command {
+            Command::Emit {
+                event,
+                cpu,
+                pid,
+                pairs,
+            } => self.prepare_emission(
+                alloc,
+                config,
+                event.as_bytes(),
+                *cpu,
+                *pid,
+                pairs.as_slice(),
+            ),
+            Command::Mkdir(_) => Err(Refusal::NoSuchFile),
+            Command::Rmdir(_) => Err(Refusal::NoSuchFile),
+            Command::Write { path, append, text } => match place_of(path.as_bytes()) {
+                Some(place) => self.prepare_write(alloc, config, place, *append, text.as_bytes()),
+                None => Err(Refusal::NoSuchFile),
+            },
+            Command::Read { path, limit } => match place_of(path.as_bytes()) {
+                Some(place) => self.prepare_read(alloc, config, place, *limit),
+                None => Err(Refusal::NoSuchFile),
+            },
+        }
+    }
+
+    // An emission: its CPU, its event, its row, and then room for its record.
+    #[tactic(auto, unfolding(crate::specs::History::emission_answer))]
+    fn prepare_emission(
+        &mut self,
+        alloc: Global,
+        config: &Config,
+        name: &[u8],
+        cpu: u32,
+        pid: i32,
+        pairs: &[Pair],
+    ) -> Result<Prepared, Refusal>
+        requires usable { IsUsable self.old }
+        requires in_range { IsInRange config.now }
+        ensures stands { (g : Config) (past : List Request) → StandsFor g self.old past → StandsFor g self.new past }
+        ensures prepared { (past : List Request) → StandsFor config.now self.old past
+            → IsPrepared config.now past (Emission name.now cpu pid pairs.now) self.new result }
+    {
+        if cpu >= config.cpus {
+            return Err(Refusal::NoSuchCpu);
+        }
+        let Some(found) = find(&self.events, name) else {
+            return Err(Refusal::NoSuchEvent);
+        };
+        let index = found.index;
+        let value = row(alloc, found.event.field.as_bytes(), pairs)?;
+        let written = self.write_ahead(alloc, index, pid, value)?;
+        Ok(Prepared {
+            change: Change::Emit(written),
+            reply: Reply::Done,
+        })
+    }
+
+    // The record of an emission of the event of this number, if it is enabled, with room in the ring.
+    fn write_ahead(
+        &mut self,
+        alloc: Global,
+        index: usize,
+        pid: i32,
+        value: u64,
+    ) -> Result<Option<Vec<u8>>, AllocError>
+        requires usable { IsUsable self.old }
+        requires index { index < length self.old.events.items }
+        ensures stands { (g : Config) (past : List Request) → StandsFor g self.old past → StandsFor g self.new past }
+        ensures record { IfOk result (λ written. bytes_in written ≡ written_record self.old index pid value) }
+        ensures ready { IfOk result (λ written. IsReady self.new (change.Emit written)) }
+    {
+        if !self.top.is_enabled(index) {
+            return Ok(None);
+        }
+        let record = record(alloc, self.clock + 1, pid, index as u16 + 1, value)?;
+        self.top.ready(record.len())?;
+        Ok(Some(record))
+    }
+
+    fn prepare_write(
+        &mut self,
+        alloc: Global,
+        config: &Config,
+        place: Place<'_>,
+        append: bool,
+        text: &[u8],
+    ) -> Result<Prepared, Refusal>
+        requires usable { IsUsable self.old }
+        requires in_range { IsInRange config.now }
+        ensures stands { (g : Config) (past : List Request) → StandsFor g self.old past → StandsFor g self.new past }
+        ensures prepared { (past : List Request) → StandsFor config.now self.old past
+            → IsPrepared config.now past (WriteFile (Some (file_at place.entry)) append text.now) self.new result }
+    {
+        match place {
+            Place::SyntheticEvents => self.prepare_declaration(alloc, append, text),
+            Place::EventEnable(name) => self.prepare_switch(alloc, name, append, text),
+            Place::CpuStats(digits) => match cpu_below(digits, config.cpus) {
+                Some(_) => Err(Refusal::NotWritable),
+                None => Err(Refusal::NoSuchCpu),
+            },
+        }
+    }
+
+    // A declaration: its text, whether it may begin anew, its name, and the number of events.
+    #[tactic(auto, unfolding(crate::specs::History::declaration_answer))]
+    fn prepare_declaration(
+        &mut self,
+        alloc: Global,
+        append: bool,
+        text: &[u8],
+    ) -> Result<Prepared, Refusal>
+        requires { IsUsable self.old }
+        ensures stands { (g : Config) (past : List Request) → StandsFor g self.old past → StandsFor g self.new past }
+        ensures prepared { (g : Config) (past : List Request) → StandsFor g self.old past
+            → IsPrepared g past (WriteFile (Some SyntheticEvents) append text.now) self.new result }
+    {
+        let event = declaration(alloc, text)?;
+        if !append && !self.events.is_empty() {
+            return Err(Refusal::Busy);
+        }
+        if find(&self.events, event.name.as_bytes()).is_some() {
+            return Err(Refusal::EventExists);
+        }
+        if self.events.len() >= EVENT_LIMIT {
+            return Err(Refusal::TooMany);
+        }
+        self.events.reserve(1)?;
+        Ok(Prepared {
+            change: Change::Declare(event),
+            reply: Reply::Done,
+        })
+    }
+
+    // A switch: its event, and then the flag.
+    #[tactic(auto, unfolding(crate::specs::History::switch_answer))]
+    fn prepare_switch(
+        &self,
+        alloc: Global,
+        name: &[u8],
+        append: bool,
+        text: &[u8],
+    ) -> Result<Prepared, Refusal>
+        requires { IsUsable self.now }
+        ensures { (g : Config) (past : List Request) → StandsFor g self.now past
+            → IsPrepared g past (WriteFile (Some (EventEnable name.now)) append text.now) self.now result }
+    {
+        let _append = append;
+        if find(&self.events, name).is_none() {
+            return Err(Refusal::NoSuchEvent);
+        }
+        let Some(flag) = written_flag(text) else {
+            return Err(Refusal::BadValue);
+        };
+        Ok(Prepared {
+            change: Change::Switch(Text::from_slice(alloc, name)?, flag),
+            reply: Reply::Done,
+        })
+    }
+
+    fn prepare_read(
+        &self,
+        alloc: Global,
+        config: &Config,
+        place: Place<'_>,
+        limit: Option<u64>,
+    ) -> Result<Prepared, Refusal>
+        requires usable { IsUsable self.now }
+        requires in_range { IsInRange config.now }
+        ensures { (past : List Request) → StandsFor config.now self.now past
+            → IsPrepared config.now past (ReadFile (Some (file_at place.entry)) limit) self.now result }
+    {
+        match place {
+            Place::SyntheticEvents => Err(Refusal::NotReadable),
+            Place::EventEnable(name) => unchanged(self.read_enable(alloc, name, limit)),
+            Place::CpuStats(digits) => unchanged(self.read_stats(alloc, config, digits, limit)),
+        }
+    }
+
+    fn read_enable(&self, alloc: Global, name: &[u8], limit: Option<u64>) -> Result<Reply, Refusal>
+        requires { IsUsable self.now }
+        ensures { (g : Config) (past : List Request) → StandsFor g self.now past
+            → OrMemory result (history.unlimited_answer g past (ReadFile (Some (EventEnable name.now)) limit)) }
+    {
+        let Some(found) = find(&self.events, name) else {
+            return Err(Refusal::NoSuchEvent);
+        };
+        if limit.is_some() {
+            return Err(Refusal::BadValue);
+        }
+        let text = flag_text(alloc, self.top.is_enabled(found.index))?;
+        Ok(Reply::Text(text))
+    }
+
+    #[tactic(auto, unfolding(crate::specs::History::cpu_stats_text))]
+    fn read_stats(
+        &self,
+        alloc: Global,
+        config: &Config,
+        digits: &[u8],
+        limit: Option<u64>,
+    ) -> Result<Reply, Refusal>
+        requires usable { IsUsable self.now }
+        requires in_range { IsInRange config.now }
+        ensures { (past : List Request) → StandsFor config.now self.now past
+            → OrMemory result (history.unlimited_answer config.now past (ReadFile (Some (CpuStats (value_after 0 digits.now))) limit)) }
+    {
+        let Some(cpu) = cpu_below(digits, config.cpus) else {
+            return Err(Refusal::NoSuchCpu);
+        };
+        if limit.is_some() {
+            return Err(Refusal::BadValue);
+        }
+        let text = stats_text(alloc, self.top.stats(cpu), self.clock)?;
+        Ok(Reply::Text(text))
+    }
+}
+
+// A reply to a command that changes nothing.
+fn unchanged(reply: Result<Reply, Refusal>) -> Result<Prepared, Refusal>
+    ensures { result ≡ with_nothing reply }
+{
+    Ok(Prepared {
+        change: Change::Nothing,
+        reply: reply?,
+    })
+}
+
+// The number that digits write, if it is a CPU's.
+fn cpu_below(digits: &[u8], cpus: u32) -> Option<u32>
+    ensures { result ≡ (if nat_lt (value_after 0 digits.now) cpus then Some (value_after 0 digits.now) else None) }
+{
+    let number = digits_value(digits, u64::from(u32::MAX))?;
+    if number < u64::from(cpus) {
+        Some(number as u32)
+    } else {
+        None
+    }
+}
+
+// The switch that a text writes.
+#[tactic(auto, unfolding(crate::specs::Settings::written_flag))]
+fn written_flag(text: &[u8]) -> Option<bool>
+    ensures { result ≡ settings.written_flag text.now }
+{
+    match written_number(text)? {
+        0 => Some(false),
+        1 => Some(true),
+        _ => None,
+    }
+}
+
+// The text of a switch.
+#[tactic(auto, unfolding(crate::specs::History::flag_text))]
+fn flag_text(alloc: Global, flag: bool) -> Result<Text, AllocError>
+    ensures { IfOk result (λ text. text ≡ history.flag_text flag) }
+{
+    if flag {
+        Text::from_slice(alloc, b"1\n".as_slice())
+    } else {
+        Text::from_slice(alloc, b"0\n".as_slice())
+    }
+}
