@@ -117,6 +117,14 @@ filled_on_page page_bytes n records size is =
       | inr f ↦ rw f (filled_beyond (last_page records + 1) records (all_below records (last_page records) is.pages))
     ]
 
+-- of the records kept before, those that aren't overrun are kept after
+pub kept_olds : (pages page_bytes : ℕ) (a : Account) (bytes : List ℕ) → let b = with_accepted pages page_bytes a bytes in filter (λ r. not (is_taken b r) && not (b.lost r)) (cut page_bytes a.accepted) ≡ filter (λ r. not (is_overrun pages (reader_page a) (next_page page_bytes (cut page_bytes a.accepted) (length bytes)) r)) (kept page_bytes a)
+kept_olds pages page_bytes a bytes =
+    let records = cut page_bytes a.accepted in
+    let over : Accepted → Bool = is_overrun pages (reader_page a) (next_page page_bytes records (length bytes)) in
+    let test : Accepted → Bool = λ r. not (is_taken a r) && not (a.lost r) in
+    filter_same _ (λ r. test r && not (over r)) (λ r. kept_test (is_taken a r) (a.lost r) (over r)) records ∙ sym (filter_filter (λ r. not (over r)) test records)
+
 pub shown_after_accepted : (pages page_bytes : ℕ) (a : Account) (bytes : List ℕ) → 0 < pages → IsFair pages page_bytes a → shown_by page_bytes (with_accepted pages page_bytes a bytes) ≡ with_kept pages page_bytes (shown_by page_bytes a) bytes
 unfolding shown_by
 shown_after_accepted pages page_bytes a bytes some fair =
@@ -126,7 +134,6 @@ shown_after_accepted pages page_bytes a bytes some fair =
     let is = is_cut page_bytes a.accepted in
     let b = with_accepted pages page_bytes a bytes in
     let ov : Accepted → Bool = is_overrun pages (reader_page a) page in
-    let old_test : Accepted → Bool = λ r. not (is_taken a r) && not (a.lost r) in
     let new_test : Accepted → Bool = λ r. not (is_taken b r) && not (b.lost r) in
     let ge = next_page-ge page_bytes records (length bytes) in
     let untaken : is_taken a new ≡ false = not_taken a (length a.accepted) new is.count a.taken fair.taken_before in
@@ -134,10 +141,8 @@ shown_after_accepted pages page_bytes a bytes some fair =
     let near : ov new ≡ false = and_left _ _ (lt-leb (page + pages) page (omega arith)) in
     let passes : new_test new ≡ true = rw (untaken, unlost, near) refl in
     let pushed : cut page_bytes b.accepted ≡ records ++ new ∷ [] = cut-push page_bytes a.accepted bytes in
-    let olds : filter new_test records ≡ filter (λ r. not (ov r)) (filter old_test records) =
-    filter_same new_test (λ r. old_test r && not (ov r)) (λ r. kept_test (is_taken a r) (a.lost r) (ov r)) records ∙ sym (filter_filter (λ r. not (ov r)) old_test records) in
     let kept_is : kept page_bytes b ≡ filter (λ r. not (ov r)) (kept page_bytes a) ++ record { number = length a.accepted; page = page; bytes = bytes } ∷ [] =
-    ap (filter new_test) pushed ∙ filter-append new_test records (new ∷ []) ∙ rw (olds, passes) (ap (λ (n : ℕ). filter (λ r. not (ov r)) (kept page_bytes a) ++ record { number = n; page = page; bytes = bytes } ∷ []) is.count) in
+    ap (filter new_test) pushed ∙ filter-append new_test records (new ∷ []) ∙ rw (kept_olds pages page_bytes a bytes, passes) (ap (λ (n : ℕ). filter (λ r. not (ov r)) (kept page_bytes a) ++ record { number = n; page = page; bytes = bytes } ∷ []) is.count) in
     let last_is : last_page (cut page_bytes b.accepted) ≡ page = ap last_page pushed ∙ last_page-push records new in
     let filled_is : filled page (records ++ new ∷ []) ≡ (if nat_le (filled (last_page records) records + length bytes) page_bytes then filled (last_page records) records else 0) + length bytes =
     filled-push page records new refl ∙ ap (λ (n : ℕ). n + length bytes) (filled_on_page page_bytes (length a.accepted) records (length bytes) is) in

@@ -1,12 +1,14 @@
 -- What the bytes of a record say.
-use Rattle.std.proofs.Common.{◌≡◌, ℕ, ◌≤◌, ◌+◌, ◌*◌, List, [], ◌∷◌, ◌++◌, ◌<◌, ◌^◌, ltb, false, Some, FitsSigned, refl, ap, ◌∙◌, length, get_or, drop, length-drop, arith, tests}
+use Rattle.std.proofs.Common.{◌≡◌, ℕ, ◌≤◌, ◌+◌, ◌*◌, List, [], ◌∷◌, ◌++◌, ◌<◌, ◌^◌, ltb, false, Option, Some, None, FitsSigned, refl, ap, ◌∙◌, length, get_or, drop, length-drop, arith, tests}
 use Rattle.std.specs.Int.{w16, w32, w64, to_le_bytes, from_le_bytes, cast_unsigned, cast_signed}
 use Rattle.std.proofs.lemmas.Nat.{from_le_bytes-to_le_bytes_2, from_le_bytes-to_le_bytes_4, from_le_bytes-to_le_bytes_8}
-use Rattle.std.proofs.lemmas.Bool.{le-ltb}
+use Rattle.std.proofs.lemmas.Bool.{le-ltb, lt-ltb, cases_lt}
+use Rattle.std.proofs.Common.{inl, inr}
 use Rattle.std.proofs.Math.Facts.{Fits-of_z}
 use Rattle.std.proofs.lemmas.Int.{to_z-of_z}
 use Rattle.std.proofs.lemmas.List.{get_or-drop}
 use Rattle.page_ring.specs.declared.heads.Head.{Head}
+use Rattle.page_ring.specs.Laws.{TimestampIsHeads}
 use Rattle.page_ring.specs.Record.{IsRecord, head_of, head_bytes, number_at, timestamp, record_size}
 
 -- a record has sixteen bytes or more
@@ -52,3 +54,15 @@ head_of-head_bytes head rest t p e l =
     let event = from_le_bytes-to_le_bytes_2 head.event e in
     let payload = from_le_bytes-to_le_bytes_2 head.payload l in
     rw long (rw (ts, pid, event, payload) refl)
+
+abbrev ts_of : Option Head → ℕ
+ts_of None = 0
+ts_of (Some head) = head.ts
+
+pub timestamp_is_heads : TimestampIsHeads
+unfolding head_of timestamp
+timestamp_is_heads bytes head e =
+    elim (cases_lt (length bytes) 16) [
+      | inl l ↦ let none = rw (lt-ltb _ _ l) at e in absurd (cc)
+      | inr g ↦ let some = rw (le-ltb _ _ g) at e in ap ts_of some
+    ]

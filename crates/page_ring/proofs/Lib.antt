@@ -6,3 +6,5 @@ mod Steps
 mod Bridge
 mod Stands
 mod Readings
+mod Greedy
+mod Losses

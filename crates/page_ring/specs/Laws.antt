@@ -1,1 +1,117 @@
 -- The definitions once more, in the words of the subject.
+use Rattle.std.specs.Prelude.{◌≡◌, ◌≢◌, ◌↔◌, ℕ, ◌+◌, ◌<◌, ◌≤◌, Bool, true, false, List, [], ◌∷◌, ◌++◌, length, drop, take, map, count_by, All, Contains, Some, IsSomeAnd, slice_get}
+use Rattle.page_ring.specs.declared.heads.Head.{Head}
+use Rattle.page_ring.specs.Record.{head_of, timestamp}
+use Rattle.page_ring.specs.Events.{Event, Put, Take}
+use Rattle.page_ring.specs.Cut.{Accepted, cut, filled, last_page}
+use Rattle.page_ring.specs.Account.{Account, account, kept, is_taken, reader_page, readings_of, first, Reading}
+use Rattle.page_ring.specs.Shown.{Seen, StandsFor, offered}
+
+abbrev pub is_put : Event → Bool
+is_put (Put _ _) = true
+is_put Take = false
+
+-- a ring was offered as many records as were put since it was new or cleared
+abbrev pub OfferedIsPuts : Type 0
+OfferedIsPuts = (ring : Seen) (events : List Event) → StandsFor ring events → offered ring ≡ count_by is_put events
+
+-- the put after these events is accepted
+abbrev pub IsAccepted : ℕ → ℕ → List Event → List ℕ → Bool → Type 0
+IsAccepted pages page_bytes events bytes overwrite =
+    (account pages page_bytes (events ++ Put bytes overwrite ∷ [])).accepted ≡ (account pages page_bytes events).accepted ++ bytes ∷ []
+
+-- record r is lost after the events: some first part of them ends in an accepted put of a record that lies a round of
+-- pages or more behind r; r wasn't taken in that part, and didn't lie on its reader page
+pub record IsLostIn (pages page_bytes : ℕ) (events : List Event) (r : Accepted) : Type 0 where
+  pub before : List Event
+  pub bytes : List ℕ
+  pub overwrite : Bool
+  pub later : List Event
+  pub parts : events ≡ (before ++ Put bytes overwrite ∷ []) ++ later
+  pub accepted : IsAccepted pages page_bytes before bytes overwrite
+  pub far : let part = account pages page_bytes (before ++ Put bytes overwrite ∷ []) in r.page + pages ≤ last_page (cut page_bytes part.accepted)
+  pub untaken : is_taken (account pages page_bytes (before ++ Put bytes overwrite ∷ [])) r ≡ false
+  pub away : reader_page (account pages page_bytes (before ++ Put bytes overwrite ∷ [])) ≢ Some r.page
+
+abbrev pub LostBySomePut : Type 0
+LostBySomePut = (pages page_bytes : ℕ) (events : List Event) (r : Accepted) → ((account pages page_bytes events).lost r ≡ true) ↔ IsLostIn pages page_bytes events r
+
+-- with overwriting every put is accepted; without it, exactly where accepting the record would lose no kept record
+abbrev pub AcceptedAlways : Type 0
+AcceptedAlways = (pages page_bytes : ℕ) (events : List Event) (bytes : List ℕ) → IsAccepted pages page_bytes events bytes true
+
+abbrev pub AcceptedWithoutLoss : Type 0
+AcceptedWithoutLoss =
+    (pages page_bytes : ℕ) (events : List Event) (bytes : List ℕ)
+    → IsAccepted pages page_bytes events bytes false
+    ↔ All (λ r. (account pages page_bytes (events ++ Put bytes true ∷ [])).lost r ≡ false) (kept page_bytes (account pages page_bytes events))
+
+-- a record that isn't accepted changes the number of dropped ones and nothing else
+abbrev pub DroppedOnly : Type 0
+DroppedOnly =
+    (pages page_bytes : ℕ) (events : List Event) (bytes : List ℕ) (overwrite : Bool)
+    → ¬ IsAccepted pages page_bytes events bytes overwrite
+    → account pages page_bytes (events ++ Put bytes overwrite ∷ []) ≡ (let a = account pages page_bytes events in record a { dropped = a.dropped + 1 })
+
+-- the cut of accepted records that fit a page: they keep their order and bytes, the first lies on page 0, and each further one on
+-- the page of the one before it where all records of that page and it fit, else on the next page
+pub record IsGreedy (page_bytes : ℕ) (accepted : List (List ℕ)) (records : List Accepted) : Type 0 where
+  pub bytes : map (λ r. r.bytes) records ≡ accepted
+  pub number : (i : ℕ) (r : Accepted) → slice_get records i ≡ Some r → r.number ≡ i
+  pub begins : (r : Accepted) → slice_get records 0 ≡ Some r → r.page ≡ 0
+  pub same_page : (i : ℕ) (r s : Accepted) → slice_get records i ≡ Some r → slice_get records (i + 1) ≡ Some s → filled r.page (take (i + 1) records) + length s.bytes ≤ page_bytes → s.page ≡ r.page
+  pub next_page : (i : ℕ) (r s : Accepted) → slice_get records i ≡ Some r → slice_get records (i + 1) ≡ Some s → page_bytes < filled r.page (take (i + 1) records) + length s.bytes → s.page ≡ r.page + 1
+
+abbrev pub CutIsGreedy : Type 0
+CutIsGreedy =
+    (page_bytes : ℕ) (accepted : List (List ℕ)) → All (λ bytes. length bytes ≤ page_bytes) accepted → IsGreedy page_bytes accepted (cut page_bytes accepted)
+
+-- a consuming read takes the kept record with the least number, and tells that number less the one consumed before it,
+-- less one; where none was consumed before, the number itself
+pub record ReadsLeast (pages page_bytes : ℕ) (events : List Event) (r : Accepted) (rest : List Accepted) : Type 0 where
+  pub least : All (λ s. r.number < s.number) rest
+  pub taken : (account pages page_bytes (events ++ Take ∷ [])).taken ≡ (account pages page_bytes events).taken ++ r ∷ []
+  pub kept_after : kept page_bytes (account pages page_bytes (events ++ Take ∷ [])) ≡ rest
+
+abbrev pub LeastIsRead : Type 0
+LeastIsRead =
+    (pages page_bytes : ℕ) (events : List Event) (r : Accepted) (rest : List Accepted)
+    → kept page_bytes (account pages page_bytes events) ≡ r ∷ rest → ReadsLeast pages page_bytes events r rest
+
+-- what such a read tells: how many accepted records lie between the one consumed before, or the beginning, and this one
+pub record TellsLost (a : Account) (r : Accepted) (reading : Reading) : Type 0 where
+  pub rec : reading.rec ≡ r.bytes
+  pub from_beginning : a.taken ≡ [] → reading.lost ≡ r.number
+  pub from_last : (before : List Accepted) (last : Accepted) → a.taken ≡ before ++ last ∷ [] → last.number + 1 + reading.lost ≡ r.number
+
+abbrev pub LostIsBetween : Type 0
+LostIsBetween =
+    (pages page_bytes : ℕ) (events : List Event) (r : Accepted) (rest : List Accepted)
+    → kept page_bytes (account pages page_bytes events) ≡ r ∷ rest
+    → IsSomeAnd (first (readings_of pages page_bytes events)) (TellsLost (account pages page_bytes events) r)
+
+-- what is listed is what consuming reads find one after another
+abbrev pub ReadingsAreAhead : Type 0
+ReadingsAreAhead =
+    (pages page_bytes : ℕ) (events : List Event) → readings_of pages page_bytes (events ++ Take ∷ []) ≡ drop 1 (readings_of pages page_bytes events)
+
+-- with nothing kept, a read changes nothing
+abbrev pub NothingToRead : Type 0
+NothingToRead =
+    (pages page_bytes : ℕ) (events : List Event)
+    → kept page_bytes (account pages page_bytes events) ≡ [] → account pages page_bytes (events ++ Take ∷ []) ≡ account pages page_bytes events
+
+-- a head is read where it was written, and says when the record was
+abbrev pub TimestampIsHeads : Type 0
+TimestampIsHeads = (bytes : List ℕ) (head : Head) → head_of bytes ≡ Some head → timestamp bytes ≡ head.ts
+
+-- a put of a record that passes the test, or a read
+abbrev pub puts_pass : (List ℕ → Bool) → Event → Bool
+puts_pass test (Put bytes _) = test bytes
+puts_pass test Take = true
+
+-- what holds of each record that was put holds of each one that is kept
+abbrev pub KeptWerePut : Type 0
+KeptWerePut =
+    (pages page_bytes : ℕ) (events : List Event) (test : List ℕ → Bool)
+    → All (λ e. puts_pass test e ≡ true) events → All (λ k. test k.rec ≡ true) (readings_of pages page_bytes events)

@@ -11,3 +11,4 @@ pub mod Unread
 pub mod Reading
 pub mod KeptRecords
 pub mod Laws
+pub mod Rows

@@ -58,11 +58,14 @@ impl Pages {
     /// so many pages.
     pub fn lost_by_moving(&self, pages: u64) -> (u64, u64)
         requires small { self.now.tail.number + pages + 1 < 2 ^ 64 }
-        requires circle { (low : ℕ) × IsCircle pages self.now.tail.number low self.now.circle.items }
+        requires circle { (low : ℕ)
+            × IsCircle pages self.now.tail.number low self.now.circle.items }
         ensures records { result.0
-            ≡ sum_by (λ p. length p.records.items) (overrun_head pages self.now.tail.number self.now.circle.items) }
+            ≡ sum_by (λ p. length p.records.items)
+            (overrun_head pages self.now.tail.number self.now.circle.items) }
         ensures bytes { result.1
-            ≡ sum_by (λ p. p.filled) (overrun_head pages self.now.tail.number self.now.circle.items) }
+            ≡ sum_by (λ p. p.filled)
+            (overrun_head pages self.now.tail.number self.now.circle.items) }
     {
         match self.circle.front() {
             Some(head) => {
@@ -77,19 +80,24 @@ impl Pages {
     }
 
     /// Moves the tail on to the next page, whose list of records is given, and drops the head page
-    /// where that is in the way. The old tail page stays in the circle, or outside as the reader page.
+    /// where that is in the way. The old tail page stays in the circle, or outside as the reader
+    /// page.
     pub fn move_tail(&mut self, pages: u64, reader_page: Option<u64>, fresh: VecDeque<Stored>)
         requires small { self.old.tail.number + pages + 1 < 2 ^ 64 }
-        requires circle { (low : ℕ) × IsCircle pages self.old.tail.number low self.old.circle.items }
+        requires circle { (low : ℕ)
+            × IsCircle pages self.old.tail.number low self.old.circle.items }
         requires room { deque_len self.old.circle < deque_capacity self.old.circle }
         requires fresh { fresh.items ≡ [] }
         ensures tail_number { self.new.tail.number ≡ self.old.tail.number + 1 }
         ensures tail_filled { self.new.tail.filled ≡ 0 }
         ensures tail_records { self.new.tail.records ≡ fresh }
-        ensures reader { self.new.reader ≡ (if is_reader_page reader_page self.old.tail.number then self.old.tail else self.old.reader) }
+        ensures reader { self.new.reader
+            ≡ (if is_reader_page reader_page self.old.tail.number
+            then self.old.tail else self.old.reader) }
         ensures circle { self.new.circle.items
             ≡ cleared pages self.old.tail.number self.old.circle.items
-            ++ (if is_reader_page reader_page self.old.tail.number then [] else self.old.tail ∷ []) }
+            ++ (if is_reader_page reader_page self.old.tail.number
+            then [] else self.old.tail ∷ []) }
     {
         if self.head_is_in_the_way(pages) {
             self.circle.pop_front();
@@ -127,7 +135,8 @@ impl Pages {
     // Whether the head page has to go where the tail moves on.
     fn head_is_in_the_way(&self, pages: u64) -> bool
         requires small { self.now.tail.number + pages + 1 < 2 ^ 64 }
-        requires circle { (low : ℕ) × IsCircle pages self.now.tail.number low self.now.circle.items }
+        requires circle { (low : ℕ)
+            × IsCircle pages self.now.tail.number low self.now.circle.items }
         ensures { result ≡ head_is_in_the_way pages self.now.tail.number self.now.circle.items }
     {
         match self.circle.front() {
@@ -139,7 +148,8 @@ impl Pages {
     /// The first unread record.
     pub fn first(&self) -> Option<&Stored>
         requires { All (λ p. 0 < length p.records.items) self.now.circle.items }
-        ensures { MatchOption result (kept_in self.now ≡ []) (λ r. IsFirst r.now (kept_in self.now)) }
+        ensures { MatchOption result (kept_in self.now ≡ [])
+            (λ r. IsFirst r.now (kept_in self.now)) }
     {
         if let Some(r) = self.reader.records.front() {
             return Some(r);
@@ -165,7 +175,8 @@ impl Pages {
     /// Takes the first unread record off its page, and says which page that is.
     pub fn take_first(&mut self) -> Option<(u64, Stored)>
         requires { All (λ p. 0 < length p.records.items) self.old.circle.items }
-        ensures { MatchOption result (NothingUnread self.old self.new) (λ x. TakesFirst self.old self.new x.0 x.1) }
+        ensures { MatchOption result (NothingUnread self.old self.new)
+            (λ x. TakesFirst self.old self.new x.0 x.1) }
     {
         self.swap_reader();
         if let Some(record) = self.reader.records.pop_front() {

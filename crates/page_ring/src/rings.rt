@@ -20,18 +20,19 @@ use std::collections::VecDeque;
 use std::marker::Model;
 use std::mem;
 
-/// What became of a record that was put.
+/// What became of a record that was put (the two modes of "The Generic Ring Buffer" in
+/// ring-buffer-design.rst).
 #[derive(Clone, Copy, Debug, PartialEq, Eq)]
 pub enum Put {
     /// It is kept, and no kept record was lost.
     Kept,
     /// It is kept, and so many kept records were lost by it.
     KeptLosing(u64),
-    /// It was dropped.
+    /// It was dropped, since overwriting is off and it would have cost a kept record.
     Dropped,
 }
 
-/// What `per_cpu/cpuN/stats` shows of a ring (ftrace.rst).
+/// What `per_cpu/cpuN/stats` shows of a ring ("The File System" of ftrace.rst).
 #[derive(Clone, Copy, Debug, PartialEq, Eq)]
 pub struct RingStats {
     /// How many records are kept.
@@ -57,7 +58,7 @@ pub struct Kept<'a> {
     pub rec: &'a [u8],
 }
 
-/// A ring of records for one CPU.
+/// A ring of records for one CPU ("The Generic Ring Buffer" of ring-buffer-design.rst).
 #[derive(Drop)]
 pub struct Ring {
     alloc: Global,
@@ -73,8 +74,8 @@ pub struct Ring {
     accepted: u64,
     dropped: u64,
     read: u64,
-    // Up to what length memory is at hand for a record: a slot in the circle, in the tail page and in
-    // a fresh list of records, and a buffer.
+    // Up to what length memory is at hand for a record: a slot in the circle, in the tail page and
+    // in a fresh list of records, and a buffer.
     ready: usize,
     fresh: VecDeque<Stored>,
     buffer: Vec<u8>,
@@ -95,7 +96,8 @@ impl Model for Ring {
 impl Ring {
     ghost use Rattle.page_ring.specs.Reading.{reading};
 
-    /// An empty ring of so many pages in a circle, each for so many bytes of records.
+    /// An empty ring of so many pages in a circle, each for so many bytes of records. The error is
+    /// want of memory alone.
     pub fn new(alloc: Global, pages: u32, page_bytes: u32) -> Result<Ring, AllocError>
         requires pages { (2 ≤ pages) × (pages ≤ 1024) }
         requires page_bytes { (64 ≤ page_bytes) × (page_bytes ≤ 4080) × (page_bytes % 8 ≡ 0) }
@@ -127,7 +129,8 @@ impl Ring {
         })
     }
 
-    /// Makes room for one record of up to `len` bytes. It changes nothing that can be seen.
+    /// Makes room for one record of up to `len` bytes, until the next `put`, `take` or `clear`. It
+    /// changes nothing that can be seen, also where memory is refused.
     pub fn ready(&mut self, len: usize) -> Result<(), AllocError>
         ensures stands { (events : List event.Event) → StandsFor self.old events
             → StandsFor self.new events }
@@ -143,7 +146,9 @@ impl Ring {
         Ok(())
     }
 
-    /// Writes a record, over older ones where that is allowed and needed.
+    /// Writes a record on the tail page, or where it doesn't fit there on the next page. Where that
+    /// is the head page, the head page is lost whole with `overwrite`, and without it the record is
+    /// dropped; a later, smaller one may still fit the tail page. It takes no memory.
     pub fn put(&mut self, rec: &[u8], overwrite: bool) -> Put
         requires is_record { IsRecord rec.now }
         requires fits { length rec.now ≤ self.old.page_bytes }
@@ -197,7 +202,8 @@ impl Ring {
         ensures fits { result ≡ nat_le (self.now.shown.last_filled + len) self.now.page_bytes }
         ensures none { overrun_by self.now.pages self.now.shown self.now.shown.last_page ≡ [] }
         ensures two_pages { 2 ≤ self.now.pages }
-        ensures all { left_by self.now.pages self.now.shown self.now.shown.last_page ≡ self.now.shown.kept }
+        ensures all { left_by self.now.pages self.now.shown self.now.shown.last_page
+            ≡ self.now.shown.kept }
     {
         self.pages.tail.filled + len as u64 <= self.page_bytes
     }
@@ -212,7 +218,8 @@ impl Ring {
 
     fn refuse(&mut self)
         requires { offered self.old < 2 ^ 32 }
-        ensures shown { self.new.shown ≡ record self.old.shown { dropped = self.old.shown.dropped + 1 } }
+        ensures shown { self.new.shown
+            ≡ record self.old.shown { dropped = self.old.shown.dropped + 1 } }
         ensures pages { self.new.pages ≡ self.old.pages }
         ensures page_bytes { self.new.page_bytes ≡ self.old.page_bytes }
     {
@@ -262,10 +269,11 @@ impl Ring {
         self.ready = 0;
     }
 
-    /// The first kept record, which the next consuming read takes.
+    /// The first kept record, which the next consuming read takes. Nothing is swapped.
     pub fn peek(&self) -> Option<Kept<'_>>
         ensures { (events : List event.Event) → StandsFor self.now events
-            → option_map reading result ≡ first (readings_of self.now.pages self.now.page_bytes events) }
+            → option_map reading result
+            ≡ first (readings_of self.now.pages self.now.page_bytes events) }
     {
         self.peek_step()
     }
@@ -282,16 +290,18 @@ impl Ring {
         }
     }
 
-    /// The timestamp of the first kept record.
+    /// The timestamp of the first kept record, in ticks of the clock.
     pub fn peek_ts(&self) -> Option<u64>
         ensures { (events : List event.Event) → StandsFor self.now events
-            → result ≡ option_map (λ r. timestamp r.rec) (first (readings_of self.now.pages self.now.page_bytes events)) }
+            → result ≡ option_map (λ r. timestamp r.rec)
+            (first (readings_of self.now.pages self.now.page_bytes events)) }
     {
         self.peek_ts_step()
     }
 
     fn peek_ts_step(&self) -> Option<u64>
-        ensures { result ≡ option_map (λ r. timestamp r.rec) (first (readings_shown self.now.shown)) }
+        ensures { result
+            ≡ option_map (λ r. timestamp r.rec) (first (readings_shown self.now.shown)) }
     {
         match self.pages.first() {
             Some(record) => Some(timestamp(&record.bytes)),
@@ -299,14 +309,15 @@ impl Ring {
         }
     }
 
-    /// Consumes the first kept record, and tells how many were lost before it. Where the reader page
-    /// has nothing unread, it is swapped with the head page first. With nothing kept it is `None`, and
-    /// nothing changes.
+    /// Consumes the first kept record, and tells how many were lost before it. Where the reader
+    /// page has nothing unread, it is swapped with the head page first. With nothing kept it is
+    /// `None`, and nothing changes.
     pub fn take(&mut self) -> Option<u64>
         ensures stands { (events : List event.Event) → StandsFor self.old events
             → StandsFor self.new (events ++ event.Take ∷ []) }
         ensures answer { (events : List event.Event) → StandsFor self.old events
-            → result ≡ option_map (λ r. r.lost) (first (readings_of self.old.pages self.old.page_bytes events)) }
+            → result ≡ option_map (λ r. r.lost)
+            (first (readings_of self.old.pages self.old.page_bytes events)) }
         ensures none { (events : List event.Event) → IsNone result → StandsFor self.old events
             → StandsFor self.new events }
         ensures pages { self.new.pages ≡ self.old.pages }
@@ -334,7 +345,7 @@ impl Ring {
         Some(lost)
     }
 
-    /// The kept records in order, as consuming reads would find them.
+    /// The kept records in order, as consuming reads would find them. Nothing is consumed.
     pub fn kept(&self) -> KeptRecords<'_>
         ensures records { (events : List event.Event) → StandsFor self.now events
             → result ≡ readings_of self.now.pages self.now.page_bytes events }

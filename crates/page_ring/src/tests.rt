@@ -2,9 +2,11 @@
 ghost use Rattle.std.specs.Prelude.{◌≡◌, ℕ, ◌+◌, ◌-◌, ◌<◌, ◌≤◌, ◌^◌, length};
 ghost use Rattle.page_ring.specs.Record.{IsRecord};
 ghost use Rattle.page_ring.specs.Shown.{offered};
+ghost use Rattle.page_ring.specs.Rows.{FiveEmissions, SevenEmissions, StatsAfterOverrun, ReadsAfterOverrun, StatsAfterReads, WriterGoesOn, WriterGoesOnWithoutOverwriting, BigIsDropped, SmallerIsKept, BigLosesPage};
 
 use crate::{Head, Put, Ring, RingStats, write_head};
 use std::alloc::AllocError;
+use std::process::Abort;
 use std::test::Fail;
 
 // A record of 24 bytes, written at this time.
@@ -65,8 +67,23 @@ fn write_ticks(ring: &mut Ring, from: u64, to: u64, overwrite: bool) -> Result<(
     Ok(())
 }
 
+// The same rows on the definitions, computed.
+fn rows_of_the_definitions()
+    ensures five { FiveEmissions }
+    ensures seven { SevenEmissions }
+    ensures overrun_stats { StatsAfterOverrun }
+    ensures overrun_reads { ReadsAfterOverrun }
+    ensures read_stats { StatsAfterReads }
+    ensures writer { WriterGoesOn }
+    ensures writer_without_overwriting { WriterGoesOnWithoutOverwriting }
+    ensures dropped { BigIsDropped }
+    ensures kept { SmallerIsKept }
+    ensures losing { BigLosesPage }
+{}
+
 #[test]
 fn seven_emissions(rt: HostRuntime) -> Result<(), Fail> {
+    rows_of_the_definitions();
     let mut ring = Ring::new(rt.alloc(), 2, 64)?;
     assert_eq!(rt; ring.stats(), stats(0, 0, 0, 0, 0, 0));
     write_ticks(&mut ring, 1, 6, true)?;
@@ -86,6 +103,63 @@ fn smaller_record_after_a_drop(rt: HostRuntime) -> Result<(), Fail> {
     assert_eq!(rt; write(&mut ring, &tick(5), false)?, Put::Kept);
     assert_eq!(rt; ring.stats(), stats(4, 0, 128, 1, 1, 0));
     assert_eq!(rt; write(&mut ring, &tick(6), true)?, Put::KeptLosing(2));
+    Ok(())
+}
+
+// Consumes the first record, which these facts describe.
+fn read(rt: &impl Abort, ring: &mut Ring, lost: u64, ts: u64)
+    ensures page_bytes { ring.new.page_bytes ≡ ring.old.page_bytes }
+    ensures offered { offered ring.new ≡ offered ring.old }
+{
+    assert_eq!(rt; ring.peek_ts(), Some(ts));
+    assert_eq!(rt; ring.peek().map(|kept| kept.lost), Some(lost));
+    assert_eq!(rt; ring.take(), Some(lost));
+}
+
+#[test]
+fn lost_after_overrun(rt: HostRuntime) -> Result<(), Fail> {
+    let mut ring = Ring::new(rt.alloc(), 2, 64)?;
+    write_ticks(&mut ring, 1, 4, true)?;
+    read(&rt, &mut ring, 0, 1);
+    write_ticks(&mut ring, 4, 8, true)?;
+    assert_eq!(rt; ring.stats(), stats(4, 2, 96, 2, 0, 1));
+    read(&rt, &mut ring, 0, 2);
+    read(&rt, &mut ring, 2, 5);
+    assert_eq!(rt; ring.stats(), stats(2, 2, 48, 6, 0, 3));
+    ring.clear();
+    assert_eq!(rt; ring.stats(), stats(0, 0, 0, 0, 0, 0));
+    assert_eq!(rt; ring.take(), None);
+    write_ticks(&mut ring, 6, 7, true)?;
+    assert_eq!(rt; ring.stats(), stats(1, 0, 24, 6, 0, 0));
+    Ok(())
+}
+
+#[test]
+fn swap_of_the_writers_page(rt: HostRuntime) -> Result<(), Fail> {
+    let mut ring = Ring::new(rt.alloc(), 2, 64)?;
+    write_ticks(&mut ring, 1, 2, true)?;
+    read(&rt, &mut ring, 0, 1);
+    write_ticks(&mut ring, 2, 8, true)?;
+    assert_eq!(rt; ring.stats(), stats(4, 2, 96, 2, 0, 1));
+    let mut total = 0;
+    for kept in ring.kept() {
+        assert!(rt; total < 1000);
+        assert!(rt; kept.lost < 3);
+        total += kept.lost;
+    }
+    assert_eq!(rt; total, 2);
+    read(&rt, &mut ring, 0, 2);
+    read(&rt, &mut ring, 2, 5);
+    Ok(())
+}
+
+#[test]
+fn swapped_page_without_overwriting(rt: HostRuntime) -> Result<(), Fail> {
+    let mut ring = Ring::new(rt.alloc(), 2, 64)?;
+    write_ticks(&mut ring, 1, 2, false)?;
+    read(&rt, &mut ring, 0, 1);
+    write_ticks(&mut ring, 2, 9, false)?;
+    assert_eq!(rt; ring.stats(), stats(5, 0, 120, 2, 2, 1));
     Ok(())
 }
 

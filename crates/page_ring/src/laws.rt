@@ -1,0 +1,48 @@
+//! What the definitions of the contracts mean, in the words of ring-buffer-design.rst. Each
+//! function does nothing: its contract is a theorem.
+#![tactic(auto)]
+
+ghost use Rattle.page_ring.specs.Laws.{OfferedIsPuts, LostBySomePut, AcceptedAlways, AcceptedWithoutLoss, DroppedOnly, CutIsGreedy, LeastIsRead, LostIsBetween, ReadingsAreAhead, NothingToRead, TimestampIsHeads, KeptWerePut};
+
+/// A ring was offered as many records as were put since it was new or cleared.
+pub fn offered_is_puts()
+    ensures { OfferedIsPuts }
+{}
+
+/// A record is lost where an accepted put came a round of pages or more behind it, and it was
+/// neither taken by then nor on the reader page.
+pub fn lost_by_some_put()
+    ensures { LostBySomePut }
+{}
+
+/// With overwriting every record is accepted; without it, exactly where that loses no kept
+/// record. A record that isn't accepted changes the count of dropped ones alone.
+pub fn accepted_without_loss()
+    ensures always { AcceptedAlways }
+    ensures without_loss { AcceptedWithoutLoss }
+    ensures dropped { DroppedOnly }
+{}
+
+/// Records fill a page while they fit, and the first that doesn't fit begins the next page.
+pub fn cut_is_greedy()
+    ensures { CutIsGreedy }
+{}
+
+/// A consuming read takes the least kept record and tells how many were lost before it; a list of
+/// the kept records is what such reads find one after another.
+pub fn least_is_read()
+    ensures least { LeastIsRead }
+    ensures lost { LostIsBetween }
+    ensures ahead { ReadingsAreAhead }
+    ensures nothing { NothingToRead }
+{}
+
+/// A record that begins with a head was written at that head's time.
+pub fn timestamp_is_heads()
+    ensures { TimestampIsHeads }
+{}
+
+/// What holds of each record that was put holds of each record that is kept.
+pub fn kept_were_put()
+    ensures { KeptWerePut }
+{}
