@@ -84,14 +84,15 @@ usable-from_stands g state past in_range stands few = record {
 }
 
 -- a new book's state stands for no request
-pub stands-new : (g : Config) (state : State) → state.events.items ≡ [] → state.top.enabled ≡ [] → state.clock ≡ 0 → shown.StandsFor state.top.ring []
+pub stands-new : (g : Config) (state : State) → state.events.items ≡ [] → state.top.enabled ≡ [] → state.top.overwrite ≡ true → state.clock ≡ 0 → shown.StandsFor state.top.ring []
     → state.top.ring.pages ≡ g.pages → state.top.ring.page_bytes ≡ g.page_bytes → shown.offered state.top.ring ≡ 0 → StandsFor g state (past_of [])
 unfolding past_of
-stands-new g state events enabled clock ring pages page_bytes offered = record {
+stands-new g state events enabled overwrite clock ring pages page_bytes offered = record {
   events = events;
   few_events = omega arith;
   enabled = enabled;
   unknown = λ name none. refl;
+  overwrite = overwrite;
   clock = clock;
   early = omega arith;
   ring = ring;

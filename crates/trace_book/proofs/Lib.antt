@@ -6,5 +6,6 @@ pub mod Ready
 pub mod RowLemmas
 pub mod Steps
 pub mod Switching
+pub mod Taking
 pub mod Trimming
 pub mod Values

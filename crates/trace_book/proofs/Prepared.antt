@@ -10,36 +10,40 @@ use Rattle.trace_book.specs.Paths.{File, EventEnable}
 use Rattle.trace_book.specs.Refusals.{OrMemory}
 use Rattle.trace_book.specs.Requests.{Request, Emission, WriteFile, ReadFile}
 use Rattle.trace_book.specs.Rows.{row_of}
-use Rattle.trace_book.specs.Rings.{record_bytes, record_of_event, emitted_record, ring_event_of}
-use Rattle.trace_book.specs.Settings.{NumberedEvent, event_named, event_named_from, declared_events, is_enabled, now_of}
-use Rattle.trace_book.specs.History.{emission_answer, unlimited_answer, flag_text, whole_text}
-use Rattle.trace_book.specs.States.{StandsFor, IsChangeOf, IsPrepared, IsReady, numbered, with_nothing, bytes_in, written_record, puts_by}
+use Rattle.trace_book.specs.Rings.{record_bytes, record_of_event, emitted_record, consumed, put_of, clears}
+use Rattle.trace_book.specs.Settings.{NumberedEvent, event_named, event_named_from, declared_events, declares, switches, is_enabled, sets_overwrite, overwrites, written_flag, written_option, now_of}
+use Rattle.trace_book.specs.History.{emission_answer, switch_answer, option_answer, unlimited_answer, flag_text, whole_text}
+use Rattle.trace_book.specs.States.{StandsFor, IsChangeOf, IsPrepared, IsReady, numbered, with_nothing, bytes_in, written_record, kept_count, puts_by, overwriting}
 use Rattle.trace_book.specs.declared.command.Config.{Config}
 use Rattle.trace_book.specs.declared.command.Pair.{Pair}
 use Rattle.trace_book.specs.declared.command.Reply.{Reply}
 use Rattle.trace_book.specs.declared.command.Reply.TheVariants as reply
 use Rattle.trace_book.specs.declared.declaration.Declared.{Declared}
 use Rattle.trace_book.specs.declared.refusal.Refusal.{Refusal}
+use Rattle.trace_book.specs.declared.refusal.Refusal.TheVariants as refusal
 use Rattle.trace_book.specs.declared.state.State.{State}
 use Rattle.trace_book.specs.declared.state.Found.{Found}
 use Rattle.trace_book.specs.declared.state.Change.TheVariants.{Nothing, Emit}
 
 -- a read changes nothing
 pub prepared-nothing : (g : Config) (past : List Request) (file : Option File) (limit : Option ℕ) (state : State) (answered : Result Reply Refusal)
-    → OrMemory answered (unlimited_answer g past (ReadFile file limit)) → IsPrepared g past (ReadFile file limit) state (with_nothing answered)
-prepared-nothing g past file limit state (Ok text) given = (
+    → consumed 0 (ReadFile file limit) (kept_count g past) ≡ 0 → OrMemory answered (unlimited_answer g past (ReadFile file limit)) → IsPrepared g past (ReadFile file limit) state (with_nothing answered)
+prepared-nothing g past file limit state (Ok text) none given = (
   given,
   record {
     declares = refl;
     fresh = λ event e. absurd (cc);
     switches = λ event. refl;
     addressed = λ name e. absurd (cc);
+    overwrite = refl;
     ticks = refl;
+    clears = refl;
     puts = refl;
+    takes = none;
   },
   tt,
 )
-prepared-nothing g past file limit state (Err refusal) given = given
+prepared-nothing g past file limit state (Err refusal) none given = given
 
 -- an event that was found among those of the state is the one that the requests declared
 pub named-found : (g : Config) (state : State) (past : List Request) (name : List ℕ) (found : Found) → StandsFor g state past
@@ -77,7 +81,7 @@ pub puts-emission : (g : Config) (state : State) (past : List Request) (name : L
     (written : Option (Vec ℕ Global)) (flag : Bool) → StandsFor g state past → cpu ≡ 0 → event_named name past ≡ Some (numbered found)
     → row_of found.event.now.field pairs ≡ Ok value → flag ≡ is_enabled name past → get_or state.top.enabled found.index false ≡ flag
     → bytes_in written ≡ written_record state found.index pid value
-    → ring_event_of 0 past (Emission name cpu pid pairs) ≡ puts_by (Emit written)
+    → put_of 0 past (Emission name cpu pid pairs) ≡ puts_by (overwrites past) (Emit written)
 puts-emission g state past name cpu pid pairs found value None true stands first_cpu there row set at bytes =
     absurd (let h = rw at at bytes in cc)
 puts-emission g state past name cpu pid pairs found value None false stands first_cpu there row set at bytes = rw (first_cpu, ← set) refl
@@ -96,13 +100,49 @@ unfolding emission_answer
 answers-emission g past name cpu pairs k value inside there row = rw (lt-ltb cpu g.cpus inside, there, row) refl
 
 -- an emission ticks the clock, and brings to the ring what was written ahead
-pub changes-emission : (past : List Request) (name : List ℕ) (cpu : ℕ) (pid : ℤ) (pairs : List Pair) (written : Option (Vec ℕ Global))
-    → ring_event_of 0 past (Emission name cpu pid pairs) ≡ puts_by (Emit written) → IsChangeOf past (Emission name cpu pid pairs) (Emit written)
-changes-emission past name cpu pid pairs written puts = record {
+pub changes-emission : (g : Config) (past : List Request) (name : List ℕ) (cpu : ℕ) (pid : ℤ) (pairs : List Pair) (written : Option (Vec ℕ Global))
+    → put_of 0 past (Emission name cpu pid pairs) ≡ puts_by (overwrites past) (Emit written) → IsChangeOf g past (Emission name cpu pid pairs) (Emit written)
+changes-emission g past name cpu pid pairs written puts = record {
   declares = refl;
   fresh = λ event e. absurd (cc);
   switches = λ event. refl;
   addressed = λ n e. absurd (cc);
+  overwrite = refl;
   ticks = refl;
+  clears = refl;
   puts = puts;
+  takes = refl;
 }
+
+-- a write of an option sets it
+pub prepared-option : (g : Config) (past : List Request) (file : File) (append : Bool) (text : List ℕ) (state : State) (flag : Option Bool)
+    → sets_overwrite (WriteFile (Some file) append text) ≡ flag
+    → unlimited_answer g past (WriteFile (Some file) append text) ≡ cond (is_some flag) (Ok reply.Done) (Err refusal.BadValue)
+    → declares (WriteFile (Some file) append text) ≡ None → ((event : List ℕ) → switches event (WriteFile (Some file) append text) ≡ None)
+    → clears 0 (WriteFile (Some file) append text) ≡ false → IsPrepared g past (WriteFile (Some file) append text) state (overwriting flag)
+prepared-option g past file append text state (Some flag) sets answered nothing none not_cleared = (
+  answered,
+  record {
+    declares = nothing;
+    fresh = λ event e. absurd (cc);
+    switches = none;
+    addressed = λ name e. absurd (cc);
+    overwrite = sets;
+    ticks = refl;
+    clears = not_cleared;
+    puts = refl;
+    takes = refl;
+  },
+  tt,
+)
+prepared-option g past file append text state None sets answered nothing none not_cleared = λ other. answered
+
+-- a switch answers by whether it is one
+pub answers-switch : (text : List ℕ) (flag : Option Bool) → written_flag text ≡ flag → switch_answer text ≡ cond (is_some flag) (Ok reply.Done) (Err refusal.BadValue)
+unfolding switch_answer
+answers-switch text flag is = rw is refl
+
+-- and so does the word of an option
+pub answers-option : (text : List ℕ) (flag : Option Bool) → written_option text ≡ flag → option_answer text ≡ cond (is_some flag) (Ok reply.Done) (Err refusal.BadValue)
+unfolding option_answer
+answers-option text flag is = rw is refl

@@ -16,16 +16,17 @@ stands-ready seen ready events stands = stands
 
 -- nor is it part of what a state stands for
 pub stands-with_room : (g : Config) (state : State) (past : List Request) (top : InstanceSeen) (ready : ℕ) → StandsState g state past
-    → top ≡ record { enabled = state.top.enabled; ring = record state.top.ring { ready = ready } }
+    → top ≡ record { enabled = state.top.enabled; overwrite = state.top.overwrite; ring = record state.top.ring { ready = ready } }
     → StandsState g (record { events = state.events; clock = state.clock; top = top }) past
 stands-with_room g state past top ready stands is = rw is (record {
   events = stands.events;
   few_events = stands.few_events;
   enabled = stands.enabled;
   unknown = stands.unknown;
+  overwrite = stands.overwrite;
   clock = stands.clock;
   early = stands.early;
-  ring = stands-ready state.top.ring ready (ring_events 0 past) stands.ring;
+  ring = stands-ready state.top.ring ready (ring_events g 0 past) stands.ring;
   pages = stands.pages;
   page_bytes = stands.page_bytes;
   offered = stands.offered;

@@ -8,15 +8,15 @@ use Rattle.std.proofs.lemmas.Slice.Eq.{bytes_eq-Decides}
 use Rattle.page_ring.specs.Events as ring
 use Rattle.page_ring.specs.Shown as shown
 use Rattle.trace_book.specs.Requests.{Request}
-use Rattle.trace_book.specs.Settings.{NumberedEvent, event_named, event_named_from, declares, declared_events, switches, is_enabled, ticks, now_of}
+use Rattle.trace_book.specs.Settings.{NumberedEvent, event_named, event_named_from, declares, declared_events, switches, is_enabled, sets_overwrite, overwrites, ticks, now_of}
 use Rattle.trace_book.specs.Switches.{switched_all}
-use Rattle.trace_book.specs.Rings.{ring_event_of, ring_events}
-use Rattle.trace_book.specs.States.{StandsFor, IsChangeOf, IsStep, declared_by, switched_by, addressed_by, ticks_by, puts_by, flags_after}
+use Rattle.trace_book.specs.Rings.{consumed, put_of, clears, ring_events}
+use Rattle.trace_book.specs.States.{StandsFor, IsChangeOf, IsStep, declared_by, switched_by, addressed_by, ticks_by, clears_by, puts_by, takes_by, ring_after, flags_after}
 use Rattle.trace_book.specs.declared.command.Config.{Config}
 use Rattle.trace_book.specs.declared.declaration.Declared.{Declared}
 use Rattle.trace_book.specs.declared.state.State.{State}
 use Rattle.trace_book.specs.declared.state.Change.{Change}
-use Rattle.trace_book.specs.declared.state.Change.TheVariants.{Nothing, Declare, Switch, Emit}
+use Rattle.trace_book.specs.declared.state.Change.TheVariants.{Nothing, Declare, Switch, SetOverwrite, Clear, Take, Emit}
 
 -- two functions that agree everywhere map a list to one list
 map-same : {A B : Type 0} (f h : A → B) → ((x : A) → f x ≡ h x) → (xs : List A) → map f xs ≡ map h xs
@@ -49,6 +49,9 @@ ticks_by-le : (change : Change) → ticks_by change ≤ 1
 ticks_by-le Nothing = omega arith
 ticks_by-le (Declare event) = omega arith
 ticks_by-le (Switch name flag) = omega arith
+ticks_by-le (SetOverwrite flag) = omega arith
+ticks_by-le Clear = omega arith
+ticks_by-le (Take count) = omega arith
 ticks_by-le (Emit written) = omega arith
 
 -- a name that is not among the events after a request was not among them before
@@ -69,12 +72,12 @@ flags-same past request nothing none =
     (λ (event : Declared). is_enabled-after event.name past request None (none event.name)) (declared_events past))
 
 -- the switches of the declared events, after a change
-flags_after-map : (past : List Request) (request : Request) (change : Change) → IsChangeOf past request change
+flags_after-map : (g : Config) (past : List Request) (request : Request) (change : Change) → IsChangeOf g past request change
     → ((name : List ℕ) → event_named name past ≡ None → is_enabled name past ≡ false)
     → map (λ (event : Declared). is_enabled event.name (request ∷ past)) (declared_events (request ∷ past))
     ≡ flags_after change (declared_events past) (map (λ (event : Declared). is_enabled event.name past) (declared_events past))
-flags_after-map past request Nothing is unknown = flags-same past request is.declares is.switches
-flags_after-map past request (Declare event) is unknown =
+flags_after-map g past request Nothing is unknown = flags-same past request is.declares is.switches
+flags_after-map g past request (Declare event) is unknown =
     let old_same : map (λ (e : Declared). is_enabled e.name (request ∷ past)) (declared_events past) ≡ map (λ (e : Declared). is_enabled e.name past) (declared_events past) =
     map-same (λ (e : Declared). is_enabled e.name (request ∷ past)) (λ (e : Declared). is_enabled e.name past)
     (λ (e : Declared). is_enabled-after e.name past request None (is.switches e.name)) (declared_events past) in
@@ -82,18 +85,24 @@ flags_after-map past request (Declare event) is unknown =
     is_enabled-after event.name past request None (is.switches event.name) ∙ unknown event.name (is.fresh event refl).0 in
     rw (is.declares, map-append) (ap (λ (flags : List Bool). flags ++ is_enabled event.name (request ∷ past) ∷ []) old_same
     ∙ ap (λ (flag : Bool). map (λ (e : Declared). is_enabled e.name past) (declared_events past) ++ flag ∷ []) new_off)
-flags_after-map past request (Switch name flag) is unknown =
+flags_after-map g past request (Switch name flag) is unknown =
     rw (is.declares, append-nil) (map-same (λ (e : Declared). is_enabled e.name (request ∷ past))
     (λ (e : Declared). unwrap_or (cond (bytes_eq e.name name) (Some flag) None) (is_enabled e.name past))
     (λ (e : Declared). is_enabled-after e.name past request _ (is.switches e.name)) (declared_events past)
     ∙ sym (switched_all-map name flag (λ (e : Declared). is_enabled e.name past) (declared_events past)))
-flags_after-map past request (Emit written) is unknown = flags-same past request is.declares is.switches
+flags_after-map g past request (SetOverwrite flag) is unknown = flags-same past request is.declares is.switches
+flags_after-map g past request Clear is unknown = flags-same past request is.declares is.switches
+flags_after-map g past request (Take count) is unknown = flags-same past request is.declares is.switches
+flags_after-map g past request (Emit written) is unknown = flags-same past request is.declares is.switches
 
 -- a change does not switch what is not declared
 not_switched : (past : List Request) (change : Change) (name : List ℕ)
     → ((n : List ℕ) → addressed_by change ≡ Some n → IsSome (event_named n past)) → event_named name past ≡ None → switched_by name change ≡ None
 not_switched past Nothing name addressed none = refl
 not_switched past (Declare event) name addressed none = refl
+not_switched past (SetOverwrite flag) name addressed none = refl
+not_switched past Clear name addressed none = refl
+not_switched past (Take count) name addressed none = refl
 not_switched past (Emit written) name addressed none = refl
 not_switched past (Switch switch flag) name addressed none = by_name (bytes_eq name switch) refl
   where
@@ -106,10 +115,10 @@ not_switched past (Switch switch flag) name addressed none = by_name (bytes_eq n
         let impossible : false ≡ true = rw gone at there in absurd (false≢true impossible)
 
 -- what is not declared is not enabled, after a change
-unknown-after : (past : List Request) (request : Request) (change : Change) → IsChangeOf past request change
+unknown-after : (g : Config) (past : List Request) (request : Request) (change : Change) → IsChangeOf g past request change
     → ((name : List ℕ) → event_named name past ≡ None → is_enabled name past ≡ false)
     → (name : List ℕ) → event_named name (request ∷ past) ≡ None → is_enabled name (request ∷ past) ≡ false
-unknown-after past request change is unknown name none =
+unknown-after g past request change is unknown name none =
     let before = event_named-before name past request none in
     is_enabled-after name past request None (is.switches name ∙ not_switched past change name is.addressed before) ∙ unknown name before
 
@@ -123,15 +132,16 @@ few-after past request (Some event) is fresh few =
     rw (is, length-append) (omega arith)
 
 pub stands_after : (g : Config) (old new : State) (past : List Request) (request : Request) (change : Change)
-    → StandsFor g old past → IsChangeOf past request change → IsStep old new change → StandsFor g new (request ∷ past)
+    → StandsFor g old past → IsChangeOf g past request change → IsStep old new change → StandsFor g new (request ∷ past)
 stands_after g old new past request change stands is step = record {
   events = step.events ∙ (rw (stands.events, is.declares) refl);
   few_events = few-after past request (declared_by change) is.declares (λ event e. (is.fresh event e).1) stands.few_events;
-  enabled = step.enabled ∙ (rw (stands.events, stands.enabled) (sym (flags_after-map past request change is stands.unknown)));
-  unknown = unknown-after past request change is stands.unknown;
+  enabled = step.enabled ∙ (rw (stands.events, stands.enabled) (sym (flags_after-map g past request change is stands.unknown)));
+  unknown = unknown-after g past request change is stands.unknown;
   clock = step.clock ∙ (rw (stands.clock, is.ticks) refl);
   early = let small = ticks_by-le change in omega (arith, step.clock, stands.early);
-  ring = rw is.puts (step.ring (ring_events 0 past) stands.ring);
+  overwrite = step.overwrite ∙ (rw (stands.overwrite, is.overwrite) refl);
+  ring = rw (is.clears, is.puts, is.takes) (rw stands.overwrite at (step.ring (ring_events g 0 past) stands.ring));
   pages = step.pages ∙ stands.pages;
   page_bytes = step.page_bytes ∙ stands.page_bytes;
   offered = let small = ticks_by-le change in omega (arith, step.offered, stands.offered);

@@ -1,13 +1,14 @@
 -- The answer that the requests done so far give a request, and which histories are legal. The newest request stands first.
 use Rattle.std.specs.Prelude.{◌≡◌, ℕ, ◌<◌, nat_lt, Bool, true, false, not, ◌&&◌, is_some, IsOk, if◌then◌else◌, List, [], ◌∷◌, length, map, reverse, All, Option, Some, None, Result, Ok, Err, codes, ⊤}
 use Rattle.page_ring.specs.Account.{stats_of}
-use Rattle.trace_book.specs.Paths.{File, SyntheticEvents, EventEnable, CpuStats}
+use Rattle.trace_book.specs.Paths.{File, Trace, CpuTrace, TracePipe, CpuTracePipe, CpuStats, Overwrite, TraceOptions, SyntheticEvents, EventEnable}
 use Rattle.trace_book.specs.Declarations.{declaration_of}
 use Rattle.trace_book.specs.declared.declaration.Declared.{Declared}
 use Rattle.trace_book.specs.Rows.{row_of}
 use Rattle.trace_book.specs.StatsText.{stats_text}
+use Rattle.trace_book.specs.TraceText.{trace_text, pipe_text}
 use Rattle.trace_book.specs.Requests.{Request, Emission, MakeInstance, RemoveInstance, WriteFile, ReadFile, request_of}
-use Rattle.trace_book.specs.Settings.{NumberedEvent, event_named, declared_events, written_flag, is_enabled, now_of}
+use Rattle.trace_book.specs.Settings.{NumberedEvent, event_named, declared_events, written_flag, written_option, is_enabled, overwrites, now_of}
 use Rattle.trace_book.specs.Rings.{ring_events}
 use Rattle.trace_book.specs.declared.command.Pair.{Pair}
 use Rattle.trace_book.specs.declared.command.Config.{Config}
@@ -56,11 +57,21 @@ declaration_answer past append text = read_declaration_answer past append (decla
 unfoldable pub switch_answer : List ℕ → Result Reply Refusal
 switch_answer text = if is_some (written_flag text) then Ok Done else Err BadValue
 
--- a write to a file; statistics can't be written
+-- the word of an option
+unfoldable pub option_answer : List ℕ → Result Reply Refusal
+option_answer text = if is_some (written_option text) then Ok Done else Err BadValue
+
+-- a write to a file: to a trace any text, to a pipe and to statistics none
 abbrev pub write_answer : List Request → Bool → List ℕ → File → Result Reply Refusal
+write_answer past append text Trace = Ok Done
+write_answer past append text (CpuTrace cpu) = Ok Done
+write_answer past append text TracePipe = Err NotWritable
+write_answer past append text (CpuTracePipe cpu) = Err NotWritable
+write_answer past append text (CpuStats cpu) = Err NotWritable
+write_answer past append text Overwrite = switch_answer text
+write_answer past append text TraceOptions = option_answer text
 write_answer past append text SyntheticEvents = declaration_answer past append text
 write_answer past append text (EventEnable event) = switch_answer text
-write_answer past append text (CpuStats cpu) = Err NotWritable
 
 -- ---- what each file shows
 
@@ -75,21 +86,37 @@ flag_text flag = if flag then codes "1\n" else codes "0\n"
 
 -- the statistics of a CPU's ring
 unfoldable pub cpu_stats_text : Config → List Request → ℕ → List ℕ
-cpu_stats_text g past cpu = stats_text (stats_of g.pages g.page_bytes (ring_events cpu past)) (now_of past)
+cpu_stats_text g past cpu = stats_text (stats_of g.pages g.page_bytes (ring_events g cpu past)) (now_of past)
 
--- a read of a file; the declarations can't be read for now
+-- the word of the option
+unfoldable pub option_text : Bool → List ℕ
+option_text flag = if flag then codes "overwrite\n" else codes "nooverwrite\n"
+
+-- a read of a file: all CPUs are shown as the one that there is for now, and the declarations can't be read for now
 abbrev pub read_answer : Config → List Request → Option ℕ → File → Result Reply Refusal
+read_answer g past limit Trace = whole_text limit (trace_text g past 0)
+read_answer g past limit (CpuTrace cpu) = whole_text limit (trace_text g past cpu)
+read_answer g past limit TracePipe = Ok (Text (pipe_text g past 0 limit))
+read_answer g past limit (CpuTracePipe cpu) = Ok (Text (pipe_text g past cpu limit))
+read_answer g past limit (CpuStats cpu) = whole_text limit (cpu_stats_text g past cpu)
+read_answer g past limit Overwrite = whole_text limit (flag_text (overwrites past))
+read_answer g past limit TraceOptions = whole_text limit (option_text (overwrites past))
 read_answer g past limit SyntheticEvents = Err NotReadable
 read_answer g past limit (EventEnable event) = whole_text limit (flag_text (is_enabled event past))
-read_answer g past limit (CpuStats cpu) = whole_text limit (cpu_stats_text g past cpu)
 
 -- ---- the answer
 
+-- the CPU of a path that is not there
+abbrev pub missing_cpu : Config → ℕ → Option Refusal
+missing_cpu g cpu = if nat_lt cpu g.cpus then None else Some NoSuchCpu
+
 -- the CPU or the event of a path that is not there
 abbrev pub missing : Config → List Request → File → Option Refusal
-missing g past SyntheticEvents = None
+missing g past (CpuTrace cpu) = missing_cpu g cpu
+missing g past (CpuTracePipe cpu) = missing_cpu g cpu
+missing g past (CpuStats cpu) = missing_cpu g cpu
 missing g past (EventEnable event) = if is_some (event_named event past) then None else Some NoSuchEvent
-missing g past (CpuStats cpu) = if nat_lt cpu g.cpus then None else Some NoSuchCpu
+missing g past _ = None
 
 -- a refusal, or else the answer
 abbrev pub unless_refused : Option Refusal → Result Reply Refusal → Result Reply Refusal

@@ -2,7 +2,8 @@
 use Rattle.std.specs.Prelude.{ℕ, ◌<◌, ◌≤◌, Bool, List, length, vec_len, vec_capacity}
 use Rattle.page_ring.specs.Shown.{Seen}
 
--- which events are enabled, in order of declaration, and the ring of its CPU
+-- which events are enabled, in order of declaration; whether records may overwrite older ones; and the ring of its CPU
 pub record InstanceSeen : Type 0 where
   pub enabled : List Bool
+  pub overwrite : Bool
   pub ring : Seen

@@ -11,6 +11,7 @@ pub mod Configs
 pub mod Requests
 pub mod Settings
 pub mod Rings
+pub mod TraceText
 pub mod History
 pub mod Instances
 pub mod States

@@ -24,9 +24,15 @@ parts path = slice_split (λ b. b == 47) path
 
 -- a file; an event's by its name, a CPU's by its number
 pub data File : Type 0 where
+  Trace : File
+  CpuTrace : ℕ → File
+  TracePipe : File
+  CpuTracePipe : ℕ → File
+  CpuStats : ℕ → File
+  Overwrite : File
+  TraceOptions : File
   SyntheticEvents : File
   EventEnable : List ℕ → File
-  CpuStats : ℕ → File
 
 -- the number in `cpuN`: decimal, without leading zeros
 abbrev pub cpu_number : List ℕ → Option ℕ
@@ -35,11 +41,22 @@ cpu_number part =
 
 -- a file at the top
 unfoldable pub top_file : List ℕ → Option File
-top_file name = if bytes_eq name (codes "synthetic_events") then Some SyntheticEvents else None
+top_file name =
+    if bytes_eq name (codes "trace") then Some Trace
+    else (if bytes_eq name (codes "trace_pipe") then Some TracePipe
+    else (if bytes_eq name (codes "trace_options") then Some TraceOptions
+    else (if bytes_eq name (codes "synthetic_events") then Some SyntheticEvents else None)))
+
+-- a file of an option
+unfoldable pub option_file : List ℕ → Option File
+option_file name = if bytes_eq name (codes "overwrite") then Some Overwrite else None
 
 -- a file of a CPU
 unfoldable pub cpu_file : ℕ → List ℕ → Option File
-cpu_file cpu name = if bytes_eq name (codes "stats") then Some (CpuStats cpu) else None
+cpu_file cpu name =
+    if bytes_eq name (codes "stats") then Some (CpuStats cpu)
+    else (if bytes_eq name (codes "trace") then Some (CpuTrace cpu)
+    else (if bytes_eq name (codes "trace_pipe") then Some (CpuTracePipe cpu) else None))
 
 -- a file of an event
 unfoldable pub event_file : List ℕ → List ℕ → Option File
@@ -48,6 +65,7 @@ event_file event name = if bytes_eq name (codes "enable") then Some (EventEnable
 -- the file that the parts of a path name
 abbrev pub file_in : List (List ℕ) → Option File
 file_in (name ∷ []) = top_file name
+file_in (first ∷ name ∷ []) = if bytes_eq first (codes "options") then option_file name else None
 file_in (first ∷ second ∷ name ∷ []) =
     if bytes_eq first (codes "per_cpu") then option_and_then (λ cpu. cpu_file cpu name) (cpu_number second) else None
 file_in (first ∷ second ∷ third ∷ name ∷ []) =

@@ -2,7 +2,7 @@
 use Rattle.std.specs.Prelude.{ℕ, List, [], Option, Some, None}
 use Rattle.std.specs.Borrow.{Bor}
 use Rattle.trace_book.specs.Decimals.{value_after}
-use Rattle.trace_book.specs.Paths.{File, SyntheticEvents, EventEnable, CpuStats, parts}
+use Rattle.trace_book.specs.Paths.{File, Trace, CpuTrace, TracePipe, CpuTracePipe, CpuStats, Overwrite, TraceOptions, SyntheticEvents, EventEnable, parts}
 use Rattle.trace_book.specs.declared.place.Place.{Place}
 use Rattle.trace_book.specs.declared.place.Place.TheVariants as place
 
@@ -16,6 +16,12 @@ abbrev pub cpu_at : Bor (List ℕ) → ℕ
 cpu_at digits = value_after 0 digits.now
 
 abbrev pub file_at : Place → File
+file_at place.Trace = Trace
+file_at (place.CpuTrace digits) = CpuTrace (cpu_at digits)
+file_at place.TracePipe = TracePipe
+file_at (place.CpuTracePipe digits) = CpuTracePipe (cpu_at digits)
+file_at (place.CpuStats digits) = CpuStats (cpu_at digits)
+file_at place.Overwrite = Overwrite
+file_at place.TraceOptions = TraceOptions
 file_at place.SyntheticEvents = SyntheticEvents
 file_at (place.EventEnable name) = EventEnable name.now
-file_at (place.CpuStats digits) = CpuStats (cpu_at digits)

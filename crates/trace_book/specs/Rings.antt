@@ -1,13 +1,16 @@
 -- What the requests that were done brought to the ring of a CPU.
-use Rattle.std.specs.Prelude.{ℕ, ◌+◌, ◌==◌, ℤ, Bool, true, ◌&&◌, if◌then◌else◌, List, [], ◌∷◌, ◌++◌, map, Option, Some, None}
+use Rattle.std.specs.Prelude.{ℕ, ◌+◌, ◌==◌, min, ℤ, Bool, false, not, ◌&&◌, if◌then◌else◌, List, [], ◌∷◌, ◌++◌, length, map, replicate, Option, Some, None}
 use Rattle.std.specs.Option.{option_map, option_and_then, option_to_list}
 use Rattle.std.specs.Result.{result_ok}
 use Rattle.std.specs.Int.{w64, to_le_bytes}
 use Rattle.page_ring.specs.Events as ring
 use Rattle.page_ring.specs.Record.{head_bytes}
+use Rattle.page_ring.specs.Account.{readings_of}
+use Rattle.trace_book.specs.Paths.{Trace, CpuTrace, TracePipe, CpuTracePipe}
 use Rattle.trace_book.specs.Rows.{row_of}
-use Rattle.trace_book.specs.Settings.{NumberedEvent, event_named, is_enabled, now_of}
+use Rattle.trace_book.specs.Settings.{NumberedEvent, event_named, is_enabled, overwrites, now_of}
 use Rattle.trace_book.specs.Requests.{Request, Emission, MakeInstance, RemoveInstance, WriteFile, ReadFile}
+use Rattle.trace_book.specs.declared.command.Config.{Config}
 use Rattle.trace_book.specs.declared.command.Pair.{Pair}
 
 -- the bytes of a record: its head, and the value with its low byte first
@@ -23,13 +26,34 @@ record_of_event timestamp pid pairs k = option_map (record_bytes timestamp pid k
 abbrev pub emitted_record : List Request → List ℕ → ℤ → List Pair → Option (List ℕ)
 emitted_record past name pid pairs = option_and_then (record_of_event (now_of past + 1) pid pairs) (event_named name past)
 
--- what an emission brings to the ring of a CPU after this past: a put of its record, where the event is enabled
-abbrev pub ring_event_of : ℕ → List Request → Request → List ring.Event
-ring_event_of cpu past (Emission name event_cpu pid pairs) =
-    if event_cpu == cpu && is_enabled name past then map (λ bytes. ring.Put bytes true) (option_to_list (emitted_record past name pid pairs)) else []
-ring_event_of cpu past _ = []
+-- how many records a read with this limit consumes, of so many that are kept
+abbrev pub up_to_limit : Option ℕ → ℕ → ℕ
+up_to_limit None kept = kept
+up_to_limit (Some limit) kept = min limit kept
 
--- the ring's events since the beginning, oldest first
-abbrev pub ring_events : ℕ → List Request → List ring.Event
-ring_events cpu [] = []
-ring_events cpu (request ∷ past) = ring_events cpu past ++ ring_event_of cpu past request
+-- how many records of a CPU's ring, of so many that are kept, a request consumes; for now there is one CPU
+abbrev pub consumed : ℕ → Request → ℕ → ℕ
+consumed cpu (ReadFile (Some TracePipe) limit) kept = up_to_limit limit kept
+consumed cpu (ReadFile (Some (CpuTracePipe c)) limit) kept = if c == cpu then up_to_limit limit kept else 0
+consumed cpu _ kept = 0
+
+-- the put of an emission after this past, on its CPU, where the event is enabled
+abbrev pub put_of : ℕ → List Request → Request → List ring.Event
+put_of cpu past (Emission name event_cpu pid pairs) =
+    if event_cpu == cpu && is_enabled name past
+    then map (λ bytes. ring.Put bytes (overwrites past)) (option_to_list (emitted_record past name pid pairs)) else []
+put_of cpu past _ = []
+
+-- whether a request empties the ring of a CPU: a write to a trace file, but not to append
+abbrev pub clears : ℕ → Request → Bool
+clears cpu (WriteFile (Some Trace) append text) = not append
+clears cpu (WriteFile (Some (CpuTrace c)) append text) = not append && c == cpu
+clears cpu _ = false
+
+-- the events of a CPU's ring since it was made or emptied, oldest first
+abbrev pub ring_events : Config → ℕ → List Request → List ring.Event
+ring_events g cpu [] = []
+ring_events g cpu (request ∷ past) =
+    if clears cpu request then []
+    else ring_events g cpu past ++ put_of cpu past request
+    ++ replicate (consumed cpu request (length (readings_of g.pages g.page_bytes (ring_events g cpu past)))) ring.Take

@@ -1,10 +1,10 @@
 -- What the requests that were done say of events, their switches and the clock. The newest request stands first.
-use Rattle.std.specs.Prelude.{ℕ, suc, ◌+◌, ◌==◌, Bool, true, false, if◌then◌else◌, List, [], ◌∷◌, ◌++◌, Option, Some, None, Result, Ok, Err, unwrap_or}
+use Rattle.std.specs.Prelude.{ℕ, suc, ◌+◌, ◌==◌, Bool, true, false, if◌then◌else◌, List, [], ◌∷◌, ◌++◌, Option, Some, None, Result, Ok, Err, unwrap_or, codes}
 use Rattle.std.specs.Option.{option_and_then, option_to_list}
 use Rattle.std.specs.Result.{result_ok}
 use Rattle.std.specs.Str.{bytes_eq}
 use Rattle.trace_book.specs.Decimals.{written_number}
-use Rattle.trace_book.specs.Paths.{File, SyntheticEvents, EventEnable, CpuStats}
+use Rattle.trace_book.specs.Paths.{File, Trace, CpuTrace, TracePipe, CpuTracePipe, CpuStats, Overwrite, TraceOptions, SyntheticEvents, EventEnable}
 use Rattle.trace_book.specs.Declarations.{declaration_of}
 use Rattle.trace_book.specs.declared.declaration.Declared.{Declared}
 use Rattle.trace_book.specs.Requests.{Request, Emission, MakeInstance, RemoveInstance, WriteFile, ReadFile}
@@ -55,6 +55,21 @@ switches event _ = None
 -- an event is disabled until it is switched on
 abbrev pub is_enabled : List ℕ → List Request → Bool
 is_enabled event past = setting (switches event) false past
+
+-- the word of an option that is written to `trace_options`, exactly
+unfoldable pub written_option : List ℕ → Option Bool
+written_option text =
+    if bytes_eq text (codes "overwrite") then Some true else (if bytes_eq text (codes "nooverwrite") then Some false else None)
+
+-- how a request sets whether records may overwrite older ones
+abbrev pub sets_overwrite : Request → Option Bool
+sets_overwrite (WriteFile (Some Overwrite) append text) = written_flag text
+sets_overwrite (WriteFile (Some TraceOptions) append text) = written_option text
+sets_overwrite _ = None
+
+-- records overwrite older ones unless that was switched off
+abbrev pub overwrites : List Request → Bool
+overwrites past = setting sets_overwrite true past
 
 -- how far a request moves the clock: each emission counts, recorded or not
 abbrev pub ticks : Request → ℕ

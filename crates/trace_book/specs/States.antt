@@ -1,25 +1,28 @@
 -- When what a book keeps agrees with the requests that were done, and what a change does to it.
-use Rattle.std.specs.Prelude.{◌≡◌, ℕ, ◌^◌, ℤ, slice_index_or, Vec, ◌+◌, ◌<◌, ◌≤◌, Bool, true, false, List, [], ◌∷◌, ◌++◌, length, map, IsSome, Option, Some, None, Result, Ok, Err, ◌≢◌, vec_len, vec_capacity, if◌then◌else◌, ⊤}
+use Rattle.std.specs.Prelude.{◌≡◌, ℕ, ◌^◌, ℤ, slice_index_or, replicate, unwrap_or, Vec, ◌+◌, ◌<◌, ◌≤◌, Bool, true, false, List, [], ◌∷◌, ◌++◌, length, map, IsSome, Option, Some, None, Result, Ok, Err, ◌≢◌, vec_len, vec_capacity, if◌then◌else◌, ⊤}
 use Rattle.std.specs.Option.{option_to_list, option_map}
 use Rattle.std.specs.Global.{Global}
 use Rattle.std.specs.Str.{bytes_eq}
 use Rattle.page_ring.specs.Events as ring
 use Rattle.page_ring.specs.Record.{IsRecord}
+use Rattle.page_ring.specs.Account.{readings_of}
 use Rattle.page_ring.specs.Shown as shown
 use Rattle.trace_book.specs.Requests.{Request}
-use Rattle.trace_book.specs.Settings.{NumberedEvent, event_named, declares, declared_events, switches, is_enabled, ticks, now_of}
-use Rattle.trace_book.specs.Rings.{record_bytes, ring_event_of, ring_events}
+use Rattle.trace_book.specs.Settings.{NumberedEvent, event_named, declares, declared_events, switches, is_enabled, sets_overwrite, overwrites, ticks, now_of}
+use Rattle.trace_book.specs.Rings.{record_bytes, up_to_limit, consumed, put_of, clears, ring_events}
 use Rattle.trace_book.specs.Switches.{switched_all}
 use Rattle.trace_book.specs.History.{unlimited_answer}
+use Rattle.trace_book.specs.TraceText.{pipe_text}
 use Rattle.trace_book.specs.declared.command.Config.{Config}
 use Rattle.trace_book.specs.declared.command.Reply.{Reply}
+use Rattle.trace_book.specs.declared.command.Reply.TheVariants.{Done, Text}
 use Rattle.trace_book.specs.declared.declaration.Declared.{Declared}
 use Rattle.trace_book.specs.declared.refusal.Refusal.{Refusal}
-use Rattle.trace_book.specs.declared.refusal.Refusal.TheVariants.{Memory}
+use Rattle.trace_book.specs.declared.refusal.Refusal.TheVariants.{BadValue, Memory}
 use Rattle.trace_book.specs.declared.state.State.{State}
 use Rattle.trace_book.specs.declared.state.Found.{Found}
 use Rattle.trace_book.specs.declared.state.Change.{Change}
-use Rattle.trace_book.specs.declared.state.Change.TheVariants.{Nothing, Declare, Switch, Emit}
+use Rattle.trace_book.specs.declared.state.Change.TheVariants.{Nothing, Declare, Switch, SetOverwrite, Clear, Take, Emit}
 use Rattle.trace_book.specs.declared.state.Prepared.{Prepared}
 
 -- an event that was found, with its id
@@ -32,9 +35,10 @@ pub record StandsFor (g : Config) (state : State) (past : List Request) : Type 0
   pub few_events : length (declared_events past) ≤ 64
   pub enabled : state.top.enabled ≡ map (λ event. is_enabled event.name past) (declared_events past)
   pub unknown : (name : List ℕ) → event_named name past ≡ None → is_enabled name past ≡ false
+  pub overwrite : state.top.overwrite ≡ overwrites past
   pub clock : state.clock ≡ now_of past
   pub early : state.clock ≤ length past
-  pub ring : shown.StandsFor state.top.ring (ring_events 0 past)
+  pub ring : shown.StandsFor state.top.ring (ring_events g 0 past)
   pub pages : state.top.ring.pages ≡ g.pages
   pub page_bytes : state.top.ring.page_bytes ≡ g.page_bytes
   pub offered : shown.offered state.top.ring ≤ length past
@@ -58,9 +62,26 @@ abbrev pub ticks_by : Change → ℕ
 ticks_by (Emit written) = 1
 ticks_by _ = 0
 
-abbrev pub puts_by : Change → List ring.Event
-puts_by (Emit (Some bytes)) = ring.Put bytes.items true ∷ []
-puts_by _ = []
+abbrev pub overwrite_by : Change → Option Bool
+overwrite_by (SetOverwrite flag) = Some flag
+overwrite_by _ = None
+
+abbrev pub clears_by : Change → Bool
+clears_by Clear = true
+clears_by _ = false
+
+abbrev pub takes_by : Change → ℕ
+takes_by (Take count) = count
+takes_by _ = 0
+
+abbrev pub puts_by : Bool → Change → List ring.Event
+puts_by overwrite (Emit (Some bytes)) = ring.Put bytes.items overwrite ∷ []
+puts_by overwrite _ = []
+
+-- the events of the ring after a change
+abbrev pub ring_after : Change → Bool → List ring.Event → List ring.Event
+ring_after change overwrite events =
+    if clears_by change then [] else events ++ puts_by overwrite change ++ replicate (takes_by change) ring.Take
 
 -- the switches after a change
 abbrev pub flags_after : Change → List Declared → List Bool → List Bool
@@ -68,14 +89,21 @@ flags_after (Declare event) events flags = flags ++ false ∷ []
 flags_after (Switch name flag) events flags = switched_all name flag events flags
 flags_after _ events flags = flags
 
+-- how many records of the one CPU's ring are kept after this past
+abbrev pub kept_count : Config → List Request → ℕ
+kept_count g past = length (readings_of g.pages g.page_bytes (ring_events g 0 past))
+
 -- a change says of a request all that the definitions say of it, after this past
-pub record IsChangeOf (past : List Request) (request : Request) (change : Change) : Type 0 where
+pub record IsChangeOf (g : Config) (past : List Request) (request : Request) (change : Change) : Type 0 where
   pub declares : declares request ≡ declared_by change
   pub fresh : (event : Declared) → declared_by change ≡ Some event → (event_named event.name past ≡ None) × (length (declared_events past) < 64)
   pub switches : (event : List ℕ) → switches event request ≡ switched_by event change
   pub addressed : (name : List ℕ) → addressed_by change ≡ Some name → IsSome (event_named name past)
+  pub overwrite : sets_overwrite request ≡ overwrite_by change
   pub ticks : ticks request ≡ ticks_by change
-  pub puts : ring_event_of 0 past request ≡ puts_by change
+  pub clears : clears 0 request ≡ clears_by change
+  pub puts : put_of 0 past request ≡ puts_by (overwrites past) change
+  pub takes : consumed 0 request (kept_count g past) ≡ takes_by change
 
 -- what was grown for a change is there
 abbrev pub IsReady : State → Change → Type 0
@@ -89,8 +117,9 @@ IsReady state _ = ⊤
 pub record IsStep (old new : State) (change : Change) : Type 0 where
   pub events : new.events.items ≡ old.events.items ++ option_to_list (declared_by change)
   pub enabled : new.top.enabled ≡ flags_after change old.events.items old.top.enabled
+  pub overwrite : new.top.overwrite ≡ unwrap_or (overwrite_by change) old.top.overwrite
   pub clock : new.clock ≡ old.clock + ticks_by change
-  pub ring : (events : List ring.Event) → shown.StandsFor old.top.ring events → shown.StandsFor new.top.ring (events ++ puts_by change)
+  pub ring : (events : List ring.Event) → shown.StandsFor old.top.ring events → shown.StandsFor new.top.ring (ring_after change old.top.overwrite events)
   pub pages : new.top.ring.pages ≡ old.top.ring.pages
   pub page_bytes : new.top.ring.page_bytes ≡ old.top.ring.page_bytes
   pub offered : shown.offered new.top.ring ≤ shown.offered old.top.ring + ticks_by change
@@ -98,7 +127,7 @@ pub record IsStep (old new : State) (change : Change) : Type 0 where
 -- what was prepared for a request, or why it is refused
 abbrev pub IsPrepared : Config → List Request → Request → State → Result Prepared Refusal → Type 0
 IsPrepared g past request state (Ok prepared) =
-    (unlimited_answer g past request ≡ Ok prepared.reply) × IsChangeOf past request prepared.change × IsReady state prepared.change
+    (unlimited_answer g past request ≡ Ok prepared.reply) × IsChangeOf g past request prepared.change × IsReady state prepared.change
 IsPrepared g past request state (Err refusal) = refusal ≢ Memory → unlimited_answer g past request ≡ Err refusal
 
 -- what every state of a book has, so that a command can be prepared without its past
@@ -121,3 +150,18 @@ bytes_in written = option_map (λ v. v.items) written
 abbrev pub with_nothing : Result Reply Refusal → Result Prepared Refusal
 with_nothing (Ok reply) = Ok (record { change = Nothing; reply = reply })
 with_nothing (Err refusal) = Err refusal
+
+-- a write to a trace file
+abbrev pub clearing : Bool → Prepared
+clearing append = record { change = if append then Nothing else Clear; reply = Done }
+
+-- a write of whether records may overwrite older ones
+abbrev pub overwriting : Option Bool → Result Prepared Refusal
+overwriting (Some flag) = Ok (record { change = SetOverwrite flag; reply = Done })
+overwriting None = Err BadValue
+
+-- the text of a pipe read, and how many records it consumes
+abbrev pub IsTaking : Config → List Request → Option ℕ → Result Prepared Refusal → Type 0
+IsTaking g past limit (Ok prepared) =
+    (prepared.reply ≡ Text (pipe_text g past 0 limit)) × (prepared.change ≡ Take (up_to_limit limit (kept_count g past)))
+IsTaking g past limit (Err refusal) = refusal ≡ Memory

@@ -103,7 +103,7 @@ impl Book {
     /// The instance of this name, or the top one. For now there is no other.
     pub fn instance(&self, name: Option<&[u8]>) -> Option<&Instance>
         ensures there { is_some result ≡ is_none name.entry }
-        ensures stands { IfSome result (λ instance. shown.StandsFor instance.now.ring (ring_events 0 (past_of self.now.entries))) }
+        ensures stands { IfSome result (λ instance. shown.StandsFor instance.now.ring (ring_events self.now.config 0 (past_of self.now.entries))) }
         ensures shape { IfSome result (λ instance. (instance.now.ring.pages ≡ self.now.config.pages)
             × (instance.now.ring.page_bytes ≡ self.now.config.page_bytes)) }
     {

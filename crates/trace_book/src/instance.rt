@@ -1,17 +1,17 @@
 //! A trace instance: which events it records, and its rings.
 
-ghost use Rattle.std.specs.Prelude.{◌≡◌, ℕ, ◌+◌, ◌%◌, ◌^◌, ◌≤◌, ◌<◌, Bool, true, false, List, [], ◌∷◌, ◌++◌, length, map, slice_index_or, max, if◌then◌else◌, IfOk, OnOk, OnErr};
+ghost use Rattle.std.specs.Prelude.{◌≡◌, ℕ, ◌+◌, ◌%◌, ◌^◌, ◌≤◌, ◌<◌, Bool, true, false, List, [], ◌∷◌, ◌++◌, length, map, slice_index_or, max, replicate, if◌then◌else◌, IfOk, OnOk, OnErr};
 ghost use Rattle.std.specs.Str.{bytes_eq};
 ghost use Rattle.page_ring.specs.Record.{IsRecord};
-ghost use Rattle.page_ring.specs.Events as ring;
-ghost use Rattle.page_ring.specs.Account.{stats_of};
+ghost use Rattle.page_ring.specs.Events as event;
+ghost use Rattle.page_ring.specs.Account.{stats_of, readings_of};
 ghost use Rattle.page_ring.specs.Shown.{Seen, StandsFor, offered};
 ghost use Rattle.trace_book.specs.Instances.{InstanceSeen};
 ghost use Rattle.trace_book.specs.Switches.{switched_all};
 
 use crate::command::Config;
 use crate::declaration::Declared;
-use page_ring::{Ring, RingStats};
+use page_ring::{KeptRecords, Ring, RingStats};
 use std::alloc::{AllocError, Global};
 use std::marker::Model;
 
@@ -22,6 +22,7 @@ pub(crate) const EVENTS: usize = 64;
 #[derive(Drop)]
 pub struct Instance {
     enabled: Vec<bool>,
+    overwrite: bool,
     ring: Ring,
 }
 
@@ -31,7 +32,7 @@ impl Model for Instance {
 
     ghost Value = { InstanceSeen };
 
-    ghost view = { λ i. record { enabled = i.enabled.items; ring = i.ring } };
+    ghost view = { λ i. record { enabled = i.enabled.items; overwrite = i.overwrite; ring = i.ring } };
 
     ghost invariant = { λ i. (vec_len i.enabled ≤ 64) × (64 ≤ vec_capacity i.enabled) };
 }
@@ -42,6 +43,7 @@ impl Instance {
         requires pages { (2 ≤ pages) × (pages ≤ 1024) }
         requires page_bytes { (64 ≤ page_bytes) × (page_bytes ≤ 4080) × (page_bytes % 8 ≡ 0) }
         ensures enabled { IfOk result (λ instance. instance.enabled ≡ []) }
+        ensures overwrite { IfOk result (λ instance. instance.overwrite ≡ true) }
         ensures stands { IfOk result (λ instance. StandsFor instance.ring []) }
         ensures pages { IfOk result (λ instance. instance.ring.pages ≡ pages) }
         ensures page_bytes { IfOk result (λ instance. instance.ring.page_bytes ≡ page_bytes) }
@@ -49,6 +51,7 @@ impl Instance {
     {
         Ok(Instance {
             enabled: Vec::with_capacity(alloc, EVENTS)?,
+            overwrite: true,
             ring: Ring::new(alloc, pages, page_bytes)?,
         })
     }
@@ -85,30 +88,92 @@ impl Instance {
         self.ring.ready(len)
     }
 
-    /// Writes a record, over older ones where the ring is full.
+    /// Whether records may overwrite older ones.
+    pub(crate) fn overwrites(&self) -> bool
+        ensures { result ≡ self.now.overwrite }
+    {
+        self.overwrite
+    }
+
+    /// Sets whether records may overwrite older ones.
+    pub(crate) fn set_overwrite(&mut self, flag: bool)
+        ensures { self.new ≡ record self.old { overwrite = flag } }
+    {
+        self.overwrite = flag;
+    }
+
+    /// Writes a record, over older ones where the ring is full and that is allowed.
     pub(crate) fn put(&mut self, rec: &[u8])
         requires is_record { IsRecord rec.now }
         requires fits { length rec.now ≤ self.old.ring.page_bytes }
         requires ready { length rec.now ≤ self.old.ring.ready }
         requires few { offered self.old.ring < 2 ^ 32 }
-        ensures stands { (events : List ring.Event) → StandsFor self.old.ring events
-            → StandsFor self.new.ring (events ++ ring.Put rec.now true ∷ []) }
+        ensures stands { (events : List event.Event) → StandsFor self.old.ring events
+            → StandsFor self.new.ring (events ++ event.Put rec.now self.old.overwrite ∷ []) }
         ensures enabled { self.new.enabled ≡ self.old.enabled }
+        ensures overwrite { self.new.overwrite ≡ self.old.overwrite }
         ensures pages { self.new.ring.pages ≡ self.old.ring.pages }
         ensures page_bytes { self.new.ring.page_bytes ≡ self.old.ring.page_bytes }
         ensures offered { offered self.new.ring ≡ offered self.old.ring + 1 }
     {
-        let _put = self.ring.put(rec, true);
+        let _put = self.ring.put(rec, self.overwrite);
+    }
+
+    /// Consumes so many records, or as many as there are.
+    pub(crate) fn take(&mut self, count: u64)
+        ensures stands { (events : List event.Event) → StandsFor self.old.ring events
+            → StandsFor self.new.ring (events ++ replicate count event.Take) }
+        ensures enabled { self.new.enabled ≡ self.old.enabled }
+        ensures overwrite { self.new.overwrite ≡ self.old.overwrite }
+        ensures pages { self.new.ring.pages ≡ self.old.ring.pages }
+        ensures page_bytes { self.new.ring.page_bytes ≡ self.old.ring.page_bytes }
+        ensures offered { offered self.new.ring ≡ offered self.old.ring }
+    {
+        take_all(&mut self.ring, count);
+    }
+
+    /// Empties the ring, statistics too.
+    pub(crate) fn clear(&mut self)
+        ensures stands { StandsFor self.new.ring [] }
+        ensures enabled { self.new.enabled ≡ self.old.enabled }
+        ensures overwrite { self.new.overwrite ≡ self.old.overwrite }
+        ensures pages { self.new.ring.pages ≡ self.old.ring.pages }
+        ensures page_bytes { self.new.ring.page_bytes ≡ self.old.ring.page_bytes }
+        ensures offered { offered self.new.ring ≡ 0 }
+    {
+        self.ring.clear();
+    }
+
+    /// The kept records in order, as consuming reads would find them.
+    pub(crate) fn kept(&self) -> KeptRecords<'_>
+        ensures records { (events : List event.Event) → StandsFor self.now.ring events
+            → result ≡ readings_of self.now.ring.pages self.now.ring.page_bytes events }
+        ensures few { length result ≤ 2 ^ 32 }
+    {
+        self.ring.kept()
     }
 
     /// The statistics of a CPU's ring, those of whatever events the ring stands for. For now there is one CPU.
     pub fn stats(&self, cpu: u32) -> RingStats
         requires { cpu < 1 }
-        ensures { (events : List ring.Event) → StandsFor self.now.ring events
+        ensures { (events : List event.Event) → StandsFor self.now.ring events
             → result ≡ stats_of self.now.ring.pages self.now.ring.page_bytes events }
     {
         let _cpu = cpu;
         self.ring.stats()
+    }
+}
+
+// Consumes so many records, or as many as there are.
+fn take_all(ring: &mut Ring, count: u64)
+    ensures stands { (events : List event.Event) → StandsFor ring.old events
+        → StandsFor ring.new (events ++ replicate count event.Take) }
+    ensures pages { ring.new.pages ≡ ring.old.pages }
+    ensures page_bytes { ring.new.page_bytes ≡ ring.old.page_bytes }
+    ensures offered { offered ring.new ≡ offered ring.old }
+{
+    for _i in 0..count {
+        let _lost = ring.take();
     }
 }
 

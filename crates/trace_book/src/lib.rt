@@ -13,6 +13,7 @@ mod row;
 mod state;
 mod stats_text;
 mod text;
+mod trace_text;
 
 pub use book::Book;
 pub use command::{Command, Config, Entry, Pair, Pairs, Reply};

@@ -46,9 +46,15 @@ fn all_name_bytes(text: &[u8]) -> bool
 
 /// A file, as a path names it: an event's by its name, a CPU's by the digits of its number.
 pub(crate) enum Place<'a> {
+    Trace,
+    CpuTrace(&'a [u8]),
+    TracePipe,
+    CpuTracePipe(&'a [u8]),
+    CpuStats(&'a [u8]),
+    Overwrite,
+    TraceOptions,
     SyntheticEvents,
     EventEnable(&'a [u8]),
-    CpuStats(&'a [u8]),
 }
 
 // What stands before the first slash, and what stands behind it.
@@ -79,8 +85,36 @@ pub(crate) fn place_of(path: &[u8]) -> Option<Place<'_>>
 fn top_place(name: &[u8]) -> Option<Place<'_>>
     ensures { option_map file_at result ≡ paths.top_file name.now }
 {
+    if name == b"trace".as_slice() {
+        return Some(Place::Trace);
+    }
+    if name == b"trace_pipe".as_slice() {
+        return Some(Place::TracePipe);
+    }
+    if name == b"trace_options".as_slice() {
+        return Some(Place::TraceOptions);
+    }
     if name == b"synthetic_events".as_slice() {
         return Some(Place::SyntheticEvents);
+    }
+    None
+}
+
+fn option_place_in<'a>(first: &[u8], name: &[u8]) -> Option<Place<'a>>
+    ensures { option_map file_at result ≡ paths.file_in (first.now ∷ name.now ∷ []) }
+{
+    if first != b"options".as_slice() {
+        return None;
+    }
+    option_place(name)
+}
+
+#[tactic(auto, unfolding(crate::specs::Paths::option_file))]
+fn option_place<'a>(name: &[u8]) -> Option<Place<'a>>
+    ensures { option_map file_at result ≡ paths.option_file name.now }
+{
+    if name == b"overwrite".as_slice() {
+        return Some(Place::Overwrite);
     }
     None
 }
@@ -90,7 +124,7 @@ fn place_below<'a>(first: &[u8], rest: &'a [u8]) -> Option<Place<'a>>
 {
     let (second, rest) = cut(rest);
     match rest {
-        None => None,
+        None => option_place_in(first, second),
         Some(rest) => place_below_two(first, second, rest),
     }
 }
@@ -147,6 +181,12 @@ fn cpu_place<'a>(digits: &'a [u8], name: &[u8]) -> Option<Place<'a>>
 {
     if name == b"stats".as_slice() {
         return Some(Place::CpuStats(digits));
+    }
+    if name == b"trace".as_slice() {
+        return Some(Place::CpuTrace(digits));
+    }
+    if name == b"trace_pipe".as_slice() {
+        return Some(Place::CpuTracePipe(digits));
     }
     None
 }

@@ -1,6 +1,6 @@
 //! Commands are prepared before anything changes: all memory that they need is taken here.
 
-ghost use Rattle.std.specs.Prelude.{◌≡◌, ◌^◌, ◌≤◌, ◌<◌, Bool, List, Option, Some, None, nat_lt, length, if◌then◌else◌, IfOk};
+ghost use Rattle.std.specs.Prelude.{◌≡◌, ℕ, ◌^◌, ◌≤◌, ◌<◌, Bool, List, Option, Some, None, nat_lt, length, if◌then◌else◌, IfOk};
 ghost use Rattle.trace_book.specs.Decimals.{value_after};
 ghost use Rattle.trace_book.specs.Configs.{IsInRange};
 ghost use Rattle.trace_book.specs.History as history;
@@ -9,9 +9,11 @@ ghost use Rattle.trace_book.specs.Paths.{SyntheticEvents, EventEnable, CpuStats}
 ghost use Rattle.trace_book.specs.Requests.{Request, Emission, WriteFile, ReadFile};
 ghost use Rattle.trace_book.specs.Requests as requests;
 ghost use Rattle.trace_book.specs.Settings as settings;
-ghost use Rattle.trace_book.specs.States.{StandsFor, IsPrepared, IsReady, IsUsable, bytes_in, written_record, with_nothing};
+ghost use Rattle.trace_book.specs.States.{StandsFor, IsPrepared, IsReady, IsUsable, IsTaking, bytes_in, clearing, overwriting, written_record, with_nothing};
 ghost use Rattle.trace_book.specs.Places.{file_at};
 ghost use Rattle.trace_book.specs.declared.command.Config.{Config};
+ghost use Rattle.trace_book.specs.TraceText.{trace_text};
+ghost use Rattle.trace_book.specs.declared.refusal.Refusal.TheVariants as refusal;
 ghost use Rattle.trace_book.specs.declared.state.Change.TheVariants as change;
 
 use crate::command::{Command, Config, Pair, Reply};
@@ -23,6 +25,7 @@ use crate::row::{record, row};
 use crate::state::{Change, Prepared, State, find};
 use crate::stats_text::stats_text;
 use crate::text::Text;
+use crate::trace_text::{push_records, push_taken, push_trace_head};
 use std::alloc::{AllocError, Global};
 
 /// How many events there may be, for now.
@@ -138,12 +141,18 @@ impl State {
             → IsPrepared config.now past (WriteFile (Some (file_at place.entry)) append text.now) self.new result }
     {
         match place {
-            Place::SyntheticEvents => self.prepare_declaration(alloc, append, text),
-            Place::EventEnable(name) => self.prepare_switch(alloc, name, append, text),
-            Place::CpuStats(digits) => match cpu_below(digits, config.cpus) {
-                Some(_) => Err(Refusal::NotWritable),
+            Place::Trace => Ok(prepare_clear(append)),
+            Place::CpuTrace(digits) => match cpu_below(digits, config.cpus) {
+                Some(_) => Ok(prepare_clear(append)),
                 None => Err(Refusal::NoSuchCpu),
             },
+            Place::TracePipe => Err(Refusal::NotWritable),
+            Place::CpuTracePipe(digits) => Err(no_write(digits, config.cpus)),
+            Place::CpuStats(digits) => Err(no_write(digits, config.cpus)),
+            Place::Overwrite => prepare_overwrite(written_flag(text)),
+            Place::TraceOptions => prepare_overwrite(written_option(text)),
+            Place::SyntheticEvents => self.prepare_declaration(alloc, append, text),
+            Place::EventEnable(name) => self.prepare_switch(alloc, name, text),
         }
     }
 
@@ -179,18 +188,11 @@ impl State {
 
     // A switch: its event, and then the flag.
     #[tactic(auto, unfolding(crate::specs::History::switch_answer))]
-    fn prepare_switch(
-        &self,
-        alloc: Global,
-        name: &[u8],
-        append: bool,
-        text: &[u8],
-    ) -> Result<Prepared, Refusal>
+    fn prepare_switch(&self, alloc: Global, name: &[u8], text: &[u8]) -> Result<Prepared, Refusal>
         requires { IsUsable self.now }
-        ensures { (g : Config) (past : List Request) → StandsFor g self.now past
+        ensures { (g : Config) (past : List Request) (append : Bool) → StandsFor g self.now past
             → IsPrepared g past (WriteFile (Some (EventEnable name.now)) append text.now) self.now result }
     {
-        let _append = append;
         if find(&self.events, name).is_none() {
             return Err(Refusal::NoSuchEvent);
         }
@@ -216,10 +218,73 @@ impl State {
             → IsPrepared config.now past (ReadFile (Some (file_at place.entry)) limit) self.now result }
     {
         match place {
+            Place::Trace => unchanged(self.read_trace(alloc, config, 0, limit)),
+            Place::CpuTrace(digits) => match cpu_below(digits, config.cpus) {
+                Some(cpu) => unchanged(self.read_trace(alloc, config, cpu, limit)),
+                None => Err(Refusal::NoSuchCpu),
+            },
+            Place::TracePipe => self.prepare_take(alloc, 0, limit),
+            Place::CpuTracePipe(digits) => match cpu_below(digits, config.cpus) {
+                Some(cpu) => self.prepare_take(alloc, cpu, limit),
+                None => Err(Refusal::NoSuchCpu),
+            },
+            Place::CpuStats(digits) => unchanged(self.read_stats(alloc, config, digits, limit)),
+            Place::Overwrite => unchanged(read_text(
+                limit,
+                flag_text(alloc, self.top.overwrites()),
+            )),
+            Place::TraceOptions => unchanged(read_text(
+                limit,
+                option_text(alloc, self.top.overwrites()),
+            )),
             Place::SyntheticEvents => Err(Refusal::NotReadable),
             Place::EventEnable(name) => unchanged(self.read_enable(alloc, name, limit)),
-            Place::CpuStats(digits) => unchanged(self.read_stats(alloc, config, digits, limit)),
         }
+    }
+
+    // The trace of a CPU; for now there is one.
+    #[tactic(auto, unfolding(crate::specs::TraceText::trace_text))]
+    fn read_trace(
+        &self,
+        alloc: Global,
+        config: &Config,
+        cpu: u32,
+        limit: Option<u64>,
+    ) -> Result<Reply, Refusal>
+        requires { cpu < 1 }
+        ensures { (past : List Request) → StandsFor config.now self.now past
+            → OrMemory result (history.whole_text limit (trace_text config.now past cpu)) }
+    {
+        if limit.is_some() {
+            return Err(Refusal::BadValue);
+        }
+        let stats = self.top.stats(cpu);
+        let written = u128::from(stats.entries) + u128::from(stats.overrun);
+        let mut out = Vec::new(alloc);
+        push_trace_head(alloc, &mut out, stats.entries, written, config.cpus)?;
+        push_records(alloc, &mut out, &self.events, cpu, self.top.kept())?;
+        Ok(Reply::Text(Text::from(out)))
+    }
+
+    // What a pipe gives: the text is built before anything is consumed. For now there is one CPU.
+    #[tactic(auto, unfolding(crate::specs::TraceText::pipe_text))]
+    fn prepare_take(&self, alloc: Global, cpu: u32, limit: Option<u64>) -> Result<Prepared, Refusal>
+        requires { cpu < 1 }
+        ensures { (g : Config) (past : List Request) → StandsFor g self.now past → IsTaking g past limit result }
+    {
+        let mut out = Vec::new(alloc);
+        let count = push_taken(
+            alloc,
+            &mut out,
+            &self.events,
+            cpu,
+            self.top.kept(),
+            limit.unwrap_or(u64::MAX),
+        )?;
+        Ok(Prepared {
+            change: Change::Take(count),
+            reply: Reply::Text(Text::from(out)),
+        })
     }
 
     fn read_enable(&self, alloc: Global, name: &[u8], limit: Option<u64>) -> Result<Reply, Refusal>
@@ -261,6 +326,54 @@ impl State {
     }
 }
 
+// A write to a trace file: any text empties the ring, but not to append.
+fn prepare_clear(append: bool) -> Prepared
+    ensures { result ≡ clearing append }
+{
+    let change = if append {
+        Change::Nothing
+    } else {
+        Change::Clear
+    };
+    Prepared {
+        change,
+        reply: Reply::Done,
+    }
+}
+
+// A write to a file of a CPU that can't be written.
+fn no_write(digits: &[u8], cpus: u32) -> Refusal
+    ensures { result ≡ (if nat_lt (value_after 0 digits.now) cpus then refusal.NotWritable else refusal.NoSuchCpu) }
+{
+    match cpu_below(digits, cpus) {
+        Some(_) => Refusal::NotWritable,
+        None => Refusal::NoSuchCpu,
+    }
+}
+
+// A write of an option.
+fn prepare_overwrite(flag: Option<bool>) -> Result<Prepared, Refusal>
+    ensures { result ≡ overwriting flag }
+{
+    match flag {
+        Some(flag) => Ok(Prepared {
+            change: Change::SetOverwrite(flag),
+            reply: Reply::Done,
+        }),
+        None => Err(Refusal::BadValue),
+    }
+}
+
+// A file that is no pipe is read whole.
+fn read_text(limit: Option<u64>, text: Result<Text, AllocError>) -> Result<Reply, Refusal>
+    ensures { (answered : List ℕ) → IfOk text (λ t. t ≡ answered) → OrMemory result (history.whole_text limit answered) }
+{
+    if limit.is_some() {
+        return Err(Refusal::BadValue);
+    }
+    Ok(Reply::Text(text?))
+}
+
 // A reply to a command that changes nothing.
 fn unchanged(reply: Result<Reply, Refusal>) -> Result<Prepared, Refusal>
     ensures { result ≡ with_nothing reply }
@@ -292,6 +405,32 @@ fn written_flag(text: &[u8]) -> Option<bool>
         0 => Some(false),
         1 => Some(true),
         _ => None,
+    }
+}
+
+// The word of an option.
+#[tactic(auto, unfolding(crate::specs::Settings::written_option))]
+fn written_option(text: &[u8]) -> Option<bool>
+    ensures { result ≡ settings.written_option text.now }
+{
+    if text == b"overwrite".as_slice() {
+        return Some(true);
+    }
+    if text == b"nooverwrite".as_slice() {
+        return Some(false);
+    }
+    None
+}
+
+// The text of an option.
+#[tactic(auto, unfolding(crate::specs::History::option_text))]
+fn option_text(alloc: Global, flag: bool) -> Result<Text, AllocError>
+    ensures { IfOk result (λ text. text ≡ history.option_text flag) }
+{
+    if flag {
+        Text::from_slice(alloc, b"overwrite\n".as_slice())
+    } else {
+        Text::from_slice(alloc, b"nooverwrite\n".as_slice())
     }
 }
 

@@ -29,6 +29,12 @@ pub(crate) enum Change {
     Declare(Declared),
     /// The event of this name is switched.
     Switch(Text, bool),
+    /// Records may overwrite older ones, or not.
+    SetOverwrite(bool),
+    /// The ring is emptied.
+    Clear,
+    /// So many records are consumed.
+    Take(u64),
     /// The clock ticks, and the record is written if the event is enabled.
     Emit(Option<Vec<u8>>),
 }
@@ -78,6 +84,9 @@ impl State {
                 self.top.add_event();
             }
             Change::Switch(name, flag) => self.top.switch(&self.events, name.as_bytes(), flag),
+            Change::SetOverwrite(flag) => self.top.set_overwrite(flag),
+            Change::Clear => self.top.clear(),
+            Change::Take(count) => self.top.take(count),
             Change::Emit(None) => self.clock += 1,
             Change::Emit(Some(record)) => {
                 self.clock += 1;

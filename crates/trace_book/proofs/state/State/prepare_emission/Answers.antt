@@ -23,7 +23,7 @@ returns-clause-prepared c = λ past stands.
     let inside : c.args.cpu < g.cpus = omega arith in
     let first_cpu : c.args.cpu ≡ 0 = omega (arith, c.requires.in_range.one_cpu) in (
       answers-emission g past name c.args.cpu pairs (numbered found) value inside there row,
-      changes-emission past name c.args.cpu c.args.pid pairs written
+      changes-emission g past name c.args.cpu c.args.pid pairs written
           (puts-emission g state past name c.args.cpu c.args.pid pairs found value written (is_enabled name past) stands first_cpu there row refl set
           (c.in_ok-written.ensures.record ∙ ap (λ (p : ℤ). written_record state found.index p value) same_pid)),
       c.in_ok-written.ensures.ready,

@@ -1,3 +1,6 @@
+use Rattle.std.proofs.Common.{List, ℕ, refl, sym}
+use Rattle.trace_book.specs.Paths.{Overwrite, TraceOptions}
+use Rattle.trace_book.proofs.Prepared.{prepared-option, answers-switch, answers-option}
 use Rattle.trace_book.proofs.state.State.prepare_write.Goals as goal
 
 pub returns-in-SyntheticEvents-clause-prepared : goal.returns-in-SyntheticEvents-clause-prepared
@@ -6,4 +9,20 @@ returns-in-SyntheticEvents-clause-prepared c =
 
 pub returns-in-EventEnable-clause-prepared : goal.returns-in-EventEnable-clause-prepared
 returns-in-EventEnable-clause-prepared c =
-    λ past stands. rw c.in-EventEnable.is (c.prepare_switch.ensures c.args.config.now past stands)
+    λ past stands. rw c.in-EventEnable.is (c.prepare_switch.ensures c.args.config.now past c.args.append stands)
+
+pub returns-in-Overwrite-clause-prepared : goal.returns-in-Overwrite-clause-prepared
+returns-in-Overwrite-clause-prepared c =
+    λ past stands.
+    let flag = c.written_flag.result in
+    rw (c.in-Overwrite.is, c.prepare_overwrite.ensures)
+    (prepared-option c.args.config.now past Overwrite c.args.append c.args.text.now c.args.self.now flag (sym c.written_flag.ensures)
+    (answers-switch c.args.text.now flag (sym c.written_flag.ensures)) refl (λ event. refl) refl)
+
+pub returns-in-TraceOptions-clause-prepared : goal.returns-in-TraceOptions-clause-prepared
+returns-in-TraceOptions-clause-prepared c =
+    λ past stands.
+    let flag = c.written_option.result in
+    rw (c.in-TraceOptions.is, c.prepare_overwrite-in-TraceOptions.ensures)
+    (prepared-option c.args.config.now past TraceOptions c.args.append c.args.text.now c.args.self.now flag (sym c.written_option.ensures)
+    (answers-option c.args.text.now flag (sym c.written_option.ensures)) refl (λ event. refl) refl)
