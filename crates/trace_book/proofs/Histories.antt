@@ -6,7 +6,7 @@ use Rattle.std.proofs.lemmas.List.{reverse-append, length-reverse, length-map, g
 use Rattle.page_ring.specs.Shown as shown
 use Rattle.trace_book.specs.Configs.{IsInRange}
 use Rattle.trace_book.specs.Requests.{Request, request_of}
-use Rattle.trace_book.specs.History.{answer, unlimited_answer, within_limit, requests_of, past_of, IsLegalNewestFirst, IsLegal}
+use Rattle.trace_book.specs.History.{answer, answer_with_room, unless_full, requests_of, past_of, IsLegalNewestFirst, IsLegal}
 use Rattle.trace_book.specs.Refusals.{OrMemory}
 use Rattle.trace_book.specs.States.{StandsFor, IsPrepared, IsUsable}
 use Rattle.trace_book.specs.declared.command.Config.{Config}
@@ -32,19 +32,19 @@ past_of-push entries entry = rw reverse-append refl
 
 -- ---- answers
 
-pub answer-done : (g : Config) (past : List Request) (request : Request) (reply : Reply) → unlimited_answer g past request ≡ Ok reply
+pub answer-done : (g : Config) (past : List Request) (request : Request) (reply : Reply) → answer_with_room g past request ≡ Ok reply
     → length past < g.history_limit → answer g past request ≡ Ok reply
 unfolding answer
 answer-done g past request reply given room = rw (given, lt-ltb (length past) g.history_limit room) refl
 
-pub answer-full : (g : Config) (past : List Request) (request : Request) (reply : Reply) → unlimited_answer g past request ≡ Ok reply
+pub answer-full : (g : Config) (past : List Request) (request : Request) (reply : Reply) → answer_with_room g past request ≡ Ok reply
     → g.history_limit ≤ length past → answer g past request ≡ Err HistoryFull
 unfolding answer
 answer-full g past request reply given full =
     let no : ltb (length past) g.history_limit ≡ false = grind (arith, nat_tests) in
     rw (given, no) refl
 
-pub answer-refused : (g : Config) (past : List Request) (request : Request) (refusal : Refusal) → unlimited_answer g past request ≡ Err refusal
+pub answer-refused : (g : Config) (past : List Request) (request : Request) (refusal : Refusal) → answer_with_room g past request ≡ Err refusal
     → answer g past request ≡ Err refusal
 unfolding answer
 answer-refused g past request refusal given = rw given refl

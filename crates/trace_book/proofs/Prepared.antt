@@ -12,7 +12,7 @@ use Rattle.trace_book.specs.Requests.{Request, Emission, WriteFile, ReadFile}
 use Rattle.trace_book.specs.Rows.{row_of}
 use Rattle.trace_book.specs.Rings.{record_bytes, record_of_event, emitted_record, consumed, put_of, clears}
 use Rattle.trace_book.specs.Settings.{NumberedEvent, event_named, event_named_from, declared_events, declares, switches, is_enabled, sets_overwrite, overwrites, written_flag, written_option, now_of}
-use Rattle.trace_book.specs.History.{emission_answer, switch_answer, option_answer, unlimited_answer, flag_text, whole_text}
+use Rattle.trace_book.specs.History.{emission_answer, switch_answer, option_answer, answer_with_room, flag_text, whole_text}
 use Rattle.trace_book.specs.States.{StandsFor, IsChangeOf, IsPrepared, IsReady, numbered, with_nothing, bytes_in, written_record, kept_count, puts_by, overwriting}
 use Rattle.trace_book.specs.declared.command.Config.{Config}
 use Rattle.trace_book.specs.declared.command.Pair.{Pair}
@@ -27,7 +27,7 @@ use Rattle.trace_book.specs.declared.state.Change.TheVariants.{Nothing, Emit}
 
 -- a read changes nothing
 pub prepared-nothing : (g : Config) (past : List Request) (file : Option File) (limit : Option ℕ) (state : State) (answered : Result Reply Refusal)
-    → consumed 0 (ReadFile file limit) (kept_count g past) ≡ 0 → OrMemory answered (unlimited_answer g past (ReadFile file limit)) → IsPrepared g past (ReadFile file limit) state (with_nothing answered)
+    → consumed 0 (ReadFile file limit) (kept_count g past) ≡ 0 → OrMemory answered (answer_with_room g past (ReadFile file limit)) → IsPrepared g past (ReadFile file limit) state (with_nothing answered)
 prepared-nothing g past file limit state (Ok text) none given = (
   given,
   record {
@@ -71,7 +71,7 @@ enabled-found g state past name found stands within at same =
 -- the text of an event's switch
 pub reads-enable : (g : Config) (past : List Request) (name : List ℕ) (limit : Option ℕ) (k : NumberedEvent) (flag : Bool) (text : List ℕ)
     → event_named name past ≡ Some k → is_some limit ≡ false → flag ≡ is_enabled name past → text ≡ flag_text flag
-    → unlimited_answer g past (ReadFile (Some (EventEnable name)) limit) ≡ Ok (reply.Text text)
+    → answer_with_room g past (ReadFile (Some (EventEnable name)) limit) ≡ Ok (reply.Text text)
 reads-enable g past name (Some n) k flag text there whole set is = absurd (cc)
 reads-enable g past name None k flag text there whole set is =
     rw there (ap (λ (t : List ℕ). Ok (reply.Text t)) (sym (is ∙ ap flag_text set)))
@@ -117,7 +117,7 @@ changes-emission g past name cpu pid pairs written puts = record {
 -- a write of an option sets it
 pub prepared-option : (g : Config) (past : List Request) (file : File) (append : Bool) (text : List ℕ) (state : State) (flag : Option Bool)
     → sets_overwrite (WriteFile (Some file) append text) ≡ flag
-    → unlimited_answer g past (WriteFile (Some file) append text) ≡ cond (is_some flag) (Ok reply.Done) (Err refusal.BadValue)
+    → answer_with_room g past (WriteFile (Some file) append text) ≡ cond (is_some flag) (Ok reply.Done) (Err refusal.BadValue)
     → declares (WriteFile (Some file) append text) ≡ None → ((event : List ℕ) → switches event (WriteFile (Some file) append text) ≡ None)
     → clears 0 (WriteFile (Some file) append text) ≡ false → IsPrepared g past (WriteFile (Some file) append text) state (overwriting flag)
 prepared-option g past file append text state (Some flag) sets answered nothing none not_cleared = (

@@ -124,23 +124,23 @@ unless_refused (Some refusal) answered = Err refusal
 unless_refused None answered = answered
 
 -- the answer, were there no limit on the history; for now there are no instances to make or remove
-abbrev pub unlimited_answer : Config → List Request → Request → Result Reply Refusal
-unlimited_answer g past (Emission name cpu pid pairs) = emission_answer g past name cpu pairs
-unlimited_answer g past (MakeInstance path) = Err NoSuchFile
-unlimited_answer g past (RemoveInstance path) = Err NoSuchFile
-unlimited_answer g past (WriteFile None append text) = Err NoSuchFile
-unlimited_answer g past (WriteFile (Some file) append text) = unless_refused (missing g past file) (write_answer past append text file)
-unlimited_answer g past (ReadFile None limit) = Err NoSuchFile
-unlimited_answer g past (ReadFile (Some file) limit) = unless_refused (missing g past file) (read_answer g past limit file)
+abbrev pub answer_with_room : Config → List Request → Request → Result Reply Refusal
+answer_with_room g past (Emission name cpu pid pairs) = emission_answer g past name cpu pairs
+answer_with_room g past (MakeInstance path) = Err NoSuchFile
+answer_with_room g past (RemoveInstance path) = Err NoSuchFile
+answer_with_room g past (WriteFile None append text) = Err NoSuchFile
+answer_with_room g past (WriteFile (Some file) append text) = unless_refused (missing g past file) (write_answer past append text file)
+answer_with_room g past (ReadFile None limit) = Err NoSuchFile
+answer_with_room g past (ReadFile (Some file) limit) = unless_refused (missing g past file) (read_answer g past limit file)
 
 -- what would be done is refused where the history is full
-abbrev pub within_limit : Config → ℕ → Result Reply Refusal → Result Reply Refusal
-within_limit g count (Err refusal) = Err refusal
-within_limit g count (Ok reply) = if nat_lt count g.history_limit then Ok reply else Err HistoryFull
+abbrev pub unless_full : Config → ℕ → Result Reply Refusal → Result Reply Refusal
+unless_full g count (Err refusal) = Err refusal
+unless_full g count (Ok reply) = if nat_lt count g.history_limit then Ok reply else Err HistoryFull
 
 -- the answer that the requests done so far give a request
 unfoldable pub answer : Config → List Request → Request → Result Reply Refusal
-answer g past request = within_limit g (length past) (unlimited_answer g past request)
+answer g past request = unless_full g (length past) (answer_with_room g past request)
 
 -- ---- histories
 

@@ -1,5 +1,5 @@
 -- What contracts see of an instance.
-use Rattle.std.specs.Prelude.{ℕ, ◌<◌, ◌≤◌, Bool, List, length, vec_len, vec_capacity}
+use Rattle.std.specs.Prelude.{Bool, List}
 use Rattle.page_ring.specs.Shown.{Seen}
 
 -- which events are enabled, in order of declaration; whether records may overwrite older ones; and the ring of its CPU

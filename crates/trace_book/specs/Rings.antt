@@ -1,4 +1,4 @@
--- What the requests that were done brought to the ring of a CPU.
+-- What the requests that were done brought to the ring of a CPU. The newest request stands first, the newest event of the ring last.
 use Rattle.std.specs.Prelude.{ℕ, ◌+◌, ◌==◌, min, ℤ, Bool, false, not, ◌&&◌, if◌then◌else◌, List, [], ◌∷◌, ◌++◌, length, map, replicate, Option, Some, None}
 use Rattle.std.specs.Option.{option_map, option_and_then, option_to_list}
 use Rattle.std.specs.Result.{result_ok}

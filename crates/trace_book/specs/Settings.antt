@@ -1,4 +1,4 @@
--- What the requests that were done say of events, their switches and the clock. The newest request stands first.
+-- What the requests that were done say of events, their switches, overwriting and the clock. The newest request stands first.
 use Rattle.std.specs.Prelude.{ℕ, suc, ◌+◌, ◌==◌, Bool, true, false, if◌then◌else◌, List, [], ◌∷◌, ◌++◌, Option, Some, None, Result, Ok, Err, unwrap_or, codes}
 use Rattle.std.specs.Option.{option_and_then, option_to_list}
 use Rattle.std.specs.Result.{result_ok}

@@ -11,7 +11,7 @@ use Rattle.trace_book.specs.Requests.{Request}
 use Rattle.trace_book.specs.Settings.{NumberedEvent, event_named, declares, declared_events, switches, is_enabled, sets_overwrite, overwrites, ticks, now_of}
 use Rattle.trace_book.specs.Rings.{record_bytes, up_to_limit, consumed, put_of, clears, ring_events}
 use Rattle.trace_book.specs.Switches.{switched_all}
-use Rattle.trace_book.specs.History.{unlimited_answer}
+use Rattle.trace_book.specs.History.{answer_with_room}
 use Rattle.trace_book.specs.TraceText.{pipe_text}
 use Rattle.trace_book.specs.declared.command.Config.{Config}
 use Rattle.trace_book.specs.declared.command.Reply.{Reply}
@@ -127,8 +127,8 @@ pub record IsStep (old new : State) (change : Change) : Type 0 where
 -- what was prepared for a request, or why it is refused
 abbrev pub IsPrepared : Config → List Request → Request → State → Result Prepared Refusal → Type 0
 IsPrepared g past request state (Ok prepared) =
-    (unlimited_answer g past request ≡ Ok prepared.reply) × IsChangeOf g past request prepared.change × IsReady state prepared.change
-IsPrepared g past request state (Err refusal) = refusal ≢ Memory → unlimited_answer g past request ≡ Err refusal
+    (answer_with_room g past request ≡ Ok prepared.reply) × IsChangeOf g past request prepared.change × IsReady state prepared.change
+IsPrepared g past request state (Err refusal) = refusal ≢ Memory → answer_with_room g past request ≡ Err refusal
 
 -- what every state of a book has, so that a command can be prepared without its past
 pub record IsUsable (state : State) : Type 0 where

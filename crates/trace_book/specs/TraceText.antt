@@ -1,5 +1,5 @@
--- The texts of the `trace` and `trace_pipe` files (ftrace.rst, "The File System", "Output format"); the head's count line and the layout of
--- a record's line are this project's own.
+-- The texts of the `trace` and `trace_pipe` files (ftrace.rst, "The File System", "Output format"); the head without its drawn lines and the
+-- layout of a record's line are this project's own. The newest request stands first.
 use Rattle.std.specs.Prelude.{ℕ, ◌+◌, ◌-◌, ◌/◌, ◌%◌, ◌==◌, Bool, if◌then◌else◌, List, [], ◌∷◌, ◌++◌, length, take, drop, nat_lt, slice_get, Option, Some, None, codes}
 use Rattle.std.specs.List.{flat_map}
 use Rattle.std.specs.Fmt.{decimal, signed_decimal}

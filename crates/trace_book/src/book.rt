@@ -1,13 +1,13 @@
 //! The book: a history of commands, and what it has come to.
 
-ghost use Rattle.std.specs.Prelude.{◌≡◌, ℕ, ◌+◌, ◌^◌, ◌≤◌, ◌<◌, [], ◌∷◌, ◌++◌, All, is_none, is_some, IfOk, IfErr, IfSome, OnOk, OnErr, ◌≢◌, true, false};
+ghost use Rattle.std.specs.Prelude.{◌≡◌, ℕ, ◌+◌, ◌^◌, ◌≤◌, ◌<◌, [], ◌∷◌, ◌++◌, All, map, is_none, is_some, IfOk, IfErr, IfSome, OnOk, OnErr, ◌≢◌, true, false};
 ghost use Rattle.page_ring.specs.Shown as shown;
 ghost use Rattle.trace_book.specs.Configs.{IsInRange};
 ghost use Rattle.trace_book.specs.History.{answer, past_of, IsLegal};
 ghost use Rattle.trace_book.specs.Refusals.{OrMemory};
 ghost use Rattle.trace_book.specs.Requests.{request_of};
 ghost use Rattle.trace_book.specs.Rings.{ring_events};
-ghost use Rattle.trace_book.specs.Settings.{now_of};
+ghost use Rattle.trace_book.specs.Settings.{declared_events, is_enabled, overwrites, now_of};
 ghost use Rattle.trace_book.specs.declared.refusal.Refusal.TheVariants as refusal;
 
 use crate::command::{Command, Config, Entry, Reply};
@@ -103,7 +103,10 @@ impl Book {
     /// The instance of this name, or the top one. For now there is no other.
     pub fn instance(&self, name: Option<&[u8]>) -> Option<&Instance>
         ensures there { is_some result ≡ is_none name.entry }
-        ensures stands { IfSome result (λ instance. shown.StandsFor instance.now.ring (ring_events self.now.config 0 (past_of self.now.entries))) }
+        ensures stands { IfSome result (λ instance.
+            shown.StandsFor instance.now.ring (ring_events self.now.config 0 (past_of self.now.entries))) }
+        ensures settings { IfSome result (λ instance. (instance.now.overwrite ≡ overwrites (past_of self.now.entries))
+            × (instance.now.enabled ≡ map (λ event. is_enabled event.name (past_of self.now.entries)) (declared_events (past_of self.now.entries)))) }
         ensures shape { IfSome result (λ instance. (instance.now.ring.pages ≡ self.now.config.pages)
             × (instance.now.ring.page_bytes ≡ self.now.config.page_bytes)) }
     {

@@ -153,7 +153,7 @@ impl Instance {
         self.ring.kept()
     }
 
-    /// The statistics of a CPU's ring, those of whatever events the ring stands for. For now there is one CPU.
+    /// What the `stats` file shows of a CPU's ring (ftrace.rst, "The File System"). For now there is one CPU.
     pub fn stats(&self, cpu: u32) -> RingStats
         requires { cpu < 1 }
         ensures { (events : List event.Event) → StandsFor self.now.ring events

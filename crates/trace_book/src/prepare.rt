@@ -290,7 +290,7 @@ impl State {
     fn read_enable(&self, alloc: Global, name: &[u8], limit: Option<u64>) -> Result<Reply, Refusal>
         requires { IsUsable self.now }
         ensures { (g : Config) (past : List Request) → StandsFor g self.now past
-            → OrMemory result (history.unlimited_answer g past (ReadFile (Some (EventEnable name.now)) limit)) }
+            → OrMemory result (history.answer_with_room g past (ReadFile (Some (EventEnable name.now)) limit)) }
     {
         let Some(found) = find(&self.events, name) else {
             return Err(Refusal::NoSuchEvent);
@@ -313,7 +313,7 @@ impl State {
         requires usable { IsUsable self.now }
         requires in_range { IsInRange config.now }
         ensures { (past : List Request) → StandsFor config.now self.now past
-            → OrMemory result (history.unlimited_answer config.now past (ReadFile (Some (CpuStats (value_after 0 digits.now))) limit)) }
+            → OrMemory result (history.answer_with_room config.now past (ReadFile (Some (CpuStats (value_after 0 digits.now))) limit)) }
     {
         let Some(cpu) = cpu_below(digits, config.cpus) else {
             return Err(Refusal::NoSuchCpu);

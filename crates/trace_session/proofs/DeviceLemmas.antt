@@ -1,0 +1,40 @@
+-- Reads and writes one behind the other.
+use Rattle.std.proofs.Common.{◌≡◌, ℕ, ◌-◌, ◌<◌, List, [], ◌++◌, length, take, drop, Option, Some, None, IfSome, refl, ap, sym, ◌∙◌, arith, append_assoc, length-append}
+use Rattle.std.proofs.lemmas.List.{append-nil, take-append-drop, take_rest}
+use Rattle.std.specs.Io.KnownBytes.{Appends, Consumes, IsAtEnd}
+
+pub Consumes_append : (a b c : Option (List ℕ)) (xs ys : List ℕ) → Consumes a b xs → Consumes b c ys → Consumes a c (xs ++ ys)
+Consumes_append None b c xs ys p q = tt
+Consumes_append (Some us) None c xs ys p q = absurd p
+Consumes_append (Some us) (Some bs) None xs ys p q = absurd q
+Consumes_append (Some us) (Some bs) (Some cs) xs ys p q = p ∙ (ap (λ (rest : List ℕ). xs ++ rest) q ∙ sym (append_assoc xs ys cs))
+
+pub Consumes_nothing : (a : Option (List ℕ)) → Consumes a a []
+Consumes_nothing None = tt
+Consumes_nothing (Some us) = refl
+
+pub Consumes_whole : (a b : Option (List ℕ)) (xs : List ℕ) → Consumes a b xs → IsAtEnd b → IfSome a (λ bytes. xs ≡ bytes)
+Consumes_whole None b xs p e = tt
+Consumes_whole (Some us) None xs p e = absurd p
+Consumes_whole (Some us) (Some bs) xs p e = sym (append-nil xs) ∙ (ap (λ (rest : List ℕ). xs ++ rest) (sym e) ∙ sym p)
+
+pub Consumes_long : (a b : Option (List ℕ)) (xs : List ℕ) (n : ℕ) → Consumes a b xs → n < length xs → IfSome a (λ bytes. n < length bytes)
+Consumes_long None b xs n p h = tt
+Consumes_long (Some us) None xs n p h = absurd p
+Consumes_long (Some us) (Some bs) xs n p h = omega (arith, ap length p, length-append xs bs)
+
+pub Appends_append : (a b c : Option (List ℕ)) (xs ys : List ℕ) → Appends a b xs → Appends b c ys → Appends a c (xs ++ ys)
+Appends_append None b c xs ys p q = tt
+Appends_append (Some us) None c xs ys p q = absurd p
+Appends_append (Some us) (Some bs) None xs ys p q = absurd q
+Appends_append (Some us) (Some bs) (Some cs) xs ys p q = q ∙ (ap (λ (front : List ℕ). front ++ ys) p ∙ append_assoc us xs ys)
+
+pub Appends_nothing : (a : Option (List ℕ)) → Appends a a []
+Appends_nothing None = tt
+Appends_nothing (Some us) = sym (append-nil us)
+
+-- what is left after some more bytes from the front
+pub more_of_front : (text front rest : List ℕ) (n : ℕ) → text ≡ front ++ rest → text ≡ front ++ take n rest ++ take (length rest - n) (drop n rest)
+more_of_front text front rest n e =
+    e ∙ (ap (λ (xs : List ℕ). front ++ xs) (sym (take-append-drop n rest))
+    ∙ (sym (append_assoc front (take n rest) (drop n rest)) ∙ ap (λ (xs : List ℕ). front ++ take n rest ++ xs) (sym (take_rest rest n))))

@@ -1,0 +1,7 @@
+pub mod Outcomes
+pub mod Tokens
+pub mod Grammar
+pub mod Lines
+pub mod Rendering
+pub mod Devices
+pub mod Sessions

@@ -1,0 +1,113 @@
+-- What a line of a script asks for, or the first fault that is found in it.
+use Rattle.std.specs.Prelude.{◌≡◌, ℕ, ℤ, pos, ◌+◌, ◌-◌, ◌^◌, Bool, true, false, not, nat_lt, nat_le, ◌&&◌, ◌||◌, ◌==◌, if◌then◌else◌, List, [], ◌∷◌, ◌++◌, length, map, take, drop, position, Option, Some, None, Result, Ok, Err, codes}
+use Rattle.std.proofs.Common.{neg_ℤ}
+use Rattle.std.specs.List.{list_all, join_with_byte}
+use Rattle.std.specs.Option.{option_map, option_and_then}
+use Rattle.std.specs.Str.{bytes_eq}
+use Rattle.trace_book.specs.Blanks.{is_blank}
+use Rattle.trace_book.specs.Decimals.{decimal_number, up_to}
+use Rattle.trace_book.specs.declared.command.Pair.{Pair}
+use Rattle.trace_book.specs.declared.command.Command.{Command}
+use Rattle.trace_book.specs.declared.command.Command.TheVariants.{Emit, Write, Read}
+use Rattle.trace_session.specs.Outcomes.{or_fault, ◌>>=◌}
+use Rattle.trace_session.specs.Tokens.{tokens_of}
+use Rattle.trace_session.specs.declared.line.Line.{Line}
+use Rattle.trace_session.specs.declared.line.Line.TheVariants.{Blank, Ask}
+use Rattle.trace_session.specs.declared.token.Token.{Token}
+use Rattle.trace_session.specs.declared.token.Token.TheVariants.{Word, Redirect}
+use Rattle.trace_session.specs.declared.fault.ScriptFault.{ScriptFault}
+use Rattle.trace_session.specs.declared.fault.ScriptFault.TheVariants.{LineTooLong, BadByte, UnclosedQuote, UnknownCommand, WrongWords, BadNumber}
+
+-- ---- numbers
+
+-- a decimal number of at most this much
+abbrev pub number_up_to : ℕ → List ℕ → Option ℕ
+number_up_to most text = up_to most (decimal_number text)
+
+-- a decimal number from -2^31 to 2^31 - 1; a `-` may stand before it
+unfoldable pub process_id : List ℕ → Option ℤ
+process_id [] = None
+process_id (b ∷ bs) =
+    if b == 45 then option_map (λ n. neg_ℤ (pos n)) (number_up_to (2 ^ 31) bs) else option_map pos (number_up_to (2 ^ 31 - 1) (b ∷ bs))
+
+-- ---- commands
+
+-- a pair: its first `=` parts the name from the value
+unfoldable pub pair_of : List ℕ → Option Pair
+pair_of word = option_map (λ at. record { name = take at word; value = drop (at + 1) word }) (position (λ b. b == 61) word)
+
+-- each of the tokens is a pair
+unfoldable pub pairs_of : List Token → Option (List Pair)
+pairs_of [] = Some []
+pairs_of (Redirect append ∷ tokens) = None
+pairs_of (Word word ∷ tokens) = option_and_then (λ pair. option_map (λ pairs. pair ∷ pairs) (pairs_of tokens)) (pair_of word)
+
+-- `emit CPU PID EVENT f=v ..`, with one pair or more
+unfoldable pub emission_of : List Token → Result Command ScriptFault
+emission_of (Word cpu ∷ Word pid ∷ Word event ∷ pair ∷ more) =
+    or_fault WrongWords (pairs_of (pair ∷ more)) >>= λ pairs. or_fault BadNumber (number_up_to (2 ^ 32 - 1) cpu) >>= λ cpu. or_fault BadNumber (process_id pid)
+    >>= λ pid. Ok (Emit event cpu pid pairs)
+emission_of _ = Err WrongWords
+
+-- behind the redirection stands a path and nothing else
+abbrev pub redirected_to : Bool → List ℕ → List Token → Result Command ScriptFault
+redirected_to append text (Word path ∷ []) = Ok (Write path append text)
+redirected_to append text _ = Err WrongWords
+
+-- words, a redirection and a path; these words stand before them
+abbrev pub write_behind : List (List ℕ) → List Token → Result Command ScriptFault
+write_behind words [] = Err WrongWords
+write_behind words (Word word ∷ tokens) = write_behind (words ++ word ∷ []) tokens
+write_behind words (Redirect append ∷ tokens) = redirected_to append (join_with_byte 32 words) tokens
+
+-- `echo WORDS > PATH`, `echo WORDS >> PATH`: the words joined by one space, perhaps none
+unfoldable pub write_of : List Token → Result Command ScriptFault
+write_of tokens = write_behind [] tokens
+
+-- these tokens are words, a redirection and a path, and the command writes the words, joined by one space, to the path
+pub record IsWriteOf (tokens : List Token) (command : Command) : Type 0 where
+  pub words : List (List ℕ)
+  pub append : Bool
+  pub path : List ℕ
+  pub written : tokens ≡ map Word words ++ Redirect append ∷ Word path ∷ []
+  pub meaning : command ≡ Write path append (join_with_byte 32 words)
+
+-- `cat PATH`: to its end
+unfoldable pub read_of : List Token → Result Command ScriptFault
+read_of (Word path ∷ []) = Ok (Read path None)
+read_of _ = Err WrongWords
+
+-- the command of this name
+unfoldable pub named_command : List ℕ → List Token → Result Command ScriptFault
+named_command name tokens =
+    if bytes_eq name (codes "emit") then emission_of tokens
+    else (if bytes_eq name (codes "echo") then write_of tokens
+    else (if bytes_eq name (codes "cat") then read_of tokens else Err UnknownCommand))
+
+-- the first token names the command
+unfoldable pub command_of : List Token → Result Command ScriptFault
+command_of (Word name ∷ tokens) = named_command name tokens
+command_of _ = Err UnknownCommand
+
+-- ---- lines
+
+-- a tab, or a byte from 0x20 to 0x7e
+abbrev pub is_line_byte : ℕ → Bool
+is_line_byte b = b == 9 || (nat_le 32 b && nat_le b 126)
+
+-- a line that is empty, blank, or begins with `#` after blanks
+abbrev pub says_nothing : List ℕ → Bool
+says_nothing [] = true
+says_nothing (b ∷ bs) = if is_blank b then says_nothing bs else b == 35
+
+-- a line of lawful length and bytes
+unfoldable pub spoken : List ℕ → Result Line ScriptFault
+spoken line =
+    if says_nothing line then Ok Blank
+    else (or_fault UnclosedQuote (tokens_of line) >>= λ tokens. command_of tokens >>= λ command. Ok (Ask command))
+
+-- what a line asks for
+unfoldable pub line_of : List ℕ → Result Line ScriptFault
+line_of line =
+    if nat_lt 4096 (length line) then Err LineTooLong
+    else (if list_all is_line_byte line then spoken line else Err BadByte)

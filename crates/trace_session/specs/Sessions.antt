@@ -1,0 +1,112 @@
+-- What a session writes for a script, and its status.
+use Rattle.std.specs.Prelude.{◌≡◌, ℕ, ◌+◌, ◌==◌, Bool, true, false, if◌then◌else◌, List, [], ◌∷◌, ◌++◌, length, Option, Some, None, Result, Ok, Err}
+use Rattle.std.specs.List.{slice_split, list_any}
+use Rattle.trace_book.specs.History.{answer}
+use Rattle.trace_book.specs.Requests.{Request, request_of}
+use Rattle.trace_book.specs.declared.command.Config.{Config}
+use Rattle.trace_book.specs.declared.command.Reply.{Reply}
+use Rattle.trace_book.specs.declared.refusal.Refusal.{Refusal}
+use Rattle.trace_session.specs.Lines.{line_of}
+use Rattle.trace_session.specs.Rendering.{rendered}
+use Rattle.trace_session.specs.declared.fault.ScriptFault.{ScriptFault}
+use Rattle.trace_session.specs.declared.line.Line.{Line}
+use Rattle.trace_session.specs.declared.line.Line.TheVariants.{Blank, Ask}
+use Rattle.trace_session.specs.declared.render.Outcome.{Outcome}
+use Rattle.trace_session.specs.declared.render.Outcome.TheVariants as outcomes
+use Rattle.trace_session.specs.declared.status.Status.{Status}
+use Rattle.trace_session.specs.declared.status.Status.TheVariants as statuses
+
+-- the lines of a script; a newline ends a line, and behind the last one stands an empty line, which says nothing
+abbrev pub lines_of : List ℕ → List (List ℕ)
+lines_of script = slice_split (λ b. b == 10) script
+
+-- the lines of what is left of a script, if anything is
+abbrev pub lines_left : Option (List ℕ) → List (List ℕ)
+lines_left None = []
+lines_left (Some rest) = lines_of rest
+
+-- one more than the bytes of what is left, or 0 where nothing is
+abbrev pub bytes_left : Option (List ℕ) → ℕ
+bytes_left None = 0
+bytes_left (Some rest) = length rest + 1
+
+-- what became of a line, if it said anything, and the requests that are done now, newest first
+pub record Turn : Type 0 where
+  pub outcome : Option Outcome
+  pub past : List Request
+
+-- a request is done, or refused and given up
+abbrev pub answered : List Request → Request → Result Reply Refusal → Turn
+answered past request (Ok reply) = record { outcome = Some (outcomes.Replied reply); past = request ∷ past }
+answered past request (Err refusal) = record { outcome = Some (outcomes.Refused refusal); past = past }
+
+-- a line that was read: a command is answered after the requests done so far
+abbrev pub taken : Config → List Request → Result Line ScriptFault → Turn
+taken config past (Ok Blank) = record { outcome = None; past = past }
+taken config past (Ok (Ask command)) = answered past (request_of command) (answer config past (request_of command))
+taken config past (Err fault) = record { outcome = Some (outcomes.Fault fault); past = past }
+
+-- a line, after the requests done so far
+unfoldable pub turn_of : Config → List Request → List ℕ → Turn
+turn_of config past line = taken config past (line_of line)
+
+-- a fault ends the session
+abbrev pub is_fault : Option Outcome → Bool
+is_fault (Some (outcomes.Fault fault)) = true
+is_fault _ = false
+
+abbrev pub is_refusal : Option Outcome → Bool
+is_refusal (Some (outcomes.Refused refusal)) = true
+is_refusal _ = false
+
+-- a command was asked
+abbrev pub is_asked : Option Outcome → Bool
+is_asked (Some (outcomes.Replied reply)) = true
+is_asked (Some (outcomes.Refused refusal)) = true
+is_asked _ = false
+
+-- what becomes of the lines in turn, up to the first fault
+abbrev pub outcomes_of : Config → List Request → List (List ℕ) → List (Option Outcome)
+outcomes_of config past [] = []
+outcomes_of config past (line ∷ lines) =
+    let turn = turn_of config past line in
+    turn.outcome ∷ (if is_fault turn.outcome then [] else outcomes_of config turn.past lines)
+
+-- what is written for the line of this number
+abbrev pub text_of : ℕ → Option Outcome → List ℕ
+text_of number None = []
+text_of number (Some outcome) = rendered number outcome
+
+-- what is written for lines that are numbered from this number on
+abbrev pub texts_from : ℕ → List (Option Outcome) → List (List ℕ)
+texts_from number [] = []
+texts_from number (outcome ∷ outcomes) = text_of number outcome ∷ texts_from (number + 1) outcomes
+
+-- a fault is told before a refusal
+abbrev pub status_of : List (Option Outcome) → Status
+status_of outcomes = if list_any is_fault outcomes then statuses.Fault else (if list_any is_refusal outcomes then statuses.Refused else statuses.Done)
+
+-- what a session writes, a text for each line, and its status
+pub record Session : Type 0 where
+  pub texts : List (List ℕ)
+  pub status : Status
+
+-- the session of a script: its lines in turn, numbered from 1, after no request
+unfoldable pub session : Config → List ℕ → Session
+session config script =
+    let outcomes = outcomes_of config [] (lines_of script) in
+    record { texts = texts_from 1 outcomes; status = status_of outcomes }
+
+-- all was asked: the session came to its end, or to a fault
+abbrev pub IsWhole : Status → Type 0
+IsWhole statuses.Memory = ⊥
+IsWhole statuses.Device = ⊥
+IsWhole _ = Unit {0}
+
+-- the status as a number
+abbrev pub code_of : Status → ℕ
+code_of statuses.Done = 0
+code_of statuses.Refused = 1
+code_of statuses.Fault = 2
+code_of statuses.Memory = 3
+code_of statuses.Device = 4

@@ -1,0 +1,35 @@
+//! How a session ended.
+
+ghost use Rattle.std.specs.Prelude.{◌≡◌};
+
+/// How a session ended.
+#[derive(Clone, Copy, Debug, PartialEq, Eq)]
+pub enum Status {
+    /// Each command was done.
+    Done,
+    /// Each command was asked, and some were refused.
+    Refused,
+    /// A fault in the script ended the session.
+    Fault,
+    /// Memory was refused.
+    Memory,
+    /// A read or a write failed, or the script is too long.
+    Device,
+}
+
+impl Status {
+    ghost use Rattle.trace_session.specs.Sessions.{code_of};
+
+    /// The exit status of the program, from 0 to 4.
+    pub fn code(self) -> u8
+        ensures { result ≡ code_of self }
+    {
+        match self {
+            Status::Done => 0,
+            Status::Refused => 1,
+            Status::Fault => 2,
+            Status::Memory => 3,
+            Status::Device => 4,
+        }
+    }
+}

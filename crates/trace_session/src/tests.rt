@@ -1,0 +1,140 @@
+use crate::fault::{LineError, ScriptFault};
+use crate::line::{Line, prepare};
+use crate::render::{Outcome, render};
+use std::alloc::Global;
+use std::test::Fail;
+use trace_book::{Command, Refusal, Reply, Text};
+
+/// What a line is read as: its fault, or what it asks for.
+fn reading(alloc: Global, line: &[u8]) -> &'static str {
+    match prepare(alloc, line) {
+        Ok(Line::Blank) => "nothing",
+        Ok(Line::Ask(Command::Emit { .. })) => "emit",
+        Ok(Line::Ask(Command::Write { append: true, .. })) => "append",
+        Ok(Line::Ask(Command::Write { .. })) => "write",
+        Ok(Line::Ask(Command::Read { .. })) => "read",
+        Ok(Line::Ask(_)) => "another command",
+        Err(LineError::Fault(ScriptFault::LineTooLong)) => "LineTooLong",
+        Err(LineError::Fault(ScriptFault::BadByte)) => "BadByte",
+        Err(LineError::Fault(ScriptFault::UnclosedQuote)) => "UnclosedQuote",
+        Err(LineError::Fault(ScriptFault::UnknownCommand)) => "UnknownCommand",
+        Err(LineError::Fault(ScriptFault::WrongWords)) => "WrongWords",
+        Err(LineError::Fault(ScriptFault::BadNumber)) => "BadNumber",
+        Err(LineError::Fault(_)) => "another fault",
+        Err(LineError::Memory) => "out of memory",
+    }
+}
+
+#[test]
+fn lines_are_read(rt: HostRuntime) {
+    let table: [(&str, &str); 38] = [
+        ("", "nothing"),
+        (" \t ", "nothing"),
+        (" # cat 'x", "nothing"),
+        ("# \x7f", "BadByte"),
+        ("cat \x1f", "BadByte"),
+        ("ls 'x", "UnclosedQuote"),
+        ("cat \"x'", "UnclosedQuote"),
+        ("ls", "UnknownCommand"),
+        ("'#' x", "UnknownCommand"),
+        ("'' cat", "UnknownCommand"),
+        ("> x", "UnknownCommand"),
+        ("take 1 trace_pipe", "UnknownCommand"),
+        ("mkdir instances/a", "UnknownCommand"),
+        ("parallel", "UnknownCommand"),
+        ("cat", "WrongWords"),
+        ("cat a b", "WrongWords"),
+        ("cat > a", "WrongWords"),
+        ("cat a>b", "WrongWords"),
+        ("cat ''", "read"),
+        ("c'a't\ta", "read"),
+        ("echo", "WrongWords"),
+        ("echo a", "WrongWords"),
+        ("echo a >", "WrongWords"),
+        ("echo a > b c", "WrongWords"),
+        ("echo a > b > c", "WrongWords"),
+        ("echo a >>> b", "WrongWords"),
+        ("echo>b", "write"),
+        ("echo a '>' b>> c", "append"),
+        ("emit 0 7 tick", "WrongWords"),
+        ("emit 0 7 tick n=1 m", "WrongWords"),
+        ("emit x 7 tick n", "WrongWords"),
+        ("emit x 7 tick n=1", "BadNumber"),
+        ("emit -0 7 tick n=1", "BadNumber"),
+        ("emit 4294967296 7 tick n=1", "BadNumber"),
+        ("emit 0 +1 tick n=1", "BadNumber"),
+        ("emit 0 -2147483649 tick n=1", "BadNumber"),
+        ("emit 00004294967295 -2147483648 tick n=1", "emit"),
+        ("emit 0 -0 tick =5", "emit"),
+    ];
+    for (line, read) in table {
+        assert_eq!(rt; reading(rt.alloc(), line.as_bytes()), read, "{line}");
+    }
+}
+
+#[test]
+fn words_lose_their_quotes(rt: HostRuntime) -> Result<(), Fail> {
+    let line = prepare(rt.alloc(), b"echo \"a 'b\"c  d'>' >> 'p q'")?;
+    let Line::Ask(Command::Write { path, append, text }) = line else {
+        return Err(Fail::from("no write"));
+    };
+    assert_eq!(rt; path.as_bytes(), b"p q".as_slice());
+    assert_eq!(rt; text.as_bytes(), b"a 'bc d>".as_slice());
+    assert!(rt; append);
+    let line = prepare(rt.alloc(), b"emit 3 -2 tick a==b 'c d'=")?;
+    let Line::Ask(
+        Command::Emit {
+            event,
+            cpu,
+            pid,
+            pairs,
+        },
+    ) = line
+    else {
+        return Err(Fail::from("no emission"));
+    };
+    assert_eq!(rt; event.as_bytes(), b"tick".as_slice());
+    assert_eq!(rt; (cpu, pid), (3, -2));
+    assert_eq!(rt; pairs.as_slice().len(), 2);
+    assert_eq!(rt; pairs.as_slice()[0].name.as_bytes(), b"a".as_slice());
+    assert_eq!(rt; pairs.as_slice()[0].value.as_bytes(), b"=b".as_slice());
+    assert_eq!(rt; pairs.as_slice()[1].name.as_bytes(), b"c d".as_slice());
+    assert_eq!(rt; pairs.as_slice()[1].value.as_bytes(), b"".as_slice());
+    Ok(())
+}
+
+#[test]
+fn outcomes_are_rendered(rt: HostRuntime) -> Result<(), Fail> {
+    let alloc = rt.alloc();
+    let field = Text::from_slice(alloc, b"n")?;
+    let text = Text::from_slice(alloc, b"1\n")?;
+    let table = [
+        (Outcome::Replied(Reply::Done), ""),
+        (Outcome::Replied(Reply::Text(text)), "1\n"),
+        (
+            Outcome::Fault(ScriptFault::BadByte),
+            "! 12: script BadByte\n",
+        ),
+        (
+            Outcome::Refused(Refusal::NoSuchFile),
+            "! 12: N1 NoSuchFile\n",
+        ),
+        (
+            Outcome::Refused(Refusal::BadDefinition { at: 2 }),
+            "! 12: N7 BadDefinition at 2\n",
+        ),
+        (
+            Outcome::Refused(Refusal::FilterSyntax { at: 40 }),
+            "! 12: N9 FilterSyntax at 40\n",
+        ),
+        (
+            Outcome::Refused(Refusal::BadRow { field }),
+            "! 12: N21 BadRow n\n",
+        ),
+        (Outcome::Refused(Refusal::Worn), "! 12: N24 Worn\n"),
+    ];
+    for (outcome, rendered) in &table {
+        assert_eq!(rt; render(alloc, 12, outcome)?.as_slice(), rendered.as_bytes());
+    }
+    Ok(())
+}

@@ -1,0 +1,197 @@
+ghost use Rattle.std.specs.Prelude.{◌≤◌, ◌^◌};
+ghost use Rattle.trace_book.specs.Configs.{IsInRange};
+
+use crate::fakes::{Hesitant, Narrow, WhenFull};
+use std::alloc::{AllocError, Global};
+use std::io;
+use std::io::Read;
+use std::test::Fail;
+use trace_book::{Book, Command, Config, Refusal, Text};
+use trace_session::{Input, MOST_SCRIPT_BYTES, Output, Status, run_session};
+
+/// A script, what is written for it, and the exit status.
+struct Row {
+    name: &'static str,
+    script: &'static str,
+    written: &'static str,
+    status: u8,
+}
+
+const FIRST_PATH: [Row; 7] = [
+    Row {
+        name: "stats_at_once",
+        script: "echo 'tick u64 n' > synthetic_events\necho 1 > events/synthetic/tick/enable\ncat per_cpu/cpu0/stats\n",
+        written: "entries: 0\noverrun: 0\ncommit overrun: 0\nbytes: 0\noldest event ts: 0\nnow ts: 0\ndropped events: 0\nread events: 0\n",
+        status: 0,
+    },
+    Row {
+        name: "disabled_event",
+        script: "echo 'tick u64 n' > synthetic_events\nemit 0 7 tick n=1\ncat per_cpu/cpu0/stats\n",
+        written: "entries: 0\noverrun: 0\ncommit overrun: 0\nbytes: 0\noldest event ts: 0\nnow ts: 1\ndropped events: 0\nread events: 0\n",
+        status: 0,
+    },
+    Row {
+        name: "five_emissions",
+        script: "echo 'tick u64 n' > synthetic_events\necho 1 > events/synthetic/tick/enable\nemit 0 7 tick n=1\nemit 0 7 tick n=2\nemit 0 7 tick n=3\nemit 0 7 tick n=4\nemit 0 7 tick n=5\ncat per_cpu/cpu0/stats\n",
+        written: "entries: 3\noverrun: 2\ncommit overrun: 0\nbytes: 72\noldest event ts: 3\nnow ts: 5\ndropped events: 0\nread events: 0\n",
+        status: 0,
+    },
+    Row {
+        name: "seven_emissions",
+        script: "echo 'tick u64 n' > synthetic_events\necho 1 > events/synthetic/tick/enable\nemit 0 7 tick n=1\nemit 0 7 tick n=2\nemit 0 7 tick n=3\nemit 0 7 tick n=4\nemit 0 7 tick n=5\nemit 0 7 tick n=6\nemit 0 7 tick n=7\ncat per_cpu/cpu0/stats\n",
+        written: "entries: 3\noverrun: 4\ncommit overrun: 0\nbytes: 72\noldest event ts: 5\nnow ts: 7\ndropped events: 0\nread events: 0\n",
+        status: 0,
+    },
+    Row {
+        name: "bad_emissions",
+        script: "echo 'tick u64 n' > synthetic_events\necho 1 > events/synthetic/tick/enable\nemit 0 7 tick n=18446744073709551616\nemit 1 7 none n=1\nemit 0 7 none n=1\ncat per_cpu/cpu0/stats\n",
+        written: "! 3: N21 BadRow n\n! 4: N20 NoSuchCpu\n! 5: N5 NoSuchEvent\nentries: 0\noverrun: 0\ncommit overrun: 0\nbytes: 0\noldest event ts: 0\nnow ts: 0\ndropped events: 0\nread events: 0\n",
+        status: 1,
+    },
+    Row {
+        name: "refusals_by_file",
+        script: "echo 'tick u64 n' > synthetic_events\necho 1 > events/synthetic/tick/enable\ncat nothing\ncat per_cpu/cpu1/stats\necho 'tick u64 m' >> synthetic_events\necho 'x u65 n' >> synthetic_events\necho 'y u64 n' > synthetic_events\n",
+        written: "! 3: N1 NoSuchFile\n! 4: N20 NoSuchCpu\n! 5: N6 EventExists\n! 6: N7 BadDefinition at 2\n! 7: N19 Busy\n",
+        status: 1,
+    },
+    Row {
+        name: "unclosed_quote",
+        script: "# a comment\n\ncat nothing\necho 'tick u64 n\ncat nothing\n",
+        written: "! 3: N1 NoSuchFile\n! 4: script UnclosedQuote\n",
+        status: 2,
+    },
+];
+
+/// One CPU with two pages of 64 bytes.
+fn config(history_limit: u64) -> Config
+    requires least { 1 ≤ history_limit }
+    requires most { history_limit ≤ 2 ^ 32 }
+    ensures { IsInRange result }
+{
+    Config {
+        cpus: 1,
+        pages: 2,
+        page_bytes: 64,
+        history_limit,
+    }
+}
+
+/// What a session over memory writes for a script, and its status.
+fn session(alloc: Global, history_limit: u64, script: &[u8]) -> (Vec<u8>, Status)
+    requires least { 1 ≤ history_limit }
+    requires most { history_limit ≤ 2 ^ 32 }
+{
+    let mut input = Input::new(script);
+    let mut output = Output::new(Vec::new(alloc));
+    let status = run_session(alloc, config(history_limit), &mut input, &mut output);
+    (output.device, status)
+}
+
+#[test]
+fn rows_hold(rt: HostRuntime) {
+    for row in &FIRST_PATH {
+        let (written, status) = session(rt.alloc(), 1 << 32, row.script.as_bytes());
+        assert_eq!(rt; written.as_slice(), row.written.as_bytes(), "{}", row.name);
+        assert_eq!(rt; status.code(), row.status, "{}", row.name);
+    }
+}
+
+/// A write by `>`.
+fn write(alloc: Global, path: &[u8], text: &[u8]) -> Result<Command, AllocError> {
+    Ok(Command::Write {
+        path: Text::from_slice(alloc, path)?,
+        append: false,
+        text: Text::from_slice(alloc, text)?,
+    })
+}
+
+#[test]
+fn a_full_history_takes_no_more(rt: HostRuntime) -> Result<(), Fail> {
+    let alloc = rt.alloc();
+    let script =
+        b"echo 'tick u64 n' > synthetic_events\necho 1 > events/synthetic/tick/enable\ncat per_cpu/cpu0/stats\n";
+    let (written, status) = session(alloc, 2, script.as_slice());
+    assert_eq!(rt; written.as_slice(), b"! 3: N22 HistoryFull\n".as_slice());
+    assert_eq!(rt; status, Status::Refused);
+
+    let mut book = Book::new(alloc, config(2))?;
+    book.ask(0, 0, write(alloc, b"synthetic_events", b"tick u64 n")?)?;
+    book.ask(1, 0, write(alloc, b"events/synthetic/tick/enable", b"1")?)?;
+    let refused = book.ask(2, 0, write(alloc, b"events/synthetic/tick/enable", b"1")?);
+    assert!(rt; matches!(refused, Err(Refusal::HistoryFull)));
+    assert_eq!(rt; book.entries().len(), 2);
+    Ok(())
+}
+
+/// A session whose writer takes so many bytes, one at a time: what it took, how often it failed, and the status.
+fn narrow_session(
+    alloc: Global,
+    script: &[u8],
+    room: usize,
+    when_full: WhenFull,
+) -> (Vec<u8>, u64, Status) {
+    let mut input = Input::new(Hesitant {
+        rest: script,
+        fails_at_end: false,
+    });
+    let mut output = Output::new(Narrow {
+        taken: Vec::new(alloc),
+        room,
+        when_full,
+    });
+    let status = run_session(alloc, config(1 << 32), &mut input, &mut output);
+    (output.device.taken, output.failures, status)
+}
+
+#[test]
+fn a_full_writer_gets_a_front(rt: HostRuntime) {
+    let script = b"cat nothing\ncat nothing\n".as_slice();
+    let written = b"! 1: N1 NoSuchFile\n! 2: N1 NoSuchFile\n".as_slice();
+    for when_full in [WhenFull::Fails, WhenFull::TakesNothing] {
+        for room in 0..39 {
+            let (taken, failures, status) = narrow_session(rt.alloc(), script, room, when_full);
+            let is_whole = room == written.len();
+            let front = &written[..room.min(written.len())];
+            assert_eq!(rt; taken.as_slice(), front, "{room}");
+            assert_eq!(rt; failures, if is_whole { 0 } else { 1 }, "{room}");
+            assert_eq!(rt;
+                status,
+                if is_whole {
+                    Status::Refused
+                } else {
+                    Status::Device
+                },
+                "{room}"
+            );
+        }
+    }
+}
+
+#[test]
+fn a_failed_read_writes_nothing(rt: HostRuntime) {
+    let mut input = Input::new(Hesitant {
+        rest: b"cat nothing\n",
+        fails_at_end: true,
+    });
+    let mut output = Output::new(Vec::new(rt.alloc()));
+    let status = run_session(rt.alloc(), config(1 << 32), &mut input, &mut output);
+    assert_eq!(rt; status, Status::Device);
+    assert_eq!(rt; input.failures, 1);
+    assert!(rt; output.device.is_empty());
+}
+
+#[test]
+fn a_script_has_a_greatest_length(rt: HostRuntime) {
+    for (more, status, written) in [
+        (0, Status::Fault, b"! 1: script LineTooLong\n".as_slice()),
+        (1, Status::Device, b"".as_slice()),
+    ] {
+        let mut input = Input::new(io::repeat(b'#').take(MOST_SCRIPT_BYTES as u64 + more));
+        let mut output = Output::new(Vec::new(rt.alloc()));
+        assert_eq!(rt;
+            run_session(rt.alloc(), config(1 << 32), &mut input, &mut output),
+            status
+        );
+        assert_eq!(rt; output.device.as_slice(), written);
+    }
+}
