@@ -1,0 +1,6 @@
+pub mod Entries
+pub mod Seats
+pub mod Views
+pub mod Rule
+pub mod Moves
+pub mod Calls

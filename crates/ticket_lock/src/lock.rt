@@ -1,0 +1,286 @@
+//! The lock.
+ghost use Rattle.std.specs.Prelude.{◌≡◌, ◌↔◌, ◌+◌, ◌<◌, ◌≤◌, ◌^◌, [], ◌∷◌, All, AllPairs, Some, None, IfOk, IfErr, IfSome, IfNone, IsOk, MatchResult};
+ghost use Rattle.ticket_lock.specs.Entries.{IsBefore};
+
+use crate::entries::Logged;
+use crate::moves::{Draws, Enters, Halves, Leaves, Line, Looks, Meets};
+use crate::passes::{Pass, Worn};
+use crate::turns::{Held, Turn};
+use crate::views::{Opening, View};
+use atomic_table::{Refused, Seat, Table};
+use crossbeam_utils::Backoff;
+use std::alloc::{AllocFailed, Global};
+use std::fmt::{Debug, Formatter};
+use std::snapshot::Snapshot;
+use std::sync::Wait;
+use std::{fmt, thread};
+
+// The word with the number of tickets drawn: the next ticket.
+const NEXT: usize = 0;
+
+// The word with the ticket that is served.
+const SERVING: usize = 1;
+
+// The slot with the value.
+const SLOT: usize = 0;
+
+// The number of callers.
+const CALLERS: u32 = 65536;
+
+// How far its ticket is from the one that is served, for the next in line.
+const NEAR: u64 = 1;
+
+// No ticket is drawn from here on.
+const LAST: u64 = 1 << 63;
+
+/// A lock that serves its callers in the order in which they draw their tickets.
+#[derive(Drop)]
+pub struct TicketLock<T: Logged> {
+    table: Table<Option<T>, View<T::Entry>, Opening<T>, Line, Global>,
+    ghost words: { table.shared.table_id.words ≡ 2 },
+    ghost slots: { table.shared.table_id.slots ≡ 1 },
+}
+
+// The value of the one slot.
+fn only<T>(mut slots: Vec<Option<T>>) -> T
+    requires { (value : T) × (slots.items ≡ Some value ∷ []) }
+    ensures { slots.items ≡ Some result ∷ [] }
+{
+    let last = slots.pop();
+    slots.destroy_empty();
+    let Some(Some(value)) = last else {
+        unreachable!()
+    };
+    value
+}
+
+// Waits a little. The next in line looks again soon, and each other gives way to the threads that go before it.
+fn stand_by(backoff: &Backoff, distance: u64) {
+    if distance > NEAR {
+        thread::yield_now();
+    } else {
+        backoff.snooze();
+    }
+}
+
+impl<T: Logged> TicketLock<T> {
+    ghost use Rattle.ticket_lock.specs.Views.{HasAllNames};
+    ghost use Rattle.ticket_lock.specs.Moves.{after_draw, after_entry, LearnsNext, FindsHistory};
+    ghost use Rattle.ticket_lock.specs.declared.views.Stage.TheVariants.{Idle, Waiting};
+    ghost use Rattle.ticket_lock.specs.Calls.{view_of, held_view, held_ticket, held_value, IsOf, IsTurnOf, IsRoot, AreHalves, IsMet, IsDrawn, Finds, MayLeave, IsBack, IsWorn};
+
+    /// A lock whose first ticket is `first`, and its root pass, which has all callers' numbers from 0 to 65,535. The
+    /// value comes back where there is no memory.
+    pub fn starting_at(
+        alloc: Global,
+        first: u64,
+        value: T,
+    ) -> Result<(TicketLock<T>, Pass<T>), AllocFailed<T>>
+        requires first { first ≤ 2 ^ 63 }
+        requires rising { AllPairs (IsBefore T.ticket) (T.entries value) }
+        requires below { All (λ e. T.ticket e < first) (T.entries value) }
+        requires callers { All (λ e. T.by e < 65536) (T.entries value) }
+        ensures of { IfOk result (λ r. IsOf r.0 r.1) }
+        ensures root { IfOk result (λ r. IsRoot (T.entries value) (T.base value) first (view_of r.1)) }
+        ensures err { IfErr result (λ e. e.value ≡ value) }
+    {
+        let opening = Opening {
+            first,
+            value: Snapshot::of(&value),
+        };
+        let mut slots = Vec::new(alloc);
+        if let Err(AllocFailed { value }) = slots.push(Some(value)) {
+            slots.destroy_empty();
+            let Some(value) = value else { unreachable!() };
+            return Err(AllocFailed { value });
+        }
+        match Table::new(alloc, &[first, first], slots, &opening) {
+            Ok((table, seat)) => {
+                let pass = Pass {
+                    seat,
+                    low: 0,
+                    end: CALLERS,
+                };
+                Ok((TicketLock { table }, pass))
+            }
+            Err(Refused { slots }) => Err(AllocFailed { value: only(slots) }),
+        }
+    }
+
+    /// The lower and the upper half of a pass's names, each in a pass of its own that knows what the pass knew. The
+    /// upper half is longer by one where the number of names is odd. A pass with one name comes back.
+    pub fn split(&self, pass: Pass<T>) -> Result<(Pass<T>, Pass<T>), Pass<T>>
+        requires { IsOf self.now pass }
+        ensures ok { IsOk result ↔ ((view_of pass).low + 1 < (view_of pass).end) }
+        ensures of { MatchResult result (λ h. IsOf self.now h.0 × IsOf self.now h.1) (λ p. IsOf self.now p) }
+        ensures halves { IfOk result (λ h. AreHalves (view_of pass) (view_of h.0) (view_of h.1)) }
+        ensures err { IfErr result (λ p. view_of p ≡ view_of pass) }
+    {
+        let Pass { mut seat, low, end } = pass;
+        if end - low < 2 {
+            return Err(Pass { seat, low, end });
+        }
+        let middle = low + (end - low) / 2;
+        let upper = self.table.shared.split_seat::<Halves>(&mut seat);
+        let lower = Pass {
+            seat,
+            low,
+            end: middle,
+        };
+        Ok((
+            lower,
+            Pass {
+                seat: upper,
+                low: middle,
+                end,
+            },
+        ))
+    }
+
+    /// One pass with the names of both, of which the second's begin where the first's end. It has seen the more of
+    /// what both had seen.
+    pub fn join(&self, first: Pass<T>, second: Pass<T>) -> Pass<T>
+        requires first { IsOf self.now first }
+        requires second { IsOf self.now second }
+        requires adjacent { (view_of first).end ≡ (view_of second).low }
+        ensures of { IsOf self.now result }
+        ensures met { IsMet T.ticket T.by (view_of first) (view_of second) (view_of result) }
+    {
+        let Pass { mut seat, low, .. } = first;
+        let Pass {
+            seat: other,
+            end,
+            ..
+        } = second;
+        self.table.shared.join_seat::<Meets>(&mut seat, other);
+        self.table.shared.load::<Looks<T>>(&mut seat, NEXT);
+        Pass { seat, low, end }
+    }
+
+    /// Draws a ticket and waits until it is served. The pass comes back where all tickets are drawn.
+    pub fn acquire<R: Wait>(&self, rt: &R, pass: Pass<T>) -> Result<Held<T>, Worn<T>>
+        requires { IsOf self.now pass }
+        ensures of { MatchResult result (λ h. IsTurnOf self.now h) (λ w. IsOf self.now w.pass) }
+        ensures drawn { IfOk result (λ h. IsDrawn (view_of pass) (held_view h) (held_ticket h)) }
+        ensures finds { IfOk result (λ h. Finds T.ticket T.by (view_of pass) (held_ticket h) (held_view h).seen) }
+        ensures entries { IfOk result (λ h. T.entries (held_value h) ≡ (held_view h).seen) }
+        ensures base { IfOk result (λ h. T.base (held_value h) ≡ (view_of pass).base) }
+        ensures worn { IfErr result (λ w. IsWorn (view_of pass) (view_of w.pass)) }
+    {
+        let Pass { mut seat, low, end } = pass;
+        let Some(ticket) = self.draw(rt, &mut seat) else {
+            return Err(Worn {
+                pass: Pass { seat, low, end },
+            });
+        };
+        let value = self.enter(rt, &mut seat, ticket);
+        let turn = Turn {
+            seat,
+            low,
+            end,
+            ticket,
+        };
+        Ok(Held { turn, value })
+    }
+
+    // Draws the next ticket, where one is left.
+    fn draw<R: Wait>(&self, rt: &R, seat: &mut Seat<Option<T>, View<T::Entry>>) -> Option<u64>
+        requires of { seat.old.table_id ≡ self.now.table.shared.table_id }
+        requires idle { seat.old.me.0.stage ≡ Idle }
+        ensures of { seat.new.table_id ≡ seat.old.table_id }
+        ensures slots { seat.new.me.1 ≡ seat.old.me.1 }
+        ensures some { IfSome result (λ n. (seat.new.me.0 ≡ after_draw seat.old.me.0 n) × LearnsNext T.ticket T.by seat.old.me.0 n × (n < 2 ^ 63)) }
+        ensures none { IfNone result (IsWorn seat.old.me.0 seat.new.me.0) }
+    {
+        let backoff = Backoff::new();
+        let mut next = self.table.shared.load::<Looks<T>>(seat, NEXT);
+        for _ in rt.forever() {
+            if next >= LAST {
+                return None;
+            }
+            let found = self
+                .table
+                .shared
+                .compare_exchange::<Draws<T>>(seat, NEXT, next, next + 1);
+            if found == next {
+                return Some(next);
+            }
+            backoff.spin();
+            next = found;
+        }
+        unreachable!()
+    }
+
+    // Waits until the ticket is served, and takes the value out of its slot.
+    fn enter<R: Wait>(&self, rt: &R, seat: &mut Seat<Option<T>, View<T::Entry>>, ticket: u64) -> T
+        requires of { seat.old.table_id ≡ self.now.table.shared.table_id }
+        requires waiting { seat.old.me.0.stage ≡ Waiting ticket }
+        requires slots { seat.old.me.1 ≡ [] }
+        ensures of { seat.new.table_id ≡ seat.old.table_id }
+        ensures view { seat.new.me ≡ (after_entry seat.old.me.0 (T.entries result), (0, None) ∷ []) }
+        ensures base { T.base result ≡ seat.old.me.0.base }
+        ensures finds { FindsHistory T.ticket T.by seat.old.me.0 (T.entries result) }
+    {
+        let backoff = Backoff::new();
+        for _ in rt.forever() {
+            let served = self.table.shared.load::<Enters<T>>(seat, SERVING);
+            if served == ticket {
+                let slot = self.table.shared.exchange(seat, SLOT, None);
+                let Some(value) = slot else { unreachable!() };
+                return value;
+            }
+            stand_by(&backoff, ticket - served);
+        }
+        unreachable!()
+    }
+
+    /// Puts the value back and serves the next ticket. It waits for nobody.
+    ///
+    /// The value has to have the base that was found, and the entries that were found, or those and one more, with
+    /// the turn's ticket and under the pass's first name.
+    pub fn release(&self, held: Held<T>) -> Pass<T>
+        requires of { IsTurnOf self.now held }
+        requires base { T.base (held_value held) ≡ (held_view held).base }
+        requires entries { MayLeave T.ticket T.by (held_view held) (held_ticket held) (T.entries (held_value held)) }
+        ensures of { IsOf self.now result }
+        ensures back { IsBack (held_view held) (view_of result) (T.entries (held_value held)) }
+    {
+        let Held { turn, value } = held;
+        let Turn {
+            mut seat,
+            low,
+            end,
+            ticket,
+        } = turn;
+        let before = self.table.shared.exchange(&mut seat, SLOT, Some(value));
+        let None = before else { unreachable!() };
+        self.table
+            .shared
+            .store::<Leaves<T>>(&mut seat, SERVING, ticket + 1);
+        Pass { seat, low, end }
+    }
+
+    /// Ends the lock and gives its value, by the pass that has all names.
+    pub fn close(self, pass: Pass<T>) -> T
+        requires of { IsOf self pass }
+        requires all_names { HasAllNames (view_of pass) }
+        ensures entries { T.entries result ≡ (view_of pass).seen }
+        ensures base { T.base result ≡ (view_of pass).base }
+        ensures rising { AllPairs (IsBefore T.ticket) (T.entries result) }
+        ensures callers { All (λ e. T.by e < 65536) (T.entries result) }
+    {
+        let TicketLock { table } = self;
+        let Pass { seat, .. } = pass;
+        let mut closed = table.close_with(seat);
+        let slot = closed.take(SLOT);
+        closed.free();
+        let Some(value) = slot else { unreachable!() };
+        value
+    }
+}
+
+impl<T: Logged> Debug for TicketLock<T> {
+    fn fmt<W: fmt::Write>(&self, f: &mut Formatter<W>) -> fmt::Result {
+        f.pad("TicketLock { .. }")
+    }
+}
