@@ -1,4 +1,8 @@
-//! A ticket lock over a value that keeps a list of entries.
+//! A ticket lock over a value that keeps a list of entries, the history of the calls that were done on it.
+//!
+//! A caller draws a ticket, waits until it is served, and has the value for one turn, in which it may add one entry.
+//! [`TicketLock`] is the lock, a [`Pass`] the right to ask under a range of callers' numbers, and a [`Held`] a turn,
+//! which has to be given back by `TicketLock::release`. `docs/LOCK.md` says what is promised, and by which clauses.
 #![tactic(auto)]
 
 mod entries;
