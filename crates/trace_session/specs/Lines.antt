@@ -77,12 +77,18 @@ unfoldable pub read_of : List Token → Result Command ScriptFault
 read_of (Word path ∷ []) = Ok (Read path None)
 read_of _ = Err WrongWords
 
+-- `take N PATH`: at most N records
+unfoldable pub take_of : List Token → Result Command ScriptFault
+take_of (Word count ∷ Word path ∷ []) = or_fault BadNumber (number_up_to (2 ^ 64 - 1) count) >>= λ limit. Ok (Read path (Some limit))
+take_of _ = Err WrongWords
+
 -- the command of this name
 unfoldable pub named_command : List ℕ → List Token → Result Command ScriptFault
 named_command name tokens =
     if bytes_eq name (codes "emit") then emission_of tokens
     else (if bytes_eq name (codes "echo") then write_of tokens
-    else (if bytes_eq name (codes "cat") then read_of tokens else Err UnknownCommand))
+    else (if bytes_eq name (codes "cat") then read_of tokens
+    else (if bytes_eq name (codes "take") then take_of tokens else Err UnknownCommand)))
 
 -- the first token names the command
 unfoldable pub command_of : List Token → Result Command ScriptFault

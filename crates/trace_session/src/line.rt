@@ -5,11 +5,11 @@ ghost use Rattle.std.specs.List.{list_all};
 ghost use Rattle.trace_book.specs.declared.command.Command.{Command};
 ghost use Rattle.trace_session.specs.declared.token.Token.{Token};
 ghost use Rattle.trace_session.specs.Outcomes.{Gives, or_fault};
-ghost use Rattle.trace_session.specs.Lines.{IsWriteOf, pair_of, pairs_of, emission_of, write_of, read_of, named_command, command_of, redirected_to, is_line_byte, says_nothing, spoken, line_of};
+ghost use Rattle.trace_session.specs.Lines.{IsWriteOf, pair_of, pairs_of, emission_of, write_of, read_of, take_of, named_command, command_of, redirected_to, is_line_byte, says_nothing, spoken, line_of};
 ghost use Rattle.trace_session.specs.declared.fault.ScriptFault.TheVariants.{WrongWords};
 
 use crate::fault::{LineError, ScriptFault};
-use crate::number::{cpu_number, process_id};
+use crate::number::{cpu_number, number_up_to, process_id};
 use crate::token::{Token, is_blank, tokens};
 use std::alloc::{AllocError, Global};
 use trace_book::{Command, Pair, Pairs, Text};
@@ -146,6 +146,26 @@ fn read(alloc: Global, tokens: &[Token]) -> Result<Command, LineError>
     }
 }
 
+/// `take N PATH`: a read of at most N records.
+#[tactic(auto, unfolding(crate::specs::Lines::take_of))]
+fn take(alloc: Global, tokens: &[Token]) -> Result<Command, LineError>
+    ensures { Gives (λ command. command) result (take_of tokens.now) }
+{
+    match tokens {
+        [Token::Word(count), Token::Word(path)] => {
+            let Some(limit) = number_up_to(count.as_bytes(), u64::MAX) else {
+                return Err(LineError::Fault(ScriptFault::BadNumber));
+            };
+            let path = Text::from_slice(alloc, path.as_bytes())?;
+            Ok(Command::Read {
+                path,
+                limit: Some(limit),
+            })
+        }
+        _ => Err(LineError::Fault(ScriptFault::WrongWords)),
+    }
+}
+
 /// The command of this name.
 #[tactic(auto, unfolding(crate::specs::Lines::named_command))]
 fn named(alloc: Global, name: &[u8], tokens: &[Token]) -> Result<Command, LineError>
@@ -159,6 +179,9 @@ fn named(alloc: Global, name: &[u8], tokens: &[Token]) -> Result<Command, LineEr
     }
     if name == b"cat".as_slice() {
         return read(alloc, tokens);
+    }
+    if name == b"take".as_slice() {
+        return take(alloc, tokens);
     }
     Err(LineError::Fault(ScriptFault::UnknownCommand))
 }
@@ -224,5 +247,4 @@ pub(crate) fn prepare(alloc: Global, line: &[u8]) -> Result<Line, LineError>
 pub fn writes_are_as_written()
     ensures written { (tokens : List Token) (command : Command) → write_of tokens ≡ Ok command → IsWriteOf tokens command }
     ensures read { (tokens : List Token) (command : Command) → IsWriteOf tokens command → write_of tokens ≡ Ok command }
-{
-}
+{}

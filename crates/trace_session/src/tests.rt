@@ -12,7 +12,8 @@ fn reading(alloc: Global, line: &[u8]) -> &'static str {
         Ok(Line::Ask(Command::Emit { .. })) => "emit",
         Ok(Line::Ask(Command::Write { append: true, .. })) => "append",
         Ok(Line::Ask(Command::Write { .. })) => "write",
-        Ok(Line::Ask(Command::Read { .. })) => "read",
+        Ok(Line::Ask(Command::Read { limit: None, .. })) => "read",
+        Ok(Line::Ask(Command::Read { .. })) => "take",
         Ok(Line::Ask(_)) => "another command",
         Err(LineError::Fault(ScriptFault::LineTooLong)) => "LineTooLong",
         Err(LineError::Fault(ScriptFault::BadByte)) => "BadByte",
@@ -27,7 +28,7 @@ fn reading(alloc: Global, line: &[u8]) -> &'static str {
 
 #[test]
 fn lines_are_read(rt: HostRuntime) {
-    let table: [(&str, &str); 38] = [
+    let table: [(&str, &str); 43] = [
         ("", "nothing"),
         (" \t ", "nothing"),
         (" # cat 'x", "nothing"),
@@ -39,7 +40,6 @@ fn lines_are_read(rt: HostRuntime) {
         ("'#' x", "UnknownCommand"),
         ("'' cat", "UnknownCommand"),
         ("> x", "UnknownCommand"),
-        ("take 1 trace_pipe", "UnknownCommand"),
         ("mkdir instances/a", "UnknownCommand"),
         ("parallel", "UnknownCommand"),
         ("cat", "WrongWords"),
@@ -48,6 +48,12 @@ fn lines_are_read(rt: HostRuntime) {
         ("cat a>b", "WrongWords"),
         ("cat ''", "read"),
         ("c'a't\ta", "read"),
+        ("take 1", "WrongWords"),
+        ("take x a b", "WrongWords"),
+        ("take x trace_pipe", "BadNumber"),
+        ("take '' trace_pipe", "BadNumber"),
+        ("take 18446744073709551616 trace_pipe", "BadNumber"),
+        ("take 0 trace_pipe", "take"),
         ("echo", "WrongWords"),
         ("echo a", "WrongWords"),
         ("echo a >", "WrongWords"),

@@ -4,4 +4,6 @@
 #[cfg(test)]
 mod fakes;
 #[cfg(test)]
+mod memory;
+#[cfg(test)]
 mod rows;

@@ -17,7 +17,8 @@ struct Row {
     status: u8,
 }
 
-const FIRST_PATH: [Row; 7] = [
+const ROWS: [Row; 19] = [
+    // One event, its switch, emissions and statistics.
     Row {
         name: "stats_at_once",
         script: "echo 'tick u64 n' > synthetic_events\necho 1 > events/synthetic/tick/enable\ncat per_cpu/cpu0/stats\n",
@@ -60,6 +61,80 @@ const FIRST_PATH: [Row; 7] = [
         written: "! 3: N1 NoSuchFile\n! 4: script UnclosedQuote\n",
         status: 2,
     },
+    // Consuming reads, clear, and overwriting switched off.
+    Row {
+        name: "lost_line_after_overrun",
+        script: "echo 'tick u64 n' > synthetic_events\necho 1 > events/synthetic/tick/enable\nemit 0 7 tick n=1\nemit 0 7 tick n=2\nemit 0 7 tick n=3\ntake 1 trace_pipe\nemit 0 7 tick n=4\nemit 0 7 tick n=5\nemit 0 7 tick n=6\nemit 0 7 tick n=7\ncat per_cpu/cpu0/stats\ntake 2 trace_pipe\ncat per_cpu/cpu0/stats\n",
+        written: "7 [000] 1: tick: n=1\nentries: 4\noverrun: 2\ncommit overrun: 0\nbytes: 96\noldest event ts: 2\nnow ts: 7\ndropped events: 0\nread events: 1\n7 [000] 2: tick: n=2\nCPU:0 [LOST 2 EVENTS]\n7 [000] 5: tick: n=5\nentries: 2\noverrun: 2\ncommit overrun: 0\nbytes: 48\noldest event ts: 6\nnow ts: 7\ndropped events: 0\nread events: 3\n",
+        status: 0,
+    },
+    Row {
+        name: "reader_on_the_writers_page",
+        script: "echo 'tick u64 n' > synthetic_events\necho 1 > events/synthetic/tick/enable\nemit 0 7 tick n=1\ntake 1 trace_pipe\nemit 0 7 tick n=2\ntake 1 trace_pipe\nemit 0 7 tick n=3\nemit 0 7 tick n=4\ncat per_cpu/cpu0/stats\n",
+        written: "7 [000] 1: tick: n=1\n7 [000] 2: tick: n=2\nentries: 2\noverrun: 0\ncommit overrun: 0\nbytes: 48\noldest event ts: 3\nnow ts: 4\ndropped events: 0\nread events: 2\n",
+        status: 0,
+    },
+    Row {
+        name: "overwrite_off",
+        script: "echo 'tick u64 n' > synthetic_events\necho 1 > events/synthetic/tick/enable\necho 0 > options/overwrite\nemit 0 7 tick n=1\nemit 0 7 tick n=2\nemit 0 7 tick n=3\nemit 0 7 tick n=4\nemit 0 7 tick n=5\ncat per_cpu/cpu0/stats\ntake 1 trace_pipe\nemit 0 7 tick n=6\ncat per_cpu/cpu0/stats\n",
+        written: "entries: 4\noverrun: 0\ncommit overrun: 0\nbytes: 96\noldest event ts: 1\nnow ts: 5\ndropped events: 1\nread events: 0\n7 [000] 1: tick: n=1\nentries: 4\noverrun: 0\ncommit overrun: 0\nbytes: 96\noldest event ts: 2\nnow ts: 6\ndropped events: 1\nread events: 1\n",
+        status: 0,
+    },
+    Row {
+        name: "trace_shows_pipe_consumes",
+        script: "echo 'tick u64 n' > synthetic_events\necho 1 > events/synthetic/tick/enable\nemit 0 7 tick n=1\nemit 0 7 tick n=2\ncat trace\ncat trace\ncat trace_pipe\ncat trace_pipe\ncat per_cpu/cpu0/stats\n",
+        written: "# tracer: nop\n#\n# entries-in-buffer/entries-written: 2/2   #P:1\n#\n7 [000] 1: tick: n=1\n7 [000] 2: tick: n=2\n# tracer: nop\n#\n# entries-in-buffer/entries-written: 2/2   #P:1\n#\n7 [000] 1: tick: n=1\n7 [000] 2: tick: n=2\n7 [000] 1: tick: n=1\n7 [000] 2: tick: n=2\nentries: 0\noverrun: 0\ncommit overrun: 0\nbytes: 0\noldest event ts: 0\nnow ts: 2\ndropped events: 0\nread events: 2\n",
+        status: 0,
+    },
+    Row {
+        name: "clear",
+        script: "echo 'tick u64 n' > synthetic_events\necho 1 > events/synthetic/tick/enable\nemit 0 7 tick n=1\nemit 0 7 tick n=2\nemit 0 7 tick n=3\nemit 0 7 tick n=4\nemit 0 7 tick n=5\necho > trace\ncat per_cpu/cpu0/stats\nemit 0 7 tick n=6\ncat per_cpu/cpu0/stats\n",
+        written: "entries: 0\noverrun: 0\ncommit overrun: 0\nbytes: 0\noldest event ts: 0\nnow ts: 5\ndropped events: 0\nread events: 0\nentries: 1\noverrun: 0\ncommit overrun: 0\nbytes: 24\noldest event ts: 6\nnow ts: 6\ndropped events: 0\nread events: 0\n",
+        status: 0,
+    },
+    Row {
+        name: "take_nothing",
+        script: "echo 'tick u64 n' > synthetic_events\necho 1 > events/synthetic/tick/enable\nemit 0 7 tick n=1\ntake 0 trace_pipe\ncat per_cpu/cpu0/stats\ntake 1 per_cpu/cpu0/stats\n",
+        written: "entries: 1\noverrun: 0\ncommit overrun: 0\nbytes: 24\noldest event ts: 1\nnow ts: 1\ndropped events: 0\nread events: 0\n! 6: N4 BadValue\n",
+        status: 1,
+    },
+    Row {
+        name: "reader_page_outlives_overrun",
+        script: "echo 'tick u64 n' > synthetic_events\necho 1 > events/synthetic/tick/enable\nemit 0 7 tick n=1\ntake 1 trace_pipe\nemit 0 7 tick n=2\nemit 0 7 tick n=3\nemit 0 7 tick n=4\nemit 0 7 tick n=5\nemit 0 7 tick n=6\nemit 0 7 tick n=7\ncat per_cpu/cpu0/stats\ntake 2 trace_pipe\n",
+        written: "7 [000] 1: tick: n=1\nentries: 4\noverrun: 2\ncommit overrun: 0\nbytes: 96\noldest event ts: 2\nnow ts: 7\ndropped events: 0\nread events: 1\n7 [000] 2: tick: n=2\nCPU:0 [LOST 2 EVENTS]\n7 [000] 5: tick: n=5\n",
+        status: 0,
+    },
+    Row {
+        name: "overwrite_off_after_take",
+        script: "echo 'tick u64 n' > synthetic_events\necho 1 > events/synthetic/tick/enable\necho 0 > options/overwrite\nemit 0 7 tick n=1\ntake 1 trace_pipe\nemit 0 7 tick n=2\nemit 0 7 tick n=3\nemit 0 7 tick n=4\nemit 0 7 tick n=5\nemit 0 7 tick n=6\nemit 0 7 tick n=7\nemit 0 7 tick n=8\ncat per_cpu/cpu0/stats\n",
+        written: "7 [000] 1: tick: n=1\nentries: 5\noverrun: 0\ncommit overrun: 0\nbytes: 120\noldest event ts: 2\nnow ts: 8\ndropped events: 2\nread events: 1\n",
+        status: 0,
+    },
+    Row {
+        name: "a_pipe_is_not_written",
+        script: "echo 1 > trace_pipe\n",
+        written: "! 1: N3 NotWritable\n",
+        status: 1,
+    },
+    // Faults in a script.
+    Row {
+        name: "cat_alone",
+        script: "cat\n",
+        written: "! 1: script WrongWords\n",
+        status: 2,
+    },
+    Row {
+        name: "take_no_number",
+        script: "take x trace_pipe\n",
+        written: "! 1: script BadNumber\n",
+        status: 2,
+    },
+    Row {
+        name: "unknown_command",
+        script: "ls\n",
+        written: "! 1: script UnknownCommand\n",
+        status: 2,
+    },
 ];
 
 /// One CPU with two pages of 64 bytes.
@@ -89,7 +164,7 @@ fn session(alloc: Global, history_limit: u64, script: &[u8]) -> (Vec<u8>, Status
 
 #[test]
 fn rows_hold(rt: HostRuntime) {
-    for row in &FIRST_PATH {
+    for row in &ROWS {
         let (written, status) = session(rt.alloc(), 1 << 32, row.script.as_bytes());
         assert_eq!(rt; written.as_slice(), row.written.as_bytes(), "{}", row.name);
         assert_eq!(rt; status.code(), row.status, "{}", row.name);
