@@ -1,16 +1,16 @@
 -- What is lost, accepted and read, in the words of the laws.
-use Rattle.std.proofs.Common.{zero-add, ◌≡◌, ◌≢◌, ◌↔◌, ◌⊎◌, ℕ, ◌+◌, ◌<◌, ◌≤◌, ◌==◌, nat_le, leb, eqb, Bool, true, false, not, ◌&&◌, ◌||◌, cond, List, [], ◌∷◌, ◌++◌, length, drop, filter, fold, Option, Some, None, refl, sym, ap, ◌∙◌, subst, inl, inr, arith, length-append}
-use Rattle.std.specs.List.{AllByRecursion, All, count_by}
-use Rattle.std.proofs.lemmas.Bool.{cases_Bool, false≢true, or_cases, or_left, or_right, and_parts, and_from, eqb-true, eq-eqb, leb-true, le-leb, not-true, not_from_false, ne_eqb}
+use Rattle.std.proofs.Common.{zero-add, ◌≡◌, ℕ, ◌+◌, ◌<◌, ◌≤◌, eqb, Bool, true, false, not, ◌&&◌, ◌||◌, cond, List, [], ◌∷◌, ◌++◌, length, drop, filter, fold, Option, Some, None, refl, sym, ap, ◌∙◌, subst, inl, inr, arith, length-append}
+use Rattle.std.specs.List.{AllByRecursion, count_by}
+use Rattle.std.proofs.lemmas.Bool.{cases_Bool, false≢true, or_cases, or_left, or_right, and_parts, and_from, eqb-true, eq-eqb, leb-true, le-leb, not-true, ne_eqb}
 use Rattle.std.proofs.lemmas.List.{append_assoc, append-nil}
 use Rattle.std.proofs.lemmas.List.Sums.{sum_by-cons, fold_push, fold-append}
 use Rattle.std.proofs.lemmas.List.Elements.{All-from_recursion, recursion_from_All, filter-append}
 use Rattle.page_ring.specs.Events.{Event, Put, Take}
 use Rattle.page_ring.specs.Cut.{Accepted, cut, with_record, next_page, last_page}
-use Rattle.page_ring.specs.Account.{Account, account, nothing, after, kept, is_taken, is_overrun, is_reader_page, reader_page, next_number, accepts, would_lose, with_accepted, with_first_taken, readings_of, readings_from, first, Reading}
-use Rattle.page_ring.specs.Shown.{Seen, StandsFor, shown_by, offered}
+use Rattle.page_ring.specs.Account.{Account, account, nothing, after, kept, is_taken, is_overrun, is_reader_page, reader_page, next_number, accepts, with_accepted, with_first_taken, readings_of, readings_from, Reading}
+use Rattle.page_ring.specs.Shown.{StandsFor, shown_by}
 use Rattle.page_ring.specs.Sound.{IsRising}
-use Rattle.page_ring.specs.Laws.{is_put, OfferedIsPuts, IsAccepted, IsLostIn, LostBySomePut, AcceptedAlways, AcceptedWithoutLoss, DroppedOnly, ReadsLeast, LeastIsRead, TellsLost, LostIsBetween, ReadingsAreAhead, NothingToRead, puts_pass, KeptWerePut}
+use Rattle.page_ring.specs.Laws.{is_put, OfferedIsPuts, IsAccepted, IsLostIn, LostBySomePut, AcceptedAlways, AcceptedWithoutLoss, DroppedOnly, LeastIsRead, LostIsBetween, ReadingsAreAhead, NothingToRead, puts_pass, KeptWerePut}
 use Rattle.page_ring.proofs.PageFacts.{filter_none, all_filter, all_append, rising_filter, rising_push}
 use Rattle.page_ring.proofs.Bridge.{account-push, cut-push, is_cut, fold_keeps, last_page-push, kept_rising, kept_after_read, kept_olds}
 

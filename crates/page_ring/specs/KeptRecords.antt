@@ -1,5 +1,5 @@
 -- What an iterator over kept records has left.
-use Rattle.std.specs.Prelude.{ℕ, ◌^◌, List, map}
+use Rattle.std.specs.Prelude.{◌^◌, List, map}
 use Rattle.page_ring.specs.Account.{Reading, readings_from}
 use Rattle.page_ring.specs.Pages.{on_page}
 use Rattle.page_ring.specs.Unread.{unread_left}

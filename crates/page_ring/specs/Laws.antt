@@ -1,5 +1,5 @@
 -- The definitions once more, in the words of the subject.
-use Rattle.std.specs.Prelude.{◌≡◌, ◌≢◌, ◌↔◌, ℕ, ◌+◌, ◌<◌, ◌≤◌, Bool, true, false, List, [], ◌∷◌, ◌++◌, length, drop, take, map, count_by, All, Contains, Some, IsSomeAnd, slice_get}
+use Rattle.std.specs.Prelude.{◌≡◌, ◌≢◌, ◌↔◌, ℕ, ◌+◌, ◌<◌, ◌≤◌, Bool, true, false, List, [], ◌∷◌, ◌++◌, length, drop, take, map, count_by, All, Some, IsSomeAnd, slice_get}
 use Rattle.page_ring.specs.declared.heads.Head.{Head}
 use Rattle.page_ring.specs.Record.{head_of, timestamp}
 use Rattle.page_ring.specs.Events.{Event, Put, Take}

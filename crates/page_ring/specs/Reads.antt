@@ -1,5 +1,5 @@
 -- What a read does to the pages of a ring.
-use Rattle.std.specs.Prelude.{◌≡◌, ℕ, ◌==◌, List, [], ◌∷◌, length, Option, Some, if◌then◌else◌}
+use Rattle.std.specs.Prelude.{◌≡◌, ℕ, ◌==◌, [], ◌∷◌, length, Option, Some, if◌then◌else◌}
 use Rattle.page_ring.specs.declared.pages.Stored.{Stored}
 use Rattle.page_ring.specs.declared.pages.Pages.{Pages}
 use Rattle.page_ring.specs.Pages.{on_page, kept_in}

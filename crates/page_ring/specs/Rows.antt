@@ -2,7 +2,7 @@
 use Rattle.std.specs.Prelude.{◌≡◌, ℕ, Bool, true, false, List, [], ◌∷◌, ◌++◌, map, replicate}
 use Rattle.std.specs.List.{range_with_len}
 use Rattle.page_ring.specs.Events.{Event, Put, Take}
-use Rattle.page_ring.specs.Account.{stats_of, readings_of, put_answer, Reading}
+use Rattle.page_ring.specs.Account.{stats_of, readings_of, put_answer}
 use Rattle.page_ring.specs.declared.rings.RingStats.{RingStats}
 use Rattle.page_ring.specs.declared.rings.Put.TheVariants.{Kept, KeptLosing, Dropped}
 

@@ -1,5 +1,5 @@
 -- What an iterator over the unread records has left.
-use Rattle.std.specs.Prelude.{◌≡◌, ℕ, ◌^◌, List, ◌++◌, map, flat_map}
+use Rattle.std.specs.Prelude.{List, ◌++◌, flat_map}
 use Rattle.std.specs.VecDeque.Iter.{deque_iter_rest}
 use Rattle.page_ring.specs.declared.pages.Stored.{Stored}
 use Rattle.page_ring.specs.declared.pages.Unread.{Unread}

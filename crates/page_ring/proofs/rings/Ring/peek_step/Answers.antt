@@ -1,6 +1,4 @@
-use Rattle.std.proofs.Common.{◌≡◌, ℕ, ◌-◌, Option, Some, None, ap, sym, subst, refl}
-use Rattle.std.specs.Option.{option_map}
-use Rattle.page_ring.specs.Record.{timestamp}
+use Rattle.std.proofs.Common.{◌≡◌, ◌-◌, Option, Some, None, sym, subst}
 use Rattle.page_ring.specs.Account.{Reading, first}
 use Rattle.page_ring.specs.Pages.{kept_in}
 use Rattle.page_ring.specs.Shown.{Seen}

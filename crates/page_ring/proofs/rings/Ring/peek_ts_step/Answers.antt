@@ -1,4 +1,4 @@
-use Rattle.std.proofs.Common.{◌≡◌, ℕ, ◌-◌, Option, Some, None, ap, sym, subst, refl}
+use Rattle.std.proofs.Common.{◌≡◌, ℕ, Option, Some, None, ap, sym, subst}
 use Rattle.std.specs.Option.{option_map}
 use Rattle.page_ring.specs.Record.{timestamp}
 use Rattle.page_ring.specs.Account.{Reading, first}

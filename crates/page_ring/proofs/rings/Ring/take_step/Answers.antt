@@ -1,8 +1,8 @@
-use Rattle.std.proofs.Common.{◌≡◌, ℕ, ◌+◌, ◌-◌, ◌∙◌, Option, Some, None, ap, sym, subst}
+use Rattle.std.proofs.Common.{◌≡◌, ◌+◌, ◌-◌, ◌∙◌, Some, ap, sym, subst}
 use Rattle.std.specs.Option.{option_map}
 use Rattle.page_ring.specs.Account.{Reading, first}
 use Rattle.page_ring.specs.Pages.{kept_in}
-use Rattle.page_ring.specs.Shown.{Seen, Shown}
+use Rattle.page_ring.specs.Shown.{Seen}
 use Rattle.page_ring.specs.Sound.{seen}
 use Rattle.page_ring.specs.Step.{without_first, readings_shown}
 use Rattle.page_ring.proofs.Readings.{circle_full, no_reading, shown_none, without_none, shown_taken, reading_taken, sound_taken}
