@@ -1,0 +1,15 @@
+pub mod BuildLemmas
+pub mod CatalogLemmas
+pub mod FreshNames
+pub mod Lengths
+pub mod MapLemmas
+pub mod NumberLemmas
+pub mod Options
+pub mod Patterns
+pub mod Payloads
+pub mod ReadingLemmas
+pub mod Standings
+pub mod TextFields
+pub mod Types
+pub mod Verdicts
+pub mod WordLemmas

@@ -1,0 +1,10 @@
+pub mod Names
+pub mod Numbers
+pub mod Kinds
+pub mod Words
+pub mod Definitions
+pub mod Reading
+pub mod Cells
+pub mod Rows
+pub mod Decoding
+pub mod Catalogs

@@ -1,0 +1,80 @@
+-- Rows as pairs of field names and texts give them.
+use Rattle.std.specs.Prelude.{◌≡◌, ℕ, ℤ, int_le, Bool, not, ◌&&◌, nat_lt, if◌then◌else◌, bytes_eq, List, [], ◌∷◌, ◌++◌, length, find, filter_map, Option, None, Some, is_some, option_and_then, Result, Ok, Err}
+use Rattle.std.specs.List.{list_all}
+use Rattle.trace_format.specs.declared.fault.RowFault.{RowFault}
+use Rattle.trace_format.specs.declared.fault.RowFault.TheVariants.{BadRow, Memory}
+use Rattle.trace_format.specs.declared.kind.Kind.{Kind}
+use Rattle.trace_format.specs.declared.kind.Kind.TheVariants.{Number, Char}
+use Rattle.trace_format.specs.declared.event.Field.{Field}
+use Rattle.trace_format.specs.declared.pair.Pair.{Pair}
+use Rattle.trace_format.specs.Numbers.{number_of}
+use Rattle.trace_format.specs.Kinds.{least, greatest}
+use Rattle.trace_format.specs.Definitions.{Definition}
+use Rattle.trace_format.specs.Cells.{Datum, Whole, Bytes, Cells, kinds_of, is_printable, value_at}
+
+-- the value that a text gives to a field of the type
+abbrev pub number_in : ℤ → ℤ → ℤ → Option Datum
+number_in low high n = if int_le low n && int_le n high then Some (Whole n) else None
+
+unfoldable pub value_of : Kind → List ℕ → Option Datum
+value_of (Number t) text = option_and_then (number_in (least t) (greatest t)) (number_of text)
+value_of (Char n) text = if nat_lt (length text) n && list_all is_printable text then Some (Bytes text) else None
+
+-- the field of a name
+abbrev pub field_named : List Field → List ℕ → Option Field
+field_named fields name = find (λ field. bytes_eq field.name name) fields
+
+-- the value that a pair gives to the field that it names
+abbrev pub pair_value : List Field → Pair → Option Datum
+pair_value fields pair = option_and_then (λ field. value_of field.kind pair.value) (field_named fields pair.name)
+
+-- the pair of a name
+abbrev pub pair_named : List Pair → List ℕ → Option Pair
+pair_named pairs name = find (λ pair. bytes_eq pair.name name) pairs
+
+-- a pair is right behind others where it names a field that none of them names, and its text is a value of that field
+abbrev pub is_right : List Field → List Pair → Pair → Bool
+is_right fields before pair = is_some (pair_value fields pair) && not (is_some (pair_named before pair.name))
+
+-- the name of the first pair that is not right behind those before it
+abbrev pub first_wrong : List Field → List Pair → List Pair → Option (List ℕ)
+first_wrong fields before [] = None
+first_wrong fields before (pair ∷ pairs) = if is_right fields before pair then first_wrong fields (before ++ pair ∷ []) pairs else Some pair.name
+
+-- the value that the pairs give to a field
+abbrev pub given : List Pair → Field → Option Datum
+given pairs field = option_and_then (λ pair. value_of field.kind pair.value) (pair_named pairs field.name)
+
+-- the name of the first field that no pair gives a value
+abbrev pub first_missing : List Field → List Pair → Option (List ℕ)
+first_missing [] pairs = None
+first_missing (field ∷ fields) pairs = if is_some (given pairs field) then first_missing fields pairs else Some field.name
+
+-- the row that the pairs give, or the name of the field at which they are refused
+abbrev pub row_unless : Option (List ℕ) → Option (List ℕ) → Cells → Result Cells (List ℕ)
+row_unless (Some name) missing row = Err name
+row_unless None (Some name) row = Err name
+row_unless None None row = Ok row
+
+unfoldable pub row_of : Definition → List Pair → Result Cells (List ℕ)
+row_of definition pairs = row_unless (first_wrong definition.fields [] pairs) (first_missing definition.fields pairs) (record { kinds = kinds_of definition; values = filter_map (given pairs) definition.fields })
+
+-- what `build` answers is the row that the pairs give, unless memory was refused
+abbrev pub IsBuilt : Result Cells RowFault → Result Cells (List ℕ) → Type 0
+IsBuilt (Ok row) built = built ≡ Ok row
+IsBuilt (Err (BadRow name)) built = built ≡ Err name
+IsBuilt (Err Memory) built = Unit {0}
+
+-- a refusal at a field, or for memory
+abbrev pub IsBadRow : RowFault → List ℕ → Type 0
+IsBadRow (BadRow name) field = name ≡ field
+IsBadRow Memory field = Unit {0}
+
+-- a refusal at the field that is missing, or for memory
+abbrev pub IsMissing : RowFault → Option (List ℕ) → Type 0
+IsMissing (BadRow name) missing = missing ≡ Some name
+IsMissing Memory missing = Unit {0}
+
+-- the values have, at the name of a pair, the value of its text
+abbrev pub HasPair : List Field → List Datum → Pair → Type 0
+HasPair fields values pair = value_at fields values pair.name ≡ pair_value fields pair

@@ -1,0 +1,106 @@
+//! The declared events.
+
+ghost use Rattle.std.specs.Prelude.{◌≡◌, List, ℕ, [], ◌∷◌, ◌++◌, OnOk, OnErr, length, map, option_copied, ◌==◌};
+
+use crate::event::EventDef;
+use crate::fault::CatalogFault;
+use crate::sizes::record_size;
+use indexmap::IndexMap;
+use std::alloc::Global;
+use std::marker::Model;
+
+/// An event has at most so many fields.
+const MOST_FIELDS: usize = 16;
+
+/// A catalog has at most so many events.
+const MOST_EVENTS: usize = 64;
+
+/// The declared events, in the order in which they were added.
+#[derive(Drop)]
+pub struct Catalog {
+    alloc: Global,
+    events: IndexMap<Vec<u8>, EventDef>,
+}
+
+impl Model for Catalog {
+    ghost use Rattle.std.specs.Prelude.{List, map};
+    ghost use Rattle.indexmap.specs.IndexMap.{values};
+    ghost use Rattle.trace_format.specs.Definitions.{Definition};
+    ghost use Rattle.trace_format.specs.Catalogs.{IsCatalog};
+
+    ghost Value = { List Definition };
+
+    ghost view = { λ c. values c.events };
+
+    ghost invariant = { λ c. IsCatalog c.events.entries };
+}
+
+impl Catalog {
+    ghost use Rattle.trace_format.specs.Catalogs.{id_of, event_of, id_for, IsAdded};
+
+    /// A catalog with no event.
+    pub fn new(alloc: Global) -> Catalog
+        ensures { result ≡ [] }
+    {
+        Catalog {
+            alloc,
+            events: IndexMap::new(alloc),
+        }
+    }
+
+    /// Adds an event, and answers its number: the first is 1. A page has `page_bytes` bytes for records.
+    ///
+    /// It is refused as `EventExists` where an event of the name is there, then as `TooMany` where it has over 16 fields or 64 events
+    /// are there, then as `TooBig` where its record is larger than a page. After a refusal, `Memory` too, the catalog is as before.
+    pub fn add(&mut self, def: EventDef, page_bytes: usize) -> Result<u16, CatalogFault>
+        ensures answer { IsAdded result (id_for self.old def page_bytes) }
+        ensures ok { OnOk result (self.new ≡ self.old ++ def ∷ []) }
+        ensures err { OnErr result (self.new ≡ self.old) }
+    {
+        if self.find(def.name()).is_some() {
+            return Err(CatalogFault::EventExists);
+        }
+        if def.fields().len() > MOST_FIELDS || self.len() >= MOST_EVENTS {
+            return Err(CatalogFault::TooMany);
+        }
+        if record_size(&def) > page_bytes {
+            return Err(CatalogFault::TooBig);
+        }
+        let name = Vec::from_slice(self.alloc, def.name())?;
+        self.events.insert(name, def)?;
+        Ok(self.events.len() as u16)
+    }
+
+    /// The number of the event of a name, by its place in the table and without a scan of all events.
+    pub fn find(&self, name: &[u8]) -> Option<u16>
+        ensures { result ≡ id_of self.now name.now }
+    {
+        match self.events.get_index_of(name) {
+            Some(place) => Some(place as u16 + 1),
+            None => None,
+        }
+    }
+
+    /// The event of a number.
+    pub fn def(&self, id: u16) -> Option<&EventDef>
+        ensures { option_copied result ≡ event_of self.now id }
+    {
+        let place = usize::from(id).checked_sub(1)?;
+        let (_name, def) = self.events.get_index(place)?;
+        Some(def)
+    }
+
+    /// How many events there are.
+    pub fn len(&self) -> usize
+        ensures { result ≡ length self.now }
+    {
+        self.events.len()
+    }
+
+    /// Whether there is no event.
+    pub fn is_empty(&self) -> bool
+        ensures { result ≡ (length self.now == 0) }
+    {
+        self.events.is_empty()
+    }
+}

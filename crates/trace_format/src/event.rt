@@ -1,0 +1,97 @@
+//! Events: their names, and their fields with types.
+
+ghost use Rattle.std.specs.Prelude.{◌≡◌, ◌<◌, ◌^◌, List, ℕ, IfOk, IfErr, length};
+
+use crate::fault::DefinitionFault;
+use crate::kind::Kind;
+use crate::reader::Reader;
+use crate::text::Text;
+use crate::words::next_word;
+use std::alloc::Global;
+use std::marker::Model;
+
+/// A field of an event: a name that no other field of the event has, and a type.
+#[derive(Debug, Drop)]
+pub struct Field {
+    pub name: Text,
+    pub kind: Kind,
+}
+
+/// An event that a declaration defines: its name, and its fields in order.
+#[derive(Debug, Drop)]
+pub struct EventDef {
+    name: Text,
+    fields: Vec<Field>,
+}
+
+impl Model for EventDef {
+    ghost use Rattle.trace_format.specs.Definitions.{Definition};
+
+    ghost Value = { Definition };
+
+    ghost view = { λ e. record { name = e.name; fields = e.fields.items } };
+}
+
+impl EventDef {
+    ghost use Rattle.trace_format.specs.Definitions.{Definition, Declares};
+    ghost use Rattle.trace_format.specs.Words.{spots_of, words_of};
+    ghost use Rattle.trace_format.specs.Reading.{definition_of, IsRead, IsRefusal};
+
+    /// The event that a text declares, after "Synthetic events" (histogram.rst): `name type field; type field; ..`. Blanks separate
+    /// words, those round a `;` are free, a last `;` may stand or lack.
+    ///
+    /// A text that declares none is refused as `BadDefinition`, at the first byte of the leftmost word or `;` that is wrong or can't
+    /// stand there, or at the text's length where it ends too early. `Memory` comes where an allocation is refused.
+    pub fn parse(alloc: Global, text: &[u8]) -> Result<EventDef, DefinitionFault>
+        // What is read is declared so.
+        ensures declared { IfOk result (Declares (words_of (spots_of text.now))) }
+        // What is declared so is read, unless memory is refused.
+        ensures only { (d : Definition) → Declares (words_of (spots_of text.now)) d → IsRead result (Ok d) }
+        // What is refused is refused at the leftmost word that cannot stand there, or at the end.
+        ensures refused { IfErr result (IsRefusal text.now) }
+        // All of this as one function of the text.
+        ensures exact { IsRead result (definition_of text.now) }
+    {
+        EventDef::read(alloc, text)
+    }
+
+    /// The event, read word by word.
+    fn read(alloc: Global, text: &[u8]) -> Result<EventDef, DefinitionFault>
+        ensures exact { IsRead result (definition_of text.now) }
+        ensures small { length text.now < 2 ^ 64 }
+    {
+        let len = text.len();
+        let mut reader = Reader::new(alloc);
+        let mut from = 0;
+        while let Some(word) = next_word(text, from) {
+            if !reader.take(alloc, word.bytes)? {
+                return Err(DefinitionFault::BadDefinition { at: word.at });
+            }
+            from = word.at + word.bytes.len();
+        }
+        reader
+            .finish()
+            .ok_or(DefinitionFault::BadDefinition { at: len })
+    }
+
+    /// An event of a name and fields.
+    pub(crate) fn new(name: Text, fields: Vec<Field>) -> EventDef
+        ensures { result ≡ record { name = name; fields = fields.items } }
+    {
+        EventDef { name, fields }
+    }
+
+    /// The event's name.
+    pub fn name(&self) -> &[u8]
+        ensures { result.now ≡ self.now.name }
+    {
+        self.name.as_bytes()
+    }
+
+    /// Its fields, in order of declaration.
+    pub fn fields(&self) -> &[Field]
+        ensures { result.now ≡ self.now.fields }
+    {
+        self.fields.as_slice()
+    }
+}

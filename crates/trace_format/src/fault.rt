@@ -1,0 +1,86 @@
+//! Why a declaration, an event or a row was refused.
+
+ghost use Rattle.std.specs.Prelude.{◌≡◌};
+ghost use Rattle.trace_format.specs.declared.fault.DefinitionFault.TheVariants as definition;
+ghost use Rattle.trace_format.specs.declared.fault.CatalogFault.TheVariants as catalog;
+ghost use Rattle.trace_format.specs.declared.fault.RowFault.TheVariants as row;
+
+use crate::text::Text;
+use std::alloc::{AllocError, AllocFailed};
+use thiserror::Error;
+
+/// Why a text declares no event.
+#[derive(Debug, Drop, Error)]
+pub enum DefinitionFault {
+    /// The word or `;` at this byte is the leftmost that is wrong or can't stand there, or the text ends too early at this byte.
+    #[error("bad definition at byte {at}")]
+    BadDefinition { at: usize },
+    #[error("out of memory")]
+    Memory,
+}
+
+/// Why an event was not added to a catalog.
+#[derive(Debug, Drop, Error)]
+pub enum CatalogFault {
+    /// An event of the name is there.
+    #[error("the event exists")]
+    EventExists,
+    /// The event has over 16 fields, or 64 events are there.
+    #[error("too many fields or events")]
+    TooMany,
+    /// The event's record takes more bytes than a page has.
+    #[error("the record is larger than a page")]
+    TooBig,
+    #[error("out of memory")]
+    Memory,
+}
+
+/// Why pairs of names and texts give no row.
+#[derive(Debug, Drop, Error)]
+pub enum RowFault {
+    /// The name of the first pair whose name is unknown or repeated or whose value is wrong; else of the first field with no pair.
+    #[error("a field is wrong, repeated or missing")]
+    BadRow { field: Text },
+    #[error("out of memory")]
+    Memory,
+}
+
+impl From<AllocError> for DefinitionFault {
+    ghost from_gives = { λ _ fault. fault ≡ definition.Memory };
+
+    fn from(_error: AllocError) -> DefinitionFault {
+        DefinitionFault::Memory
+    }
+}
+
+impl From<AllocError> for CatalogFault {
+    ghost from_gives = { λ _ fault. fault ≡ catalog.Memory };
+
+    fn from(_error: AllocError) -> CatalogFault {
+        CatalogFault::Memory
+    }
+}
+
+impl<T: Drop> From<AllocFailed<T>> for CatalogFault {
+    ghost from_gives = { λ _ fault. fault ≡ catalog.Memory };
+
+    fn from(_error: AllocFailed<T>) -> CatalogFault {
+        CatalogFault::Memory
+    }
+}
+
+impl From<AllocError> for RowFault {
+    ghost from_gives = { λ _ fault. fault ≡ row.Memory };
+
+    fn from(_error: AllocError) -> RowFault {
+        RowFault::Memory
+    }
+}
+
+impl<T: Drop> From<AllocFailed<T>> for RowFault {
+    ghost from_gives = { λ _ fault. fault ≡ row.Memory };
+
+    fn from(_error: AllocFailed<T>) -> RowFault {
+        RowFault::Memory
+    }
+}

@@ -1,0 +1,91 @@
+//! The values that pairs of names and texts give to fields.
+
+ghost use Rattle.std.specs.Prelude.{◌≡◌, [], None, map, filter_map, IfErr, IfOk, is_some, option_map, option_copied};
+ghost use Rattle.trace_format.specs.Cells.{Datum, datum_of};
+ghost use Rattle.trace_format.specs.Rows.{field_named, pair_named, is_right, first_wrong, first_missing, given, IsBadRow, IsMissing};
+
+use crate::event::Field;
+use crate::fault::RowFault;
+use crate::pair::Pair;
+use crate::text::Text;
+use crate::value::{Value, is_value, read_value};
+use std::alloc::{AllocError, Global};
+
+/// The field of a name.
+fn field_of<'a>(fields: &'a [Field], name: &[u8]) -> Option<&'a Field>
+    ensures { option_copied result ≡ field_named fields.now name.now }
+{
+    fields.iter().find(|field| field.name.as_bytes() == name)
+}
+
+/// The pair of a name.
+fn pair_of<'a>(pairs: &'a [Pair], name: &[u8]) -> Option<&'a Pair>
+    ensures { option_copied result ≡ pair_named pairs.now name.now }
+{
+    pairs.iter().find(|pair| pair.name.as_bytes() == name)
+}
+
+/// Whether a pair may stand behind others.
+fn is_right_pair(fields: &[Field], before: &[Pair], pair: &Pair) -> bool
+    ensures { result ≡ is_right fields.now before.now pair.now }
+{
+    let Some(field) = field_of(fields, pair.name.as_bytes()) else {
+        return false;
+    };
+    is_value(field.kind, pair.value.as_bytes()) && pair_of(before, pair.name.as_bytes()).is_none()
+}
+
+/// The name of the first pair that is wrong.
+pub(crate) fn wrong_pair<'a>(fields: &[Field], pairs: &'a [Pair]) -> Option<&'a [u8]>
+    ensures { option_copied result ≡ first_wrong fields.now [] pairs.now }
+{
+    for (i, pair) in pairs.iter().enumerate() {
+        if !is_right_pair(fields, &pairs[..i], pair) {
+            return Some(pair.name.as_bytes());
+        }
+    }
+    None
+}
+
+/// The value that the pairs give to a field.
+pub(crate) fn given_value(
+    alloc: Global,
+    pairs: &[Pair],
+    field: &Field,
+) -> Result<Option<Value>, AllocError>
+    ensures { IfOk result (λ found. option_map datum_of found ≡ given pairs.now field.now) }
+{
+    match pair_of(pairs, field.name.as_bytes()) {
+        Some(pair) => read_value(alloc, field.kind, pair.value.as_bytes()),
+        None => Ok(None),
+    }
+}
+
+/// The values that the pairs give to fields, in order.
+pub(crate) fn given_values(
+    alloc: Global,
+    fields: &[Field],
+    pairs: &[Pair],
+) -> Result<Vec<Value>, RowFault>
+    ensures values { IfOk result (λ v. (first_missing fields.now pairs.now ≡ None) × (map datum_of v.items ≡ filter_map (given pairs.now) fields.now)) }
+    ensures missing { IfErr result (λ fault. IsMissing fault (first_missing fields.now pairs.now)) }
+{
+    let mut values = Vec::new(alloc);
+    for field in fields {
+        let Some(value) = given_value(alloc, pairs, field)? else {
+            return Err(bad_row(alloc, field.name.as_bytes()));
+        };
+        values.push(value)?;
+    }
+    Ok(values)
+}
+
+/// The refusal at a field.
+pub(crate) fn bad_row(alloc: Global, name: &[u8]) -> RowFault
+    ensures { IsBadRow result name.now }
+{
+    match Text::from_slice(alloc, name) {
+        Ok(field) => RowFault::BadRow { field },
+        Err(_) => RowFault::Memory,
+    }
+}

@@ -1,0 +1,35 @@
+//! Event types and rows of a tracer, after "Event Tracing" (events.rst).
+//!
+//! A declaration defines an event: its name, and its fields with types. A `Catalog` keeps the declared events. A `Row` has a value
+//! for each field of an event; its payload is the bytes that a record keeps of it. Texts are bytes.
+#![tactic(auto)]
+
+mod catalog;
+mod event;
+mod fault;
+mod given;
+mod kind;
+mod name;
+mod numeral;
+mod pair;
+mod payload;
+mod reader;
+mod row;
+mod sizes;
+#[cfg(test)]
+mod tests;
+mod text;
+mod value;
+mod words;
+
+pub use catalog::Catalog;
+pub use event::{EventDef, Field};
+pub use fault::{CatalogFault, DefinitionFault, RowFault};
+pub use kind::{Kind, NumberType};
+pub use name::is_name;
+pub use numeral::number;
+pub use pair::Pair;
+pub use row::Row;
+pub use sizes::{payload_size, record_size};
+pub use text::Text;
+pub use value::Value;

@@ -1,0 +1,10 @@
+//! Pairs of a field's name and a value, as an emission writes them.
+
+use crate::text::Text;
+
+/// A field's name and the text of its value.
+#[derive(Debug, Drop)]
+pub struct Pair {
+    pub name: Text,
+    pub value: Text,
+}

@@ -1,0 +1,175 @@
+//! The bytes of fields.
+
+ghost use Rattle.std.specs.Prelude.{◌≡◌, ◌<◌, ◌≤◌, ◌+◌, ◌-◌, ◌^◌, ◌++◌, ℤ, pos, neg_ℤ, ◌≤ℤ◌, ◌<ℤ◌, IfOk, length, take, drop, map, replicate, option_map};
+ghost use Rattle.std.specs.List.{AllZip, list_all, prefix_len};
+ghost use Rattle.trace_format.specs.declared.kind.Kind.TheVariants as kinds;
+ghost use Rattle.trace_format.specs.Kinds.{size_of, number_size};
+ghost use Rattle.trace_format.specs.Cells.{Datum, Whole, Bytes, datum_of, Holds, size_of_all, bytes_of, field_bytes, little_endian, two's_complement};
+ghost use Rattle.trace_format.specs.Decoding.{field_from, values_from, number_from, unsigned_from, text_from, is_not_zero, is_zero};
+
+use crate::event::Field;
+use crate::kind::{Kind, NumberType};
+use crate::value::{Value, are_printable};
+use std::alloc::{AllocError, Global};
+
+/// Writes values one behind the other.
+pub(crate) fn encode_values(kinds: &[Kind], values: &[Value], out: &mut [u8])
+    requires row { AllZip Holds kinds.now (map datum_of values.now) }
+    requires room { length out.old ≡ size_of_all kinds.now }
+    ensures { out.new ≡ bytes_of kinds.now (map datum_of values.now) }
+{
+    let mut at = 0;
+    for (kind, value) in kinds.iter().zip(values) {
+        encode_field(*kind, value, out, at);
+        at += kind.size();
+    }
+}
+
+/// Writes one value at a place.
+fn encode_field(kind: Kind, value: &Value, out: &mut [u8], at: usize)
+    requires held { Holds kind (datum_of value.now) }
+    requires room { at + size_of kind ≤ length out.old }
+    ensures { out.new ≡ take at out.old ++ field_bytes kind (datum_of value.now) ++ drop (at + size_of kind) out.old }
+{
+    let field = &mut out[at..at + kind.size()];
+    match (kind, value) {
+        (Kind::Number(number_type), Value::Num(number)) => {
+            encode_number(number_type, *number, field);
+        }
+        (Kind::Char(_), Value::Text(text)) => encode_text(text, field),
+        _ => unreachable!(),
+    }
+}
+
+/// Writes a number of a type.
+fn encode_number(number_type: NumberType, number: i128, out: &mut [u8])
+    requires held { Holds (kinds.Number number_type) (Whole number) }
+    requires size { length out.old ≡ number_size number_type }
+    ensures { out.new ≡ field_bytes (kinds.Number number_type) (Whole number) }
+{
+    encode_unsigned(pattern(number_type, number), out);
+}
+
+/// The two's complement of a number in as many bytes as its type has.
+fn pattern(number_type: NumberType, number: i128) -> u64
+    requires { Holds (kinds.Number number_type) (Whole number) }
+    ensures { result ≡ two's_complement (number_size number_type) number }
+{
+    if number < 0 {
+        (number + number_type.end()) as u64
+    } else {
+        number as u64
+    }
+}
+
+/// Writes the low bytes of a number, the lowest first.
+fn encode_unsigned(number: u64, out: &mut [u8])
+    ensures { out.new ≡ little_endian (length out.old) number }
+{
+    let mut left = number;
+    for byte in out.iter_mut() {
+        *byte = (left % 256) as u8;
+        left /= 256;
+    }
+}
+
+/// Writes a text, and zeros behind it.
+fn encode_text(text: &[u8], out: &mut [u8])
+    requires { length text.now ≤ length out.old }
+    ensures { out.new ≡ text.now ++ replicate (length out.old - length text.now) 0 }
+{
+    let (front, back) = out.split_at_mut(text.len());
+    front.copy_from_slice(text);
+    back.fill(0);
+}
+
+/// The values whose bytes stand one behind the other.
+pub(crate) fn decode_values(
+    alloc: Global,
+    fields: &[Field],
+    bytes: &[u8],
+) -> Result<Option<Vec<Value>>, AllocError>
+    ensures { IfOk result (λ found. option_map (λ v. map datum_of v.items) found ≡ values_from (map (λ f. f.kind) fields.now) bytes.now) }
+{
+    let mut values = Vec::new(alloc);
+    let mut rest = bytes;
+    for field in fields {
+        let size = field.kind.size();
+        if rest.len() < size {
+            return Ok(None);
+        }
+        let (front, back) = rest.split_at(size);
+        let Some(value) = decode_field(alloc, field.kind, front)? else {
+            return Ok(None);
+        };
+        values.push(value)?;
+        rest = back;
+    }
+    Ok(if rest.is_empty() { Some(values) } else { None })
+}
+
+/// The value that the bytes of a field are.
+fn decode_field(alloc: Global, kind: Kind, bytes: &[u8]) -> Result<Option<Value>, AllocError>
+    requires { length bytes.now ≡ size_of kind }
+    ensures { IfOk result (λ found. option_map datum_of found ≡ field_from kind bytes.now) }
+{
+    match kind {
+        Kind::Number(number_type) => Ok(Some(Value::Num(decode_number(number_type, bytes)))),
+        Kind::Char(_) => match decode_text(bytes) {
+            Some(text) => Ok(Some(Value::Text(Vec::from_slice(alloc, text)?))),
+            None => Ok(None),
+        },
+    }
+}
+
+/// The number of a type that its bytes write.
+fn decode_number(number_type: NumberType, bytes: &[u8]) -> i128
+    requires { length bytes.now ≡ number_size number_type }
+    ensures { result ≡ number_from number_type bytes.now }
+{
+    let pattern = i128::from(decode_unsigned(bytes));
+    let end = number_type.end();
+    if number_type.is_signed() && pattern >= end / 2 {
+        pattern - end
+    } else {
+        pattern
+    }
+}
+
+/// The number that at most 8 bytes write, the lowest first.
+fn decode_unsigned(bytes: &[u8]) -> u64
+    requires { length bytes.now ≤ 8 }
+    ensures value { result ≡ unsigned_from bytes.now }
+    ensures bound { result < 256 ^ length bytes.now }
+{
+    match bytes {
+        [] => 0,
+        [low, high @ ..] => u64::from(*low) + 256 * decode_unsigned(high),
+    }
+}
+
+/// How many bytes stand before the first zero.
+fn zero_place(bytes: &[u8]) -> usize
+    ensures value { result ≡ prefix_len is_not_zero bytes.now }
+    ensures bound { result ≤ length bytes.now }
+{
+    bytes.iter().take_while(|byte| **byte != 0).count()
+}
+
+fn are_zeros(bytes: &[u8]) -> bool
+    ensures { result ≡ list_all is_zero bytes.now }
+{
+    bytes.iter().all(|byte| *byte == 0)
+}
+
+/// The text before the zeros that fill a field.
+fn decode_text(bytes: &[u8]) -> Option<&[u8]>
+    ensures { option_map (λ text. Bytes text.now) result ≡ text_from bytes.now }
+{
+    let (text, zeros) = bytes.split_at(zero_place(bytes));
+    if text.len() < bytes.len() && are_printable(text) && are_zeros(zeros) {
+        Some(text)
+    } else {
+        None
+    }
+}

@@ -1,0 +1,227 @@
+//! Declarations, read word by word.
+
+ghost use Rattle.std.specs.Prelude.{◌≡◌, ◌≤◌, List, ℕ, IfOk, Bool, true, false, Some, None, length, option_map, take_while};
+ghost use Rattle.std.specs.Prelude.{◌-◌, if◌then◌else◌};
+ghost use Rattle.std.specs.Char.{is_ascii_digit};
+ghost use Rattle.std.specs.List.{prefix_len};
+ghost use Rattle.trace_format.specs.Definitions.{is_reserved as reserved, has_field as field_there};
+ghost use Rattle.trace_format.specs.Reading.{is_before_bracket, text_field_of, length_of};
+ghost use Rattle.trace_format.specs.declared.kind.Kind.TheVariants as kind;
+
+use crate::event::{EventDef, Field};
+use crate::kind::{Kind, NumberType};
+use crate::name::is_name;
+use crate::text::Text;
+use std::alloc::{AllocError, Global};
+use std::marker::Model;
+
+/// What may stand next in a declaration.
+#[derive(Clone, Copy, Debug, PartialEq, Eq)]
+pub(crate) enum Due {
+    /// The event's name.
+    Name,
+    /// A type; behind a field's `;` also the end.
+    Type,
+    /// `int` or `long`, behind `unsigned`.
+    Unsigned,
+    /// The name of a field of numbers.
+    NumberField(NumberType),
+    /// The name and the length of a text field, behind `char`.
+    TextField,
+    /// A `;` or the end, behind a field.
+    Joint,
+}
+
+/// The part of a declaration that was read.
+#[derive(Drop)]
+pub(crate) struct Reader {
+    due: Due,
+    name: Text,
+    fields: Vec<Field>,
+}
+
+impl Model for Reader {
+    ghost use Rattle.trace_format.specs.Reading.{Standing};
+
+    ghost Value = { Standing };
+
+    ghost view = { λ r. record { due = r.due; name = r.name; fields = r.fields.items } };
+}
+
+/// Whether no field may have the name.
+fn is_reserved(name: &[u8]) -> bool
+    ensures { result ≡ reserved name.now }
+{
+    name == b"common_pid".as_slice()
+        || name == b"common_cpu".as_slice()
+        || name == b"hitcount".as_slice()
+}
+
+/// Whether a field has the name.
+fn has_field(fields: &[Field], name: &[u8]) -> bool
+    ensures { result ≡ field_there fields.now name.now }
+{
+    fields.iter().any(|field| name == field.name.as_bytes())
+}
+
+impl Reader {
+    ghost use Rattle.trace_format.specs.Reading.{start, step, step_at, with_field, finish as finished, Takes};
+    ghost use Rattle.trace_format.specs.declared.reader.Due.TheVariants as due;
+
+    /// Before the first word.
+    pub(crate) fn new(alloc: Global) -> Reader
+        ensures { result ≡ start }
+    {
+        Reader {
+            due: Due::Name,
+            name: Text::from(Vec::new(alloc)),
+            fields: Vec::new(alloc),
+        }
+    }
+
+    /// Takes one more word, and says whether it may stand there.
+    pub(crate) fn take(&mut self, alloc: Global, word: &[u8]) -> Result<bool, AllocError>
+        ensures { IfOk result (λ fits. Takes (step self.old word.now) fits self.new) }
+    {
+        match self.due {
+            Due::Name => self.take_name(alloc, word),
+            Due::Type => Ok(self.take_type(word)),
+            Due::Unsigned => Ok(self.take_unsigned(word)),
+            Due::NumberField(number) => self.take_field(alloc, word, Kind::Number(number)),
+            Due::TextField => self.take_text_field(alloc, word),
+            Due::Joint => Ok(self.take_joint(word)),
+        }
+    }
+
+    /// The event's name.
+    fn take_name(&mut self, alloc: Global, word: &[u8]) -> Result<bool, AllocError>
+        ensures { IfOk result (λ fits. Takes (step_at due.Name self.old word.now) fits self.new) }
+    {
+        if !is_name(word) {
+            return Ok(false);
+        }
+        self.name = Text::from_slice(alloc, word)?;
+        self.due = Due::Type;
+        Ok(true)
+    }
+
+    /// The first word of a type.
+    fn take_type(&mut self, word: &[u8]) -> bool
+        ensures { Takes (step_at due.Type self.old word.now) result self.new }
+    {
+        if word == b"unsigned".as_slice() {
+            self.due = Due::Unsigned;
+        } else if word == b"char".as_slice() {
+            self.due = Due::TextField;
+        } else {
+            let Some(number) = NumberType::from_word(word) else {
+                return false;
+            };
+            self.due = Due::NumberField(number);
+        }
+        true
+    }
+
+    /// The word behind `unsigned`.
+    fn take_unsigned(&mut self, word: &[u8]) -> bool
+        ensures { Takes (step_at due.Unsigned self.old word.now) result self.new }
+    {
+        let Some(number) = NumberType::from_word_behind_unsigned(word) else {
+            return false;
+        };
+        self.due = Due::NumberField(number);
+        true
+    }
+
+    /// A field, if it may stand behind the others.
+    fn take_field(&mut self, alloc: Global, name: &[u8], kind: Kind) -> Result<bool, AllocError>
+        ensures { IfOk result (λ fits. Takes (with_field self.old (record { name = name.now; kind = kind })) fits self.new) }
+    {
+        if !is_name(name) || is_reserved(name) || has_field(&self.fields, name) {
+            return Ok(false);
+        }
+        let name = Text::from_slice(alloc, name)?;
+        self.fields.push(Field { name, kind })?;
+        self.due = Due::Joint;
+        Ok(true)
+    }
+
+    /// The name and the length of a text field.
+    fn take_text_field(&mut self, alloc: Global, word: &[u8]) -> Result<bool, AllocError>
+        ensures { IfOk result (λ fits. Takes (step_at due.TextField self.old word.now) fits self.new) }
+    {
+        let Some((name, length)) = text_field(word) else {
+            return Ok(false);
+        };
+        self.take_field(alloc, name, Kind::Char(length))
+    }
+
+    /// The event that was read, if it may end there.
+    pub(crate) fn finish(self) -> Option<EventDef>
+        ensures { result ≡ finished self }
+    {
+        let Reader { due, name, fields } = self;
+        let may_end = matches!(due, Due::Type | Due::Joint) && !fields.is_empty();
+        if may_end {
+            Some(EventDef::new(name, fields))
+        } else {
+            None
+        }
+    }
+
+    /// The `;` behind a field.
+    fn take_joint(&mut self, word: &[u8]) -> bool
+        ensures { Takes (step_at due.Joint self.old word.now) result self.new }
+    {
+        if word != b";".as_slice() {
+            return false;
+        }
+        self.due = Due::Type;
+        true
+    }
+}
+
+/// How many bytes stand before the first `[`.
+fn bracket_place(word: &[u8]) -> usize
+    ensures value { result ≡ prefix_len is_before_bracket word.now }
+    ensures bound { result ≤ length word.now }
+{
+    word.iter().take_while(|byte| **byte != b'[').count()
+}
+
+/// The name and the length of a text field.
+fn text_field(word: &[u8]) -> Option<(&[u8], u8)>
+    ensures { option_map (λ f. record { name = f.0.now; kind = kind.Char f.1 }) result ≡ text_field_of word.now }
+{
+    let place = bracket_place(word);
+    if place == word.len() {
+        return None;
+    }
+    match bracketed_length(&word[place + 1..]) {
+        Some(length) => Some((&word[..place], length)),
+        None => None,
+    }
+}
+
+/// A length with the bracket behind it.
+fn bracketed_length(bytes: &[u8]) -> Option<u8>
+    ensures { result ≡ length_of bytes.now }
+{
+    let (length, bracket) = match bytes {
+        [ones, bracket] => (digit(*ones)?, *bracket),
+        [tens, ones, bracket] => (10 * digit(*tens)? + digit(*ones)?, *bracket),
+        _ => return None,
+    };
+    (bytes[0] != b'0' && length <= 64 && bracket == b']').then_some(length)
+}
+
+/// The value of a decimal digit.
+fn digit(byte: u8) -> Option<u8>
+    ensures { result ≡ (if is_ascii_digit byte then Some (byte - 48) else None) }
+{
+    if byte.is_ascii_digit() {
+        Some(byte - b'0')
+    } else {
+        None
+    }
+}

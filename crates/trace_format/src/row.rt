@@ -1,0 +1,91 @@
+//! Rows: the values of an event's fields.
+
+ghost use Rattle.std.specs.Prelude.{◌≡◌, ◌≤◌, ◌↔◌, List, ℕ, IfOk, IfErr, OnErr, Some, None, Ok, length, map};
+
+use crate::event::{EventDef, Field};
+use crate::fault::RowFault;
+use crate::given::{bad_row, given_values, wrong_pair};
+use crate::kind::Kind;
+use crate::pair::Pair;
+use crate::payload::{decode_values, encode_values};
+use crate::value::Value;
+use std::alloc::{AllocError, Global};
+use std::marker::Model;
+
+/// A row of an event: a value for each of its fields.
+#[derive(Debug, Drop)]
+pub struct Row {
+    kinds: Vec<Kind>,
+    values: Vec<Value>,
+}
+
+impl Model for Row {
+    ghost use Rattle.std.specs.Prelude.{map};
+    ghost use Rattle.trace_format.specs.Cells.{Cells, IsRow, datum_of};
+
+    ghost Value = { Cells };
+
+    ghost view = { λ r. record { kinds = r.kinds.items; values = map datum_of r.values.items } };
+
+    ghost invariant = { λ r. IsRow (record { kinds = r.kinds.items; values = map datum_of r.values.items }) };
+}
+
+impl Row {
+    ghost use Rattle.trace_format.specs.Cells.{Cells, datum_of, IsRow, IsRowOf, payload_of, size_of_all};
+    ghost use Rattle.std.specs.List.{AllByRecursion};
+    ghost use Rattle.trace_format.specs.Rows.{row_of, IsBuilt, HasPair};
+
+    /// The row that pairs of field names and texts give. Each field is in one pair, in any order.
+    ///
+    /// It is refused as `BadRow` at the first pair whose name is unknown or repeated or whose text is no value of its field, and with
+    /// none such at the first field that no pair names. `Memory` comes where an allocation is refused.
+    pub fn build(alloc: Global, def: &EventDef, pairs: &[Pair]) -> Result<Row, RowFault>
+        ensures row { IfOk result (IsRowOf def.now) }
+        // As a map from names, it has what each pair says.
+        ensures map { IfOk result (λ row. AllByRecursion (HasPair def.now.fields row.values) pairs.now) }
+        // All of this, and each refusal, as one function of the pairs.
+        ensures exact { IsBuilt result (row_of def.now pairs.now) }
+    {
+        if let Some(name) = wrong_pair(def.fields(), pairs) {
+            return Err(bad_row(alloc, name));
+        }
+        let values = given_values(alloc, def.fields(), pairs)?;
+        let kinds = kinds_of(alloc, def.fields())?;
+        Ok(Row { kinds, values })
+    }
+
+    /// Writes the row's payload: the fields in order of declaration with nothing between them, numbers in two's complement with the
+    /// lowest byte first, texts with zeros behind them. `out` has as many bytes as the payload.
+    pub fn encode(&self, out: &mut [u8])
+        requires { length out.old ≡ size_of_all self.now.kinds }
+        ensures { out.new ≡ payload_of self.now }
+    {
+        encode_values(&self.kinds, &self.values, out);
+    }
+
+    /// The row of an event whose payload the bytes are, if they are the payload of one.
+    pub fn decode(alloc: Global, def: &EventDef, bytes: &[u8]) -> Result<Option<Row>, AllocError>
+        ensures { IfOk result (λ found. (row : Cells) → (found ≡ Some row) ↔ (IsRowOf def.now row × (bytes.now ≡ payload_of row))) }
+    {
+        let Some(values) = decode_values(alloc, def.fields(), bytes)? else {
+            return Ok(None);
+        };
+        let kinds = kinds_of(alloc, def.fields())?;
+        Ok(Some(Row { kinds, values }))
+    }
+
+    /// The values, in order of declaration.
+    pub fn values(&self) -> &[Value]
+        ensures values { map datum_of result.now ≡ self.now.values }
+        ensures row { IsRow self.now }
+    {
+        self.values.as_slice()
+    }
+}
+
+/// The types of fields.
+fn kinds_of(alloc: Global, fields: &[Field]) -> Result<Vec<Kind>, AllocError>
+    ensures { IfOk result (λ v. v.items ≡ map (λ f. f.kind) fields.now) }
+{
+    fields.iter().map(|field| field.kind).collect(alloc)
+}

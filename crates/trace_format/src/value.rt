@@ -1,0 +1,84 @@
+//! The values of fields, and the texts that write them.
+
+ghost use Rattle.std.specs.Prelude.{◌≡◌, if◌then◌else◌, IfOk, Some, None, is_some, option_map};
+ghost use Rattle.std.specs.List.{list_all};
+ghost use Rattle.trace_format.specs.declared.kind.Kind.TheVariants as kinds;
+ghost use Rattle.trace_format.specs.Cells.{Datum, Whole, Bytes, datum_of, is_printable as spec_printable};
+ghost use Rattle.trace_format.specs.Rows.{value_of};
+
+use crate::kind::{Kind, NumberType};
+use crate::numeral::number;
+use std::alloc::{AllocError, Global};
+
+/// The value of a field.
+#[derive(Debug, Drop)]
+pub enum Value {
+    /// A number, in its type's range.
+    Num(i128),
+    /// A text of bytes from 0x20 to 0x7e, shorter than its field.
+    Text(Vec<u8>),
+}
+
+/// The number of a type that a text writes.
+#[tactic(auto, unfolding(crate::specs::Rows::value_of))]
+fn number_value(number_type: NumberType, text: &[u8]) -> Option<i128>
+    ensures { option_map Whole result ≡ value_of (kinds.Number number_type) text.now }
+{
+    match number(text) {
+        Some(value) if number_type.holds(value) => Some(value),
+        _ => None,
+    }
+}
+
+/// Whether a text fits a text field of so many bytes.
+#[tactic(auto, unfolding(crate::specs::Rows::value_of))]
+fn is_text_value(length: u8, text: &[u8]) -> bool
+    ensures { (if result then Some (Bytes text.now) else None) ≡ value_of (kinds.Char length) text.now }
+{
+    text.len() < usize::from(length) && are_printable(text)
+}
+
+/// Whether each byte is from 0x20 to 0x7e.
+pub(crate) fn are_printable(text: &[u8]) -> bool
+    ensures { result ≡ list_all spec_printable text.now }
+{
+    text.iter().all(|byte| is_printable(*byte))
+}
+
+fn is_printable(byte: u8) -> bool
+    ensures { result ≡ spec_printable byte }
+{
+    0x20 <= byte && byte <= 0x7e
+}
+
+/// Whether a text is a value of a type.
+#[tactic(auto, unfolding(crate::specs::Rows::value_of))]
+pub(crate) fn is_value(kind: Kind, text: &[u8]) -> bool
+    ensures { result ≡ is_some (value_of kind text.now) }
+{
+    match kind {
+        Kind::Number(number_type) => number_value(number_type, text).is_some(),
+        Kind::Char(length) => is_text_value(length, text),
+    }
+}
+
+/// The value of a type that a text writes.
+#[tactic(auto, unfolding(crate::specs::Rows::value_of))]
+pub(crate) fn read_value(
+    alloc: Global,
+    kind: Kind,
+    text: &[u8],
+) -> Result<Option<Value>, AllocError>
+    ensures { IfOk result (λ found. option_map datum_of found ≡ value_of kind text.now) }
+{
+    match kind {
+        Kind::Number(number_type) => Ok(number_value(number_type, text).map(Value::Num)),
+        Kind::Char(length) => {
+            if is_text_value(length, text) {
+                Ok(Some(Value::Text(Vec::from_slice(alloc, text)?)))
+            } else {
+                Ok(None)
+            }
+        }
+    }
+}

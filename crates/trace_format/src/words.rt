@@ -1,0 +1,72 @@
+//! The words of a declaration.
+
+ghost use Rattle.std.specs.Prelude.{◌≡◌, ◌≤◌, [], length, drop, IfNone, IfSome};
+ghost use Rattle.std.specs.List.{prefix_len};
+ghost use Rattle.trace_format.specs.Words.{is_blank as spec_blank, is_word_byte as spec_word_byte, more_of, spots_from, IsNextWord};
+
+/// A word or `;` of a text.
+#[derive(Clone, Copy, Debug)]
+pub(crate) struct Word<'a> {
+    /// The place of its first byte in the text.
+    pub(crate) at: usize,
+    pub(crate) bytes: &'a [u8],
+}
+
+fn is_blank(byte: u8) -> bool
+    ensures { result ≡ spec_blank byte }
+{
+    byte == b' ' || byte == b'\t'
+}
+
+fn is_word_byte(byte: u8) -> bool
+    ensures { result ≡ spec_word_byte byte }
+{
+    !(is_blank(byte) || byte == b';')
+}
+
+/// What stands from a place on.
+fn rest_of(text: &[u8], from: usize) -> &[u8]
+    requires { from ≤ length text.now }
+    ensures { result.now ≡ drop from text.now }
+{
+    &text[from..]
+}
+
+/// How many blanks a text begins with.
+fn blanks_len(text: &[u8]) -> usize
+    ensures value { result ≡ prefix_len spec_blank text.now }
+    ensures bound { result ≤ length text.now }
+{
+    text.iter().take_while(|byte| is_blank(**byte)).count()
+}
+
+/// How many bytes of a word a text begins with.
+fn word_len(text: &[u8]) -> usize
+    ensures value { result ≡ prefix_len spec_word_byte text.now }
+    ensures bound { result ≤ length text.now }
+{
+    text.iter().take_while(|byte| is_word_byte(**byte)).count()
+}
+
+/// How many more bytes belong to the word or `;` that begins with a byte.
+fn more_len(first: u8, rest: &[u8]) -> usize
+    ensures value { result ≡ more_of first rest.now }
+    ensures bound { result ≤ length rest.now }
+{
+    if first == b';' { 0 } else { word_len(rest) }
+}
+
+/// The first word or `;` from a place on.
+pub(crate) fn next_word(text: &[u8], from: usize) -> Option<Word<'_>>
+    requires { from ≤ length text.now }
+    ensures none { IfNone result (spots_from 0 from (drop from text.now) ≡ []) }
+    ensures some { IfSome result (λ word. IsNextWord text.now from word.at word.bytes.now) }
+{
+    let at = from + blanks_len(rest_of(text, from));
+    let (first, rest) = rest_of(text, at).split_first()?;
+    let size = 1 + more_len(*first, rest);
+    Some(Word {
+        at,
+        bytes: &rest_of(text, at)[..size],
+    })
+}
