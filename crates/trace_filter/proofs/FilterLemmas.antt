@@ -1,0 +1,179 @@
+-- What `Filter::parse` and `Filter::passes` say.
+use Rattle.std.proofs.Common.{◌≡◌, ◌⊎◌, ◌↔◌, ℕ, ◌<◌, ◌≤◌, nat_lt, Bool, true, false, ℤ, IsTrue, List, [], ◌∷◌, length, Option, None, Some, Result, Ok, Err, IfOk, IfErr, refl, sym, ap, ◌∙◌, subst, inl, inr, arith, ltb-true, lt-ltb}
+use Rattle.std.proofs.lemmas.Bool.{ltb-false, le-ltb}
+use Rattle.trace_format.specs.declared.event.Field.{Field}
+use Rattle.trace_format.specs.Cells.{Cells, IsRowOf}
+use Rattle.trace_format.specs.Definitions.{Definition, IsDefinition}
+use Rattle.trace_filter.specs.declared.fault.FilterFault.{FilterFault}
+use Rattle.trace_filter.specs.declared.fault.FilterFault.TheVariants.{TooMany, FilterSyntax, NoSuchField, WrongOperator, Memory}
+use Rattle.trace_filter.specs.declared.syntax.Verdict.{Verdict}
+use Rattle.trace_filter.specs.declared.syntax.Verdict.TheVariants.{Fine, TooDeep, WrongAt}
+use Rattle.trace_filter.specs.declared.test.Subject.{Subject}
+use Rattle.trace_filter.specs.declared.test.Subject.TheVariants as subjects
+use Rattle.trace_filter.specs.declared.token.Comparison.TheVariants as comparisons
+use Rattle.trace_filter.specs.Tokens.{Token, Open, Close, Bang, Both, Either, Compare, Name, Value, Misfit, Spot, trimmed, spots_of, tokens_of}
+use Rattle.trace_filter.specs.Grammar.{Expr, Spells, expr_tokens, IsVerdict, depth_of}
+use Rattle.trace_filter.specs.Syntax.{start, reading}
+use Rattle.trace_filter.specs.Fields.{is_text, takes_at, fits_at, unless, unless_named, fault_at, subject_named, subject_behind, first_fault, or_later}
+use Rattle.trace_filter.specs.Truth.{Emission, Holds}
+use Rattle.trace_filter.specs.Steps.{moves_from, evaluated, at_start}
+use Rattle.trace_filter.specs.Filters.{ComesTo, misfit_of, IsFilter, IsRefused, IsTold, Compiled, IsFilterOf, Passes, IsOkUnlessMemory, IsAsTold, answer_from, compiled_of, answer_of, IsAnswered}
+use Rattle.trace_filter.proofs.Options.{some_is}
+use Rattle.trace_filter.proofs.Verdicts.{law, only}
+use Rattle.trace_filter.proofs.Truths.{AllFit, all_fit, value_is}
+use Rattle.trace_filter.proofs.RowTruths.{tests_decide}
+
+-- no test is refused as too many
+never_too_many : (fields : List Field) (subject : Subject) (spots : List Spot) → first_fault fields subject spots ≡ Some TooMany → ⊥
+never_too_many fields subject [] h = cc
+never_too_many fields subject (spot ∷ spots) h = by (fault_at fields subject spot.token spot.at) (here spot.token) (never_too_many fields (subject_behind fields subject spot.token) spots) h
+  where
+    operator : (b : Bool) (at : ℕ) → unless b (WrongOperator at) ≡ Some TooMany → ⊥
+    operator true at h = cc
+    operator false at h = cc
+
+    syntax : (b : Bool) (at : ℕ) → unless b (FilterSyntax at) ≡ Some TooMany → ⊥
+    syntax true at h = cc
+    syntax false at h = cc
+
+    field : (o : Option Subject) (at : ℕ) → unless_named o (NoSuchField at) ≡ Some TooMany → ⊥
+    field None at h = cc
+    field (Some s) at h = cc
+
+    here : (token : Token) → fault_at fields subject token spot.at ≡ Some TooMany → ⊥
+    here Open h = cc
+    here Close h = cc
+    here Bang h = cc
+    here Both h = cc
+    here Either h = cc
+    here Misfit h = cc
+    here (Compare by) h = operator (takes_at (is_text subject) by) spot.at h
+    here (Name name) h = field (subject_named fields name) spot.at h
+    here (Value literal) h = syntax (fits_at (is_text subject) literal) spot.at h
+
+    by : (o : Option FilterFault) → (o ≡ Some TooMany → ⊥) → (first_fault fields (subject_behind fields subject spot.token) spots ≡ Some TooMany → ⊥) → or_later o (first_fault fields (subject_behind fields subject spot.token) spots) ≡ Some TooMany → ⊥
+    by None first later h = later h
+    by (Some f) first later h = first h
+
+module _ (definition : Definition) (text : List ℕ) where
+  -- the cases of an answer
+  record WasRead (long : Bool) (verdict : Verdict) (misfit : Option FilterFault) (filter found : Compiled) : Type 0 where
+    short : long ≡ false
+    fine : verdict ≡ Fine
+    fits : misfit ≡ None
+    same : filter ≡ found
+
+  read_from : (long : Bool) (verdict : Verdict) (misfit : Option FilterFault) (filter found : Compiled) → answer_from long verdict misfit filter ≡ Ok found → WasRead long verdict misfit filter found
+  read_from false Fine None filter found h = record { short = refl; fine = refl; fits = refl; same = cc }
+  read_from false Fine (Some fault) filter found h = absurd (cc)
+  read_from false TooDeep misfit filter found h = absurd (cc)
+  read_from false (WrongAt at) misfit filter found h = absurd (cc)
+  read_from true verdict misfit filter found h = absurd (cc)
+
+  verdict_is : ComesTo text (reading start (spots_of text) (length text))
+  verdict_is = law (length text) (spots_of text)
+
+  filter_of : (found : Compiled) → answer_of definition text ≡ Ok found → IsFilterOf definition text found
+  unfolding answer_of
+  filter_of found h =
+      let was = read_from (nat_lt 1024 (length (trimmed text))) (reading start (spots_of text) (length text)) (misfit_of definition text) (compiled_of definition text) found h in
+      record {
+        is_filter = record { short = ltb-false 1024 (length (trimmed text)) was.short; syntax = subst (ComesTo text) was.fine verdict_is; fits = was.fits };
+        text = ap (λ (f : Compiled). f.text) (sym was.same);
+        moves = ap (λ (f : Compiled). f.moves) (sym was.same);
+      }
+
+  fault_told : (fault : FilterFault) → length (trimmed text) ≤ 1024 → ComesTo text Fine → misfit_of definition text ≡ Some fault → IsTold definition text fault
+  fault_told TooMany short fine h = absurd (never_too_many definition.fields subjects.Pid (spots_of text) h)
+  fault_told (FilterSyntax at) short fine h = inr (short, fine, h)
+  fault_told (NoSuchField at) short fine h = (short, fine, h)
+  fault_told (WrongOperator at) short fine h = (short, fine, h)
+  fault_told Memory short fine h = tt
+
+  told_from : (b : Bool) (v : Verdict) (m : Option FilterFault) (filter : Compiled) (fault : FilterFault) → nat_lt 1024 (length (trimmed text)) ≡ b → ComesTo text v → misfit_of definition text ≡ m → answer_from b v m filter ≡ Err fault → IsTold definition text fault
+  told_from true v m filter fault b_is comes m_is h =
+      let same : TooMany ≡ fault = cc in
+      subst (IsTold definition text) same (inl (ltb-true 1024 (length (trimmed text)) b_is))
+  told_from false Fine None filter fault b_is comes m_is h = absurd (cc)
+  told_from false Fine (Some f) filter fault b_is comes m_is h =
+      let same : f ≡ fault = cc in
+      fault_told fault (ltb-false 1024 (length (trimmed text)) b_is) comes (m_is ∙ ap (λ g. Some g) same)
+  told_from false TooDeep m filter fault b_is comes m_is h =
+      let same : TooMany ≡ fault = cc in
+      subst (IsTold definition text) same (inr (ltb-false 1024 (length (trimmed text)) b_is, comes))
+  told_from false (WrongAt at) m filter fault b_is comes m_is h =
+      let same : FilterSyntax at ≡ fault = cc in
+      subst (IsTold definition text) same (inl (ltb-false 1024 (length (trimmed text)) b_is, comes))
+
+  told : (fault : FilterFault) → answer_of definition text ≡ Err fault → IsTold definition text fault
+  unfolding answer_of
+  told fault h = told_from (nat_lt 1024 (length (trimmed text))) (reading start (spots_of text) (length text)) (misfit_of definition text) (compiled_of definition text) fault refl verdict_is refl h
+
+  -- and back
+  short_answer : (v : Verdict) (m : Option FilterFault) → length (trimmed text) ≤ 1024 → ComesTo text v → misfit_of definition text ≡ m → answer_of definition text ≡ answer_from false v m (compiled_of definition text)
+  unfolding answer_of
+  short_answer v m short comes fits = λ i. answer_from (le-ltb 1024 (length (trimmed text)) short i) (only (length text) (spots_of text) v comes i) (fits i) (compiled_of definition text)
+
+  filter_answer : IsFilter definition text → answer_of definition text ≡ Ok (compiled_of definition text)
+  filter_answer is = short_answer Fine None is.short is.syntax is.fits
+
+  refused_answer : (fault : FilterFault) → IsRefused definition text fault → answer_of definition text ≡ Err fault
+  unfolding answer_of
+  refused_answer TooMany (inl more) = ap (λ b. answer_from b (reading start (spots_of text) (length text)) (misfit_of definition text) (compiled_of definition text)) (lt-ltb 1024 (length (trimmed text)) more)
+  refused_answer TooMany (inr h) = short_answer TooDeep (misfit_of definition text) h.0 h.1 refl
+  refused_answer (FilterSyntax at) (inl h) = short_answer (WrongAt at) (misfit_of definition text) h.0 h.1 refl
+  refused_answer (FilterSyntax at) (inr h) = short_answer Fine (Some (FilterSyntax at)) h.0 h.1 h.2
+  refused_answer (NoSuchField at) h = short_answer Fine (Some (NoSuchField at)) h.0 h.1 h.2
+  refused_answer (WrongOperator at) h = short_answer Fine (Some (WrongOperator at)) h.0 h.1 h.2
+  refused_answer Memory h = absurd h
+
+  -- ---- what `parse` says
+
+  pub parse_read : (r : Result Compiled FilterFault) → IsAnswered r (answer_of definition text) → IfOk r (IsFilterOf definition text)
+  parse_read (Ok found) e = filter_of found e
+  parse_read (Err fault) e = tt
+
+  pub parse_refused : (r : Result Compiled FilterFault) → IsAnswered r (answer_of definition text) → IfErr r (IsTold definition text)
+  parse_refused (Ok found) e = tt
+  parse_refused (Err TooMany) e = told TooMany e
+  parse_refused (Err (FilterSyntax at)) e = told (FilterSyntax at) e
+  parse_refused (Err (NoSuchField at)) e = told (NoSuchField at) e
+  parse_refused (Err (WrongOperator at)) e = told (WrongOperator at) e
+  parse_refused (Err Memory) e = tt
+
+  pub parse_only : (r : Result Compiled FilterFault) → IsAnswered r (answer_of definition text) → IsFilter definition text → IsOkUnlessMemory r
+  parse_only (Ok found) e is = tt
+  parse_only (Err TooMany) e is = let h : Ok (compiled_of definition text) ≡ Err TooMany = sym (filter_answer is) ∙ e in cc
+  parse_only (Err (FilterSyntax at)) e is = let h : Ok (compiled_of definition text) ≡ Err (FilterSyntax at) = sym (filter_answer is) ∙ e in cc
+  parse_only (Err (NoSuchField at)) e is = let h : Ok (compiled_of definition text) ≡ Err (NoSuchField at) = sym (filter_answer is) ∙ e in cc
+  parse_only (Err (WrongOperator at)) e is = let h : Ok (compiled_of definition text) ≡ Err (WrongOperator at) = sym (filter_answer is) ∙ e in cc
+  parse_only (Err Memory) e is = tt
+
+  err_is : {f g : FilterFault} → answer_of definition text ≡ Err f → answer_of definition text ≡ Err g → f ≡ g
+  err_is a b = cc
+
+  pub parse_told : (r : Result Compiled FilterFault) → IsAnswered r (answer_of definition text) → (fault : FilterFault) → IsRefused definition text fault → IsAsTold r fault
+  parse_told (Ok found) e fault is = let h : Ok found ≡ Err fault = sym e ∙ refused_answer fault is in cc
+  parse_told (Err TooMany) e fault is = err_is e (refused_answer fault is)
+  parse_told (Err (FilterSyntax at)) e fault is = err_is e (refused_answer fault is)
+  parse_told (Err (NoSuchField at)) e fault is = err_is e (refused_answer fault is)
+  parse_told (Err (WrongOperator at)) e fault is = err_is e (refused_answer fault is)
+  parse_told (Err Memory) e fault is = tt
+
+-- ---- what `passes` says
+
+module _ (definition : Definition) (written : List ℕ) (filter : Compiled) (row : Cells) (emission : Emission) (same : emission.values ≡ row.values)
+    (is : IsFilterOf definition written filter) (defined : IsDefinition definition) (is_row : IsRowOf definition row) (result : Bool) (result_is : result ≡ evaluated emission at_start filter.moves) where
+  pub each_holds : (tree : Expr) → Spells (tokens_of (spots_of written)) tree → IsTrue result ↔ Holds definition.fields emission tree
+  each_holds tree spelled =
+      let fits = subst (AllFit definition.fields subjects.Pid) (sym spelled) (all_fit definition.fields subjects.Pid (spots_of written) is.is_filter.fits) in
+      let shallow = subst (λ t. depth_of t ≤ 16) (sym spelled) is.is_filter.syntax.shallow in
+      let value = value_is definition.fields emission (tests_decide definition row emission defined is_row same) tree subjects.Pid comparisons.Equal fits shallow in
+      let there : result ≡ evaluated emission at_start (moves_from definition.fields subjects.Pid comparisons.Equal (tokens_of (spots_of written))) = result_is ∙ ap (evaluated emission at_start) is.moves in
+      let whole : result ≡ evaluated emission at_start (moves_from definition.fields subjects.Pid comparisons.Equal (expr_tokens tree)) = there ∙ ap (λ t. evaluated emission at_start (moves_from definition.fields subjects.Pid comparisons.Equal t)) (sym spelled) in
+      ((λ h. value.0 (sym whole ∙ h)), (λ h. whole ∙ value.1 h))
+
+  pub some_passes : IsTrue result ↔ Passes definition written emission
+  some_passes =
+      let whole = is.is_filter.syntax.whole in
+      ((λ h. record { tree = whole.tree; spelled = whole.spelled; holds = (each_holds whole.tree whole.spelled).0 h }), (λ p. (each_holds p.tree p.spelled).1 p.holds))

@@ -1,0 +1,13 @@
+pub mod Options
+pub mod Runs
+pub mod Trees
+pub mod Verdicts
+pub mod SpotLemmas
+pub mod Sums
+pub mod GlobLemmas
+pub mod RowLemmas
+pub mod Depths
+pub mod Truths
+pub mod RowTruths
+pub mod FilterLemmas
+pub mod ClassLemmas

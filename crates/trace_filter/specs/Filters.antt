@@ -1,0 +1,120 @@
+-- Filters of an event: which texts are filters, how others are refused, and when a filter passes an emission.
+use Rattle.std.specs.Prelude.{◌≡◌, ◌⊎◌, ◌<◌, ◌≤◌, ℕ, Bool, true, false, nat_lt, List, length, Option, None, Some, Result, Ok, Err}
+use Rattle.trace_format.specs.declared.event.Field.{Field}
+use Rattle.trace_format.specs.Definitions.{Definition}
+use Rattle.trace_filter.specs.declared.fault.FilterFault.{FilterFault}
+use Rattle.trace_filter.specs.declared.fault.FilterFault.TheVariants.{TooMany, FilterSyntax, NoSuchField, WrongOperator, Memory}
+use Rattle.trace_filter.specs.declared.syntax.Verdict.{Verdict}
+use Rattle.trace_filter.specs.declared.syntax.Verdict.TheVariants.{Fine, TooDeep, WrongAt}
+use Rattle.trace_filter.specs.declared.test.Subject.TheVariants as subjects
+use Rattle.trace_filter.specs.declared.token.Comparison.TheVariants as comparisons
+use Rattle.trace_filter.specs.Tokens.{Spot, Token, trimmed, spots_of, spots_from, tokens_of}
+use Rattle.trace_filter.specs.Grammar.{Expr, Spells, IsVerdict}
+use Rattle.trace_filter.specs.Syntax.{start, reading}
+use Rattle.trace_filter.specs.Fields.{first_fault}
+use Rattle.trace_filter.specs.Truth.{Emission, Holds}
+use Rattle.trace_filter.specs.Steps.{Move, moves_from}
+
+-- at most 1,024 bytes between the blanks at both ends
+abbrev pub IsShort : List ℕ → Type 0
+IsShort text = length (trimmed text) ≤ 1024
+
+-- what the tokens of a text come to by the grammar
+abbrev pub ComesTo : List ℕ → Verdict → Type 0
+ComesTo text verdict = IsVerdict (spots_of text) (length text) verdict
+
+-- the first test of a text that does not fit its field, if there is one
+abbrev pub misfit_of : Definition → List ℕ → Option FilterFault
+misfit_of definition text = first_fault definition.fields subjects.Pid (spots_of text)
+
+-- a text is a filter of an event: it is short, it is in the grammar, and its tests fit the event's fields
+pub record IsFilter (definition : Definition) (text : List ℕ) : Type 0 where
+  pub short : IsShort text
+  pub syntax : ComesTo text Fine
+  pub fits : misfit_of definition text ≡ None
+
+-- a text is refused: it is too long, or short and nested too deep
+abbrev pub IsTooMany : List ℕ → Type 0
+IsTooMany text = (1024 < length (trimmed text)) ⊎ (IsShort text × ComesTo text TooDeep)
+
+-- or it is short and wrong at a place
+abbrev pub IsWrong : List ℕ → ℕ → Type 0
+IsWrong text at = IsShort text × ComesTo text (WrongAt at)
+
+-- or it is in the grammar, and this is the first test that does not fit
+abbrev pub Misfits : Definition → List ℕ → FilterFault → Type 0
+Misfits definition text fault = IsShort text × ComesTo text Fine × (misfit_of definition text ≡ Some fault)
+
+abbrev pub IsRefused : Definition → List ℕ → FilterFault → Type 0
+IsRefused definition text TooMany = IsTooMany text
+IsRefused definition text (FilterSyntax at) = IsWrong text at ⊎ Misfits definition text (FilterSyntax at)
+IsRefused definition text (NoSuchField at) = Misfits definition text (NoSuchField at)
+IsRefused definition text (WrongOperator at) = Misfits definition text (WrongOperator at)
+IsRefused definition text Memory = ⊥
+
+-- a fault told is one for which the text is refused, or memory was refused
+abbrev pub IsTold : Definition → List ℕ → FilterFault → Type 0
+IsTold definition text TooMany = IsRefused definition text TooMany
+IsTold definition text (FilterSyntax at) = IsRefused definition text (FilterSyntax at)
+IsTold definition text (NoSuchField at) = IsRefused definition text (NoSuchField at)
+IsTold definition text (WrongOperator at) = IsRefused definition text (WrongOperator at)
+IsTold definition text Memory = Unit {0}
+
+-- a filter: its text, and the steps that it was compiled to
+pub record Compiled : Type 0 where
+  pub text : List ℕ
+  pub moves : List Move
+
+-- what a text, which is a filter of the event, was compiled to
+pub record IsFilterOf (definition : Definition) (written : List ℕ) (filter : Compiled) : Type 0 where
+  pub is_filter : IsFilter definition written
+  pub text : filter.text ≡ trimmed written
+  pub moves : filter.moves ≡ moves_from definition.fields subjects.Pid comparisons.Equal (tokens_of (spots_of written))
+
+-- some tree that the text's tokens spell holds
+pub record Passes (definition : Definition) (text : List ℕ) (emission : Emission) : Type 0 where
+  pub tree : Expr
+  pub spelled : Spells (tokens_of (spots_of text)) tree
+  pub holds : Holds definition.fields emission tree
+
+-- what a call answers where a text is a filter, and where it is refused for a fault
+abbrev pub IsOkUnlessMemory : {A : Type 0} → Result A FilterFault → Type 0
+IsOkUnlessMemory (Ok filter) = Unit {0}
+IsOkUnlessMemory (Err TooMany) = ⊥
+IsOkUnlessMemory (Err (FilterSyntax at)) = ⊥
+IsOkUnlessMemory (Err (NoSuchField at)) = ⊥
+IsOkUnlessMemory (Err (WrongOperator at)) = ⊥
+IsOkUnlessMemory (Err Memory) = Unit {0}
+
+abbrev pub IsAsTold : {A : Type 0} → Result A FilterFault → FilterFault → Type 0
+IsAsTold (Ok filter) fault = ⊥
+IsAsTold (Err TooMany) fault = TooMany ≡ fault
+IsAsTold (Err (FilterSyntax at)) fault = FilterSyntax at ≡ fault
+IsAsTold (Err (NoSuchField at)) fault = NoSuchField at ≡ fault
+IsAsTold (Err (WrongOperator at)) fault = WrongOperator at ≡ fault
+IsAsTold (Err Memory) fault = Unit {0}
+
+-- ---- all of this as one function of the text
+
+abbrev pub answer_from : Bool → Verdict → Option FilterFault → Compiled → Result Compiled FilterFault
+answer_from true verdict misfit filter = Err TooMany
+answer_from false Fine None filter = Ok filter
+answer_from false Fine (Some fault) filter = Err fault
+answer_from false TooDeep misfit filter = Err TooMany
+answer_from false (WrongAt at) misfit filter = Err (FilterSyntax at)
+
+abbrev pub compiled_of : Definition → List ℕ → Compiled
+compiled_of definition text = record { text = trimmed text; moves = moves_from definition.fields subjects.Pid comparisons.Equal (tokens_of (spots_of text)) }
+
+-- the filter that a text is, or the fault for which it is refused
+unfoldable pub answer_of : Definition → List ℕ → Result Compiled FilterFault
+answer_of definition text = answer_from (nat_lt 1024 (length (trimmed text))) (reading start (spots_of text) (length text)) (misfit_of definition text) (compiled_of definition text)
+
+-- what `parse` answers is this, unless memory was refused
+abbrev pub IsAnswered : Result Compiled FilterFault → Result Compiled FilterFault → Type 0
+IsAnswered (Ok filter) answer = answer ≡ Ok filter
+IsAnswered (Err TooMany) answer = answer ≡ Err TooMany
+IsAnswered (Err (FilterSyntax at)) answer = answer ≡ Err (FilterSyntax at)
+IsAnswered (Err (NoSuchField at)) answer = answer ≡ Err (NoSuchField at)
+IsAnswered (Err (WrongOperator at)) answer = answer ≡ Err (WrongOperator at)
+IsAnswered (Err Memory) answer = Unit {0}

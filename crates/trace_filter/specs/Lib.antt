@@ -1,0 +1,11 @@
+pub mod Tokens
+pub mod Grammar
+pub mod Syntax
+pub mod Seen
+pub mod Globs
+pub mod SeenGlobs
+pub mod Fields
+pub mod Truth
+pub mod Tests
+pub mod Steps
+pub mod Filters

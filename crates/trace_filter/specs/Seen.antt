@@ -1,0 +1,36 @@
+-- What the program's tokens stand for.
+use Rattle.std.specs.Prelude.{◌≡◌, ◌≤◌, ◌<◌, ℕ, ◌+◌, Bool, List, [], ◌∷◌, length, drop}
+use Rattle.trace_filter.specs.declared.token.Literal as literal
+use Rattle.trace_filter.specs.declared.token.Literal.TheVariants as literals
+use Rattle.trace_filter.specs.declared.token.Token as token
+use Rattle.trace_filter.specs.declared.token.Token.TheVariants as tokens
+use Rattle.trace_filter.specs.declared.token.Piece as pieces
+use Rattle.trace_filter.specs.declared.token.Spot as spots
+use Rattle.trace_filter.specs.Tokens.{Literal, Word, Quoted, Token, Open, Close, Bang, Both, Either, Compare, Name, Value, Misfit, Piece, Spot, is_comparison, spots_from}
+
+abbrev pub literal_of : literal.Literal → Literal
+literal_of (literals.Word bytes) = Word bytes.now
+literal_of (literals.Quoted bytes) = Quoted bytes.now
+
+abbrev pub token_of : token.Token → Token
+token_of tokens.Open = Open
+token_of tokens.Close = Close
+token_of tokens.Bang = Bang
+token_of tokens.Both = Both
+token_of tokens.Either = Either
+token_of (tokens.Compare comparison) = Compare comparison
+token_of (tokens.Name bytes) = Name bytes.now
+token_of (tokens.Value literal) = Value (literal_of literal)
+token_of tokens.Misfit = Misfit
+
+-- the program's piece is the piece, and ends within the bytes
+pub record IsPiece (piece : Piece) (found : pieces.Piece) (rest : List ℕ) : Type 0 where
+  pub token : token_of found.token ≡ piece.token
+  pub more : found.more ≡ piece.more
+  pub within : piece.more ≤ length rest
+
+-- the first token from a place on, with the others from its end on
+pub record IsNextToken (text : List ℕ) (start : ℕ) (value_due : Bool) (found : spots.Spot) : Type 0 where
+  pub spots : spots_from value_due 0 start (drop start text) ≡ record { at = found.at; token = token_of found.token } ∷ spots_from (is_comparison (token_of found.token)) 0 found.end (drop found.end text)
+  pub within : found.end ≤ length text
+  pub forward : start < found.end

@@ -1,0 +1,35 @@
+-- Tests as the program makes them. That they are what `Truth` says is a law on `Filter::passes`.
+use Rattle.std.specs.Prelude.{◌≡◌, ℕ, ◌<◌, ℤ, int_le, Bool, true, false, not, ◌&&◌, ◌==◌, nat_lt, bytes_eq, bit_and, List, length, Option, None, Some}
+use Rattle.std.specs.Ordering.{int_eq}
+use Rattle.trace_format.specs.Cells.{Datum, Whole, Bytes}
+use Rattle.trace_filter.specs.declared.token.Comparison.{Comparison}
+use Rattle.trace_filter.specs.declared.token.Comparison.TheVariants as comparison
+use Rattle.trace_filter.specs.Truth.{pattern_of}
+use Rattle.trace_filter.specs.Globs.{parts_of, is_match}
+
+abbrev pub number_test : Comparison → ℤ → ℤ → Bool
+number_test comparison.Equal a b = int_eq a b
+number_test comparison.NotEqual a b = not (int_eq a b)
+number_test comparison.AtMost a b = int_le a b
+number_test comparison.AtLeast a b = int_le b a
+number_test comparison.Below a b = not (int_le b a)
+number_test comparison.Above a b = not (int_le a b)
+number_test comparison.CommonBit a b = not (bit_and (pattern_of a) (pattern_of b) == 0)
+number_test comparison.Like a b = false
+
+-- a matched text has under 256 bytes, as all texts of rows have
+abbrev pub text_test : Comparison → List ℕ → List ℕ → Bool
+text_test comparison.Equal a b = bytes_eq a b
+text_test comparison.NotEqual a b = not (bytes_eq a b)
+text_test comparison.AtMost a b = false
+text_test comparison.AtLeast a b = false
+text_test comparison.Below a b = false
+text_test comparison.Above a b = false
+text_test comparison.CommonBit a b = false
+text_test comparison.Like a b = nat_lt (length a) 256 && is_match (parts_of b) a
+
+abbrev pub datum_test : Comparison → Datum → Datum → Bool
+datum_test by (Whole a) (Whole b) = number_test by a b
+datum_test by (Whole a) (Bytes b) = false
+datum_test by (Bytes a) (Whole b) = false
+datum_test by (Bytes a) (Bytes b) = text_test by a b

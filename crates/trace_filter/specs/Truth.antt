@@ -1,0 +1,92 @@
+-- When a filter holds of a row, a CPU and a process.
+use Rattle.std.specs.Prelude.{◌≡◌, ◌⊎◌, ◌<◌, ◌≤◌, ℕ, ◌+◌, ◌-◌, ◌%◌, ◌^◌, ℤ, pos, negsuc, ◌≤ℤ◌, bit_and, List, [], ◌∷◌, Option, None, Some, slice_get}
+use Rattle.trace_format.specs.declared.event.Field.{Field}
+use Rattle.trace_format.specs.Numbers.{number_of}
+use Rattle.trace_format.specs.Cells.{Datum, Whole, Bytes, Cells}
+use Rattle.trace_format.specs.Definitions.{Definition}
+use Rattle.trace_filter.specs.declared.token.Comparison.{Comparison}
+use Rattle.trace_filter.specs.declared.token.Comparison.TheVariants as comparison
+use Rattle.trace_filter.specs.declared.test.Subject.{Subject}
+use Rattle.trace_filter.specs.declared.test.Subject.TheVariants.{Pid, Cpu, NumberField, TextField}
+use Rattle.trace_filter.specs.Tokens.{Literal, Word, Quoted, Token, tokens_of, spots_of}
+use Rattle.trace_filter.specs.Grammar.{Expr, AllOf, Or, Conj, Only, And, Unary, Not, Group, Test, Spells}
+use Rattle.trace_filter.specs.Fields.{subject_named}
+use Rattle.trace_filter.specs.Globs.{parts_of, Matches}
+
+-- the 64 low bits of a number's two's complement
+abbrev pub pattern_of : ℤ → ℕ
+pattern_of (pos n) = n % 2 ^ 64
+pattern_of (negsuc n) = 2 ^ 64 - 1 - n % 2 ^ 64
+
+-- numbers are compared by their mathematical values; `&` is true where the patterns have a common bit
+abbrev pub NumbersCompare : Comparison → ℤ → ℤ → Type 0
+NumbersCompare comparison.Equal a b = a ≡ b
+NumbersCompare comparison.NotEqual a b = a ≡ b → ⊥
+NumbersCompare comparison.AtMost a b = a ≤ℤ b
+NumbersCompare comparison.AtLeast a b = b ≤ℤ a
+NumbersCompare comparison.Below a b = b ≤ℤ a → ⊥
+NumbersCompare comparison.Above a b = a ≤ℤ b → ⊥
+NumbersCompare comparison.CommonBit a b = bit_and (pattern_of a) (pattern_of b) ≡ 0 → ⊥
+NumbersCompare comparison.Like a b = ⊥
+
+-- texts are equal where their bytes are; `~` matches the whole text by a glob
+abbrev pub TextsCompare : Comparison → List ℕ → List ℕ → Type 0
+TextsCompare comparison.Equal a b = a ≡ b
+TextsCompare comparison.NotEqual a b = a ≡ b → ⊥
+TextsCompare comparison.AtMost a b = ⊥
+TextsCompare comparison.AtLeast a b = ⊥
+TextsCompare comparison.Below a b = ⊥
+TextsCompare comparison.Above a b = ⊥
+TextsCompare comparison.CommonBit a b = ⊥
+TextsCompare comparison.Like a b = Matches (parts_of b) a
+
+abbrev pub literal_bytes : Literal → List ℕ
+literal_bytes (Word bytes) = bytes
+literal_bytes (Quoted bytes) = bytes
+
+-- the NUMBER that a bare word writes; a quoted value is none
+abbrev pub literal_number : Literal → Option ℤ
+literal_number (Word bytes) = number_of bytes
+literal_number (Quoted bytes) = None
+
+-- a number is compared with the NUMBER that a value writes, a text with the value's bytes
+abbrev pub NumberCompares : Comparison → ℤ → Option ℤ → Type 0
+NumberCompares by a None = ⊥
+NumberCompares by a (Some b) = NumbersCompare by a b
+
+abbrev pub DatumCompares : Comparison → Option Datum → Literal → Type 0
+DatumCompares by None literal = ⊥
+DatumCompares by (Some (Whole a)) literal = NumberCompares by a (literal_number literal)
+DatumCompares by (Some (Bytes a)) literal = TextsCompare by a (literal_bytes literal)
+
+-- what an emission has: the values of its row, its CPU and its process
+pub record Emission : Type 0 where
+  pub values : List Datum
+  pub cpu : ℕ
+  pub pid : ℤ
+
+-- the value of a subject
+abbrev pub value_of : Emission → Subject → Option Datum
+value_of emission Pid = Some (Whole emission.pid)
+value_of emission Cpu = Some (Whole (pos emission.cpu))
+value_of emission (NumberField place) = slice_get emission.values place
+value_of emission (TextField place) = slice_get emission.values place
+
+abbrev pub value_named : Emission → Option Subject → Option Datum
+value_named emission None = None
+value_named emission (Some subject) = value_of emission subject
+
+-- truth by cases on a filter's tree
+abbrev mutual
+  pub Holds : List Field → Emission → Expr → Type 0
+  Holds fields emission (AllOf c) = ConjHolds fields emission c
+  Holds fields emission (Or e c) = Holds fields emission e ⊎ ConjHolds fields emission c
+
+  pub ConjHolds : List Field → Emission → Conj → Type 0
+  ConjHolds fields emission (Only u) = UnaryHolds fields emission u
+  ConjHolds fields emission (And c u) = ConjHolds fields emission c × UnaryHolds fields emission u
+
+  pub UnaryHolds : List Field → Emission → Unary → Type 0
+  UnaryHolds fields emission (Not u) = UnaryHolds fields emission u → ⊥
+  UnaryHolds fields emission (Group e) = Holds fields emission e
+  UnaryHolds fields emission (Test name by literal) = DatumCompares by (value_named emission (subject_named fields name)) literal

@@ -1,0 +1,135 @@
+//! Filters.
+
+ghost use Rattle.std.specs.Prelude.{◌≡◌, ◌↔◌, ◌≤◌, ◌-◌, List, ℕ, None, IfOk, IfErr, IsErr, IsTrue, length, reverse, take, drop, map};
+ghost use Rattle.std.specs.List.{prefix_len};
+ghost use Rattle.trace_filter.specs.Tokens.{is_blank as spec_blank, without_end};
+
+use crate::fault::FilterFault;
+use crate::steps::{Step, compile, evaluate};
+use crate::syntax::{Verdict, read_syntax};
+use crate::token::{blanks_len, is_blank};
+use std::alloc::{AllocError, Global};
+use std::marker::Model;
+use trace_format::{EventDef, Row};
+
+/// A filter has at most so many bytes, without the blanks at both ends.
+const LONGEST: usize = 1024;
+
+/// A filter of an event, which passes some of its emissions (events.rst, "Event filtering").
+#[derive(Debug, Drop)]
+pub struct Filter {
+    text: Vec<u8>,
+    steps: Vec<Step>,
+}
+
+impl Model for Filter {
+    ghost use Rattle.std.specs.Prelude.{map};
+    ghost use Rattle.trace_filter.specs.Filters.{Compiled};
+    ghost use Rattle.trace_filter.specs.Steps.{move_of};
+
+    ghost Value = { Compiled };
+
+    ghost view = { λ f. record { text = f.text.items; moves = map move_of f.steps.items } };
+}
+
+/// How many blanks a text ends with.
+fn end_blanks_len(text: &[u8]) -> usize
+    ensures value { result ≡ prefix_len spec_blank (reverse text.now) }
+    ensures bound { result ≤ length text.now }
+{
+    text.iter()
+        .rev()
+        .take_while(|byte| is_blank(**byte))
+        .count()
+}
+
+/// The text without the blanks at its end.
+fn cut_end(text: &[u8]) -> &[u8]
+    ensures { result.now ≡ without_end text.now }
+{
+    &text[..text.len() - end_blanks_len(text)]
+}
+
+/// The text without the blanks before it.
+fn cut_front(text: &[u8]) -> &[u8]
+    ensures { result.now ≡ drop (prefix_len spec_blank text.now) text.now }
+{
+    &text[blanks_len(text)..]
+}
+
+impl Filter {
+    ghost use Rattle.trace_format.specs.Definitions.{Definition, IsDefinition};
+    ghost use Rattle.trace_format.specs.Cells.{IsRowOf};
+    ghost use Rattle.trace_filter.specs.Grammar.{Expr, Spells};
+    ghost use Rattle.trace_filter.specs.Tokens.{spots_of, tokens_of};
+    ghost use Rattle.trace_filter.specs.Truth.{Holds};
+    ghost use Rattle.trace_filter.specs.Filters.{IsFilter, IsFilterOf, IsRefused, IsTold, Passes, IsOkUnlessMemory, IsAsTold, IsAnswered, answer_of};
+
+    /// The filter of an event that a text is: tests `name op value`, joined by `!`, `&&`, `||` and parentheses. The parser takes time
+    /// linear in the text.
+    pub fn parse(alloc: Global, text: &[u8], def: &EventDef) -> Result<Filter, FilterFault>
+        // What is read is a filter of the event.
+        ensures read { IfOk result (IsFilterOf def.now text.now) }
+        // What is a filter of the event is read, unless memory is refused.
+        ensures only { IsFilter def.now text.now → IsOkUnlessMemory result }
+        // What is refused is refused for the first cause in the order of refusals.
+        ensures refused { IfErr result (IsTold def.now text.now) }
+        // And for no other.
+        ensures told { (fault : FilterFault) → IsRefused def.now text.now fault → IsAsTold result fault }
+        // All of this as one function of the text.
+        ensures exact { IsAnswered result (answer_of def.now text.now) }
+    {
+        Filter::read(alloc, text, def)
+    }
+
+    #[tactic(auto, unfolding(crate::specs::Filters::answer_of))]
+    fn read(alloc: Global, text: &[u8], def: &EventDef) -> Result<Filter, FilterFault>
+        ensures { IsAnswered result (answer_of def.now text.now) }
+    {
+        let body = cut_end(text);
+        let trimmed = cut_front(body);
+        if trimmed.len() > LONGEST {
+            return Err(FilterFault::TooMany);
+        }
+        match read_syntax(alloc, body, text.len())? {
+            Verdict::Fine => {}
+            Verdict::TooDeep => return Err(FilterFault::TooMany),
+            Verdict::WrongAt(at) => return Err(FilterFault::FilterSyntax { at }),
+        }
+        let steps = compile(alloc, body, def.fields())?;
+        Ok(Filter {
+            text: Vec::from_slice(alloc, trimmed)?,
+            steps,
+        })
+    }
+
+    /// Whether the filter holds of a row of its event, emitted on a CPU by a process. It takes no memory.
+    pub fn passes(&self, row: &Row, cpu: u32, pid: i32) -> bool
+        // It passes what a tree that its text spells holds of.
+        ensures truth { (definition : Definition) → (written : List ℕ) → IsFilterOf definition written self.now → IsDefinition definition → IsRowOf definition row.now → IsTrue result ↔ Passes definition written (record { values = row.now.values; cpu = cpu; pid = pid }) }
+        // All such trees agree.
+        ensures each { (definition : Definition) → (written : List ℕ) → IsFilterOf definition written self.now → IsDefinition definition → IsRowOf definition row.now → (tree : Expr) → Spells (tokens_of (spots_of written)) tree → IsTrue result ↔ Holds definition.fields (record { values = row.now.values; cpu = cpu; pid = pid }) tree }
+    {
+        evaluate(&self.steps, row.values(), cpu, pid)
+    }
+
+    /// The filter's text, without blanks at both ends.
+    pub fn text(&self) -> &[u8]
+        ensures { result.now ≡ self.now.text }
+    {
+        self.text.as_slice()
+    }
+}
+
+ghost use Rattle.trace_filter.specs.Filters.{IsFilter as IsFilterText};
+
+/// Whether a text is a filter of an event: whether `Filter::parse` refuses it for no cause but memory.
+pub fn applies_to(alloc: Global, text: &[u8], def: &EventDef) -> Result<bool, AllocError>
+    ensures { IfOk result (λ applies. IsTrue applies ↔ IsFilterText def.now text.now) }
+{
+    match Filter::parse(alloc, text, def) {
+        Ok(_) => Ok(true),
+        Err(FilterFault::Memory) => Err(AllocError),
+        Err(_) => Ok(false),
+    }
+}

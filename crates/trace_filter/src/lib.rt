@@ -1,0 +1,16 @@
+//! Event filters.
+#![tactic(auto)]
+
+mod fault;
+mod filter;
+mod frames;
+mod glob;
+mod steps;
+mod syntax;
+mod test;
+#[cfg(test)]
+mod tests;
+mod token;
+
+pub use fault::FilterFault;
+pub use filter::{Filter, applies_to};

@@ -1,0 +1,192 @@
+//! Filters as lists of steps, and their value.
+
+ghost use Rattle.std.specs.Prelude.{◌≡◌, ◌++◌, [], false, None, Some, OnOk, IfOk, IfErr, map};
+ghost use Rattle.trace_format.specs.Cells.{datum_of};
+ghost use Rattle.trace_filter.specs.declared.token.Comparison.TheVariants as comparisons;
+ghost use Rattle.trace_filter.specs.declared.test.Subject.TheVariants as subjects;
+ghost use Rattle.trace_filter.specs.Tokens.{spots_from, tokens_of};
+ghost use Rattle.trace_filter.specs.Fields.{first_fault, IsToldAs};
+ghost use Rattle.trace_filter.specs.Steps.{move_of, moves_from, evaluated, at_start};
+
+use crate::fault::FilterFault;
+use crate::frames::Frames;
+use crate::test::{Subject, compare_values};
+use crate::token::{Comparison, Token, next_token};
+use std::alloc::Global;
+use trace_format::{Field, Value};
+
+/// A test: the value that the subject has, against a written one.
+#[derive(Debug, Drop)]
+pub(crate) struct Test {
+    subject: Subject,
+    comparison: Comparison,
+    value: Value,
+}
+
+#[derive(Debug, Drop)]
+pub(crate) enum Step {
+    Open,
+    Close,
+    Bang,
+    Both,
+    Either,
+    Test(Test),
+}
+
+impl Test {
+    ghost use Rattle.trace_filter.specs.Truth.{value_of};
+    ghost use Rattle.trace_filter.specs.Steps.{test_of};
+
+    /// Whether the test holds of a row's values, a CPU and a process.
+    fn holds(&self, values: &[Value], cpu: u32, pid: i32) -> bool
+        ensures { result ≡ test_of self.now.comparison (value_of (record { values = map datum_of values.now; cpu = cpu; pid = pid }) self.now.subject) (datum_of self.now.value) }
+    {
+        match self.subject {
+            Subject::Pid => compare_values(
+                self.comparison,
+                &Value::Num(i128::from(pid)),
+                &self.value,
+            ),
+            Subject::Cpu => compare_values(
+                self.comparison,
+                &Value::Num(i128::from(cpu)),
+                &self.value,
+            ),
+            Subject::NumberField(place) | Subject::TextField(place) => match values.get(place) {
+                Some(value) => compare_values(self.comparison, value, &self.value),
+                None => false,
+            },
+        }
+    }
+}
+
+impl Frames {
+    ghost use Rattle.trace_filter.specs.Steps.{state_of, behind_move};
+
+    /// Behind one more step.
+    fn take(&mut self, step: &Step, values: &[Value], cpu: u32, pid: i32)
+        ensures { state_of self.new ≡ behind_move (record { values = map datum_of values.now; cpu = cpu; pid = pid }) (state_of self.old) (move_of step.now) }
+    {
+        match step {
+            Step::Open => self.open(),
+            Step::Close => self.close(),
+            Step::Bang => self.invert(),
+            Step::Both => {}
+            Step::Either => self.or_else(),
+            Step::Test(test) => self.test(test.holds(values, cpu, pid)),
+        }
+    }
+}
+
+/// The part of a filter that was compiled.
+#[derive(Debug, Drop)]
+pub(crate) struct Compiler {
+    subject: Subject,
+    comparison: Comparison,
+    steps: Vec<Step>,
+}
+
+impl Compiler {
+    ghost use Rattle.trace_filter.specs.Seen.{token_of};
+    ghost use Rattle.trace_filter.specs.Steps.{moves_of, comparison_behind};
+    ghost use Rattle.trace_filter.specs.Fields.{fault_at, subject_behind};
+
+    fn new(alloc: Global) -> Compiler
+        ensures subject { result.subject ≡ subjects.Pid }
+        ensures comparison { result.comparison ≡ comparisons.Equal }
+        ensures steps { result.steps.items ≡ [] }
+    {
+        Compiler {
+            subject: Subject::Pid,
+            comparison: Comparison::Equal,
+            steps: Vec::new(alloc),
+        }
+    }
+
+    /// Takes one more token, or tells what is wrong with it.
+    fn take(
+        &mut self,
+        alloc: Global,
+        fields: &[Field],
+        at: usize,
+        token: Token,
+    ) -> Result<(), FilterFault>
+        ensures fits { OnOk result (fault_at fields.now self.old.subject (token_of token.entry) at ≡ None) }
+        ensures subject { OnOk result (self.new.subject ≡ subject_behind fields.now self.old.subject (token_of token.entry)) }
+        ensures comparison { OnOk result (self.new.comparison ≡ comparison_behind self.old.comparison (token_of token.entry)) }
+        ensures steps { OnOk result (map move_of self.new.steps.items ≡ map move_of self.old.steps.items ++ moves_of self.old.subject self.old.comparison (token_of token.entry)) }
+        ensures refused { IfErr result (IsToldAs (fault_at fields.now self.old.subject (token_of token.entry) at)) }
+    {
+        let step = match token {
+            Token::Open => Step::Open,
+            Token::Close => Step::Close,
+            Token::Bang => Step::Bang,
+            Token::Both => Step::Both,
+            Token::Either => Step::Either,
+            Token::Compare(comparison) => {
+                if !self.subject.takes(comparison) {
+                    return Err(FilterFault::WrongOperator { at });
+                }
+                self.comparison = comparison;
+                return Ok(());
+            }
+            Token::Name(name) => {
+                let Some(subject) = Subject::named(fields, name) else {
+                    return Err(FilterFault::NoSuchField { at });
+                };
+                self.subject = subject;
+                return Ok(());
+            }
+            Token::Value(literal) => {
+                let Some(value) = self.subject.read(alloc, literal)? else {
+                    return Err(FilterFault::FilterSyntax { at });
+                };
+                Step::Test(Test {
+                    subject: self.subject,
+                    comparison: self.comparison,
+                    value,
+                })
+            }
+            Token::Misfit => return Ok(()),
+        };
+        self.steps.push(step)?;
+        Ok(())
+    }
+}
+
+/// The steps of a text that is a filter, or the first of its tests that does not fit its field.
+pub(crate) fn compile(
+    alloc: Global,
+    text: &[u8],
+    fields: &[Field],
+) -> Result<Vec<Step>, FilterFault>
+    ensures fits { OnOk result (first_fault fields.now subjects.Pid (spots_from false 0 0 text.now) ≡ None) }
+    ensures steps { IfOk result (λ steps. map move_of steps.items ≡ moves_from fields.now subjects.Pid comparisons.Equal (tokens_of (spots_from false 0 0 text.now))) }
+    ensures refused { IfErr result (IsToldAs (first_fault fields.now subjects.Pid (spots_from false 0 0 text.now))) }
+{
+    let mut compiler = Compiler::new(alloc);
+    let mut from = 0;
+    let mut value_due = false;
+    while let Some(spot) = next_token(text, from, value_due) {
+        compiler.take(alloc, fields, spot.at, spot.token)?;
+        from = spot.end;
+        value_due = spot.token.is_comparison();
+    }
+    let Compiler {
+        subject: _,
+        comparison: _,
+        steps,
+    } = compiler;
+    Ok(steps)
+}
+
+/// Whether a filter holds of a row's values, a CPU and a process.
+pub(crate) fn evaluate(steps: &[Step], values: &[Value], cpu: u32, pid: i32) -> bool
+    ensures { result ≡ evaluated (record { values = map datum_of values.now; cpu = cpu; pid = pid }) at_start (map move_of steps.now) }
+{
+    let mut frames = Frames::new();
+    for step in steps {
+        frames.take(step, values, cpu, pid);
+    }
+    frames.total()
+}

@@ -1,0 +1,147 @@
+//! The syntax of filters, read token by token.
+
+ghost use Rattle.std.specs.Prelude.{◌≡◌, ◌≤◌, ◌<◌, ◌+◌, ◌∷◌, List, ℕ, Bool, true, false, length, reverse, sum, IfOk, Some, None};
+ghost use Rattle.trace_filter.specs.Grammar.{open_count};
+ghost use Rattle.trace_filter.specs.Tokens.{spots_from};
+ghost use Rattle.trace_filter.specs.Syntax.{start, reading};
+
+use crate::token::{Token, next_token};
+use std::alloc::{AllocError, Global};
+use std::marker::Model;
+
+/// At most so many `!` and `(` are open at one place.
+const DEEPEST: usize = 16;
+
+/// What may stand next in a filter.
+#[derive(Clone, Copy, Debug, PartialEq, Eq)]
+pub(crate) enum Due {
+    /// A `!`, a `(` or a field's name.
+    Operand,
+    /// A comparison, behind a name.
+    Operator,
+    /// A value, behind a comparison.
+    Value,
+    /// A `&&`, a `||`, a `)` or the end, behind an operand.
+    Joint,
+}
+
+/// What the tokens of a text come to.
+#[derive(Clone, Copy, Debug, PartialEq, Eq)]
+pub(crate) enum Verdict {
+    Fine,
+    /// Over 16 `!` and `(` are open at one place.
+    TooDeep,
+    /// The token at this byte can't stand there, or the text ends too early at this byte.
+    WrongAt(usize),
+}
+
+/// The part of a filter that was read.
+#[derive(Debug, Drop)]
+pub(crate) struct Reader {
+    due: Due,
+    /// The `!` inside the innermost `(` that are open.
+    bangs: usize,
+    /// For each open `(`, innermost last, the `!` before it.
+    outer: Vec<usize>,
+}
+
+impl Model for Reader {
+    ghost use Rattle.std.specs.Prelude.{reverse};
+    ghost use Rattle.trace_filter.specs.Syntax.{Standing};
+
+    ghost Value = { Standing };
+
+    ghost view = { λ r. record { due = r.due; opened = record { bangs = r.bangs; outer = reverse r.outer.items } } };
+}
+
+impl Reader {
+    ghost use Rattle.trace_filter.specs.Syntax.{step, may_end as ends, Takes};
+    ghost use Rattle.trace_filter.specs.Seen.{token_of};
+
+    fn new(alloc: Global) -> Reader
+        ensures { result ≡ start }
+    {
+        Reader {
+            due: Due::Operand,
+            bangs: 0,
+            outer: Vec::new(alloc),
+        }
+    }
+
+    /// Takes one more token, and says whether it may stand there.
+    #[tactic(auto, unfolding(crate::specs::Syntax::step))]
+    fn take(&mut self, token: Token) -> Result<bool, AllocError>
+        requires { open_count self.old.opened ≤ 16 }
+        ensures { IfOk result (λ fits. Takes (step self.old (token_of token.entry)) fits self.new) }
+    {
+        match (self.due, token) {
+            (Due::Operand, Token::Bang) => self.bangs += 1,
+            (Due::Operand, Token::Open) => {
+                self.outer.push(self.bangs)?;
+                self.bangs = 0;
+            }
+            (Due::Operand, Token::Name(_)) => self.due = Due::Operator,
+            (Due::Operator, Token::Compare(_)) => self.due = Due::Value,
+            (Due::Value, Token::Value(_)) => {
+                self.bangs = 0;
+                self.due = Due::Joint;
+            }
+            (Due::Joint, Token::Both | Token::Either) => self.due = Due::Operand,
+            (Due::Joint, Token::Close) => {
+                if self.outer.pop().is_none() {
+                    return Ok(false);
+                }
+                self.bangs = 0;
+            }
+            _ => return Ok(false),
+        }
+        Ok(true)
+    }
+
+    /// How many `!` and `(` are open.
+    #[tactic(auto, using(crate::proofs::Sums::sums))]
+    fn depth(&self) -> usize
+        requires { open_count self.now.opened ≤ 17 }
+        ensures { result ≡ open_count self.now.opened }
+    {
+        self.bangs + self.outer.len() + total(&self.outer)
+    }
+
+    /// Whether the filter may end there.
+    fn may_end(&self) -> bool
+        ensures { result ≡ ends self.now.due self.now.opened.outer }
+    {
+        self.due == Due::Joint && self.outer.is_empty()
+    }
+}
+
+fn total(counts: &[usize]) -> usize
+    requires { sum counts.now ≤ 17 }
+    ensures { result ≡ sum counts.now }
+{
+    counts.iter().sum()
+}
+
+/// What the tokens of a text come to, which is the front of one of so many bytes.
+pub(crate) fn read_syntax(alloc: Global, text: &[u8], len: usize) -> Result<Verdict, AllocError>
+    ensures { IfOk result (λ verdict. verdict ≡ reading start (spots_from false 0 0 text.now) len) }
+{
+    let mut reader = Reader::new(alloc);
+    let mut from = 0;
+    let mut value_due = false;
+    while let Some(spot) = next_token(text, from, value_due) {
+        if !reader.take(spot.token)? {
+            return Ok(Verdict::WrongAt(spot.at));
+        }
+        if reader.depth() > DEEPEST {
+            return Ok(Verdict::TooDeep);
+        }
+        from = spot.end;
+        value_due = spot.token.is_comparison();
+    }
+    if reader.may_end() {
+        Ok(Verdict::Fine)
+    } else {
+        Ok(Verdict::WrongAt(len))
+    }
+}

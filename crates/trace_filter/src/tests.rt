@@ -1,0 +1,139 @@
+//! Worked filters.
+
+use super::*;
+use std::alloc::Global;
+use std::test::Fail;
+use trace_format::{EventDef, Pair, Row, Text};
+
+/// Texts for `tick u64 n`, each with the refusal, or `-` where it is a filter.
+const TEXTS: &str = "\
+n==1 &&@FilterSyntax { at: 7 }
+n ^ 1@FilterSyntax { at: 2 }
+n==1)@FilterSyntax { at: 4 }
+(n==1@FilterSyntax { at: 5 }
+n==x@FilterSyntax { at: 3 }
+n == @FilterSyntax { at: 5 }
+   @FilterSyntax { at: 3 }
+@FilterSyntax { at: 0 }
+!=n@FilterSyntax { at: 0 }
+!!=n@FilterSyntax { at: 1 }
+n = 1@FilterSyntax { at: 2 }
+n==1 | n==2@FilterSyntax { at: 5 }
+n == \"1@FilterSyntax { at: 5 }
+n == \"1\"@FilterSyntax { at: 5 }
+n===1@FilterSyntax { at: 3 }
+n==1!@FilterSyntax { at: 3 }
+n==x && q==1@FilterSyntax { at: 3 }
+q==x && n==1@NoSuchField { at: 0 }
+n~x && q==1@WrongOperator { at: 1 }
+q==1 && n ^ 1@FilterSyntax { at: 10 }
+n ~ 3@WrongOperator { at: 2 }
+!!!!!!!!!!!!!!!!!n==1@TooMany
+!!!!!!!!!!!!!!!!n==1@-
+!!!!!!!!!!!!!!!!!n ^ 1@TooMany
+n ^ 1 !!!!!!!!!!!!!!!!!@FilterSyntax { at: 2 }
+((((((((((((((((n==1))))))))))))))))@-
+  common_pid==7&&!( common_cpu < 2||n & 4 )  @-";
+
+/// Declarations, filters and rows, each with whether the filter passes on CPU 1 for process -7.
+const TRUTHS: &str = "\
+tick u64 n@n == 010@n=8@true
+tick u64 n@n == 010@n=10@false
+tick u64 n@n & -1@n=0@false
+tick u64 n@n & -1@n=1@true
+tick u64 n@n & -1@n=18446744073709551615@true
+tick u64 n@n > -1@n=0@true
+tick u64 n@n > -1@n=18446744073709551615@true
+tick u64 n@common_pid == -7 && common_cpu == 1@n=0@true
+tick u64 n@common_pid > 0@n=0@false
+down s64 d@d & 0x8000000000000000@d=-1@true
+down s64 d@d & 1@d=-2@false
+down s64 d@d == 18446744073709551615@d=-1@false
+tri u32 a; u32 b; u32 c@a == 1 || b == 2 && !(c & 4)@a=1 b=0 c=4@true
+tri u32 a; u32 b; u32 c@a == 1 || b == 2 && !(c & 4)@a=0 b=2 c=4@false
+tri u32 a; u32 b; u32 c@a == 1 || b == 2 && !(c & 4)@a=0 b=2 c=3@true
+tri u32 a; u32 b; u32 c@(a == 1 || b == 2) && !(c & 4)@a=1 b=0 c=4@false
+move char who[8]; s64 d@who ~ \"[!a-c]*\"@who=d d=0@true
+move char who[8]; s64 d@who ~ \"[!a-c]*\"@who=dab d=0@true
+move char who[8]; s64 d@who ~ \"[!a-c]*\"@who=a d=0@false
+move char who[8]; s64 d@who ~ \"[!a-c]*\"@who= d=0@false
+move char who[8]; s64 d@who ~ []@who=[] d=0@true
+move char who[8]; s64 d@who ~ [a@who=[a d=0@true
+move char who[8]; s64 d@who ~ [!]]@who=a d=0@true
+move char who[8]; s64 d@who ~ [!]]@who=] d=0@false
+move char who[8]; s64 d@who ~ [a-c-e]@who=- d=0@true
+move char who[8]; s64 d@who ~ [a-c-e]@who=d d=0@false
+move char who[8]; s64 d@who ~ a?*@who=a d=0@false
+move char who[8]; s64 d@who ~ a?*@who=ab d=0@true
+move char who[8]; s64 d@who == ''@who= d=0@true
+move char who[8]; s64 d@who != b@who=b d=0@false
+move char who[64]; s64 d@who ~ *a*a*a*a*a*b@who=aaaaaaaaaaaaaaaaaaaaaaaaaaaaaaaaaaaaaaaaaaaaaaaaaaaaaaaaaaaaaaa d=0@false";
+
+fn parts(line: &str) -> Result<(&str, &str), Fail> {
+    Ok(line.split_once('@').ok_or("a line has an `@`")?)
+}
+
+/// Parses a text for an event, and tells the refusal.
+fn parsed(alloc: Global, def: &EventDef, text: &str) -> Result<String, Fail> {
+    Ok(match Filter::parse(alloc, text.as_bytes(), def) {
+        Ok(_) => format!(in alloc; "-")?,
+        Err(FilterFault::Memory) => return Err(FilterFault::Memory.into()),
+        Err(fault) => format!(in alloc; "{fault:?}")?,
+    })
+}
+
+#[test]
+fn texts(rt: HostRuntime) -> Result<(), Fail> {
+    let def = EventDef::parse(rt.alloc(), b"tick u64 n")?;
+    for line in TEXTS.lines() {
+        let (text, want) = parts(line)?;
+        let found = parsed(rt.alloc(), &def, text)?;
+        assert_eq!(rt; found.as_str(), want, "at {line}");
+        let applies = applies_to(rt.alloc(), text.as_bytes(), &def)?;
+        assert_eq!(rt; applies, want == "-", "at {line}");
+    }
+    Ok(())
+}
+
+/// A row of a text of pairs with a blank between two.
+fn row(alloc: Global, def: &EventDef, text: &str) -> Result<Row, Fail> {
+    let mut pairs = Vec::new(alloc);
+    for part in text.split(' ') {
+        let (name, value) = part.split_once('=').ok_or("a pair has a `=`")?;
+        let name = Text::from_slice(alloc, name.as_bytes())?;
+        let value = Text::from_slice(alloc, value.as_bytes())?;
+        pairs.push(Pair { name, value })?;
+    }
+    Ok(Row::build(alloc, def, &pairs)?)
+}
+
+#[test]
+fn truths(rt: HostRuntime) -> Result<(), Fail> {
+    for line in TRUTHS.lines() {
+        let (declaration, others) = parts(line)?;
+        let (text, others) = parts(others)?;
+        let (pairs, want) = parts(others)?;
+        let def = EventDef::parse(rt.alloc(), declaration.as_bytes())?;
+        let filter = Filter::parse(rt.alloc(), text.as_bytes(), &def)?;
+        let row = row(rt.alloc(), &def, pairs)?;
+        assert_eq!(rt; filter.passes(&row, 1, -7), want == "true", "at {line}");
+    }
+    Ok(())
+}
+
+#[test]
+fn lengths(rt: HostRuntime) -> Result<(), Fail> {
+    let def = EventDef::parse(rt.alloc(), b"tick u64 n")?;
+    let mut text = String::new(rt.alloc());
+    text.push_str("  n ==")?;
+    for _ in 0..1019 {
+        text.push(' ')?;
+    }
+    text.push_str("1  ")?;
+    let filter = Filter::parse(rt.alloc(), text.as_bytes(), &def)?;
+    assert_eq!(rt; filter.text().len(), 1024);
+    let longer = format!(in rt.alloc(); "(n==1 || {text}")?;
+    let found = parsed(rt.alloc(), &def, &longer)?;
+    assert_eq!(rt; found.as_str(), "TooMany");
+    Ok(())
+}

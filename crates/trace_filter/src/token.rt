@@ -1,0 +1,282 @@
+//! The tokens of a filter.
+
+ghost use Rattle.std.specs.Prelude.{◌≡◌, ◌≤◌, ◌<◌, [], ◌∷◌, length, drop, nat_lt, if◌then◌else◌, IfNone, IfSome};
+ghost use Rattle.std.specs.List.{prefix_len};
+ghost use Rattle.trace_format.specs.Names.{is_name as spec_is_name, is_name_byte as spec_name_byte};
+ghost use Rattle.trace_filter.specs.Tokens.{Name, Misfit, is_blank as spec_blank, is_quote as spec_quote, is_word_byte as spec_word_byte, is_not, begins_with as spec_begins_with, quoted_piece as spec_quoted_piece, word_piece as spec_word_piece, name_piece as spec_name_piece, longest as spec_longest, symbol_piece as spec_symbol_piece, piece_of, is_comparison as spec_comparison, spots_from};
+ghost use Rattle.trace_filter.specs.Seen.{token_of, IsPiece, IsNextToken};
+
+use trace_format::is_name;
+
+/// How a test compares a field's value with a written one.
+#[derive(Clone, Copy, Debug, PartialEq, Eq)]
+pub(crate) enum Comparison {
+    Equal,
+    NotEqual,
+    AtMost,
+    AtLeast,
+    Below,
+    Above,
+    /// `&`: the two patterns have a common bit.
+    CommonBit,
+    /// `~`: the text matches a glob.
+    Like,
+}
+
+/// A value as written.
+#[derive(Clone, Copy, Debug)]
+pub(crate) enum Literal<'a> {
+    Word(&'a [u8]),
+    /// The bytes between two quotes.
+    Quoted(&'a [u8]),
+}
+
+#[derive(Clone, Copy, Debug)]
+pub(crate) enum Token<'a> {
+    Open,
+    Close,
+    Bang,
+    Both,
+    Either,
+    Compare(Comparison),
+    Name(&'a [u8]),
+    Value(Literal<'a>),
+    /// What no filter has: a lone `=` or `|`, an open quote, a run of letters and digits that is no name.
+    Misfit,
+}
+
+impl Token<'_> {
+    /// Whether a value is due behind the token.
+    pub(crate) fn is_comparison(&self) -> bool
+        ensures { result ≡ spec_comparison (token_of self.now) }
+    {
+        matches!(self, Token::Compare(_))
+    }
+}
+
+/// A token with its place in the text.
+#[derive(Clone, Copy, Debug)]
+pub(crate) struct Spot<'a> {
+    /// The place of its first byte.
+    pub(crate) at: usize,
+    /// The place behind its last.
+    pub(crate) end: usize,
+    pub(crate) token: Token<'a>,
+}
+
+/// A token, and how many bytes behind its first it takes.
+#[derive(Clone, Copy, Debug)]
+pub(crate) struct Piece<'a> {
+    token: Token<'a>,
+    more: usize,
+}
+
+pub(crate) fn is_blank(byte: u8) -> bool
+    ensures { result ≡ spec_blank byte }
+{
+    byte == b' ' || byte == b'\t'
+}
+
+fn is_quote(byte: u8) -> bool
+    ensures { result ≡ spec_quote byte }
+{
+    byte == b'"' || byte == b'\''
+}
+
+fn is_word_byte(byte: u8) -> bool
+    ensures { result ≡ spec_word_byte byte }
+{
+    let is_parenthesis = byte == b'(' || byte == b')';
+    let is_joint = byte == b'&' || byte == b'|';
+    !(is_blank(byte) || ((is_parenthesis || is_joint) || is_quote(byte)))
+}
+
+fn is_name_byte(byte: u8) -> bool
+    ensures { result ≡ spec_name_byte byte }
+{
+    (byte.is_ascii_alphabetic() || byte == b'_') || byte.is_ascii_digit()
+}
+
+/// What stands from a place on.
+fn rest_of(text: &[u8], from: usize) -> &[u8]
+    requires { from ≤ length text.now }
+    ensures { result.now ≡ drop from text.now }
+{
+    &text[from..]
+}
+
+/// How many blanks a text begins with.
+pub(crate) fn blanks_len(text: &[u8]) -> usize
+    ensures value { result ≡ prefix_len spec_blank text.now }
+    ensures bound { result ≤ length text.now }
+{
+    text.iter().take_while(|byte| is_blank(**byte)).count()
+}
+
+/// How many bytes of a bare word a text begins with.
+fn word_len(text: &[u8]) -> usize
+    ensures value { result ≡ prefix_len spec_word_byte text.now }
+    ensures bound { result ≤ length text.now }
+{
+    text.iter().take_while(|byte| is_word_byte(**byte)).count()
+}
+
+/// How many letters, digits and `_` a text begins with.
+fn name_len(text: &[u8]) -> usize
+    ensures value { result ≡ prefix_len spec_name_byte text.now }
+    ensures bound { result ≤ length text.now }
+{
+    text.iter().take_while(|byte| is_name_byte(**byte)).count()
+}
+
+/// How many bytes stand before a quote.
+fn quoted_len(quote: u8, text: &[u8]) -> usize
+    ensures value { result ≡ prefix_len (is_not quote) text.now }
+    ensures bound { result ≤ length text.now }
+{
+    text.iter().take_while(|byte| **byte != quote).count()
+}
+
+/// Whether a text begins with a byte.
+fn begins_with(byte: u8, text: &[u8]) -> bool
+    ensures { result ≡ spec_begins_with byte text.now }
+{
+    match text {
+        [] => false,
+        [first, ..] => *first == byte,
+    }
+}
+
+fn quoted_piece(quote: u8, rest: &[u8]) -> Piece<'_>
+    ensures { IsPiece (spec_quoted_piece quote rest.now) result rest.now }
+{
+    let size = quoted_len(quote, rest);
+    if size < rest.len() {
+        Piece {
+            token: Token::Value(Literal::Quoted(&rest[..size])),
+            more: size + 1,
+        }
+    } else {
+        Piece {
+            token: Token::Misfit,
+            more: 0,
+        }
+    }
+}
+
+fn word_piece<'a>(bytes: &'a [u8], first: u8, rest: &'a [u8]) -> Piece<'a>
+    requires { bytes.now ≡ first ∷ rest.now }
+    ensures { IsPiece (spec_word_piece first rest.now) result rest.now }
+{
+    let more = word_len(rest);
+    Piece {
+        token: Token::Value(Literal::Word(&bytes[..1 + more])),
+        more,
+    }
+}
+
+fn name_piece<'a>(bytes: &'a [u8], first: u8, rest: &'a [u8]) -> Piece<'a>
+    requires { bytes.now ≡ first ∷ rest.now }
+    ensures { IsPiece (spec_name_piece first rest.now) result rest.now }
+{
+    let more = name_len(rest);
+    Piece {
+        token: name_token(&bytes[..1 + more]),
+        more,
+    }
+}
+
+/// A run of letters, digits and `_` as a token.
+fn name_token(run: &[u8]) -> Token<'_>
+    ensures { token_of result ≡ (if spec_is_name run.now then Name run.now else Misfit) }
+{
+    if is_name(run) {
+        Token::Name(run)
+    } else {
+        Token::Misfit
+    }
+}
+
+/// One of two tokens: the longer, where the byte follows.
+fn longest<'a>(byte: u8, rest: &[u8], long: Token<'a>, short: Token<'a>) -> Piece<'a>
+    ensures { IsPiece (spec_longest byte rest.now (token_of long.entry) (token_of short.entry)) result rest.now }
+{
+    if begins_with(byte, rest) {
+        Piece {
+            token: long,
+            more: 1,
+        }
+    } else {
+        Piece {
+            token: short,
+            more: 0,
+        }
+    }
+}
+
+fn symbol_piece(first: u8, rest: &[u8]) -> Piece<'static>
+    ensures { IsPiece (spec_symbol_piece first rest.now) result rest.now }
+{
+    let compare = Token::Compare;
+    let single = |token| Piece { token, more: 0 };
+    match first {
+        b'(' => single(Token::Open),
+        b')' => single(Token::Close),
+        b'!' => longest(b'=', rest, compare(Comparison::NotEqual), Token::Bang),
+        b'&' => longest(b'&', rest, Token::Both, compare(Comparison::CommonBit)),
+        b'<' => longest(
+            b'=',
+            rest,
+            compare(Comparison::AtMost),
+            compare(Comparison::Below),
+        ),
+        b'=' => longest(b'=', rest, compare(Comparison::Equal), Token::Misfit),
+        b'>' => longest(
+            b'=',
+            rest,
+            compare(Comparison::AtLeast),
+            compare(Comparison::Above),
+        ),
+        b'|' => longest(b'|', rest, Token::Either, Token::Misfit),
+        b'~' => single(compare(Comparison::Like)),
+        _ => single(Token::Misfit),
+    }
+}
+
+/// The token that begins with a byte.
+#[tactic(auto, unfolding(crate::specs::Tokens::piece_of))]
+fn first_piece<'a>(value_due: bool, bytes: &'a [u8], first: u8, rest: &'a [u8]) -> Piece<'a>
+    requires { bytes.now ≡ first ∷ rest.now }
+    ensures { IsPiece (piece_of value_due first rest.now) result rest.now }
+{
+    if value_due {
+        if is_quote(first) {
+            quoted_piece(first, rest)
+        } else if is_word_byte(first) {
+            word_piece(bytes, first, rest)
+        } else {
+            symbol_piece(first, rest)
+        }
+    } else if is_name_byte(first) {
+        name_piece(bytes, first, rest)
+    } else {
+        symbol_piece(first, rest)
+    }
+}
+
+/// The first token from a place on.
+pub(crate) fn next_token(text: &[u8], from: usize, value_due: bool) -> Option<Spot<'_>>
+    requires { from ≤ length text.now }
+    ensures none { IfNone result (spots_from value_due 0 from (drop from text.now) ≡ []) }
+    ensures some { IfSome result (IsNextToken text.now from value_due) }
+{
+    let at = from + blanks_len(rest_of(text, from));
+    let bytes = rest_of(text, at);
+    let (first, rest) = bytes.split_first()?;
+    let piece = first_piece(value_due, bytes, *first, rest);
+    Some(Spot {
+        at,
+        end: at + 1 + piece.more,
+        token: piece.token,
+    })
+}
