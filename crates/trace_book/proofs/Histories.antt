@@ -80,16 +80,18 @@ usable-from_stands g state past in_range stands few = record {
   early = omega (arith, stands.early);
   wide = omega (arith, stands.page_bytes, in_range.some_bytes);
   few_events = rw stands.events stands.few_events;
+  fit = rw (stands.events, stands.page_bytes) stands.fit;
   switches = rw (stands.enabled, stands.events) (length-map _ _);
 }
 
 -- a new book's state stands for no request
-pub stands-new : (g : Config) (state : State) → state.events.items ≡ [] → state.top.enabled ≡ [] → state.top.overwrite ≡ true → state.clock ≡ 0 → shown.StandsFor state.top.ring []
+pub stands-new : (g : Config) (state : State) → state.catalog ≡ [] → state.top.enabled ≡ [] → state.top.overwrite ≡ true → state.clock ≡ 0 → shown.StandsFor state.top.ring []
     → state.top.ring.pages ≡ g.pages → state.top.ring.page_bytes ≡ g.page_bytes → shown.offered state.top.ring ≡ 0 → StandsFor g state (past_of [])
 unfolding past_of
 stands-new g state events enabled overwrite clock ring pages page_bytes offered = record {
   events = events;
   few_events = omega arith;
+  fit = tt;
   enabled = enabled;
   unknown = λ name none. refl;
   overwrite = overwrite;

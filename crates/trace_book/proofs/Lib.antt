@@ -1,9 +1,9 @@
+pub mod Events
 pub mod Histories
 pub mod Parts
-pub mod Pieces
 pub mod Prepared
 pub mod Ready
-pub mod RowLemmas
+pub mod RecordBytes
 pub mod Steps
 pub mod Switching
 pub mod Taking

@@ -9,16 +9,17 @@ use Rattle.page_ring.specs.Events as ring
 use Rattle.trace_book.specs.Paths.{File, EventEnable}
 use Rattle.trace_book.specs.Refusals.{OrMemory}
 use Rattle.trace_book.specs.Requests.{Request, Emission, WriteFile, ReadFile}
-use Rattle.trace_book.specs.Rows.{row_of}
+use Rattle.trace_format.specs.Cells.{Cells}
+use Rattle.trace_format.specs.Definitions.{Definition}
+use Rattle.trace_format.specs.Rows.{row_of}
+use Rattle.trace_format.specs.declared.pair.Pair.{Pair}
 use Rattle.trace_book.specs.Rings.{record_bytes, record_of_event, emitted_record, consumed, put_of, clears}
-use Rattle.trace_book.specs.Settings.{NumberedEvent, event_named, event_named_from, declared_events, declares, switches, is_enabled, sets_overwrite, overwrites, written_flag, written_option, now_of}
+use Rattle.trace_book.specs.Settings.{NumberedEvent, event_named, event_named_in, declared_events, declares, switches, is_enabled, sets_overwrite, overwrites, written_flag, written_option, now_of}
 use Rattle.trace_book.specs.History.{emission_answer, switch_answer, option_answer, answer_with_room, flag_text, whole_text}
-use Rattle.trace_book.specs.States.{StandsFor, IsChangeOf, IsPrepared, IsReady, numbered, with_nothing, bytes_in, written_record, kept_count, puts_by, overwriting}
+use Rattle.trace_book.specs.States.{StandsFor, IsChangeOf, IsPrepared, IsReady, IsPlaceOf, numbered, with_nothing, bytes_in, written_record, kept_count, puts_by, overwriting}
 use Rattle.trace_book.specs.declared.command.Config.{Config}
-use Rattle.trace_book.specs.declared.command.Pair.{Pair}
 use Rattle.trace_book.specs.declared.command.Reply.{Reply}
 use Rattle.trace_book.specs.declared.command.Reply.TheVariants as reply
-use Rattle.trace_book.specs.declared.declaration.Declared.{Declared}
 use Rattle.trace_book.specs.declared.refusal.Refusal.{Refusal}
 use Rattle.trace_book.specs.declared.refusal.Refusal.TheVariants as refusal
 use Rattle.trace_book.specs.declared.state.State.{State}
@@ -47,26 +48,25 @@ prepared-nothing g past file limit state (Err refusal) none given = given
 
 -- an event that was found among those of the state is the one that the requests declared
 pub named-found : (g : Config) (state : State) (past : List Request) (name : List ℕ) (found : Found) → StandsFor g state past
-    → Some (numbered found) ≡ event_named_from 1 name state.events.items → event_named name past ≡ Some (numbered found)
+    → Some (numbered found) ≡ event_named_in state.catalog name → event_named name past ≡ Some (numbered found)
 named-found g state past name found stands named = rw (← stands.events) (sym named)
 
 -- an element of a mapped list of switches
-map_at : (f : Declared → Bool) (events : List Declared) (i : ℕ) (event : Declared) → i < length events → get_or (map f events) i false ≡ f (get_or events i event)
+map_at : (f : Definition → Bool) (events : List Definition) (i : ℕ) (event : Definition) → i < length events → get_or (map f events) i false ≡ f (get_or events i event)
 map_at f [] i event within = absurd (omega arith)
 map_at f (e ∷ events) zero event within = refl
 map_at f (e ∷ events) (suc i) event within = map_at f events i event (omega arith)
 
 -- its switch is the one that the requests set
 pub enabled-found : (g : Config) (state : State) (past : List Request) (name : List ℕ) (found : Found) → StandsFor g state past
-    → found.index < length state.events.items → found.event.now ≡ get_or state.events.items found.index found.event.now
-    → bytes_eq found.event.now.name name ≡ true → get_or state.top.enabled found.index false ≡ is_enabled name past
-enabled-found g state past name found stands within at same =
+    → IsPlaceOf state.catalog name found.index found.event.now → get_or state.top.enabled found.index false ≡ is_enabled name past
+enabled-found g state past name found stands place =
     let event = found.event.now in
-    let inside : found.index < length (declared_events past) = rw (← stands.events) within in
-    let there : get_or (declared_events past) found.index event ≡ event = rw (← stands.events) (sym at) in
-    let named : event.name ≡ name = (bytes_eq-Decides event.name name).0 same in
-    rw stands.enabled (map_at (λ (e : Declared). is_enabled e.name past) (declared_events past) found.index event inside
-    ∙ ap (λ (e : Declared). is_enabled e.name past) there ∙ ap (λ (n : List ℕ). is_enabled n past) named)
+    let inside : found.index < length (declared_events past) = rw (← stands.events) place.inside in
+    let there : get_or (declared_events past) found.index event ≡ event = rw (← stands.events) (sym place.there) in
+    let named : event.name ≡ name = sym ((bytes_eq-Decides name event.name).0 place.named) in
+    rw stands.enabled (map_at (λ (e : Definition). is_enabled e.name past) (declared_events past) found.index event inside
+    ∙ ap (λ (e : Definition). is_enabled e.name past) there ∙ ap (λ (n : List ℕ). is_enabled n past) named)
 
 -- the text of an event's switch
 pub reads-enable : (g : Config) (past : List Request) (name : List ℕ) (limit : Option ℕ) (k : NumberedEvent) (flag : Bool) (text : List ℕ)
@@ -77,27 +77,27 @@ reads-enable g past name None k flag text there whole set is =
     rw there (ap (λ (t : List ℕ). Ok (reply.Text t)) (sym (is ∙ ap flag_text set)))
 
 -- what an emission on the one CPU brings to its ring
-pub puts-emission : (g : Config) (state : State) (past : List Request) (name : List ℕ) (cpu : ℕ) (pid : ℤ) (pairs : List Pair) (found : Found) (value : ℕ)
+pub puts-emission : (g : Config) (state : State) (past : List Request) (name : List ℕ) (cpu : ℕ) (pid : ℤ) (pairs : List Pair) (found : Found) (row : Cells)
     (written : Option (Vec ℕ Global)) (flag : Bool) → StandsFor g state past → cpu ≡ 0 → event_named name past ≡ Some (numbered found)
-    → row_of found.event.now.field pairs ≡ Ok value → flag ≡ is_enabled name past → get_or state.top.enabled found.index false ≡ flag
-    → bytes_in written ≡ written_record state found.index pid value
+    → row_of found.event.now pairs ≡ Ok row → flag ≡ is_enabled name past → get_or state.top.enabled found.index false ≡ flag
+    → bytes_in written ≡ written_record state found.index pid row
     → put_of 0 past (Emission name cpu pid pairs) ≡ puts_by (overwrites past) (Emit written)
-puts-emission g state past name cpu pid pairs found value None true stands first_cpu there row set at bytes =
+puts-emission g state past name cpu pid pairs found row None true stands first_cpu there built set at bytes =
     absurd (let h = rw at at bytes in cc)
-puts-emission g state past name cpu pid pairs found value None false stands first_cpu there row set at bytes = rw (first_cpu, ← set) refl
-puts-emission g state past name cpu pid pairs found value (Some v) true stands first_cpu there row set at bytes =
-    let is : Some v.items ≡ Some (record_bytes (state.clock + 1) pid (found.index + 1) value) = rw at at bytes in
+puts-emission g state past name cpu pid pairs found row None false stands first_cpu there built set at bytes = rw (first_cpu, ← set) refl
+puts-emission g state past name cpu pid pairs found row (Some v) true stands first_cpu there built set at bytes =
+    let is : Some v.items ≡ Some (record_bytes (state.clock + 1) pid (found.index + 1) row) = rw at at bytes in
     let clock = stands.clock in
-    let same : v.items ≡ record_bytes (now_of past + 1) pid (found.index + 1) value = cc in
-    rw (first_cpu, ← set, there, row, same) refl
-puts-emission g state past name cpu pid pairs found value (Some v) false stands first_cpu there row set at bytes =
+    let same : v.items ≡ record_bytes (now_of past + 1) pid (found.index + 1) row = cc in
+    rw (first_cpu, ← set, there, built, same) refl
+puts-emission g state past name cpu pid pairs found row (Some v) false stands first_cpu there built set at bytes =
     absurd (let h = rw at at bytes in cc)
 
 -- an emission is done where its CPU and its event are there and its row is right
-pub answers-emission : (g : Config) (past : List Request) (name : List ℕ) (cpu : ℕ) (pairs : List Pair) (k : NumberedEvent) (value : ℕ) → cpu < g.cpus
-    → event_named name past ≡ Some k → row_of k.event.field pairs ≡ Ok value → emission_answer g past name cpu pairs ≡ Ok reply.Done
+pub answers-emission : (g : Config) (past : List Request) (name : List ℕ) (cpu : ℕ) (pairs : List Pair) (k : NumberedEvent) (row : Cells) → cpu < g.cpus
+    → event_named name past ≡ Some k → row_of k.event pairs ≡ Ok row → emission_answer g past name cpu pairs ≡ Ok reply.Done
 unfolding emission_answer
-answers-emission g past name cpu pairs k value inside there row = rw (lt-ltb cpu g.cpus inside, there, row) refl
+answers-emission g past name cpu pairs k row inside there built = rw (lt-ltb cpu g.cpus inside, there, built) refl
 
 -- an emission ticks the clock, and brings to the ring what was written ahead
 pub changes-emission : (g : Config) (past : List Request) (name : List ℕ) (cpu : ℕ) (pid : ℤ) (pairs : List Pair) (written : Option (Vec ℕ Global))

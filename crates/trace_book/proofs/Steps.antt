@@ -2,18 +2,20 @@
 use Rattle.std.proofs.Common.{◌≡◌, ℕ, ◌+◌, ◌<◌, ◌≤◌, Bool, true, false, cond, List, [], ◌∷◌, ◌++◌, length, map, IsSome, is_some, Option, Some, None, unwrap_or, refl, sym, ap, ◌∙◌, subst, arith, rules, add-one, append-nil, length-append}
 use Rattle.std.proofs.lemmas.Bool.{false≢true}
 use Rattle.std.proofs.lemmas.List.{map-append}
+use Rattle.std.specs.List.{AllByRecursion}
 use Rattle.std.specs.Option.{option_to_list}
 use Rattle.std.specs.Str.{bytes_eq}
 use Rattle.std.proofs.lemmas.Slice.Eq.{bytes_eq-Decides}
 use Rattle.page_ring.specs.Events as ring
 use Rattle.page_ring.specs.Shown as shown
 use Rattle.trace_book.specs.Requests.{Request}
-use Rattle.trace_book.specs.Settings.{NumberedEvent, event_named, event_named_from, declares, declared_events, switches, is_enabled, sets_overwrite, overwrites, ticks, now_of}
+use Rattle.trace_book.specs.Settings.{NumberedEvent, event_named, declares, declared_events, switches, is_enabled, sets_overwrite, overwrites, ticks, now_of}
 use Rattle.trace_book.specs.Switches.{switched_all}
 use Rattle.trace_book.specs.Rings.{consumed, put_of, clears, ring_events}
-use Rattle.trace_book.specs.States.{StandsFor, IsChangeOf, IsStep, declared_by, switched_by, addressed_by, ticks_by, clears_by, puts_by, takes_by, ring_after, flags_after}
+use Rattle.trace_book.specs.States.{StandsFor, IsFit, IsChangeOf, IsStep, declared_by, switched_by, addressed_by, ticks_by, clears_by, puts_by, takes_by, ring_after, flags_after}
 use Rattle.trace_book.specs.declared.command.Config.{Config}
-use Rattle.trace_book.specs.declared.declaration.Declared.{Declared}
+use Rattle.trace_format.specs.Definitions.{Definition}
+use Rattle.trace_book.proofs.Events.{named_in-fewer, fit-push}
 use Rattle.trace_book.specs.declared.state.State.{State}
 use Rattle.trace_book.specs.declared.state.Change.{Change}
 use Rattle.trace_book.specs.declared.state.Change.TheVariants.{Nothing, Declare, Switch, SetOverwrite, Clear, Take, Emit}
@@ -23,21 +25,8 @@ map-same : {A B : Type 0} (f h : A → B) → ((x : A) → f x ≡ h x) → (xs 
 map-same f h agree [] = refl
 map-same f h agree (x ∷ xs) = let e = agree x in let es = map-same f h agree xs in cc
 
--- an event that is not among more events is not among fewer
-event_named_from-fewer : (id : ℕ) (name : List ℕ) (events more : List Declared) → event_named_from id name (events ++ more) ≡ None
-    → event_named_from id name events ≡ None
-event_named_from-fewer id name [] more none = refl
-event_named_from-fewer id name (event ∷ events) more none =
-    by_name (bytes_eq event.name name) refl (event_named_from-fewer (id + 1) name events more) none
-  where
-    by_name : (same : Bool) → bytes_eq event.name name ≡ same
-        → (event_named_from (id + 1) name (events ++ more) ≡ None → event_named_from (id + 1) name events ≡ None)
-        → event_named_from id name ((event ∷ events) ++ more) ≡ None → event_named_from id name (event ∷ events) ≡ None
-    by_name true is fewer found = absurd (let h = rw is at found in cc)
-    by_name false is fewer found = rw is (fewer (rw is at found))
-
 -- what the switches are after one of them was written, event by event
-switched_all-map : (name : List ℕ) (flag : Bool) (old : Declared → Bool) (events : List Declared)
+switched_all-map : (name : List ℕ) (flag : Bool) (old : Definition → Bool) (events : List Definition)
     → switched_all name flag events (map old events) ≡ map (λ event. unwrap_or (cond (bytes_eq event.name name) (Some flag) None) (old event)) events
 switched_all-map name flag old [] = refl
 switched_all-map name flag old (event ∷ events) =
@@ -56,7 +45,7 @@ ticks_by-le (Emit written) = omega arith
 
 -- a name that is not among the events after a request was not among them before
 event_named-before : (name : List ℕ) (past : List Request) (request : Request) → event_named name (request ∷ past) ≡ None → event_named name past ≡ None
-event_named-before name past request none = event_named_from-fewer 1 name (declared_events past) (option_to_list (declares request)) none
+event_named-before name past request none = named_in-fewer name (declared_events past) (option_to_list (declares request)) none
 
 -- one switch, after a request of which the change says how it sets it
 is_enabled-after : (name : List ℕ) (past : List Request) (request : Request) (set : Option Bool) → switches name request ≡ set
@@ -65,31 +54,31 @@ is_enabled-after name past request set is = ap (λ (o : Option Bool). unwrap_or 
 
 -- the switches after a request that sets none and declares nothing
 flags-same : (past : List Request) (request : Request) → declares request ≡ None → ((event : List ℕ) → switches event request ≡ None)
-    → map (λ (event : Declared). is_enabled event.name (request ∷ past)) (declared_events (request ∷ past))
-    ≡ map (λ (event : Declared). is_enabled event.name past) (declared_events past)
+    → map (λ (event : Definition). is_enabled event.name (request ∷ past)) (declared_events (request ∷ past))
+    ≡ map (λ (event : Definition). is_enabled event.name past) (declared_events past)
 flags-same past request nothing none =
-    rw (nothing, append-nil) (map-same (λ (event : Declared). is_enabled event.name (request ∷ past)) (λ (event : Declared). is_enabled event.name past)
-    (λ (event : Declared). is_enabled-after event.name past request None (none event.name)) (declared_events past))
+    rw (nothing, append-nil) (map-same (λ (event : Definition). is_enabled event.name (request ∷ past)) (λ (event : Definition). is_enabled event.name past)
+    (λ (event : Definition). is_enabled-after event.name past request None (none event.name)) (declared_events past))
 
 -- the switches of the declared events, after a change
 flags_after-map : (g : Config) (past : List Request) (request : Request) (change : Change) → IsChangeOf g past request change
     → ((name : List ℕ) → event_named name past ≡ None → is_enabled name past ≡ false)
-    → map (λ (event : Declared). is_enabled event.name (request ∷ past)) (declared_events (request ∷ past))
-    ≡ flags_after change (declared_events past) (map (λ (event : Declared). is_enabled event.name past) (declared_events past))
+    → map (λ (event : Definition). is_enabled event.name (request ∷ past)) (declared_events (request ∷ past))
+    ≡ flags_after change (declared_events past) (map (λ (event : Definition). is_enabled event.name past) (declared_events past))
 flags_after-map g past request Nothing is unknown = flags-same past request is.declares is.switches
 flags_after-map g past request (Declare event) is unknown =
-    let old_same : map (λ (e : Declared). is_enabled e.name (request ∷ past)) (declared_events past) ≡ map (λ (e : Declared). is_enabled e.name past) (declared_events past) =
-    map-same (λ (e : Declared). is_enabled e.name (request ∷ past)) (λ (e : Declared). is_enabled e.name past)
-    (λ (e : Declared). is_enabled-after e.name past request None (is.switches e.name)) (declared_events past) in
+    let old_same : map (λ (e : Definition). is_enabled e.name (request ∷ past)) (declared_events past) ≡ map (λ (e : Definition). is_enabled e.name past) (declared_events past) =
+    map-same (λ (e : Definition). is_enabled e.name (request ∷ past)) (λ (e : Definition). is_enabled e.name past)
+    (λ (e : Definition). is_enabled-after e.name past request None (is.switches e.name)) (declared_events past) in
     let new_off : is_enabled event.name (request ∷ past) ≡ false =
     is_enabled-after event.name past request None (is.switches event.name) ∙ unknown event.name (is.fresh event refl).0 in
     rw (is.declares, map-append) (ap (λ (flags : List Bool). flags ++ is_enabled event.name (request ∷ past) ∷ []) old_same
-    ∙ ap (λ (flag : Bool). map (λ (e : Declared). is_enabled e.name past) (declared_events past) ++ flag ∷ []) new_off)
+    ∙ ap (λ (flag : Bool). map (λ (e : Definition). is_enabled e.name past) (declared_events past) ++ flag ∷ []) new_off)
 flags_after-map g past request (Switch name flag) is unknown =
-    rw (is.declares, append-nil) (map-same (λ (e : Declared). is_enabled e.name (request ∷ past))
-    (λ (e : Declared). unwrap_or (cond (bytes_eq e.name name) (Some flag) None) (is_enabled e.name past))
-    (λ (e : Declared). is_enabled-after e.name past request _ (is.switches e.name)) (declared_events past)
-    ∙ sym (switched_all-map name flag (λ (e : Declared). is_enabled e.name past) (declared_events past)))
+    rw (is.declares, append-nil) (map-same (λ (e : Definition). is_enabled e.name (request ∷ past))
+    (λ (e : Definition). unwrap_or (cond (bytes_eq e.name name) (Some flag) None) (is_enabled e.name past))
+    (λ (e : Definition). is_enabled-after e.name past request _ (is.switches e.name)) (declared_events past)
+    ∙ sym (switched_all-map name flag (λ (e : Definition). is_enabled e.name past) (declared_events past)))
 flags_after-map g past request (SetOverwrite flag) is unknown = flags-same past request is.declares is.switches
 flags_after-map g past request Clear is unknown = flags-same past request is.declares is.switches
 flags_after-map g past request (Take count) is unknown = flags-same past request is.declares is.switches
@@ -123,19 +112,27 @@ unknown-after g past request change is unknown name none =
     is_enabled-after name past request None (is.switches name ∙ not_switched past change name is.addressed before) ∙ unknown name before
 
 -- the events stay few
-few-after : (past : List Request) (request : Request) (declared : Option Declared) → declares request ≡ declared
-    → ((event : Declared) → declared ≡ Some event → length (declared_events past) < 64) → length (declared_events past) ≤ 64
+few-after : (past : List Request) (request : Request) (declared : Option Definition) → declares request ≡ declared
+    → ((event : Definition) → declared ≡ Some event → length (declared_events past) < 64) → length (declared_events past) ≤ 64
     → length (declared_events (request ∷ past)) ≤ 64
 few-after past request None is fresh few = rw (is, append-nil) few
 few-after past request (Some event) is fresh few =
     let room = fresh event refl in
     rw (is, length-append) (omega arith)
 
+-- and each stays fit
+fit-after : (g : Config) (past : List Request) (request : Request) (declared : Option Definition) → declares request ≡ declared
+    → ((event : Definition) → declared ≡ Some event → IsFit g.page_bytes event) → AllByRecursion (IsFit g.page_bytes) (declared_events past)
+    → AllByRecursion (IsFit g.page_bytes) (declared_events (request ∷ past))
+fit-after g past request None is fresh fit = rw (is, append-nil) fit
+fit-after g past request (Some event) is fresh fit = rw is (fit-push g.page_bytes (declared_events past) event fit (fresh event refl))
+
 pub stands_after : (g : Config) (old new : State) (past : List Request) (request : Request) (change : Change)
     → StandsFor g old past → IsChangeOf g past request change → IsStep old new change → StandsFor g new (request ∷ past)
 stands_after g old new past request change stands is step = record {
   events = step.events ∙ (rw (stands.events, is.declares) refl);
   few_events = few-after past request (declared_by change) is.declares (λ event e. (is.fresh event e).1) stands.few_events;
+  fit = fit-after g past request (declared_by change) is.declares (λ event e. (is.fresh event e).2) stands.fit;
   enabled = step.enabled ∙ (rw (stands.events, stands.enabled) (sym (flags_after-map g past request change is stands.unknown)));
   unknown = unknown-after g past request change is stands.unknown;
   clock = step.clock ∙ (rw (stands.clock, is.ticks) refl);

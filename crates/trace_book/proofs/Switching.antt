@@ -4,16 +4,16 @@ use Rattle.std.proofs.Math.Seq.{drop-cons}
 use Rattle.std.proofs.lemmas.List.{take_more_set, drop-set-lt}
 use Rattle.std.specs.Str.{bytes_eq}
 use Rattle.trace_book.specs.Switches.{switched_all}
-use Rattle.trace_book.specs.declared.declaration.Declared.{Declared}
+use Rattle.trace_format.specs.Definitions.{Definition}
 
-pub switch_step : (name : List ℕ) (flag : Bool) (events : List Declared) (enabled all : List Bool) (i : ℕ) (event : Declared) (new : Bool)
+pub switch_step : (name : List ℕ) (flag : Bool) (events : List Definition) (enabled all : List Bool) (i : ℕ) (event : Definition) (new : Bool)
     → i < length events → length events ≡ length enabled → event ≡ get_or events i event
     → new ≡ cond (bytes_eq event.name name) flag (get_or enabled i false)
     → take i enabled ++ switched_all name flag (drop i events) (drop i enabled) ≡ all
     → take (i + 1) (set enabled i new) ++ switched_all name flag (drop (i + 1) events) (drop (i + 1) (set enabled i new)) ≡ all
 switch_step name flag events enabled all i event new within same is gives so_far =
     let inside : i < length enabled = omega arith in
-    let event_first : drop i events ≡ event ∷ drop (i + 1) events = rw add-one (drop-cons events i event within ∙ ap (λ (e : Declared). e ∷ drop (suc i) events) (sym is)) in
+    let event_first : drop i events ≡ event ∷ drop (i + 1) events = rw add-one (drop-cons events i event within ∙ ap (λ (e : Definition). e ∷ drop (suc i) events) (sym is)) in
     let switch_first : drop i enabled ≡ get_or enabled i false ∷ drop (i + 1) enabled = rw add-one (drop-cons enabled i false inside) in
     let before = rw (event_first, switch_first, ← gives) at so_far in
     let behind : drop (i + 1) (set enabled i new) ≡ drop (i + 1) enabled = drop-set-lt (i + 1) enabled i new (omega arith) in

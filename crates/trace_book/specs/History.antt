@@ -1,33 +1,37 @@
 -- The answer that the requests done so far give a request, and which histories are legal. The newest request stands first.
-use Rattle.std.specs.Prelude.{◌≡◌, ℕ, ◌<◌, nat_lt, Bool, true, false, not, ◌&&◌, is_some, IsOk, if◌then◌else◌, List, [], ◌∷◌, length, map, reverse, All, Option, Some, None, Result, Ok, Err, codes, ⊤}
+use Rattle.std.specs.Prelude.{◌≡◌, ℕ, ◌<◌, nat_lt, Bool, true, false, not, ◌&&◌, is_some, IsOk, if◌then◌else◌, List, [], ◌∷◌, length, map, flat_map, reverse, All, Option, Some, None, Result, Ok, Err, codes, ⊤}
 use Rattle.page_ring.specs.Account.{stats_of}
-use Rattle.trace_book.specs.Paths.{File, Trace, CpuTrace, TracePipe, CpuTracePipe, CpuStats, Overwrite, TraceOptions, SyntheticEvents, EventEnable}
-use Rattle.trace_book.specs.Declarations.{declaration_of}
-use Rattle.trace_book.specs.declared.declaration.Declared.{Declared}
-use Rattle.trace_book.specs.Rows.{row_of}
-use Rattle.trace_book.specs.StatsText.{stats_text}
-use Rattle.trace_book.specs.TraceText.{trace_text, pipe_text}
+use Rattle.trace_book.specs.Paths.{File, Trace, CpuTrace, TracePipe, CpuTracePipe, CpuStats, Overwrite, TraceOptions, SyntheticEvents, EventEnable, EventFormat}
+use Rattle.trace_format.specs.Catalogs.{id_for}
+use Rattle.trace_format.specs.Cells.{Cells}
+use Rattle.trace_format.specs.Definitions.{Definition}
+use Rattle.trace_format.specs.Reading.{definition_of}
+use Rattle.trace_format.specs.Rows.{row_of}
+use Rattle.trace_format.specs.declared.fault.CatalogFault.{CatalogFault}
+use Rattle.trace_format.specs.declared.pair.Pair.{Pair}
+use Rattle.trace_text.specs.Texts.{stats_text, format_text, declaration_text}
+use Rattle.trace_book.specs.TraceFiles.{trace_text, pipe_text}
 use Rattle.trace_book.specs.Requests.{Request, Emission, MakeInstance, RemoveInstance, WriteFile, ReadFile, request_of}
 use Rattle.trace_book.specs.Settings.{NumberedEvent, event_named, declared_events, written_flag, written_option, is_enabled, overwrites, now_of}
+use Rattle.trace_book.specs.Refusals.{refusal_of_catalog}
 use Rattle.trace_book.specs.Rings.{ring_events}
-use Rattle.trace_book.specs.declared.command.Pair.{Pair}
 use Rattle.trace_book.specs.declared.command.Config.{Config}
 use Rattle.trace_book.specs.declared.command.Entry.{Entry}
 use Rattle.trace_book.specs.declared.command.Reply.{Reply}
 use Rattle.trace_book.specs.declared.command.Reply.TheVariants.{Done, Text}
 use Rattle.trace_book.specs.declared.refusal.Refusal.{Refusal}
-use Rattle.trace_book.specs.declared.refusal.Refusal.TheVariants.{NoSuchFile, NotReadable, NotWritable, BadValue, NoSuchEvent, EventExists, TooMany, Busy, NoSuchCpu, HistoryFull}
+use Rattle.trace_book.specs.declared.refusal.Refusal.TheVariants.{NoSuchFile, NotWritable, BadValue, NoSuchEvent, BadDefinition, Busy, NoSuchCpu, BadRow, HistoryFull}
 
 -- ---- emissions
 
 -- the row is read last
-abbrev pub row_answer : Result ℕ Refusal → Result Reply Refusal
-row_answer (Ok value) = Ok Done
-row_answer (Err refusal) = Err refusal
+abbrev pub row_answer : Result Cells (List ℕ) → Result Reply Refusal
+row_answer (Ok row) = Ok Done
+row_answer (Err name) = Err (BadRow name)
 
 abbrev pub event_answer : Option NumberedEvent → List Pair → Result Reply Refusal
 event_answer None pairs = Err NoSuchEvent
-event_answer (Some k) pairs = row_answer (row_of k.event.field pairs)
+event_answer (Some k) pairs = row_answer (row_of k.event pairs)
 
 -- an emission: first its CPU, then its event, then its row
 unfoldable pub emission_answer : Config → List Request → List ℕ → ℕ → List Pair → Result Reply Refusal
@@ -35,23 +39,22 @@ emission_answer g past name cpu pairs = if nat_lt cpu g.cpus then event_answer (
 
 -- ---- what a write to each file answers
 
--- how many events there may be, for now
-abbrev pub event_limit : ℕ
-event_limit = 1
+-- a definition that was read: first whether it may begin anew, then its name, its fields and the number of events, and its record's size
+abbrev pub added_answer : Result ℕ CatalogFault → Result Reply Refusal
+added_answer (Ok id) = Ok Done
+added_answer (Err fault) = Err (refusal_of_catalog fault)
 
--- a declaration: first its text, then whether it may begin anew, then its name, then the number of events
-abbrev pub new_event_answer : List Request → Bool → Declared → Result Reply Refusal
-new_event_answer past append event =
-    if not append && nat_lt 0 (length (declared_events past)) then Err Busy
-    else (if is_some (event_named event.name past) then Err EventExists
-    else (if nat_lt (length (declared_events past)) event_limit then Ok Done else Err TooMany))
+abbrev pub new_event_answer : Config → List Request → Bool → Definition → Result Reply Refusal
+new_event_answer g past append definition =
+    if not append && nat_lt 0 (length (declared_events past)) then Err Busy else added_answer (id_for (declared_events past) definition g.page_bytes)
 
-abbrev pub read_declaration_answer : List Request → Bool → Result Declared Refusal → Result Reply Refusal
-read_declaration_answer past append (Ok event) = new_event_answer past append event
-read_declaration_answer past append (Err refusal) = Err refusal
+-- a declaration: first its text, which is refused at the place where it is wrong
+abbrev pub read_declaration_answer : Config → List Request → Bool → Result Definition ℕ → Result Reply Refusal
+read_declaration_answer g past append (Ok definition) = new_event_answer g past append definition
+read_declaration_answer g past append (Err at) = Err (BadDefinition at)
 
-unfoldable pub declaration_answer : List Request → Bool → List ℕ → Result Reply Refusal
-declaration_answer past append text = read_declaration_answer past append (declaration_of text)
+unfoldable pub declaration_answer : Config → List Request → Bool → List ℕ → Result Reply Refusal
+declaration_answer g past append text = read_declaration_answer g past append (definition_of text)
 
 -- a switch: 0 or 1
 unfoldable pub switch_answer : List ℕ → Result Reply Refusal
@@ -61,17 +64,18 @@ switch_answer text = if is_some (written_flag text) then Ok Done else Err BadVal
 unfoldable pub option_answer : List ℕ → Result Reply Refusal
 option_answer text = if is_some (written_option text) then Ok Done else Err BadValue
 
--- a write to a file: to a trace any text, to a pipe and to statistics none
-abbrev pub write_answer : List Request → Bool → List ℕ → File → Result Reply Refusal
-write_answer past append text Trace = Ok Done
-write_answer past append text (CpuTrace cpu) = Ok Done
-write_answer past append text TracePipe = Err NotWritable
-write_answer past append text (CpuTracePipe cpu) = Err NotWritable
-write_answer past append text (CpuStats cpu) = Err NotWritable
-write_answer past append text Overwrite = switch_answer text
-write_answer past append text TraceOptions = option_answer text
-write_answer past append text SyntheticEvents = declaration_answer past append text
-write_answer past append text (EventEnable event) = switch_answer text
+-- a write to a file: to a trace any text, to a pipe, to statistics and to a format none
+abbrev pub write_answer : Config → List Request → Bool → List ℕ → File → Result Reply Refusal
+write_answer g past append text Trace = Ok Done
+write_answer g past append text (CpuTrace cpu) = Ok Done
+write_answer g past append text TracePipe = Err NotWritable
+write_answer g past append text (CpuTracePipe cpu) = Err NotWritable
+write_answer g past append text (CpuStats cpu) = Err NotWritable
+write_answer g past append text Overwrite = switch_answer text
+write_answer g past append text TraceOptions = option_answer text
+write_answer g past append text SyntheticEvents = declaration_answer g past append text
+write_answer g past append text (EventEnable event) = switch_answer text
+write_answer g past append text (EventFormat event) = Err NotWritable
 
 -- ---- what each file shows
 
@@ -92,7 +96,16 @@ cpu_stats_text g past cpu = stats_text (stats_of g.pages g.page_bytes (ring_even
 unfoldable pub option_text : Bool → List ℕ
 option_text flag = if flag then codes "overwrite\n" else codes "nooverwrite\n"
 
--- a read of a file: all CPUs are shown as the one that there is for now, and the declarations can't be read for now
+-- the declarations, one on each line
+unfoldable pub declarations_text : List Request → List ℕ
+declarations_text past = flat_map declaration_text (declared_events past)
+
+-- the format of an event; its name is one that was declared
+abbrev pub format_of_event : Option NumberedEvent → List ℕ
+format_of_event None = []
+format_of_event (Some k) = format_text k.id k.event
+
+-- a read of a file: all CPUs are shown as the one that there is for now
 abbrev pub read_answer : Config → List Request → Option ℕ → File → Result Reply Refusal
 read_answer g past limit Trace = whole_text limit (trace_text g past 0)
 read_answer g past limit (CpuTrace cpu) = whole_text limit (trace_text g past cpu)
@@ -101,8 +114,9 @@ read_answer g past limit (CpuTracePipe cpu) = Ok (Text (pipe_text g past cpu lim
 read_answer g past limit (CpuStats cpu) = whole_text limit (cpu_stats_text g past cpu)
 read_answer g past limit Overwrite = whole_text limit (flag_text (overwrites past))
 read_answer g past limit TraceOptions = whole_text limit (option_text (overwrites past))
-read_answer g past limit SyntheticEvents = Err NotReadable
+read_answer g past limit SyntheticEvents = whole_text limit (declarations_text past)
 read_answer g past limit (EventEnable event) = whole_text limit (flag_text (is_enabled event past))
+read_answer g past limit (EventFormat event) = whole_text limit (format_of_event (event_named event past))
 
 -- ---- the answer
 
@@ -110,12 +124,17 @@ read_answer g past limit (EventEnable event) = whole_text limit (flag_text (is_e
 abbrev pub missing_cpu : Config → ℕ → Option Refusal
 missing_cpu g cpu = if nat_lt cpu g.cpus then None else Some NoSuchCpu
 
+-- the event of a path that is not there
+abbrev pub missing_event : List Request → List ℕ → Option Refusal
+missing_event past event = if is_some (event_named event past) then None else Some NoSuchEvent
+
 -- the CPU or the event of a path that is not there
 abbrev pub missing : Config → List Request → File → Option Refusal
 missing g past (CpuTrace cpu) = missing_cpu g cpu
 missing g past (CpuTracePipe cpu) = missing_cpu g cpu
 missing g past (CpuStats cpu) = missing_cpu g cpu
-missing g past (EventEnable event) = if is_some (event_named event past) then None else Some NoSuchEvent
+missing g past (EventEnable event) = missing_event past event
+missing g past (EventFormat event) = missing_event past event
 missing g past _ = None
 
 -- a refusal, or else the answer
@@ -129,7 +148,7 @@ answer_with_room g past (Emission name cpu pid pairs) = emission_answer g past n
 answer_with_room g past (MakeInstance path) = Err NoSuchFile
 answer_with_room g past (RemoveInstance path) = Err NoSuchFile
 answer_with_room g past (WriteFile None append text) = Err NoSuchFile
-answer_with_room g past (WriteFile (Some file) append text) = unless_refused (missing g past file) (write_answer past append text file)
+answer_with_room g past (WriteFile (Some file) append text) = unless_refused (missing g past file) (write_answer g past append text file)
 answer_with_room g past (ReadFile None limit) = Err NoSuchFile
 answer_with_room g past (ReadFile (Some file) limit) = unless_refused (missing g past file) (read_answer g past limit file)
 

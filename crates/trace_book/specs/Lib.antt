@@ -3,15 +3,11 @@ pub mod Decimals
 pub mod Refusals
 pub mod Paths
 pub mod Places
-pub mod Declarations
-pub mod Scans
-pub mod Rows
-pub mod StatsText
 pub mod Configs
 pub mod Requests
 pub mod Settings
 pub mod Rings
-pub mod TraceText
+pub mod TraceFiles
 pub mod History
 pub mod Instances
 pub mod States

@@ -1,22 +1,10 @@
 -- The files of the tracing tree, and which file a path names.
-use Rattle.std.specs.Prelude.{ℕ, ◌+◌, ◌-◌, Bool, true, false, ◌&&◌, ◌||◌, not, nat_le, ◌==◌, if◌then◌else◌, List, [], ◌∷◌, length, Option, Some, None, take, drop, codes}
+use Rattle.std.specs.Prelude.{ℕ, Bool, ◌&&◌, not, ◌==◌, if◌then◌else◌, List, [], ◌∷◌, Option, Some, None, take, drop, codes}
 use Rattle.std.specs.Option.{option_and_then}
-use Rattle.std.specs.List.{list_all, slice_split}
+use Rattle.std.specs.List.{slice_split}
 use Rattle.std.specs.Str.{bytes_eq}
-use Rattle.trace_book.specs.Decimals.{is_digit, decimal_number, has_leading_zero}
-
--- a letter or an underscore
-abbrev pub is_name_start : ℕ → Bool
-is_name_start b = (nat_le 65 b && nat_le b 90) || ((nat_le 97 b && nat_le b 122) || b == 95)
-
--- a letter, a digit or an underscore
-abbrev pub is_name_byte : ℕ → Bool
-is_name_byte b = is_name_start b || is_digit b
-
--- a name: 1 to 32 letters, digits or underscores, the first of them no digit
-abbrev pub is_name : List ℕ → Bool
-is_name [] = false
-is_name (b ∷ bs) = is_name_start b && (list_all is_name_byte bs && nat_le (length bs) 31)
+use Rattle.trace_format.specs.Names.{is_name}
+use Rattle.trace_book.specs.Decimals.{decimal_number, has_leading_zero}
 
 -- what stands between the slashes of a path
 abbrev pub parts : List ℕ → List (List ℕ)
@@ -33,6 +21,7 @@ pub data File : Type 0 where
   TraceOptions : File
   SyntheticEvents : File
   EventEnable : List ℕ → File
+  EventFormat : List ℕ → File
 
 -- the number in `cpuN`: decimal, without leading zeros
 abbrev pub cpu_number : List ℕ → Option ℕ
@@ -60,7 +49,9 @@ cpu_file cpu name =
 
 -- a file of an event
 unfoldable pub event_file : List ℕ → List ℕ → Option File
-event_file event name = if bytes_eq name (codes "enable") then Some (EventEnable event) else None
+event_file event name =
+    if bytes_eq name (codes "enable") then Some (EventEnable event)
+    else (if bytes_eq name (codes "format") then Some (EventFormat event) else None)
 
 -- the file that the parts of a path name
 abbrev pub file_in : List (List ℕ) → Option File

@@ -1,5 +1,11 @@
 -- The refusals' numbers, and answers that want of memory may take the place of.
 use Rattle.std.specs.Prelude.{◌≡◌, ◌≢◌, ℕ, Result, Ok, Err}
+use Rattle.trace_format.specs.declared.fault.DefinitionFault.{DefinitionFault}
+use Rattle.trace_format.specs.declared.fault.DefinitionFault.TheVariants as definition
+use Rattle.trace_format.specs.declared.fault.CatalogFault.{CatalogFault}
+use Rattle.trace_format.specs.declared.fault.CatalogFault.TheVariants as catalog
+use Rattle.trace_format.specs.declared.fault.RowFault.{RowFault}
+use Rattle.trace_format.specs.declared.fault.RowFault.TheVariants as row
 use Rattle.trace_book.specs.declared.refusal.Refusal.{Refusal}
 use Rattle.trace_book.specs.declared.refusal.Refusal.TheVariants.{NoSuchFile, NotReadable, NotWritable, BadValue, NoSuchEvent, EventExists, BadDefinition, TooBig, FilterSyntax, NoSuchField, WrongOperator, HistSyntax, BadSize, TriggerExists, NoSuchTrigger, TooMany, InstanceExists, NoSuchInstance, Busy, NoSuchCpu, BadRow, HistoryFull, Memory, Worn}
 
@@ -29,6 +35,24 @@ number_of (BadRow field) = 21
 number_of HistoryFull = 22
 number_of Memory = 23
 number_of Worn = 24
+
+-- ---- the refusals that the faults of formats become
+
+abbrev pub refusal_of_definition : DefinitionFault → Refusal
+refusal_of_definition (definition.BadDefinition at) = BadDefinition at
+refusal_of_definition definition.Memory = Memory
+
+abbrev pub refusal_of_catalog : CatalogFault → Refusal
+refusal_of_catalog catalog.EventExists = EventExists
+refusal_of_catalog catalog.TooMany = TooMany
+refusal_of_catalog catalog.TooBig = TooBig
+refusal_of_catalog catalog.Memory = Memory
+
+abbrev pub refusal_of_row : RowFault → Refusal
+refusal_of_row (row.BadRow field) = BadRow field
+refusal_of_row row.Memory = Memory
+
+-- ---- answers
 
 -- the answer is given, or memory was refused
 abbrev pub OrMemory : {A : Type 0} → Result A Refusal → Result A Refusal → Type 0

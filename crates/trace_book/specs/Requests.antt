@@ -1,7 +1,7 @@
 -- Requests: commands whose paths were read.
 use Rattle.std.specs.Prelude.{ℕ, ℤ, Bool, List, Option}
 use Rattle.trace_book.specs.Paths.{File, file_of}
-use Rattle.trace_book.specs.declared.command.Pair.{Pair}
+use Rattle.trace_format.specs.declared.pair.Pair.{Pair}
 use Rattle.trace_book.specs.declared.command.Command.{Command}
 use Rattle.trace_book.specs.declared.command.Command.TheVariants.{Emit, Mkdir, Rmdir, Write, Read}
 

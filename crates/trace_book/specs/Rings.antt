@@ -1,26 +1,31 @@
 -- What the requests that were done brought to the ring of a CPU. The newest request stands first, the newest event of the ring last.
-use Rattle.std.specs.Prelude.{ℕ, ◌+◌, ◌==◌, min, ℤ, Bool, false, not, ◌&&◌, if◌then◌else◌, List, [], ◌∷◌, ◌++◌, length, map, replicate, Option, Some, None}
+use Rattle.std.specs.Prelude.{ℕ, ◌+◌, ◌-◌, ◌*◌, ◌/◌, ◌==◌, min, ℤ, Bool, false, not, ◌&&◌, if◌then◌else◌, List, [], ◌∷◌, ◌++◌, length, map, replicate, Option, Some, None}
 use Rattle.std.specs.Option.{option_map, option_and_then, option_to_list}
 use Rattle.std.specs.Result.{result_ok}
-use Rattle.std.specs.Int.{w64, to_le_bytes}
 use Rattle.page_ring.specs.Events as ring
 use Rattle.page_ring.specs.Record.{head_bytes}
 use Rattle.page_ring.specs.Account.{readings_of}
 use Rattle.trace_book.specs.Paths.{Trace, CpuTrace, TracePipe, CpuTracePipe}
-use Rattle.trace_book.specs.Rows.{row_of}
+use Rattle.trace_format.specs.Cells.{Cells, payload_of}
+use Rattle.trace_format.specs.Rows.{row_of}
+use Rattle.trace_format.specs.declared.pair.Pair.{Pair}
 use Rattle.trace_book.specs.Settings.{NumberedEvent, event_named, is_enabled, overwrites, now_of}
 use Rattle.trace_book.specs.Requests.{Request, Emission, MakeInstance, RemoveInstance, WriteFile, ReadFile}
 use Rattle.trace_book.specs.declared.command.Config.{Config}
-use Rattle.trace_book.specs.declared.command.Pair.{Pair}
 
--- the bytes of a record: its head, and the value with its low byte first
-unfoldable pub record_bytes : ℕ → ℤ → ℕ → ℕ → List ℕ
-record_bytes timestamp pid id value =
-    head_bytes (record { ts = timestamp; pid = pid; event = id; payload = 8 }) ++ to_le_bytes w64 value
+-- how many zeros fill a payload of so many bytes up to a multiple of eight
+abbrev pub padding : ℕ → ℕ
+padding size = 8 * ((size + 7) / 8) - size
+
+-- the bytes of a record: its head, the row's payload, and zeros up to a multiple of eight
+unfoldable pub record_bytes : ℕ → ℤ → ℕ → Cells → List ℕ
+record_bytes timestamp pid id row =
+    head_bytes (record { ts = timestamp; pid = pid; event = id; payload = length (payload_of row) })
+    ++ payload_of row ++ replicate (padding (length (payload_of row))) 0
 
 -- the record of an emission of a numbered event
 abbrev pub record_of_event : ℕ → ℤ → List Pair → NumberedEvent → Option (List ℕ)
-record_of_event timestamp pid pairs k = option_map (record_bytes timestamp pid k.id) (result_ok (row_of k.event.field pairs))
+record_of_event timestamp pid pairs k = option_map (record_bytes timestamp pid k.id) (result_ok (row_of k.event pairs))
 
 -- the record of an emission after this past: its timestamp is the clock's next value
 abbrev pub emitted_record : List Request → List ℕ → ℤ → List Pair → Option (List ℕ)

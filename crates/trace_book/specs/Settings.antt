@@ -1,12 +1,13 @@
 -- What the requests that were done say of events, their switches, overwriting and the clock. The newest request stands first.
 use Rattle.std.specs.Prelude.{ℕ, suc, ◌+◌, ◌==◌, Bool, true, false, if◌then◌else◌, List, [], ◌∷◌, ◌++◌, Option, Some, None, Result, Ok, Err, unwrap_or, codes}
-use Rattle.std.specs.Option.{option_and_then, option_to_list}
+use Rattle.std.specs.Option.{option_map, option_and_then, option_to_list}
 use Rattle.std.specs.Result.{result_ok}
 use Rattle.std.specs.Str.{bytes_eq}
 use Rattle.trace_book.specs.Decimals.{written_number}
-use Rattle.trace_book.specs.Paths.{File, Trace, CpuTrace, TracePipe, CpuTracePipe, CpuStats, Overwrite, TraceOptions, SyntheticEvents, EventEnable}
-use Rattle.trace_book.specs.Declarations.{declaration_of}
-use Rattle.trace_book.specs.declared.declaration.Declared.{Declared}
+use Rattle.trace_book.specs.Paths.{File, Trace, CpuTrace, TracePipe, CpuTracePipe, CpuStats, Overwrite, TraceOptions, SyntheticEvents, EventEnable, EventFormat}
+use Rattle.trace_format.specs.Catalogs.{id_of, event_of}
+use Rattle.trace_format.specs.Definitions.{Definition}
+use Rattle.trace_format.specs.Reading.{definition_of}
 use Rattle.trace_book.specs.Requests.{Request, Emission, MakeInstance, RemoveInstance, WriteFile, ReadFile}
 
 -- what the newest request that sets a setting says, or the default where none does
@@ -14,30 +15,33 @@ abbrev pub setting : {A : Type 0} → (Request → Option A) → A → List Requ
 setting sets default [] = default
 setting sets default (request ∷ past) = unwrap_or (sets request) (setting sets default past)
 
--- the event that a request declares
-abbrev pub declares : Request → Option Declared
-declares (WriteFile (Some SyntheticEvents) append text) = result_ok (declaration_of text)
+-- the event that a request declares. `definition_of` gives the one definition that the words of a text spell, as `Declares` says of them
+-- (trace_format).
+abbrev pub declares : Request → Option Definition
+declares (WriteFile (Some SyntheticEvents) append text) = result_ok (definition_of text)
 declares _ = None
 
 -- the events, in order of declaration
-abbrev pub declared_events : List Request → List Declared
+abbrev pub declared_events : List Request → List Definition
 declared_events [] = []
 declared_events (request ∷ past) = declared_events past ++ option_to_list (declares request)
 
 -- an event with its id: the events are numbered from 1 in order of declaration
 pub record NumberedEvent : Type 0 where
   pub id : ℕ
-  pub event : Declared
+  pub event : Definition
 
--- the event of this name, where the ids begin with this one
-abbrev pub event_named_from : ℕ → List ℕ → List Declared → Option NumberedEvent
-event_named_from id name [] = None
-event_named_from id name (event ∷ events) =
-    if bytes_eq event.name name then Some (record { id = id; event = event }) else event_named_from (id + 1) name events
+-- the event of this id among events
+abbrev pub numbered_event : List Definition → ℕ → Option NumberedEvent
+numbered_event events id = option_map (λ event. record { id = id; event = event }) (event_of events id)
+
+-- the event of this name among events
+abbrev pub event_named_in : List Definition → List ℕ → Option NumberedEvent
+event_named_in events name = option_and_then (numbered_event events) (id_of events name)
 
 -- the event of this name that was declared
 abbrev pub event_named : List ℕ → List Request → Option NumberedEvent
-event_named name past = event_named_from 1 name (declared_events past)
+event_named name past = event_named_in (declared_events past) name
 
 -- 0 is off, 1 is on, another number is neither
 abbrev pub flag_of : ℕ → Option Bool

@@ -1,5 +1,6 @@
 -- When what a book keeps agrees with the requests that were done, and what a change does to it.
-use Rattle.std.specs.Prelude.{◌≡◌, ℕ, ◌^◌, ℤ, slice_index_or, replicate, unwrap_or, Vec, ◌+◌, ◌<◌, ◌≤◌, Bool, true, false, List, [], ◌∷◌, ◌++◌, length, map, IsSome, Option, Some, None, Result, Ok, Err, ◌≢◌, vec_len, vec_capacity, if◌then◌else◌, ⊤}
+use Rattle.std.specs.Prelude.{◌≡◌, ℕ, ◌^◌, ℤ, slice_index_or, replicate, unwrap_or, Vec, ◌+◌, ◌<◌, ◌≤◌, Bool, true, false, List, [], ◌∷◌, ◌++◌, length, map, IsSome, IsOk, Option, Some, None, Result, Ok, Err, ◌≢◌, if◌then◌else◌, ⊤}
+use Rattle.std.specs.List.{AllByRecursion}
 use Rattle.std.specs.Option.{option_to_list, option_map}
 use Rattle.std.specs.Global.{Global}
 use Rattle.std.specs.Str.{bytes_eq}
@@ -7,16 +8,18 @@ use Rattle.page_ring.specs.Events as ring
 use Rattle.page_ring.specs.Record.{IsRecord}
 use Rattle.page_ring.specs.Account.{readings_of}
 use Rattle.page_ring.specs.Shown as shown
+use Rattle.trace_format.specs.Catalogs.{id_for}
+use Rattle.trace_format.specs.Cells.{Cells, record_size_of}
+use Rattle.trace_format.specs.Definitions.{Definition}
 use Rattle.trace_book.specs.Requests.{Request}
 use Rattle.trace_book.specs.Settings.{NumberedEvent, event_named, declares, declared_events, switches, is_enabled, sets_overwrite, overwrites, ticks, now_of}
 use Rattle.trace_book.specs.Rings.{record_bytes, up_to_limit, consumed, put_of, clears, ring_events}
 use Rattle.trace_book.specs.Switches.{switched_all}
 use Rattle.trace_book.specs.History.{answer_with_room}
-use Rattle.trace_book.specs.TraceText.{pipe_text}
+use Rattle.trace_book.specs.TraceFiles.{pipe_text}
 use Rattle.trace_book.specs.declared.command.Config.{Config}
 use Rattle.trace_book.specs.declared.command.Reply.{Reply}
 use Rattle.trace_book.specs.declared.command.Reply.TheVariants.{Done, Text}
-use Rattle.trace_book.specs.declared.declaration.Declared.{Declared}
 use Rattle.trace_book.specs.declared.refusal.Refusal.{Refusal}
 use Rattle.trace_book.specs.declared.refusal.Refusal.TheVariants.{BadValue, Memory}
 use Rattle.trace_book.specs.declared.state.State.{State}
@@ -29,10 +32,22 @@ use Rattle.trace_book.specs.declared.state.Prepared.{Prepared}
 abbrev pub numbered : Found → NumberedEvent
 numbered found = record { id = found.index + 1; event = found.event.now }
 
+-- the event has this name, and so many events were declared before it
+pub record IsPlaceOf (events : List Definition) (name : List ℕ) (index : ℕ) (event : Definition) : Type 0 where
+  pub inside : index < length events
+  pub there : event ≡ slice_index_or events index event
+  pub named : bytes_eq name event.name ≡ true
+
+-- an event's fields are few, and its record fits a page
+pub record IsFit (page_bytes : ℕ) (event : Definition) : Type 0 where
+  pub fields : length event.fields ≤ 16
+  pub size : record_size_of event ≤ page_bytes
+
 -- each part of the state is what the requests say of it
 pub record StandsFor (g : Config) (state : State) (past : List Request) : Type 0 where
-  pub events : state.events.items ≡ declared_events past
+  pub events : state.catalog ≡ declared_events past
   pub few_events : length (declared_events past) ≤ 64
+  pub fit : AllByRecursion (IsFit g.page_bytes) (declared_events past)
   pub enabled : state.top.enabled ≡ map (λ event. is_enabled event.name past) (declared_events past)
   pub unknown : (name : List ℕ) → event_named name past ≡ None → is_enabled name past ≡ false
   pub overwrite : state.top.overwrite ≡ overwrites past
@@ -45,7 +60,7 @@ pub record StandsFor (g : Config) (state : State) (past : List Request) : Type 0
 
 -- ---- what a change leaves, without the request
 
-abbrev pub declared_by : Change → Option Declared
+abbrev pub declared_by : Change → Option Definition
 declared_by (Declare event) = Some event
 declared_by _ = None
 
@@ -84,7 +99,7 @@ ring_after change overwrite events =
     if clears_by change then [] else events ++ puts_by overwrite change ++ replicate (takes_by change) ring.Take
 
 -- the switches after a change
-abbrev pub flags_after : Change → List Declared → List Bool → List Bool
+abbrev pub flags_after : Change → List Definition → List Bool → List Bool
 flags_after (Declare event) events flags = flags ++ false ∷ []
 flags_after (Switch name flag) events flags = switched_all name flag events flags
 flags_after _ events flags = flags
@@ -96,7 +111,8 @@ kept_count g past = length (readings_of g.pages g.page_bytes (ring_events g 0 pa
 -- a change says of a request all that the definitions say of it, after this past
 pub record IsChangeOf (g : Config) (past : List Request) (request : Request) (change : Change) : Type 0 where
   pub declares : declares request ≡ declared_by change
-  pub fresh : (event : Declared) → declared_by change ≡ Some event → (event_named event.name past ≡ None) × (length (declared_events past) < 64)
+  pub fresh : (event : Definition) → declared_by change ≡ Some event
+      → (event_named event.name past ≡ None) × (length (declared_events past) < 64) × IsFit g.page_bytes event
   pub switches : (event : List ℕ) → switches event request ≡ switched_by event change
   pub addressed : (name : List ℕ) → addressed_by change ≡ Some name → IsSome (event_named name past)
   pub overwrite : sets_overwrite request ≡ overwrite_by change
@@ -107,16 +123,16 @@ pub record IsChangeOf (g : Config) (past : List Request) (request : Request) (ch
 
 -- what was grown for a change is there
 abbrev pub IsReady : State → Change → Type 0
-IsReady state (Declare event) = (vec_len state.events < vec_capacity state.events) × (length state.top.enabled < 64)
-IsReady state (Switch name flag) = length state.events.items ≡ length state.top.enabled
+IsReady state (Declare event) = IsOk (id_for state.catalog event state.top.ring.page_bytes) × (length state.top.enabled < 64)
+IsReady state (Switch name flag) = length state.catalog ≡ length state.top.enabled
 IsReady state (Emit (Some bytes)) =
     IsRecord bytes.items × (length bytes.items ≤ state.top.ring.page_bytes) × (length bytes.items ≤ state.top.ring.ready)
 IsReady state _ = ⊤
 
 -- a change was made
 pub record IsStep (old new : State) (change : Change) : Type 0 where
-  pub events : new.events.items ≡ old.events.items ++ option_to_list (declared_by change)
-  pub enabled : new.top.enabled ≡ flags_after change old.events.items old.top.enabled
+  pub events : new.catalog ≡ old.catalog ++ option_to_list (declared_by change)
+  pub enabled : new.top.enabled ≡ flags_after change old.catalog old.top.enabled
   pub overwrite : new.top.overwrite ≡ unwrap_or (overwrite_by change) old.top.overwrite
   pub clock : new.clock ≡ old.clock + ticks_by change
   pub ring : (events : List ring.Event) → shown.StandsFor old.top.ring events → shown.StandsFor new.top.ring (ring_after change old.top.overwrite events)
@@ -134,13 +150,14 @@ IsPrepared g past request state (Err refusal) = refusal ≢ Memory → answer_wi
 pub record IsUsable (state : State) : Type 0 where
   pub early : state.clock ≤ 2 ^ 32
   pub wide : 64 ≤ state.top.ring.page_bytes
-  pub few_events : length state.events.items ≤ 64
-  pub switches : length state.top.enabled ≡ length state.events.items
+  pub few_events : length state.catalog ≤ 64
+  pub fit : AllByRecursion (IsFit state.top.ring.page_bytes) state.catalog
+  pub switches : length state.top.enabled ≡ length state.catalog
 
 -- the record that an emission writes, where its event is enabled
-abbrev pub written_record : State → ℕ → ℤ → ℕ → Option (List ℕ)
-written_record state index pid value =
-    if slice_index_or state.top.enabled index false then Some (record_bytes (state.clock + 1) pid (index + 1) value) else None
+abbrev pub written_record : State → ℕ → ℤ → Cells → Option (List ℕ)
+written_record state index pid row =
+    if slice_index_or state.top.enabled index false then Some (record_bytes (state.clock + 1) pid (index + 1) row) else None
 
 -- the bytes of a record, if there is one
 abbrev pub bytes_in : Option (Vec ℕ Global) → Option (List ℕ)

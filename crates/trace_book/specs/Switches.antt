@@ -1,10 +1,10 @@
 -- The switches of events after one of them was written.
 use Rattle.std.specs.Prelude.{ℕ, Bool, List, [], ◌∷◌, if◌then◌else◌}
 use Rattle.std.specs.Str.{bytes_eq}
-use Rattle.trace_book.specs.declared.declaration.Declared.{Declared}
+use Rattle.trace_format.specs.Definitions.{Definition}
 
 -- the switch of the event of this name set, the others as they are
-abbrev pub switched_all : List ℕ → Bool → List Declared → List Bool → List Bool
+abbrev pub switched_all : List ℕ → Bool → List Definition → List Bool → List Bool
 switched_all name flag [] switches = switches
 switched_all name flag (event ∷ events) [] = []
 switched_all name flag (event ∷ events) (switch ∷ switches) =

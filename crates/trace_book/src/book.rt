@@ -16,6 +16,7 @@ use crate::refusal::Refusal;
 use crate::state::{Prepared, State};
 use std::alloc::Global;
 use std::marker::Model;
+use trace_format::Catalog;
 
 /// A tracer's book: what it was made with, the history of what was done, and what that has come to. It is worked through files as
 /// ftrace.rst describes them, one command at a time.
@@ -54,7 +55,7 @@ impl Book {
             config,
             entries: Vec::new(alloc),
             state: State {
-                events: Vec::new(alloc),
+                catalog: Catalog::new(alloc),
                 clock: 0,
                 top: Instance::new(alloc, config.pages, config.page_bytes)?,
             },
@@ -76,7 +77,7 @@ impl Book {
             return Err(Refusal::HistoryFull);
         }
         self.entries.reserve(1)?;
-        self.state.commit(change);
+        self.state.commit(&self.config, change)?;
         self.entries.push_reserved(Entry {
             ticket,
             by,

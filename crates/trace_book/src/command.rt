@@ -1,14 +1,7 @@
 ghost use Rattle.std.specs.Prelude.{◌≡◌};
 
-use crate::text::Text;
 use std::marker::Model;
-
-/// A field's name and the text of its value, in an emission.
-#[derive(Debug, Drop)]
-pub struct Pair {
-    pub name: Text,
-    pub value: Text,
-}
+use trace_format::{Pair, Text};
 
 /// The pairs of an emission, in the order given.
 #[derive(Debug, Drop)]
@@ -18,7 +11,7 @@ pub struct Pairs {
 
 impl Model for Pairs {
     ghost use Rattle.std.specs.Prelude.{List};
-    ghost use Rattle.trace_book.specs.declared.command.Pair.{Pair};
+    ghost use Rattle.trace_format.specs.declared.pair.Pair.{Pair};
 
     ghost Value = { List Pair };
 

@@ -9,11 +9,11 @@ ghost use Rattle.page_ring.specs.Shown.{Seen, StandsFor, offered};
 ghost use Rattle.trace_book.specs.Instances.{InstanceSeen};
 ghost use Rattle.trace_book.specs.Switches.{switched_all};
 
-use crate::command::Config;
-use crate::declaration::Declared;
+use crate::state::event_at;
 use page_ring::{KeptRecords, Ring, RingStats};
 use std::alloc::{AllocError, Global};
 use std::marker::Model;
+use trace_format::{Catalog, EventDef};
 
 /// How many events there may ever be.
 pub(crate) const EVENTS: usize = 64;
@@ -73,8 +73,9 @@ impl Instance {
     }
 
     /// Switches the event of this name.
-    pub(crate) fn switch(&mut self, events: &[Declared], name: &[u8], flag: bool)
-        requires { length events.now ≡ length self.old.enabled }
+    pub(crate) fn switch(&mut self, events: &Catalog, name: &[u8], flag: bool)
+        requires few { length events.now ≤ 64 }
+        requires long { length events.now ≡ length self.old.enabled }
         ensures { self.new ≡ record self.old { enabled = switched_all name.now flag events.now self.old.enabled } }
     {
         switch_all(&mut self.enabled, events, name, flag);
@@ -177,24 +178,21 @@ fn take_all(ring: &mut Ring, count: u64)
     }
 }
 
-// Sets the flag of each event of this name.
-fn switch_all(enabled: &mut [bool], events: &[Declared], name: &[u8], flag: bool)
-    requires { length events.now ≡ length enabled.old }
+// Sets the flag of the event of this name.
+fn switch_all(enabled: &mut [bool], events: &Catalog, name: &[u8], flag: bool)
+    requires few { length events.now ≤ 64 }
+    requires long { length events.now ≡ length enabled.old }
     ensures { enabled.new ≡ switched_all name.now flag events.now enabled.old }
 {
-    for i in 0..events.len() {
+    for i in 0..enabled.len() {
         let was = enabled[i];
-        enabled[i] = switched(&events[i], name, flag, was);
+        enabled[i] = switched(event_at(events, i), name, flag, was);
     }
 }
 
 // The flag that an event has once the event of this name was switched.
-fn switched(event: &Declared, name: &[u8], flag: bool, was: bool) -> bool
+fn switched(event: &EventDef, name: &[u8], flag: bool, was: bool) -> bool
     ensures { result ≡ (if bytes_eq event.now.name name.now then flag else was) }
 {
-    if event.name.as_bytes() == name {
-        flag
-    } else {
-        was
-    }
+    if event.name() == name { flag } else { was }
 }

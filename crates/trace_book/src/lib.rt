@@ -4,19 +4,16 @@
 mod book;
 mod command;
 mod decimal;
-mod declaration;
 mod instance;
 mod place;
 mod prepare;
 mod refusal;
 mod row;
 mod state;
-mod stats_text;
-mod text;
-mod trace_text;
+mod pipe_text;
 
 pub use book::Book;
-pub use command::{Command, Config, Entry, Pair, Pairs, Reply};
+pub use command::{Command, Config, Entry, Pairs, Reply};
 pub use instance::Instance;
 pub use refusal::Refusal;
-pub use text::Text;
+pub use trace_format::{Pair, Text};

@@ -1,48 +1,13 @@
-//! Names, and the files that paths name.
+//! The files that paths name.
 
 ghost use Rattle.std.specs.Prelude.{◌≡◌, [], ◌∷◌};
-ghost use Rattle.std.specs.List.{list_all};
 ghost use Rattle.std.specs.Option.{option_map};
 ghost use Rattle.trace_book.specs.Decimals.{value_after};
 ghost use Rattle.trace_book.specs.Paths as paths;
 ghost use Rattle.trace_book.specs.Places.{file_at, parts_of, cpu_at};
 
-use crate::decimal::{all_digits, has_leading_zero, is_digit};
-
-fn is_name_start(byte: u8) -> bool
-    ensures { result ≡ paths.is_name_start byte }
-{
-    byte.is_ascii_uppercase() || byte.is_ascii_lowercase() || byte == b'_'
-}
-
-fn is_name_byte(byte: u8) -> bool
-    ensures { result ≡ paths.is_name_byte byte }
-{
-    is_name_start(byte) || is_digit(byte)
-}
-
-/// Whether a text is a name: 1 to 32 letters, digits or underscores, the first of them no digit.
-pub(crate) fn is_name(text: &[u8]) -> bool
-    ensures { result ≡ paths.is_name text.now }
-{
-    match text.split_first() {
-        Some((first, rest)) => starts_name(*first, rest),
-        None => false,
-    }
-}
-
-// Whether a byte and those behind it are a name.
-fn starts_name(first: u8, rest: &[u8]) -> bool
-    ensures { result ≡ paths.is_name (first ∷ rest.now) }
-{
-    is_name_start(first) && all_name_bytes(rest) && rest.len() <= 31
-}
-
-fn all_name_bytes(text: &[u8]) -> bool
-    ensures { result ≡ list_all paths.is_name_byte text.now }
-{
-    text.iter().all(|byte| is_name_byte(*byte))
-}
+use crate::decimal::{all_digits, has_leading_zero};
+use trace_format::is_name;
 
 /// A file, as a path names it: an event's by its name, a CPU's by the digits of its number.
 pub(crate) enum Place<'a> {
@@ -55,6 +20,7 @@ pub(crate) enum Place<'a> {
     TraceOptions,
     SyntheticEvents,
     EventEnable(&'a [u8]),
+    EventFormat(&'a [u8]),
 }
 
 // What stands before the first slash, and what stands behind it.
@@ -211,6 +177,9 @@ fn event_place<'a>(event: &'a [u8], name: &[u8]) -> Option<Place<'a>>
 {
     if name == b"enable".as_slice() {
         return Some(Place::EventEnable(event));
+    }
+    if name == b"format".as_slice() {
+        return Some(Place::EventFormat(event));
     }
     None
 }

@@ -1,35 +1,42 @@
 //! Commands are prepared before anything changes: all memory that they need is taken here.
 
-ghost use Rattle.std.specs.Prelude.{◌≡◌, ℕ, ◌^◌, ◌≤◌, ◌<◌, Bool, List, Option, Some, None, nat_lt, length, if◌then◌else◌, IfOk};
+ghost use Rattle.std.specs.Prelude.{◌≡◌, ℕ, ◌^◌, ◌≤◌, ◌<◌, ◌++◌, Bool, List, Option, Some, None, is_some, nat_lt, length, if◌then◌else◌, IfOk, OnOk};
+ghost use Rattle.std.specs.List.{flat_map};
 ghost use Rattle.trace_book.specs.Decimals.{value_after};
 ghost use Rattle.trace_book.specs.Configs.{IsInRange};
 ghost use Rattle.trace_book.specs.History as history;
 ghost use Rattle.trace_book.specs.Refusals.{OrMemory};
-ghost use Rattle.trace_book.specs.Paths.{SyntheticEvents, EventEnable, CpuStats};
+ghost use Rattle.trace_book.specs.Paths.{SyntheticEvents, EventEnable, EventFormat, CpuStats};
 ghost use Rattle.trace_book.specs.Requests.{Request, Emission, WriteFile, ReadFile};
 ghost use Rattle.trace_book.specs.Requests as requests;
 ghost use Rattle.trace_book.specs.Settings as settings;
 ghost use Rattle.trace_book.specs.States.{StandsFor, IsPrepared, IsReady, IsUsable, IsTaking, bytes_in, clearing, overwriting, written_record, with_nothing};
 ghost use Rattle.trace_book.specs.Places.{file_at};
 ghost use Rattle.trace_book.specs.declared.command.Config.{Config};
-ghost use Rattle.trace_book.specs.TraceText.{trace_text};
+ghost use Rattle.trace_book.specs.TraceFiles.{trace_text};
+ghost use Rattle.trace_text.specs.Texts as texts;
+ghost use Rattle.trace_format.specs.Cells.{size_of_all};
+ghost use Rattle.trace_format.specs.Catalogs.{id_for};
+ghost use Rattle.page_ring.specs.Record.{record_size};
 ghost use Rattle.trace_book.specs.declared.refusal.Refusal.TheVariants as refusal;
 ghost use Rattle.trace_book.specs.declared.state.Change.TheVariants as change;
 
-use crate::command::{Command, Config, Pair, Reply};
+use crate::command::{Command, Config, Reply};
 use crate::decimal::{digits_value, written_number};
-use crate::declaration::declaration;
 use crate::place::{Place, place_of};
 use crate::refusal::Refusal;
-use crate::row::{record, row};
-use crate::state::{Change, Prepared, State, find};
-use crate::stats_text::stats_text;
-use crate::text::Text;
-use crate::trace_text::{push_records, push_taken, push_trace_head};
+use crate::row::record;
+use crate::state::{Change, Prepared, State, event_at, find};
+use crate::pipe_text::{push_records, push_taken};
 use std::alloc::{AllocError, Global};
+use trace_format::{Catalog, CatalogFault, EventDef, Pair, Row, Text, payload_size, record_size};
+use trace_text::{declaration_text, format_text, stats_text, trace_head_text};
 
-/// How many events there may be, for now.
-const EVENT_LIMIT: usize = 1;
+/// How many fields an event may have.
+const FIELD_LIMIT: usize = 16;
+
+/// How many events there may be.
+const EVENT_LIMIT: usize = 64;
 
 impl State {
     /// Takes all memory that a command needs, and tells what it will change and its reply.
@@ -92,12 +99,13 @@ impl State {
         if cpu >= config.cpus {
             return Err(Refusal::NoSuchCpu);
         }
-        let Some(found) = find(&self.events, name) else {
+        let Some(found) = find(&self.catalog, name) else {
             return Err(Refusal::NoSuchEvent);
         };
         let index = found.index;
-        let value = row(alloc, found.event.field.as_bytes(), pairs)?;
-        let written = self.write_ahead(alloc, index, pid, value)?;
+        let size = payload_size(found.event);
+        let row = Row::build(alloc, found.event, pairs)?;
+        let written = self.write_ahead(alloc, index, pid, size, &row)?;
         Ok(Prepared {
             change: Change::Emit(written),
             reply: Reply::Done,
@@ -110,18 +118,22 @@ impl State {
         alloc: Global,
         index: usize,
         pid: i32,
-        value: u64,
+        size: usize,
+        row: &Row,
     ) -> Result<Option<Vec<u8>>, AllocError>
         requires usable { IsUsable self.old }
-        requires index { index < length self.old.events.items }
+        requires index { index < length self.old.catalog }
+        requires size { size ≡ size_of_all row.now.kinds }
+        requires fits { record_size size ≤ self.old.top.ring.page_bytes }
+        requires small { size < 2 ^ 12 }
         ensures stands { (g : Config) (past : List Request) → StandsFor g self.old past → StandsFor g self.new past }
-        ensures record { IfOk result (λ written. bytes_in written ≡ written_record self.old index pid value) }
+        ensures record { IfOk result (λ written. bytes_in written ≡ written_record self.old index pid row.now) }
         ensures ready { IfOk result (λ written. IsReady self.new (change.Emit written)) }
     {
         if !self.top.is_enabled(index) {
             return Ok(None);
         }
-        let record = record(alloc, self.clock + 1, pid, index as u16 + 1, value)?;
+        let record = record(alloc, self.clock + 1, pid, index as u16 + 1, size, row)?;
         self.top.ready(record.len())?;
         Ok(Some(record))
     }
@@ -151,35 +163,42 @@ impl State {
             Place::CpuStats(digits) => Err(no_write(digits, config.cpus)),
             Place::Overwrite => prepare_overwrite(written_flag(text)),
             Place::TraceOptions => prepare_overwrite(written_option(text)),
-            Place::SyntheticEvents => self.prepare_declaration(alloc, append, text),
+            Place::SyntheticEvents => self.prepare_declaration(alloc, config, append, text),
             Place::EventEnable(name) => self.prepare_switch(alloc, name, text),
+            Place::EventFormat(name) => Err(self.no_event_write(name)),
         }
     }
 
-    // A declaration: its text, whether it may begin anew, its name, and the number of events.
+    // A write to a file of an event that can't be written.
+    fn no_event_write(&self, name: &[u8]) -> Refusal
+        ensures { (g : Config) (past : List Request) → StandsFor g self.now past
+            → result ≡ (if is_some (settings.event_named name.now past) then refusal.NotWritable else refusal.NoSuchEvent) }
+    {
+        match find(&self.catalog, name) {
+            Some(_) => Refusal::NotWritable,
+            None => Refusal::NoSuchEvent,
+        }
+    }
+
+    // A declaration: its text, whether it may begin anew, and whether the catalog can take it.
     #[tactic(auto, unfolding(crate::specs::History::declaration_answer))]
     fn prepare_declaration(
         &mut self,
         alloc: Global,
+        config: &Config,
         append: bool,
         text: &[u8],
     ) -> Result<Prepared, Refusal>
         requires { IsUsable self.old }
         ensures stands { (g : Config) (past : List Request) → StandsFor g self.old past → StandsFor g self.new past }
-        ensures prepared { (g : Config) (past : List Request) → StandsFor g self.old past
-            → IsPrepared g past (WriteFile (Some SyntheticEvents) append text.now) self.new result }
+        ensures prepared { (past : List Request) → StandsFor config.now self.old past
+            → IsPrepared config.now past (WriteFile (Some SyntheticEvents) append text.now) self.new result }
     {
-        let event = declaration(alloc, text)?;
-        if !append && !self.events.is_empty() {
+        let event = EventDef::parse(alloc, text)?;
+        if !append && !self.catalog.is_empty() {
             return Err(Refusal::Busy);
         }
-        if find(&self.events, event.name.as_bytes()).is_some() {
-            return Err(Refusal::EventExists);
-        }
-        if self.events.len() >= EVENT_LIMIT {
-            return Err(Refusal::TooMany);
-        }
-        self.events.reserve(1)?;
+        let _id = next_id(&self.catalog, &event, config.page_bytes as usize)?;
         Ok(Prepared {
             change: Change::Declare(event),
             reply: Reply::Done,
@@ -193,7 +212,7 @@ impl State {
         ensures { (g : Config) (past : List Request) (append : Bool) → StandsFor g self.now past
             → IsPrepared g past (WriteFile (Some (EventEnable name.now)) append text.now) self.now result }
     {
-        if find(&self.events, name).is_none() {
+        if find(&self.catalog, name).is_none() {
             return Err(Refusal::NoSuchEvent);
         }
         let Some(flag) = written_flag(text) else {
@@ -237,13 +256,14 @@ impl State {
                 limit,
                 option_text(alloc, self.top.overwrites()),
             )),
-            Place::SyntheticEvents => Err(Refusal::NotReadable),
+            Place::SyntheticEvents => unchanged(self.read_declarations(alloc, limit)),
             Place::EventEnable(name) => unchanged(self.read_enable(alloc, name, limit)),
+            Place::EventFormat(name) => unchanged(self.read_format(alloc, name, limit)),
         }
     }
 
     // The trace of a CPU; for now there is one.
-    #[tactic(auto, unfolding(crate::specs::TraceText::trace_text))]
+    #[tactic(auto, unfolding(crate::specs::TraceFiles::trace_text))]
     fn read_trace(
         &self,
         alloc: Global,
@@ -261,13 +281,13 @@ impl State {
         let stats = self.top.stats(cpu);
         let written = u128::from(stats.entries) + u128::from(stats.overrun);
         let mut out = Vec::new(alloc);
-        push_trace_head(alloc, &mut out, stats.entries, written, config.cpus)?;
-        push_records(alloc, &mut out, &self.events, cpu, self.top.kept())?;
+        trace_head_text(alloc, stats.entries, written, config.cpus, &mut out)?;
+        push_records(alloc, &mut out, &self.catalog, cpu, self.top.kept())?;
         Ok(Reply::Text(Text::from(out)))
     }
 
     // What a pipe gives: the text is built before anything is consumed. For now there is one CPU.
-    #[tactic(auto, unfolding(crate::specs::TraceText::pipe_text))]
+    #[tactic(auto, unfolding(crate::specs::TraceFiles::pipe_text))]
     fn prepare_take(&self, alloc: Global, cpu: u32, limit: Option<u64>) -> Result<Prepared, Refusal>
         requires { cpu < 1 }
         ensures { (g : Config) (past : List Request) → StandsFor g self.now past → IsTaking g past limit result }
@@ -276,7 +296,7 @@ impl State {
         let count = push_taken(
             alloc,
             &mut out,
-            &self.events,
+            &self.catalog,
             cpu,
             self.top.kept(),
             limit.unwrap_or(u64::MAX),
@@ -292,7 +312,7 @@ impl State {
         ensures { (g : Config) (past : List Request) → StandsFor g self.now past
             → OrMemory result (history.answer_with_room g past (ReadFile (Some (EventEnable name.now)) limit)) }
     {
-        let Some(found) = find(&self.events, name) else {
+        let Some(found) = find(&self.catalog, name) else {
             return Err(Refusal::NoSuchEvent);
         };
         if limit.is_some() {
@@ -321,9 +341,67 @@ impl State {
         if limit.is_some() {
             return Err(Refusal::BadValue);
         }
-        let text = stats_text(alloc, self.top.stats(cpu), self.clock)?;
-        Ok(Reply::Text(text))
+        let mut out = Vec::new(alloc);
+        stats_text(alloc, self.top.stats(cpu), self.clock, &mut out)?;
+        Ok(Reply::Text(Text::from(out)))
     }
+
+    fn read_format(&self, alloc: Global, name: &[u8], limit: Option<u64>) -> Result<Reply, Refusal>
+        requires { IsUsable self.now }
+        ensures { (g : Config) (past : List Request) → StandsFor g self.now past
+            → OrMemory result (history.answer_with_room g past (ReadFile (Some (EventFormat name.now)) limit)) }
+    {
+        let Some(found) = find(&self.catalog, name) else {
+            return Err(Refusal::NoSuchEvent);
+        };
+        if limit.is_some() {
+            return Err(Refusal::BadValue);
+        }
+        let mut out = Vec::new(alloc);
+        format_text(alloc, found.index as u16 + 1, found.event, &mut out)?;
+        Ok(Reply::Text(Text::from(out)))
+    }
+
+    #[tactic(auto, unfolding(crate::specs::History::declarations_text))]
+    fn read_declarations(&self, alloc: Global, limit: Option<u64>) -> Result<Reply, Refusal>
+        requires { IsUsable self.now }
+        ensures { (past : List Request) → self.now.catalog ≡ settings.declared_events past
+            → OrMemory result (history.whole_text limit (history.declarations_text past)) }
+    {
+        if limit.is_some() {
+            return Err(Refusal::BadValue);
+        }
+        let mut out = Vec::new(alloc);
+        push_declarations(alloc, &self.catalog, &mut out)?;
+        Ok(Reply::Text(Text::from(out)))
+    }
+}
+
+// The number that an event would get in the catalog, or why it can't be added.
+fn next_id(catalog: &Catalog, event: &EventDef, page_bytes: usize) -> Result<u16, CatalogFault>
+    ensures { result ≡ id_for catalog.now event.now page_bytes }
+{
+    if catalog.find(event.name()).is_some() {
+        return Err(CatalogFault::EventExists);
+    }
+    if event.fields().len() > FIELD_LIMIT || catalog.len() >= EVENT_LIMIT {
+        return Err(CatalogFault::TooMany);
+    }
+    if record_size(event) > page_bytes {
+        return Err(CatalogFault::TooBig);
+    }
+    Ok(catalog.len() as u16 + 1)
+}
+
+// Appends the declarations of all events.
+fn push_declarations(alloc: Global, events: &Catalog, out: &mut Vec<u8>) -> Result<(), AllocError>
+    requires { length events.now ≤ 64 }
+    ensures { OnOk result (out.new.items ≡ out.old.items ++ flat_map texts.declaration_text events.now) }
+{
+    for i in 0..events.len() {
+        declaration_text(alloc, event_at(events, i), out)?;
+    }
+    Ok(())
 }
 
 // A write to a trace file: any text empties the ring, but not to append.

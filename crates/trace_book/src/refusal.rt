@@ -1,9 +1,10 @@
 ghost use Rattle.std.specs.Prelude.{◌≡◌};
+ghost use Rattle.trace_book.specs.Refusals.{refusal_of_definition, refusal_of_catalog, refusal_of_row};
 ghost use Rattle.trace_book.specs.declared.refusal.Refusal.TheVariants.{Memory};
 
-use crate::text::Text;
 use std::alloc::{AllocError, AllocFailed};
 use thiserror::Error;
+use trace_format::{CatalogFault, DefinitionFault, RowFault, Text};
 
 /// Why a command was refused. A refused command changes nothing and is not in the history.
 /// `at` counts bytes from 0 in the text as it was written.
@@ -97,6 +98,41 @@ impl<T: Drop> From<AllocFailed<T>> for Refusal {
 
     fn from(_error: AllocFailed<T>) -> Refusal {
         Refusal::Memory
+    }
+}
+
+impl From<DefinitionFault> for Refusal {
+    ghost from_gives = { λ fault refusal. refusal ≡ refusal_of_definition fault };
+
+    fn from(fault: DefinitionFault) -> Refusal {
+        match fault {
+            DefinitionFault::BadDefinition { at } => Refusal::BadDefinition { at },
+            DefinitionFault::Memory => Refusal::Memory,
+        }
+    }
+}
+
+impl From<CatalogFault> for Refusal {
+    ghost from_gives = { λ fault refusal. refusal ≡ refusal_of_catalog fault };
+
+    fn from(fault: CatalogFault) -> Refusal {
+        match fault {
+            CatalogFault::EventExists => Refusal::EventExists,
+            CatalogFault::TooMany => Refusal::TooMany,
+            CatalogFault::TooBig => Refusal::TooBig,
+            CatalogFault::Memory => Refusal::Memory,
+        }
+    }
+}
+
+impl From<RowFault> for Refusal {
+    ghost from_gives = { λ fault refusal. refusal ≡ refusal_of_row fault };
+
+    fn from(fault: RowFault) -> Refusal {
+        match fault {
+            RowFault::BadRow { field } => Refusal::BadRow { field },
+            RowFault::Memory => Refusal::Memory,
+        }
     }
 }
 

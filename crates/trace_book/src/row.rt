@@ -1,90 +1,65 @@
-//! The rows of emissions, and the bytes of their records.
+//! The bytes of records.
 
-ghost use Rattle.std.specs.Prelude.{◌≡◌, ◌≢◌, ◌∷◌, length, Err, IfOk};
-ghost use Rattle.page_ring.specs.Record.{IsRecord};
-ghost use Rattle.trace_book.specs.Refusals.{OrMemory};
-ghost use Rattle.trace_book.specs.Rings.{record_bytes};
-ghost use Rattle.trace_book.specs.Rows as rows;
-ghost use Rattle.trace_book.specs.declared.refusal.Refusal.TheVariants as refusal;
+ghost use Rattle.std.specs.Prelude.{◌≡◌, ◌<◌, ◌≤◌, ◌+◌, ◌^◌, ◌++◌, length, take, drop, replicate, IfOk};
+ghost use Rattle.page_ring.specs.Record.{IsRecord, head_bytes, record_size};
+ghost use Rattle.trace_format.specs.Cells.{size_of_all, payload_of};
+ghost use Rattle.trace_book.specs.Rings.{padding, record_bytes};
 
-use crate::command::Pair;
-use crate::decimal::{decimal, has_leading_zero};
-use crate::refusal::Refusal;
-use crate::text::Text;
 use page_ring::{Head, write_head};
 use std::alloc::{AllocError, Global};
+use trace_format::Row;
 
-/// The number of type `u64` that a text writes.
-#[tactic(auto, unfolding(crate::specs::Rows::field_value))]
-fn field_value(text: &[u8]) -> Option<u64>
-    ensures { result ≡ rows.field_value text.now }
+/// How many bytes a record's head takes.
+const HEAD_SIZE: usize = 16;
+
+/// Writes a row's payload behind the place of the head.
+fn write_payload(row: &Row, size: usize, out: &mut [u8])
+    requires size { size ≡ size_of_all row.now.kinds }
+    requires small { size < 2 ^ 12 }
+    requires room { 16 + size ≤ length out.old }
+    ensures bytes { out.new ≡ take 16 out.old ++ payload_of row.now ++ drop (16 + size) out.old }
+    ensures length { length (payload_of row.now) ≡ size }
 {
-    if text == b"-0".as_slice() {
-        return Some(0);
-    }
-    if has_leading_zero(text) {
-        return None;
-    }
-    decimal(text, u64::MAX)
+    row.encode(&mut out[HEAD_SIZE..HEAD_SIZE + size]);
 }
 
-/// The value that the pairs give an event's field.
-pub(crate) fn row(alloc: Global, field: &[u8], pairs: &[Pair]) -> Result<u64, Refusal>
-    ensures { OrMemory result (rows.row_of field.now pairs.now) }
+/// Writes a record over zeros.
+fn write_record(head: Head, row: &Row, size: usize, out: &mut [u8])
+    requires size { size ≡ size_of_all row.now.kinds }
+    requires small { size < 2 ^ 12 }
+    requires payload { head.payload ≡ size }
+    requires zeros { out.old ≡ replicate (record_size size) 0 }
+    ensures bytes { out.new ≡ head_bytes head ++ payload_of row.now ++ replicate (padding size) 0 }
+    ensures length { length (payload_of row.now) ≡ size }
+    ensures is_record { IsRecord out.new }
 {
-    match pairs.split_first() {
-        Some((pair, others)) => row_from(alloc, field, pair, others),
-        None => bad_row(alloc, field),
-    }
+    write_payload(row, size, out);
+    write_head(head, out);
 }
 
-// The same, where the first pair is known. Behind it no pair is right, since there is one field.
-fn row_from(alloc: Global, field: &[u8], pair: &Pair, others: &[Pair]) -> Result<u64, Refusal>
-    ensures { OrMemory result (rows.row_of field.now (pair.now ∷ others.now)) }
-{
-    let name = pair.name.as_bytes();
-    if name != field {
-        return bad_row(alloc, name);
-    }
-    let Some(value) = field_value(pair.value.as_bytes()) else {
-        return bad_row(alloc, name);
-    };
-    match others.split_first() {
-        Some((next, _)) => bad_row(alloc, next.name.as_bytes()),
-        None => Ok(value),
-    }
-}
-
-fn bad_row(alloc: Global, name: &[u8]) -> Result<u64, Refusal>
-    ensures { OrMemory result (Err (refusal.BadRow name.now)) }
-{
-    Err(Refusal::BadRow {
-        field: Text::from_slice(alloc, name)?,
-    })
-}
-
-/// The record of an emission.
+/// The record of an emission, whose row has a payload of so many bytes.
 #[tactic(auto, unfolding(crate::specs::Rings::record_bytes))]
 pub(crate) fn record(
     alloc: Global,
     timestamp: u64,
     pid: i32,
     id: u16,
-    value: u64,
+    size: usize,
+    row: &Row,
 ) -> Result<Vec<u8>, AllocError>
-    ensures bytes { IfOk result (λ bytes. bytes.items ≡ record_bytes timestamp pid id value) }
+    requires size { size ≡ size_of_all row.now.kinds }
+    requires small { size < 2 ^ 12 }
+    ensures bytes { IfOk result (λ bytes. bytes.items ≡ record_bytes timestamp pid id row.now) }
     ensures is_record { IfOk result (λ bytes. IsRecord bytes.items) }
-    ensures size { IfOk result (λ bytes. length bytes.items ≡ 24) }
+    ensures size { IfOk result (λ bytes. length bytes.items ≡ record_size size) }
 {
-    let mut bytes = Vec::with_capacity(alloc, 24)?;
-    bytes.extend_from_slice(&[0; 16])?;
-    bytes.extend_from_slice(&value.to_le_bytes())?;
+    let mut bytes = vec![in alloc; 0; HEAD_SIZE + size.div_ceil(8) * 8]?;
     let head = Head {
         ts: timestamp,
         pid,
         event: id,
-        payload: 8,
+        payload: size as u16,
     };
-    write_head(head, &mut bytes);
+    write_record(head, row, size, &mut bytes);
     Ok(bytes)
 }

@@ -1,22 +1,21 @@
 //! What a book's requests have come to: the events, the clock and the instances.
 
-ghost use Rattle.std.specs.Prelude.{◌≡◌, ℕ, ◌+◌, ◌^◌, ◌≤◌, ◌<◌, Bool, true, false, List, [], ◌∷◌, ◌++◌, length, slice_index_or, IfOk, IfSome};
+ghost use Rattle.std.specs.Prelude.{◌≡◌, ℕ, ◌+◌, ◌^◌, ◌≤◌, ◌<◌, Bool, true, false, List, [], ◌∷◌, ◌++◌, length, slice_index_or, IfErr, IfSome, OnOk, OnErr};
 ghost use Rattle.std.specs.Option.{option_map};
-ghost use Rattle.std.specs.Str.{bytes_eq};
 ghost use Rattle.page_ring.specs.Shown as shown;
-ghost use Rattle.trace_book.specs.Settings.{event_named_from};
+ghost use Rattle.trace_book.specs.Settings.{event_named_in};
 ghost use Rattle.trace_book.specs.States as states;
+ghost use Rattle.trace_book.specs.declared.refusal.Refusal.TheVariants as refusal;
 
 use crate::command::{Config, Reply};
-use crate::declaration::Declared;
 use crate::instance::Instance;
-use crate::text::Text;
-use std::alloc::{AllocError, Global};
+use crate::refusal::Refusal;
+use trace_format::{Catalog, EventDef, Text};
 
-/// The events in order of declaration, the clock, and the top instance.
+/// The declared events, the clock, and the top instance.
 #[derive(Drop)]
 pub(crate) struct State {
-    pub events: Vec<Declared>,
+    pub catalog: Catalog,
     pub clock: u64,
     pub top: Instance,
 }
@@ -26,7 +25,7 @@ pub(crate) struct State {
 pub(crate) enum Change {
     Nothing,
     /// One more event.
-    Declare(Declared),
+    Declare(EventDef),
     /// The event of this name is switched.
     Switch(Text, bool),
     /// Records may overwrite older ones, or not.
@@ -50,40 +49,50 @@ pub(crate) struct Prepared {
 #[derive(Clone, Copy)]
 pub(crate) struct Found<'a> {
     pub index: usize,
-    pub event: &'a Declared,
+    pub event: &'a EventDef,
 }
 
 /// The event of this name.
-pub(crate) fn find<'a>(events: &'a [Declared], name: &[u8]) -> Option<Found<'a>>
-    ensures named { option_map states.numbered result ≡ event_named_from 1 name.now events.now }
-    ensures place { IfSome result (λ found. (found.index < length events.now)
-        × (found.event.now ≡ slice_index_or events.now found.index found.event.now)
-        × (bytes_eq found.event.now.name name.now ≡ true)) }
+pub(crate) fn find<'a>(catalog: &'a Catalog, name: &[u8]) -> Option<Found<'a>>
+    ensures named { option_map states.numbered result ≡ event_named_in catalog.now name.now }
+    ensures place { IfSome result (λ found. states.IsPlaceOf catalog.now name.now found.index found.event.now) }
 {
-    for i in 0..events.len() {
-        let event = &events[i];
-        if event.name.as_bytes() == name {
-            return Some(Found { index: i, event });
-        }
-    }
-    None
+    let id = catalog.find(name)?;
+    let event = catalog.def(id)?;
+    Some(Found {
+        index: usize::from(id) - 1,
+        event,
+    })
+}
+
+/// The event of this number, from 0.
+pub(crate) fn event_at(catalog: &Catalog, index: usize) -> &EventDef
+    requires inside { index < length catalog.now }
+    requires few { length catalog.now ≤ 64 }
+    ensures { result.now ≡ slice_index_or catalog.now index result.now }
+{
+    catalog.def(index as u16 + 1).unwrap()
 }
 
 impl State {
-    /// Makes a change for which all memory is at hand.
-    pub(crate) fn commit(&mut self, change: Change)
+    /// Makes a change for which all memory is at hand but the catalog's. Where that is refused, nothing is changed.
+    pub(crate) fn commit(&mut self, config: &Config, change: Change) -> Result<(), Refusal>
         requires ready { states.IsReady self.old change }
         requires early { self.old.clock < 2 ^ 32 }
         requires few { shown.offered self.old.top.ring < 2 ^ 32 }
-        ensures { states.IsStep self.old self.new change }
+        requires few_events { length self.old.catalog ≤ 64 }
+        requires page_bytes { self.old.top.ring.page_bytes ≡ config.now.page_bytes }
+        ensures done { OnOk result (states.IsStep self.old self.new change) }
+        ensures refused { OnErr result (self.new ≡ self.old) }
+        ensures memory { IfErr result (λ r. r ≡ refusal.Memory) }
     {
         match change {
             Change::Nothing => {}
             Change::Declare(event) => {
-                self.events.push_reserved(event);
+                self.catalog.add(event, config.page_bytes as usize)?;
                 self.top.add_event();
             }
-            Change::Switch(name, flag) => self.top.switch(&self.events, name.as_bytes(), flag),
+            Change::Switch(name, flag) => self.top.switch(&self.catalog, name.as_bytes(), flag),
             Change::SetOverwrite(flag) => self.top.set_overwrite(flag),
             Change::Clear => self.top.clear(),
             Change::Take(count) => self.top.take(count),
@@ -93,5 +102,6 @@ impl State {
                 self.top.put(&record);
             }
         }
+        Ok(())
     }
 }

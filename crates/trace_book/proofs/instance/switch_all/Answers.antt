@@ -4,7 +4,7 @@ use Rattle.trace_book.proofs.instance.switch_all.Goals as goal
 
 pub loop-i-preserved : goal.loop-i-preserved
 loop-i-preserved c = (
-  switch_step c.args.name.now c.args.flag c.args.events.now c.loop-i.enabled _ c.loop-i.i c.index-events-i.result c.switched.result
-      (omega arith) (omega arith) c.index-events-i.is (search rules) c.loop-i.invariant.0,
+  switch_step c.args.name.now c.args.flag c.args.events.now c.loop-i.enabled _ c.loop-i.i c.event_at.result.now c.switched.result
+      (omega arith) (omega arith) c.event_at.ensures (search rules) c.loop-i.invariant.0,
   length-set _ _ _ ∙ c.loop-i.invariant.1,
 )

@@ -87,7 +87,7 @@ invariant_of-self-2 c =
       in_range = c.self.invariant.in_range;
       few = rw items (omega (arith, length-append book.entries.items (entry ∷ []), c.len.ensures, book.entries.ok.0, c.self.invariant.in_range.few_entries));
       legal = rw items (IsLegal-push g book.entries.items entry c.self.invariant.legal below (rw done refl));
-      stands = rw (items, past_of-push) (stands_after g c.prepare.new.self c.commit.new.self past request c.in_ok-change.field-0.change stands prepared.1 c.commit.ensures);
+      stands = rw (items, past_of-push) (stands_after g c.prepare.new.self c.commit.new.self past request c.in_ok-change.field-0.change stands prepared.1 c.in_ok-commit.ensures.done);
     }
 
 pub returns-clause-reply : goal.returns-clause-reply

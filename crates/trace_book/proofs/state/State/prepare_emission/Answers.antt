@@ -1,8 +1,10 @@
 use Rattle.std.proofs.Common.{◌≡◌, ◌<◌, ℤ, Ok, Some, refl, ap, ◌∙◌, to_z, of_z, w32, arith, rules}
 use Rattle.std.proofs.lemmas.Int.{to_z-of_z}
-use Rattle.trace_book.specs.Rows.{row_of}
+use Rattle.trace_format.specs.Rows.{row_of}
+use Rattle.trace_format.specs.Cells.{payload_size_of}
 use Rattle.trace_book.specs.Settings.{is_enabled}
-use Rattle.trace_book.specs.States.{numbered, written_record}
+use Rattle.trace_book.specs.States.{IsFit, numbered, written_record}
+use Rattle.trace_book.proofs.Events.{fit_at, same_size}
 use Rattle.trace_book.proofs.Prepared.{named-found, enabled-found, answers-emission, changes-emission, puts-emission}
 use Rattle.trace_book.proofs.state.State.prepare_emission.Goals as goal
 
@@ -13,18 +15,17 @@ returns-clause-prepared c = λ past stands.
     let name = c.args.name.now in
     let pairs = c.args.pairs.now in
     let found = c.in-Some.found in
-    let value = c.in_ok-value.value in
+    let row = c.in_ok-row.row in
     let written = c.in_ok-written.written in
-    let there = named-found g state past name found stands (rw c.deref.ensures.value at c.in-Some.ensures.named) in
-    let place = rw c.deref.ensures.value at c.in-Some.ensures.place in
-    let row : row_of found.event.now.field pairs ≡ Ok value = rw c.as_bytes.ensures at c.in_ok-value.ensures in
-    let set = enabled-found g state past name found stands place.0 place.1 place.2 in
+    let there = named-found g state past name found stands c.in-Some.ensures.named in
+    let built : row_of found.event.now pairs ≡ Ok row = c.in_ok-row.ensures.exact in
+    let set = enabled-found g state past name found stands c.in-Some.ensures.place in
     let same_pid : to_z w32 (of_z w32 c.args.pid) ≡ c.args.pid = to_z-of_z w32 c.args.pid (search rules) in
     let inside : c.args.cpu < g.cpus = omega arith in
     let first_cpu : c.args.cpu ≡ 0 = omega (arith, c.requires.in_range.one_cpu) in (
-      answers-emission g past name c.args.cpu pairs (numbered found) value inside there row,
+      answers-emission g past name c.args.cpu pairs (numbered found) row inside there built,
       changes-emission g past name c.args.cpu c.args.pid pairs written
-          (puts-emission g state past name c.args.cpu c.args.pid pairs found value written (is_enabled name past) stands first_cpu there row refl set
-          (c.in_ok-written.ensures.record ∙ ap (λ (p : ℤ). written_record state found.index p value) same_pid)),
+          (puts-emission g state past name c.args.cpu c.args.pid pairs found row written (is_enabled name past) stands first_cpu there built refl set
+          (c.in_ok-written.ensures.record ∙ ap (λ (p : ℤ). written_record state found.index p row) same_pid)),
       c.in_ok-written.ensures.ready,
     )

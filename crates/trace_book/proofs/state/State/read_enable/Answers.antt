@@ -1,6 +1,6 @@
 use Rattle.std.proofs.Common.{◌≡◌, ◌<◌, length, get_or, Some, is_some, false, true, arith, rules, sym, ◌∙◌, ap}
 use Rattle.std.specs.Option.{option_map}
-use Rattle.trace_book.specs.Settings.{event_named, event_named_from, is_enabled}
+use Rattle.trace_book.specs.Settings.{event_named, is_enabled}
 use Rattle.trace_book.specs.States.{numbered}
 use Rattle.trace_book.proofs.Prepared.{named-found, enabled-found, reads-enable}
 use Rattle.trace_book.proofs.state.State.read_enable.Goals as goal
@@ -10,7 +10,6 @@ returns c = λ g past stands.
     let state = c.args.self.now in
     let name = c.args.name.now in
     let found = c.in-Some.found in
-    let there = named-found g state past name found stands (rw c.deref.ensures.value at c.in-Some.ensures.named) in
-    let place = rw c.deref.ensures.value at c.in-Some.ensures.place in
-    let set = enabled-found g state past name found stands place.0 place.1 place.2 in
+    let there = named-found g state past name found stands c.in-Some.ensures.named in
+    let set = enabled-found g state past name found stands c.in-Some.ensures.place in
     reads-enable g past name c.args.limit (numbered found) c.is_enabled.result c.in_ok-text.text there (search rules) (c.is_enabled.ensures ∙ set) c.in_ok-text.ensures

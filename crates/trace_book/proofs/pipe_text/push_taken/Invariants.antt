@@ -1,7 +1,7 @@
 use Rattle.std.proofs.Common.{◌≡◌, ◌+◌, ◌-◌, ◌≤◌, min, length, take, ◌++◌}
 use Rattle.std.specs.List.{flat_map}
-use Rattle.trace_book.specs.TraceText.{pipe_lines}
-use Rattle.trace_book.proofs.trace_text.push_taken.Given as goal
+use Rattle.trace_book.specs.TraceFiles.{pipe_lines}
+use Rattle.trace_book.proofs.pipe_text.push_taken.Given as goal
 
 abbrev pub invariant-loop-kept : goal.invariant-loop-kept
 invariant-loop-kept l = record {

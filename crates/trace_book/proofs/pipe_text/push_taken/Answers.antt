@@ -1,9 +1,9 @@
 use Rattle.std.proofs.Common.{◌≡◌, ◌∷◌, List, arith, rules, length, ap}
 use Rattle.page_ring.specs.Account.{Reading}
 use Rattle.page_ring.specs.Reading.{reading}
-use Rattle.trace_book.specs.TraceText.{pipe_lines}
+use Rattle.trace_book.specs.TraceFiles.{pipe_lines}
 use Rattle.trace_book.proofs.Taking.{taken_step}
-use Rattle.trace_book.proofs.trace_text.push_taken.Goals as goal
+use Rattle.trace_book.proofs.pipe_text.push_taken.Goals as goal
 
 pub loop-kept-preserved : goal.loop-kept-preserved
 loop-kept-preserved c =
