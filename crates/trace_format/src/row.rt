@@ -34,6 +34,7 @@ impl Row {
     ghost use Rattle.trace_format.specs.Cells.{Cells, datum_of, IsRow, IsRowOf, payload_of, size_of_all};
     ghost use Rattle.std.specs.List.{AllByRecursion};
     ghost use Rattle.trace_format.specs.Rows.{row_of, IsBuilt, HasPair};
+    ghost use Rattle.trace_format.specs.Decoding.{row_from};
 
     /// The row that pairs of field names and texts give. Each field is in one pair, in any order.
     ///
@@ -65,7 +66,10 @@ impl Row {
 
     /// The row of an event whose payload the bytes are, if they are the payload of one.
     pub fn decode(alloc: Global, def: &EventDef, bytes: &[u8]) -> Result<Option<Row>, AllocError>
-        ensures { IfOk result (λ found. (row : Cells) → (found ≡ Some row) ↔ (IsRowOf def.now row × (bytes.now ≡ payload_of row))) }
+        // It finds a row exactly where the bytes are that row's payload.
+        ensures row { IfOk result (λ found. (row : Cells) → (found ≡ Some row) ↔ (IsRowOf def.now row × (bytes.now ≡ payload_of row))) }
+        // The same as one function of the bytes.
+        ensures exact { IfOk result (λ found. found ≡ row_from def.now bytes.now) }
     {
         let Some(values) = decode_values(alloc, def.fields(), bytes)? else {
             return Ok(None);
