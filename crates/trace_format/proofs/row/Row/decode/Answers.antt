@@ -13,13 +13,13 @@ found values = option_map (λ (v : Vec Value Global). map datum_of v.items) valu
 
 -- where no values were found the bytes are read as none, and where some were they are read as these
 none_read : (c : goal.In_default) → values_from (kinds_of c.args.def.now) c.args.bytes.now ≡ None
-none_read c = ap (λ (fields : List Field). values_from (map (λ (f : Field). f.kind) fields) c.args.bytes.now) (sym c.fields.ensures) ∙ sym c.in_ok-values.ensures ∙ ap found c.in_default.is
+none_read c = ap (λ (fields : List Field). values_from (map (λ (f : Field). f.kind) fields) c.args.bytes.now) (sym c.fields.ensures.fields) ∙ sym c.in_ok-values.ensures ∙ ap found c.in_default.is
 
 some_read : (c : goal.In_ok-kinds) → values_from (kinds_of c.args.def.now) c.args.bytes.now ≡ Some (map datum_of c.in-Some.values.items)
-some_read c = ap (λ (fields : List Field). values_from (map (λ (f : Field). f.kind) fields) c.args.bytes.now) (sym c.fields.ensures) ∙ sym c.in_ok-values.ensures ∙ ap found c.in-Some.is
+some_read c = ap (λ (fields : List Field). values_from (map (λ (f : Field). f.kind) fields) c.args.bytes.now) (sym c.fields.ensures.fields) ∙ sym c.in_ok-values.ensures ∙ ap found c.in-Some.is
 
 kinds_are : (c : goal.In_ok-kinds) → c.in_ok-kinds.kinds.items ≡ kinds_of c.args.def.now
-kinds_are c = c.in_ok-kinds.ensures ∙ ap (λ (fields : List Field). map (λ (f : Field). f.kind) fields) c.fields-2.ensures
+kinds_are c = c.in_ok-kinds.ensures ∙ ap (λ (fields : List Field). map (λ (f : Field). f.kind) fields) c.fields-2.ensures.fields
 
 pub returns-in_default-clause-row : goal.returns-in_default-clause-row
 returns-in_default-clause-row c row = not_decoded c.args.def.now c.args.bytes.now row (none_read c)
