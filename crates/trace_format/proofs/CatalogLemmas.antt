@@ -9,6 +9,7 @@ use Rattle.indexmap.proofs.MapLemmas.{some_index}
 use Rattle.trace_format.specs.Definitions.{Definition, IsDefinition}
 use Rattle.trace_format.specs.Cells.{record_size_of}
 use Rattle.trace_format.specs.Catalogs.{id_of, event_of, id_for, IsCatalog, IsEvent, AreEvents}
+use Rattle.trace_format.proofs.Lists.{AllByRecursion-push}
 use Rattle.trace_format.proofs.Options.{map_some, some_is}
 
 abbrev pub Entry : Type 0
@@ -37,10 +38,6 @@ module _ (name : List ℕ) where
   pub id_is : (entries : List Entry) → AllByRecursion (λ e. e.0.items ≡ e.1.name) entries
       → id_of (events_of entries) name ≡ option_map (λ place. place + 1) (position (λ (k : Vec ℕ Global). bytes_eq name k.items) (keys entries))
   id_is entries named = ap (option_map (λ place. place + 1)) (sym (same_place entries named))
-
-AllByRecursion-push : {X : Type 0} (P : X → Type 0) (xs : List X) (x : X) → AllByRecursion P xs → P x → AllByRecursion P (xs ++ x ∷ [])
-AllByRecursion-push P [] x all h = (h, tt)
-AllByRecursion-push P (y ∷ ys) x all h = (all.0, AllByRecursion-push P ys x all.1 h)
 
 AreEvents-push : (before events : List Definition) (event : Definition) → AreEvents before events → IsEvent (before ++ events) event → AreEvents before (events ++ event ∷ [])
 AreEvents-push before [] event are is = (subst (λ (b : List Definition). IsEvent b event) (append-nil before) is, tt)

@@ -32,8 +32,9 @@ impl Model for Row {
 
 impl Row {
     ghost use Rattle.trace_format.specs.Cells.{Cells, datum_of, IsRow, IsRowOf, payload_of, size_of_all};
-    ghost use Rattle.std.specs.List.{AllByRecursion};
-    ghost use Rattle.trace_format.specs.Rows.{row_of, IsBuilt, HasPair};
+    ghost use Rattle.trace_format.specs.Definitions.{IsDefinition};
+    ghost use Rattle.trace_format.specs.Rows.{row_of, IsBuilt};
+    ghost use Rattle.trace_format.specs.Pairs.{Give, IsRefusedRow};
     ghost use Rattle.trace_format.specs.Decoding.{row_from};
 
     /// The row that pairs of field names and texts give. Each field is in one pair, in any order.
@@ -42,9 +43,22 @@ impl Row {
     /// none such at the first field that no pair names. `Memory` comes where an allocation is refused.
     pub fn build(alloc: Global, def: &EventDef, pairs: &[Pair]) -> Result<Row, RowFault>
         ensures row { IfOk result (IsRowOf def.now) }
-        // As a map from names, it has what each pair says.
-        ensures map { IfOk result (λ row. AllByRecursion (HasPair def.now.fields row.values) pairs.now) }
-        // All of this, and each refusal, as one function of the pairs.
+        // As a map from names, the row is the pairs.
+        ensures map { IfOk result (Give def.now.fields pairs.now) }
+        // A row that the pairs give as a map is built, unless memory is refused.
+        ensures only { (row : Cells) → IsRowOf def.now row → Give def.now.fields pairs.now row → IsBuilt result (Ok row) }
+        // Other pairs are refused at the first that is wrong, else at the first field that is missing.
+        ensures refused { IfErr result (IsRefusedRow def.now pairs.now) }
+        // All of this as one function of the pairs.
+        ensures exact { IsBuilt result (row_of def.now pairs.now) }
+    {
+        Row::read(alloc, def, pairs)
+    }
+
+    /// The row, field by field.
+    fn read(alloc: Global, def: &EventDef, pairs: &[Pair]) -> Result<Row, RowFault>
+        ensures definition { IsDefinition def.now }
+        ensures row { IfOk result (IsRowOf def.now) }
         ensures exact { IsBuilt result (row_of def.now pairs.now) }
     {
         if let Some(name) = wrong_pair(def.fields(), pairs) {
