@@ -8,7 +8,7 @@ use Rattle.trace_format.specs.declared.pair.Pair.{Pair}
 use Rattle.trace_format.specs.declared.fault.RowFault.{RowFault}
 use Rattle.trace_format.specs.declared.fault.RowFault.TheVariants.{BadRow, Memory}
 use Rattle.trace_format.specs.Definitions.{Definition, IsDefinition, has_field}
-use Rattle.trace_format.specs.Cells.{Datum, Cells, IsRowOf, kinds_of, value_at}
+use Rattle.trace_format.specs.Cells.{Datum, Cells, IsRowOf, StandByName, kinds_of, value_at}
 use Rattle.trace_format.specs.Rows.{value_of, field_named, pair_value, pair_named, is_right, first_wrong, first_missing, given, row_unless, row_of, IsBuilt}
 use Rattle.trace_format.specs.Pairs.{has_pair, HasPair, AreOnce, Give, IsRight, AreRight, IsWrong, IsWrongPair, IsMissingField, IsRefusedRow}
 use Rattle.trace_format.proofs.Lists.{AllByRecursion-push}
@@ -234,6 +234,10 @@ module _ (definition : Definition) (pairs : List Pair) where
   unfolding row_of
   build_map (Ok row) e = give_is (first_wrong definition.fields [] pairs) (first_missing definition.fields pairs) row refl refl e
   build_map (Err fault) e = tt
+
+  pub build_names : (r : Result Cells RowFault) → IsDefinition definition → IfOk r (IsRowOf definition) → IfOk r (λ row. StandByName definition.fields row.values)
+  build_names (Ok row) is of = stand_by_name definition row is of
+  build_names (Err fault) is of = tt
 
   pub build_only : (r : Result Cells RowFault) → IsBuilt r (row_of definition pairs) → IsDefinition definition → (row : Cells) → IsRowOf definition row → Give definition.fields pairs row → IsBuilt r (Ok row)
   build_only r e is row of give = subst (IsBuilt r) (row_is row is of give) e

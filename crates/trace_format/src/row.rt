@@ -1,6 +1,6 @@
 //! Rows: the values of an event's fields.
 
-ghost use Rattle.std.specs.Prelude.{◌≡◌, ◌≤◌, ◌↔◌, List, ℕ, IfOk, IfErr, OnErr, Some, None, Ok, length, map};
+ghost use Rattle.std.specs.Prelude.{◌≡◌, ◌≤◌, ◌↔◌, List, ℕ, IfOk, IfErr, IfSome, OnErr, Some, None, Ok, length, map};
 
 use crate::event::{EventDef, Field};
 use crate::fault::RowFault;
@@ -31,7 +31,7 @@ impl Model for Row {
 }
 
 impl Row {
-    ghost use Rattle.trace_format.specs.Cells.{Cells, datum_of, IsRow, IsRowOf, payload_of, size_of_all};
+    ghost use Rattle.trace_format.specs.Cells.{Cells, datum_of, IsRow, IsRowOf, StandByName, payload_of, size_of_all};
     ghost use Rattle.trace_format.specs.Definitions.{IsDefinition};
     ghost use Rattle.trace_format.specs.Rows.{row_of, IsBuilt};
     ghost use Rattle.trace_format.specs.Pairs.{Give, IsRefusedRow};
@@ -49,7 +49,9 @@ impl Row {
         ensures only { (row : Cells) → IsRowOf def.now row → Give def.now.fields pairs.now row → IsBuilt result (Ok row) }
         // Other pairs are refused at the first that is wrong, else at the first field that is missing.
         ensures refused { IfErr result (IsRefusedRow def.now pairs.now) }
-        // All of this as one function of the pairs.
+        // The value at a field's name is the one in the field's place.
+        ensures names { IfOk result (λ row. StandByName def.now.fields row.values) }
+        // What is built, and each refusal, as one function of the pairs.
         ensures exact { IsBuilt result (row_of def.now pairs.now) }
     {
         Row::read(alloc, def, pairs)
@@ -82,7 +84,9 @@ impl Row {
     pub fn decode(alloc: Global, def: &EventDef, bytes: &[u8]) -> Result<Option<Row>, AllocError>
         // It finds a row exactly where the bytes are that row's payload.
         ensures row { IfOk result (λ found. (row : Cells) → (found ≡ Some row) ↔ (IsRowOf def.now row × (bytes.now ≡ payload_of row))) }
-        // The same as one function of the bytes.
+        // The value at a field's name is the one in the field's place.
+        ensures names { IfOk result (λ found. IfSome found (λ row. StandByName def.now.fields row.values)) }
+        // What is found as one function of the bytes.
         ensures exact { IfOk result (λ found. found ≡ row_from def.now bytes.now) }
     {
         let Some(values) = decode_values(alloc, def.fields(), bytes)? else {

@@ -1,4 +1,4 @@
-use Rattle.trace_format.proofs.PairLemmas.{build_map, build_only, build_refused}
+use Rattle.trace_format.proofs.PairLemmas.{build_map, build_names, build_only, build_refused}
 use Rattle.trace_format.proofs.row.Row.build.Goals as goal
 
 pub returns-clause-map : goal.returns-clause-map
@@ -9,3 +9,6 @@ returns-clause-only c = build_only c.args.def.now c.args.pairs.now c.read.result
 
 pub returns-clause-refused : goal.returns-clause-refused
 returns-clause-refused c = build_refused c.args.def.now c.args.pairs.now c.read.result c.read.ensures.exact c.read.ensures.definition
+
+pub returns-clause-names : goal.returns-clause-names
+returns-clause-names c = build_names c.args.def.now c.args.pairs.now c.read.result c.read.ensures.definition c.read.ensures.row

@@ -2,9 +2,10 @@ use Rattle.std.proofs.Common.{◌≡◌, List, Option, Vec, Global, map, option_
 use Rattle.std.specs.List.{AllZip}
 use Rattle.trace_format.specs.declared.event.Field.{Field}
 use Rattle.trace_format.specs.declared.value.Value.{Value}
-use Rattle.trace_format.specs.Cells.{Datum, datum_of, Holds, kinds_of}
+use Rattle.trace_format.specs.Cells.{Datum, Cells, datum_of, Holds, kinds_of}
 use Rattle.trace_format.specs.Decoding.{values_from}
 use Rattle.trace_format.proofs.Payloads.{are_bytes, decoded, not_decoded, decoded_exactly, not_decoded_exactly, values-read}
+use Rattle.trace_format.proofs.FieldNames.{stand_by_name}
 use Rattle.trace_format.proofs.row.Row.decode.Goals as goal
 
 -- the values in a vector that was found
@@ -38,3 +39,8 @@ returns-clause-row c row =
 
 pub returns-clause-exact : goal.returns-clause-exact
 returns-clause-exact c = decoded_exactly c.args.def.now c.args.bytes.now c.in_ok-kinds.kinds.items (map datum_of c.in-Some.values.items) (kinds_are c) (some_read c)
+
+pub returns-clause-names : goal.returns-clause-names
+returns-clause-names c =
+    let row : Cells = record { kinds = c.in_ok-kinds.kinds.items; values = map datum_of c.in-Some.values.items } in
+    stand_by_name c.args.def.now row c.fields.ensures.definition (record { kinds = kinds_are c; values = invariant_of-result c })
