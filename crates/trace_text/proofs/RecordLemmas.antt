@@ -1,6 +1,6 @@
 -- The bytes of records and their lines.
-use Rattle.std.proofs.Common.{◌≡◌, ℕ, ◌<◌, ◌≤◌, ◌+◌, ◌^◌, ltb, false, List, ◌++◌, Option, Some, FitsSigned, refl, sym, ap, ◌∙◌, length, take, drop, append_assoc, arith}
-use Rattle.std.specs.Int.{w16, w32, w64, to_le_bytes, from_le_bytes, cast_unsigned, cast_signed}
+use Rattle.std.proofs.Common.{◌≡◌, ℕ, ◌<◌, ◌≤◌, ◌^◌, ltb, false, List, ◌++◌, Some, FitsSigned, refl, sym, ap, ◌∙◌, length, take, drop, append_assoc, arith}
+use Rattle.std.specs.Int.{w32, to_le_bytes, from_le_bytes, cast_unsigned, cast_signed}
 use Rattle.std.proofs.lemmas.Nat.{from_le_bytes-to_le_bytes_2, from_le_bytes-to_le_bytes_4, from_le_bytes-to_le_bytes_8}
 use Rattle.std.proofs.lemmas.Bool.{le-ltb}
 use Rattle.std.proofs.lemmas.Int.{to_z-of_z}
@@ -8,13 +8,11 @@ use Rattle.std.proofs.lemmas.List.{take_at, drop_at}
 use Rattle.std.proofs.Math.Facts.{Fits-of_z}
 use Rattle.page_ring.specs.declared.heads.Head.{Head}
 use Rattle.page_ring.specs.Record.{head_of, head_bytes}
-use Rattle.trace_format.specs.Definitions.{Definition}
-use Rattle.trace_format.specs.Cells.{Cells, IsRowOf, payload_of}
+use Rattle.trace_format.specs.Cells.{payload_of}
 use Rattle.trace_format.specs.Decoding.{row_from}
-use Rattle.trace_format.specs.Catalogs.{event_of}
 use Rattle.trace_format.proofs.Payloads.{row_from-payload}
-use Rattle.trace_text.specs.RecordText.{line_of_row, line_of_event, line_of_head, payload_in, record_line, row_line}
-use Rattle.trace_text.specs.Laws.{IsHeadOf, RecordShowsItsRow}
+use Rattle.trace_text.specs.RecordText.{line_of_row, line_of_event, line_of_head, payload_in, record_line}
+use Rattle.trace_text.specs.Laws.{RecordShowsItsRow}
 
 sixteen : (head : Head) → length (head_bytes head) ≡ 16
 unfolding head_bytes

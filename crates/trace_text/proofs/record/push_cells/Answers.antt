@@ -1,8 +1,8 @@
-use Rattle.std.proofs.Common.{◌≡◌, ◌∷◌, ◌++◌, ℕ, zero, suc, ◌+◌, ◌≤◌, List, [], length, map, drop, min, refl, sym, ap, ◌∙◌, append-nil, arith}
+use Rattle.std.proofs.Common.{◌≡◌, ◌∷◌, ◌++◌, ℕ, zero, suc, ◌≤◌, List, [], length, map, drop, min, refl, sym, ap, ◌∙◌, append-nil, arith}
 use Rattle.std.proofs.lemmas.Slice.Zip.{zip_end}
 use Rattle.trace_format.specs.declared.event.Field.{Field}
 use Rattle.trace_format.specs.declared.value.Value.{Value}
-use Rattle.trace_format.specs.Cells.{Datum, datum_of}
+use Rattle.trace_format.specs.Cells.{datum_of}
 use Rattle.trace_text.specs.RecordText.{cells_text}
 use Rattle.trace_text.proofs.record.push_cells.Goals as goal
 
