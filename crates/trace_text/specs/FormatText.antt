@@ -1,0 +1,41 @@
+-- The text of a `format` file, after "Event formats" of events.rst. That a record's only common field shown is the pid, and that the fields
+-- have no padding between them, is this project's own choice.
+use Rattle.std.specs.Prelude.{ℕ, ◌+◌, Bool, true, if◌then◌else◌, List, [], ◌∷◌, ◌++◌, codes}
+use Rattle.std.specs.Fmt.{decimal}
+use Rattle.trace_format.specs.declared.event.Field.{Field}
+use Rattle.trace_format.specs.Kinds.{size_of, is_signed_kind}
+use Rattle.trace_format.specs.Definitions.{Definition}
+use Rattle.trace_text.specs.FieldText.{field_text}
+
+-- 1 where numbers below 0 are held
+abbrev pub signed_text : Bool → List ℕ
+signed_text signed = if signed then codes "1" else codes "0"
+
+-- a field with the place of its first byte in a record, how many bytes it takes, and whether it is signed
+unfoldable pub place_line : List ℕ → ℕ → ℕ → Bool → List ℕ
+place_line declared offset size signed =
+    codes "\tfield:" ++ declared
+    ++ codes ";\toffset:" ++ decimal offset
+    ++ codes ";\tsize:" ++ decimal size
+    ++ codes ";\tsigned:" ++ signed_text signed
+    ++ codes ";\n"
+
+unfoldable pub field_line : ℕ → Field → List ℕ
+field_line offset field = place_line (field_text field) offset (size_of field.kind) (is_signed_kind field.kind)
+
+-- fields one behind the other, from an offset on
+abbrev pub field_lines : ℕ → List Field → List ℕ
+field_lines offset [] = []
+field_lines offset (field ∷ fields) = field_line offset field ++ field_lines (offset + size_of field.kind) fields
+
+-- the pid stands in each record's head
+unfoldable pub common_pid_line : List ℕ
+common_pid_line = place_line (codes "s32 common_pid") 8 4 true
+
+-- the event's name and number, the pid, an empty line, and the fields behind the head, which has 16 bytes
+unfoldable pub format_text : ℕ → Definition → List ℕ
+format_text id definition =
+    codes "name: " ++ definition.name
+    ++ codes "\nID: " ++ decimal id
+    ++ codes "\nformat:\n" ++ common_pid_line
+    ++ codes "\n" ++ field_lines 16 definition.fields

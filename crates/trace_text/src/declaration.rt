@@ -1,0 +1,46 @@
+//! An event's line in `synthetic_events`.
+
+ghost use Rattle.std.specs.Prelude.{◌≡◌, ◌++◌, OnOk, OnErr};
+ghost use Rattle.trace_text.specs.DeclarationText as texts;
+
+use crate::field::push_field;
+use std::alloc::{AllocError, Global};
+use trace_format::{EventDef, Field};
+
+/// Appends fields that follow another one.
+fn push_further_fields(alloc: Global, out: &mut Vec<u8>, fields: &[Field]) -> Result<(), AllocError>
+    ensures { OnOk result (out.new.items ≡ out.old.items ++ texts.further_fields fields.now) }
+{
+    for field in fields {
+        out.extend_from_slice(b"; ".as_slice())?;
+        push_field(alloc, out, field)?;
+    }
+    Ok(())
+}
+
+/// Appends fields with `; ` between each two.
+fn push_fields(alloc: Global, out: &mut Vec<u8>, fields: &[Field]) -> Result<(), AllocError>
+    ensures { OnOk result (out.new.items ≡ out.old.items ++ texts.fields_text fields.now) }
+{
+    let Some((first, further)) = fields.split_first() else {
+        return Ok(());
+    };
+    push_field(alloc, out, first)?;
+    push_further_fields(alloc, out, further)
+}
+
+/// Appends an event's line of `synthetic_events` ("Synthetic events" of histogram.rst): its name, and its fields as they are declared.
+///
+/// It is refused only where an allocation is, and `out` is then as it was.
+#[tactic(auto, unfolding(crate::specs::DeclarationText::declaration_text))]
+pub fn declaration_text(alloc: Global, def: &EventDef, out: &mut Vec<u8>) -> Result<(), AllocError>
+    ensures text { OnOk result (out.new.items ≡ out.old.items ++ texts.declaration_text def.now) }
+    ensures refused { OnErr result (out.new.items ≡ out.old.items) }
+{
+    let mut text = Vec::new(alloc);
+    text.extend_from_slice(def.name())?;
+    text.extend_from_slice(b" ".as_slice())?;
+    push_fields(alloc, &mut text, def.fields())?;
+    text.extend_from_slice(b"\n".as_slice())?;
+    out.extend_from_slice(&text)
+}

@@ -1,0 +1,109 @@
+//! The text of a `format` file.
+
+ghost use Rattle.std.specs.Prelude.{◌≡◌, ◌++◌, OnOk, OnErr};
+ghost use Rattle.trace_text.specs.FormatText as texts;
+
+use crate::append::push_decimal;
+use crate::field::push_field;
+use std::alloc::{AllocError, Global};
+use trace_format::{EventDef, Field};
+
+/// Where the fields begin in a record: behind its head.
+const FIRST_OFFSET: u128 = 16;
+
+/// Appends 1 for a signed field, and 0 for another.
+fn push_sign(out: &mut Vec<u8>, signed: bool) -> Result<(), AllocError>
+    ensures { OnOk result (out.new.items ≡ out.old.items ++ texts.signed_text signed) }
+{
+    if signed {
+        out.extend_from_slice(b"1".as_slice())
+    } else {
+        out.extend_from_slice(b"0".as_slice())
+    }
+}
+
+/// Appends where a field lies in a record, and how: its first byte, its bytes, and whether it is signed.
+#[tactic(auto, unfolding(crate::specs::FormatText::place_line))]
+fn push_place(
+    alloc: Global,
+    out: &mut Vec<u8>,
+    declared: &[u8],
+    offset: u128,
+    size: usize,
+    signed: bool,
+) -> Result<(), AllocError>
+    ensures { OnOk result (out.new.items ≡ out.old.items ++ texts.place_line declared.now offset size signed) }
+{
+    out.extend_from_slice(b"\tfield:".as_slice())?;
+    out.extend_from_slice(declared)?;
+    out.extend_from_slice(b";\toffset:".as_slice())?;
+    push_decimal(alloc, out, offset)?;
+    out.extend_from_slice(b";\tsize:".as_slice())?;
+    push_decimal(alloc, out, size as u128)?;
+    out.extend_from_slice(b";\tsigned:".as_slice())?;
+    push_sign(out, signed)?;
+    out.extend_from_slice(b";\n".as_slice())
+}
+
+/// Appends the line of a field whose first byte is at an offset.
+#[tactic(auto, unfolding(crate::specs::FormatText::field_line))]
+fn push_field_line(
+    alloc: Global,
+    out: &mut Vec<u8>,
+    offset: u128,
+    field: &Field,
+) -> Result<(), AllocError>
+    ensures { OnOk result (out.new.items ≡ out.old.items ++ texts.field_line offset field.now) }
+{
+    let mut declared = Vec::new(alloc);
+    push_field(alloc, &mut declared, field)?;
+    let kind = field.kind;
+    push_place(alloc, out, &declared, offset, kind.size(), kind.is_signed())
+}
+
+/// Appends the lines of fields that lie one behind the other in a record.
+fn push_field_lines(alloc: Global, out: &mut Vec<u8>, fields: &[Field]) -> Result<(), AllocError>
+    ensures { OnOk result (out.new.items ≡ out.old.items ++ texts.field_lines 16 fields.now) }
+{
+    let mut offset = FIRST_OFFSET;
+    for field in fields {
+        push_field_line(alloc, out, offset, field)?;
+        offset += field.kind.size() as u128;
+    }
+    Ok(())
+}
+
+/// Appends the line of the pid, which stands in each record's head.
+#[tactic(auto, unfolding(crate::specs::FormatText::common_pid_line))]
+fn push_common_pid_line(alloc: Global, out: &mut Vec<u8>) -> Result<(), AllocError>
+    ensures { OnOk result (out.new.items ≡ out.old.items ++ texts.common_pid_line) }
+{
+    push_place(alloc, out, b"s32 common_pid".as_slice(), 8, 4, true)
+}
+
+/// Appends the text of `events/synthetic/NAME/format` ("Event formats" of events.rst): the event's name and number, then a line for the pid
+/// and one for each field. A line has the field as it is declared, the place of its first byte in a record and its size, both in bytes, and
+/// 1 where it holds numbers below 0, else 0.
+///
+/// It is refused only where an allocation is, and `out` is then as it was.
+#[tactic(auto, unfolding(crate::specs::FormatText::format_text))]
+pub fn format_text(
+    alloc: Global,
+    id: u16,
+    def: &EventDef,
+    out: &mut Vec<u8>,
+) -> Result<(), AllocError>
+    ensures text { OnOk result (out.new.items ≡ out.old.items ++ texts.format_text id def.now) }
+    ensures refused { OnErr result (out.new.items ≡ out.old.items) }
+{
+    let mut text = Vec::new(alloc);
+    text.extend_from_slice(b"name: ".as_slice())?;
+    text.extend_from_slice(def.name())?;
+    text.extend_from_slice(b"\nID: ".as_slice())?;
+    push_decimal(alloc, &mut text, u128::from(id))?;
+    text.extend_from_slice(b"\nformat:\n".as_slice())?;
+    push_common_pid_line(alloc, &mut text)?;
+    text.extend_from_slice(b"\n".as_slice())?;
+    push_field_lines(alloc, &mut text, def.fields())?;
+    out.extend_from_slice(&text)
+}

@@ -1,0 +1,171 @@
+//! The line of a record in the `trace` and `trace_pipe` files.
+
+ghost use Rattle.std.specs.Prelude.{◌≡◌, ◌++◌, take, map, OnOk, OnErr};
+ghost use Rattle.trace_format.specs.Cells.{datum_of};
+ghost use Rattle.trace_format.specs.Decoding.{row_from};
+ghost use Rattle.trace_text.specs.RecordText as texts;
+
+use crate::append::{push_decimal, push_signed};
+use page_ring::{Head, read_head};
+use std::alloc::{AllocError, Global};
+use trace_format::{Catalog, EventDef, Field, Row, Value};
+
+/// How many bytes a record's head takes.
+const HEAD_SIZE: usize = 16;
+
+/// Appends a number below 1,000 in three digits.
+fn push_three_digits(out: &mut Vec<u8>, n: u32) -> Result<(), AllocError>
+    ensures { OnOk result (out.new.items ≡ out.old.items ++ texts.three_digits n) }
+{
+    let digits = [
+        b'0' + (n / 100 % 10) as u8,
+        b'0' + (n / 10 % 10) as u8,
+        b'0' + (n % 10) as u8,
+    ];
+    out.extend_from_slice(&digits)
+}
+
+/// Appends who wrote a record, where and when.
+#[tactic(auto, unfolding(crate::specs::RecordText::line_start))]
+fn push_line_start(
+    alloc: Global,
+    out: &mut Vec<u8>,
+    cpu: u32,
+    head: &Head,
+) -> Result<(), AllocError>
+    ensures { OnOk result (out.new.items ≡ out.old.items ++ texts.line_start cpu head.now) }
+{
+    push_signed(alloc, out, i128::from(head.pid))?;
+    out.extend_from_slice(b" [".as_slice())?;
+    push_three_digits(out, cpu)?;
+    out.extend_from_slice(b"] ".as_slice())?;
+    push_decimal(alloc, out, u128::from(head.ts))?;
+    out.extend_from_slice(b": ".as_slice())
+}
+
+/// Appends a number in decimal, or a text as it is.
+fn push_value(alloc: Global, out: &mut Vec<u8>, value: &Value) -> Result<(), AllocError>
+    ensures { OnOk result (out.new.items ≡ out.old.items ++ texts.value_text (datum_of value.now)) }
+{
+    match value {
+        Value::Num(number) => push_signed(alloc, out, *number),
+        Value::Text(text) => out.extend_from_slice(text),
+    }
+}
+
+/// Appends a field and its value.
+#[tactic(auto, unfolding(crate::specs::RecordText::cell_text))]
+fn push_cell(
+    alloc: Global,
+    out: &mut Vec<u8>,
+    field: &Field,
+    value: &Value,
+) -> Result<(), AllocError>
+    ensures { OnOk result (out.new.items ≡ out.old.items ++ texts.cell_text field.now (datum_of value.now)) }
+{
+    out.extend_from_slice(b" ".as_slice())?;
+    out.extend_from_slice(field.name.as_bytes())?;
+    out.extend_from_slice(b"=".as_slice())?;
+    push_value(alloc, out, value)
+}
+
+/// Appends fields, each with its value.
+fn push_cells(
+    alloc: Global,
+    out: &mut Vec<u8>,
+    fields: &[Field],
+    values: &[Value],
+) -> Result<(), AllocError>
+    ensures { OnOk result (out.new.items ≡ out.old.items ++ texts.cells_text fields.now (map datum_of values.now)) }
+{
+    for (field, value) in fields.iter().zip(values) {
+        push_cell(alloc, out, field, value)?;
+    }
+    Ok(())
+}
+
+/// Appends the line of a row.
+#[tactic(auto, unfolding(crate::specs::RecordText::row_line))]
+fn push_row_line(
+    alloc: Global,
+    out: &mut Vec<u8>,
+    cpu: u32,
+    head: &Head,
+    def: &EventDef,
+    row: &Row,
+) -> Result<(), AllocError>
+    ensures { OnOk result (out.new.items ≡ out.old.items ++ texts.row_line cpu head.now def.now row.now.values) }
+{
+    push_line_start(alloc, out, cpu, head)?;
+    out.extend_from_slice(def.name())?;
+    out.extend_from_slice(b":".as_slice())?;
+    push_cells(alloc, out, def.fields(), row.values())?;
+    out.extend_from_slice(b"\n".as_slice())
+}
+
+/// The payload that stands behind a record's head.
+fn payload_in<'a>(head: &Head, rec: &'a [u8]) -> &'a [u8]
+    ensures { result.now ≡ texts.payload_in head.now rec.now }
+{
+    let behind = rec.get(HEAD_SIZE..).unwrap_or(&[]);
+    behind.get(..usize::from(head.payload)).unwrap_or(behind)
+}
+
+/// Appends the line of a record of an event.
+fn push_event_line(
+    alloc: Global,
+    out: &mut Vec<u8>,
+    cpu: u32,
+    head: &Head,
+    def: &EventDef,
+    payload: &[u8],
+) -> Result<(), AllocError>
+    ensures { OnOk result (out.new.items ≡ out.old.items ++ texts.line_of_row cpu head.now def.now (row_from def.now payload.now)) }
+{
+    match Row::decode(alloc, def, payload)? {
+        Some(row) => push_row_line(alloc, out, cpu, head, def, &row),
+        None => Ok(()),
+    }
+}
+
+/// Appends the line of a record.
+#[tactic(auto, unfolding(crate::specs::RecordText::record_line))]
+fn push_record_line(
+    alloc: Global,
+    out: &mut Vec<u8>,
+    catalog: &Catalog,
+    cpu: u32,
+    rec: &[u8],
+) -> Result<(), AllocError>
+    ensures { OnOk result (out.new.items ≡ out.old.items ++ texts.record_line catalog.now cpu rec.now) }
+{
+    let Some(head) = read_head(rec) else {
+        return Ok(());
+    };
+    let Some(def) = catalog.def(head.event) else {
+        return Ok(());
+    };
+    push_event_line(alloc, out, cpu, &head, def, payload_in(&head, rec))
+}
+
+/// Appends the line of a record in `trace` and `trace_pipe` ("Output format" of ftrace.rst): pid, CPU in three digits, timestamp in ticks of
+/// the clock, event, and each field with its value, in order of declaration.
+///
+/// `rec` is the record's bytes: its head, which names an event of the catalog, the payload of a row of that event, and what fills it up. Other
+/// bytes have no line.
+///
+/// It is refused only where an allocation is, and `out` is then as it was.
+pub fn record_text(
+    alloc: Global,
+    catalog: &Catalog,
+    cpu: u32,
+    rec: &[u8],
+    out: &mut Vec<u8>,
+) -> Result<(), AllocError>
+    ensures text { OnOk result (out.new.items ≡ out.old.items ++ texts.record_line catalog.now cpu rec.now) }
+    ensures refused { OnErr result (out.new.items ≡ out.old.items) }
+{
+    let mut text = Vec::new(alloc);
+    push_record_line(alloc, &mut text, catalog, cpu, rec)?;
+    out.extend_from_slice(&text)
+}

@@ -1,0 +1,42 @@
+//! The text of a `stats` file.
+
+ghost use Rattle.std.specs.Prelude.{◌≡◌, ◌++◌, OnOk, OnErr, string_bytes};
+ghost use Rattle.trace_text.specs.StatsText as texts;
+
+use page_ring::RingStats;
+use std::alloc::{AllocError, Global};
+use std::fmt::Write;
+
+/// Appends a label, a number and the end of the line.
+#[tactic(auto, unfolding(crate::specs::StatsText::stats_line))]
+fn push_line(out: &mut String, label: &str, n: u64) -> Result<(), AllocError>
+    ensures { OnOk result (string_bytes out.new ≡ string_bytes out.old ++ texts.stats_line label.now n) }
+{
+    writeln!(out, "{label}{n}")
+}
+
+/// Appends the text of `per_cpu/cpuN/stats` ("The File System" of ftrace.rst): the statistics of a CPU's ring and the clock, a line each.
+/// `bytes` is the sum of the kept records' sizes in bytes; `oldest` and `now` are ticks of the clock, which counts emissions.
+///
+/// It is refused only where an allocation is, and `out` is then as it was.
+#[tactic(auto, unfolding(crate::specs::StatsText::stats_text))]
+pub fn stats_text(
+    alloc: Global,
+    stats: RingStats,
+    now: u64,
+    out: &mut Vec<u8>,
+) -> Result<(), AllocError>
+    ensures text { OnOk result (out.new.items ≡ out.old.items ++ texts.stats_text stats now) }
+    ensures refused { OnErr result (out.new.items ≡ out.old.items) }
+{
+    let mut text = String::new(alloc);
+    push_line(&mut text, "entries: ", stats.entries)?;
+    push_line(&mut text, "overrun: ", stats.overrun)?;
+    push_line(&mut text, "commit overrun: ", 0)?;
+    push_line(&mut text, "bytes: ", stats.bytes)?;
+    push_line(&mut text, "oldest event ts: ", stats.oldest)?;
+    push_line(&mut text, "now ts: ", now)?;
+    push_line(&mut text, "dropped events: ", stats.dropped)?;
+    push_line(&mut text, "read events: ", stats.read)?;
+    out.extend_from_slice(text.as_bytes())
+}
