@@ -9,7 +9,9 @@ use Rattle.trace_format.specs.Reading.{definition_of}
 use Rattle.trace_format.specs.Rows.{row_of}
 use Rattle.trace_format.specs.declared.fault.CatalogFault.{CatalogFault}
 use Rattle.trace_format.specs.declared.pair.Pair.{Pair}
-use Rattle.trace_text.specs.Texts.{stats_text, format_text, declaration_text}
+use Rattle.trace_text.specs.DeclarationText.{declaration_text}
+use Rattle.trace_text.specs.FormatText.{format_text}
+use Rattle.trace_text.specs.StatsText.{stats_text}
 use Rattle.trace_book.specs.TraceFiles.{trace_text, pipe_text}
 use Rattle.trace_book.specs.Requests.{Request, Emission, MakeInstance, RemoveInstance, WriteFile, ReadFile, request_of}
 use Rattle.trace_book.specs.Settings.{NumberedEvent, event_named, declared_events, written_flag, written_option, is_enabled, overwrites, now_of}

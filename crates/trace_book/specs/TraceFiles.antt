@@ -3,7 +3,8 @@ use Rattle.std.specs.Prelude.{ℕ, ◌+◌, List, ◌++◌, length, take, Option
 use Rattle.std.specs.List.{flat_map}
 use Rattle.page_ring.specs.Account.{Reading, readings_of, stats_of}
 use Rattle.trace_format.specs.Definitions.{Definition}
-use Rattle.trace_text.specs.Texts.{record_line, lost_line, trace_head}
+use Rattle.trace_text.specs.RecordText.{record_line}
+use Rattle.trace_text.specs.TraceText.{lost_line, trace_head}
 use Rattle.trace_book.specs.Rings.{up_to_limit, ring_events}
 use Rattle.trace_book.specs.Settings.{declared_events}
 use Rattle.trace_book.specs.Requests.{Request}

@@ -4,7 +4,7 @@ ghost use Rattle.std.specs.Prelude.{◌≡◌, ◌^◌, ◌≤◌, ◌++◌, min
 ghost use Rattle.std.specs.List.{flat_map};
 ghost use Rattle.page_ring.specs.Account.{Reading};
 ghost use Rattle.page_ring.specs.Reading.{reading};
-ghost use Rattle.trace_text.specs.Texts.{record_line};
+ghost use Rattle.trace_text.specs.RecordText.{record_line};
 ghost use Rattle.trace_book.specs.TraceFiles as texts;
 
 use page_ring::{Kept, KeptRecords};

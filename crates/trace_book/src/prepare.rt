@@ -14,7 +14,7 @@ ghost use Rattle.trace_book.specs.States.{StandsFor, IsPrepared, IsReady, IsUsab
 ghost use Rattle.trace_book.specs.Places.{file_at};
 ghost use Rattle.trace_book.specs.declared.command.Config.{Config};
 ghost use Rattle.trace_book.specs.TraceFiles.{trace_text};
-ghost use Rattle.trace_text.specs.Texts as texts;
+ghost use Rattle.trace_text.specs.DeclarationText as texts;
 ghost use Rattle.trace_format.specs.Cells.{size_of_all};
 ghost use Rattle.trace_format.specs.Catalogs.{id_for};
 ghost use Rattle.page_ring.specs.Record.{record_size};

@@ -6,7 +6,7 @@ use Rattle.std.specs.Option.{option_map, option_and_then}
 use Rattle.std.specs.Str.{bytes_eq}
 use Rattle.trace_book.specs.Blanks.{is_blank}
 use Rattle.trace_book.specs.Decimals.{decimal_number, up_to}
-use Rattle.trace_book.specs.declared.command.Pair.{Pair}
+use Rattle.trace_format.specs.declared.pair.Pair.{Pair}
 use Rattle.trace_book.specs.declared.command.Command.{Command}
 use Rattle.trace_book.specs.declared.command.Command.TheVariants.{Emit, Write, Read}
 use Rattle.trace_session.specs.Outcomes.{or_fault, ◌>>=◌}
