@@ -23,24 +23,30 @@ use Rattle.trace_filter.proofs.Verdicts.{law, only}
 use Rattle.trace_filter.proofs.Truths.{AllFit, all_fit, value_is}
 use Rattle.trace_filter.proofs.RowTruths.{tests_decide}
 
--- no test is refused as too many
-never_too_many : (fields : List Field) (subject : Subject) (spots : List Spot) → first_fault fields subject spots ≡ Some TooMany → ⊥
-never_too_many fields subject [] h = cc
-never_too_many fields subject (spot ∷ spots) h = by (fault_at fields subject spot.token spot.at) (here spot.token) (never_too_many fields (subject_behind fields subject spot.token) spots) h
+-- a test is refused as syntax, for its field or for its operator alone
+record NoTestFault (fault : FilterFault) : Type 0 where
+  syntax : (at : ℕ) → FilterSyntax at ≡ fault → ⊥
+  field : (at : ℕ) → NoSuchField at ≡ fault → ⊥
+  operator : (at : ℕ) → WrongOperator at ≡ fault → ⊥
+
+never_told : (fault : FilterFault) → NoTestFault fault → (fields : List Field) (subject : Subject) (spots : List Spot) → first_fault fields subject spots ≡ Some fault → ⊥
+never_told fault none fields subject [] h = cc
+never_told fault none fields subject (spot ∷ spots) h =
+    by (fault_at fields subject spot.token spot.at) (here spot.token) (never_told fault none fields (subject_behind fields subject spot.token) spots) h
   where
-    operator : (b : Bool) (at : ℕ) → unless b (WrongOperator at) ≡ Some TooMany → ⊥
+    operator : (b : Bool) (at : ℕ) → unless b (WrongOperator at) ≡ Some fault → ⊥
     operator true at h = cc
-    operator false at h = cc
+    operator false at h = none.operator at (some_is h)
 
-    syntax : (b : Bool) (at : ℕ) → unless b (FilterSyntax at) ≡ Some TooMany → ⊥
+    syntax : (b : Bool) (at : ℕ) → unless b (FilterSyntax at) ≡ Some fault → ⊥
     syntax true at h = cc
-    syntax false at h = cc
+    syntax false at h = none.syntax at (some_is h)
 
-    field : (o : Option Subject) (at : ℕ) → unless_named o (NoSuchField at) ≡ Some TooMany → ⊥
-    field None at h = cc
+    field : (o : Option Subject) (at : ℕ) → unless_named o (NoSuchField at) ≡ Some fault → ⊥
+    field None at h = none.field at (some_is h)
     field (Some s) at h = cc
 
-    here : (token : Token) → fault_at fields subject token spot.at ≡ Some TooMany → ⊥
+    here : (token : Token) → fault_at fields subject token spot.at ≡ Some fault → ⊥
     here Open h = cc
     here Close h = cc
     here Bang h = cc
@@ -51,9 +57,15 @@ never_too_many fields subject (spot ∷ spots) h = by (fault_at fields subject s
     here (Name name) h = field (subject_named fields name) spot.at h
     here (Value literal) h = syntax (fits_at (is_text subject) literal) spot.at h
 
-    by : (o : Option FilterFault) → (o ≡ Some TooMany → ⊥) → (first_fault fields (subject_behind fields subject spot.token) spots ≡ Some TooMany → ⊥) → or_later o (first_fault fields (subject_behind fields subject spot.token) spots) ≡ Some TooMany → ⊥
+    by : (o : Option FilterFault) → (o ≡ Some fault → ⊥) → (first_fault fields (subject_behind fields subject spot.token) spots ≡ Some fault → ⊥) → or_later o (first_fault fields (subject_behind fields subject spot.token) spots) ≡ Some fault → ⊥
     by None first later h = later h
     by (Some f) first later h = first h
+
+no_too_many : NoTestFault TooMany
+no_too_many = record { syntax = λ at h. cc; field = λ at h. cc; operator = λ at h. cc }
+
+no_memory : NoTestFault Memory
+no_memory = record { syntax = λ at h. cc; field = λ at h. cc; operator = λ at h. cc }
 
 module _ (definition : Definition) (text : List ℕ) where
   -- the cases of an answer
@@ -84,7 +96,7 @@ module _ (definition : Definition) (text : List ℕ) where
       }
 
   fault_told : (fault : FilterFault) → length (trimmed text) ≤ 1024 → ComesTo text Fine → misfit_of definition text ≡ Some fault → IsTold definition text fault
-  fault_told TooMany short fine h = absurd (never_too_many definition.fields subjects.Pid (spots_of text) h)
+  fault_told TooMany short fine h = absurd (never_told TooMany no_too_many definition.fields subjects.Pid (spots_of text) h)
   fault_told (FilterSyntax at) short fine h = inr (short, fine, h)
   fault_told (NoSuchField at) short fine h = (short, fine, h)
   fault_told (WrongOperator at) short fine h = (short, fine, h)
@@ -127,6 +139,55 @@ module _ (definition : Definition) (text : List ℕ) where
   refused_answer (WrongOperator at) h = short_answer Fine (Some (WrongOperator at)) h.0 h.1 h.2
   refused_answer Memory h = absurd h
 
+  never_memory : answer_of definition text ≡ Err Memory → ⊥
+  unfolding answer_of
+  never_memory h = from (nat_lt 1024 (length (trimmed text))) (reading start (spots_of text) (length text)) (misfit_of definition text) (compiled_of definition text) (never_told Memory no_memory definition.fields subjects.Pid (spots_of text)) h
+    where
+      from : (b : Bool) (v : Verdict) (m : Option FilterFault) (filter : Compiled) → (m ≡ Some Memory → ⊥) → answer_from b v m filter ≡ Err Memory → ⊥
+      from true v m filter never h = cc
+      from false Fine None filter never h = cc
+      from false Fine (Some f) filter never h = let same : f ≡ Memory = cc in never (ap (λ g. Some g) same)
+      from false TooDeep m filter never h = cc
+      from false (WrongAt at) m filter never h = cc
+
+  -- ---- the laws
+
+  err_is : {f g : FilterFault} → answer_of definition text ≡ Err f → answer_of definition text ≡ Err g → f ≡ g
+  err_is a b = cc
+
+  refused_of : (fault : FilterFault) → answer_of definition text ≡ Err fault → IsRefused definition text fault
+  refused_of TooMany h = told TooMany h
+  refused_of (FilterSyntax at) h = told (FilterSyntax at) h
+  refused_of (NoSuchField at) h = told (NoSuchField at) h
+  refused_of (WrongOperator at) h = told (WrongOperator at) h
+  refused_of Memory h = never_memory h
+
+  pub filter_is_answered : IsFilter definition text ↔ (answer_of definition text ≡ Ok (compiled_of definition text))
+  filter_is_answered = (filter_answer, (λ h. (filter_of (compiled_of definition text) h).is_filter))
+
+  pub refusal_is_answered : (fault : FilterFault) → IsRefused definition text fault ↔ (answer_of definition text ≡ Err fault)
+  refusal_is_answered fault = (refused_answer fault, refused_of fault)
+
+  pub filter_or_refused : IsFilter definition text ⊎ ((fault : FilterFault) × IsRefused definition text fault)
+  filter_or_refused = by (answer_of definition text) refl
+    where
+      by : (r : Result Compiled FilterFault) → answer_of definition text ≡ r → IsFilter definition text ⊎ ((fault : FilterFault) × IsRefused definition text fault)
+      by (Ok found) h = inl (filter_of found h).is_filter
+      by (Err fault) h = inr (fault, refused_of fault h)
+
+  pub never_both : (fault : FilterFault) → IsFilter definition text → IsRefused definition text fault → ⊥
+  never_both fault is refused = let h : Ok (compiled_of definition text) ≡ Err fault = sym (filter_answer is) ∙ refused_answer fault refused in cc
+
+  pub one_refusal : (one other : FilterFault) → IsRefused definition text one → IsRefused definition text other → one ≡ other
+  one_refusal one other h k = err_is (refused_answer one h) (refused_answer other k)
+
+  pub never_refused : IsFilter definition text ↔ ((fault : FilterFault) → IsRefused definition text fault → ⊥)
+  never_refused = ((λ is fault refused. never_both fault is refused), (λ none. by none filter_or_refused))
+    where
+      by : ((fault : FilterFault) → IsRefused definition text fault → ⊥) → IsFilter definition text ⊎ ((fault : FilterFault) × IsRefused definition text fault) → IsFilter definition text
+      by none (inl is) = is
+      by none (inr h) = absurd (none h.0 h.1)
+
   -- ---- what `parse` says
 
   pub parse_read : (r : Result Compiled FilterFault) → IsAnswered r (answer_of definition text) → IfOk r (IsFilterOf definition text)
@@ -148,9 +209,6 @@ module _ (definition : Definition) (text : List ℕ) where
   parse_only (Err (NoSuchField at)) e is = let h : Ok (compiled_of definition text) ≡ Err (NoSuchField at) = sym (filter_answer is) ∙ e in cc
   parse_only (Err (WrongOperator at)) e is = let h : Ok (compiled_of definition text) ≡ Err (WrongOperator at) = sym (filter_answer is) ∙ e in cc
   parse_only (Err Memory) e is = tt
-
-  err_is : {f g : FilterFault} → answer_of definition text ≡ Err f → answer_of definition text ≡ Err g → f ≡ g
-  err_is a b = cc
 
   pub parse_told : (r : Result Compiled FilterFault) → IsAnswered r (answer_of definition text) → (fault : FilterFault) → IsRefused definition text fault → IsAsTold r fault
   parse_told (Ok found) e fault is = let h : Ok found ≡ Err fault = sym e ∙ refused_answer fault is in cc

@@ -9,3 +9,4 @@ pub mod Truth
 pub mod Tests
 pub mod Steps
 pub mod Filters
+pub mod Laws

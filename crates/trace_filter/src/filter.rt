@@ -121,11 +121,14 @@ impl Filter {
     }
 }
 
-ghost use Rattle.trace_filter.specs.Filters.{IsFilter as IsFilterText};
+ghost use Rattle.trace_filter.specs.declared.fault.FilterFault.{FilterFault as fault_type};
+ghost use Rattle.trace_filter.specs.Filters.{IsFilter as IsFilterText, IsRefused as IsRefusedText};
 
 /// Whether a text is a filter of an event: whether `Filter::parse` refuses it for no cause but memory.
+#[tactic(auto, using(crate::proofs::FilterLemmas::never_refused))]
 pub fn applies_to(alloc: Global, text: &[u8], def: &EventDef) -> Result<bool, AllocError>
-    ensures { IfOk result (λ applies. IsTrue applies ↔ IsFilterText def.now text.now) }
+    ensures filter { IfOk result (λ applies. IsTrue applies ↔ IsFilterText def.now text.now) }
+    ensures unrefused { IfOk result (λ applies. IsTrue applies ↔ ((fault : fault_type) → IsRefusedText def.now text.now fault → ⊥)) }
 {
     match Filter::parse(alloc, text, def) {
         Ok(_) => Ok(true),

@@ -1,0 +1,25 @@
+-- What `Filters` says, as laws without a program.
+use Rattle.std.specs.Prelude.{◌≡◌, ◌⊎◌, ◌↔◌, ℕ, List, Result, Ok, Err}
+use Rattle.trace_format.specs.Definitions.{Definition}
+use Rattle.trace_filter.specs.declared.fault.FilterFault.{FilterFault}
+use Rattle.trace_filter.specs.Filters.{IsFilter, IsRefused, compiled_of, answer_of}
+
+-- the function of the text gives a filter exactly where the text is one by the grammar and the fields
+abbrev pub FilterIsAnswered : Type 0
+FilterIsAnswered = (definition : Definition) → (text : List ℕ) → IsFilter definition text ↔ (answer_of definition text ≡ Ok (compiled_of definition text))
+
+-- and a refusal exactly where the text is refused so by them
+abbrev pub RefusalIsAnswered : Type 0
+RefusalIsAnswered = (definition : Definition) → (text : List ℕ) → (fault : FilterFault) → IsRefused definition text fault ↔ (answer_of definition text ≡ Err fault)
+
+-- each text is a filter or refused
+abbrev pub FilterOrRefused : Type 0
+FilterOrRefused = (definition : Definition) → (text : List ℕ) → IsFilter definition text ⊎ ((fault : FilterFault) × IsRefused definition text fault)
+
+-- none is both
+abbrev pub NeverBoth : Type 0
+NeverBoth = (definition : Definition) → (text : List ℕ) → (fault : FilterFault) → IsFilter definition text → IsRefused definition text fault → ⊥
+
+-- and none is refused for two faults
+abbrev pub OneRefusal : Type 0
+OneRefusal = (definition : Definition) → (text : List ℕ) → (one other : FilterFault) → IsRefused definition text one → IsRefused definition text other → one ≡ other
