@@ -14,14 +14,16 @@ use Rattle.trace_filter.specs.declared.token.Comparison.TheVariants as compariso
 use Rattle.trace_filter.specs.Tokens.{Token, Open, Close, Bang, Both, Either, Compare, Name, Value, Misfit, Spot, trimmed, spots_of, tokens_of}
 use Rattle.trace_filter.specs.Grammar.{Expr, Spells, expr_tokens, IsVerdict, depth_of}
 use Rattle.trace_filter.specs.Syntax.{start, reading}
-use Rattle.trace_filter.specs.Fields.{is_text, takes_at, fits_at, unless, unless_named, fault_at, subject_named, subject_behind, first_fault, or_later}
+use Rattle.trace_filter.specs.Fields.{is_text, takes_at, fits_at, unless, unless_named, fault_at, subject_named, subject_behind, subjects_in, first_fault, or_later}
 use Rattle.trace_filter.specs.Truth.{Emission, Holds}
-use Rattle.trace_filter.specs.Steps.{moves_from, evaluated, at_start}
-use Rattle.trace_filter.specs.Filters.{ComesTo, misfit_of, IsFilter, IsRefused, IsTold, Compiled, IsFilterOf, Passes, IsOkUnlessMemory, IsAsTold, answer_from, compiled_of, answer_of, IsAnswered}
+use Rattle.trace_filter.specs.Steps.{Move, moves_from, moves_about, subjects_tested, evaluated, at_start}
+use Rattle.trace_filter.specs.Filters.{ComesTo, misfit_of, IsFilter, IsRefused, IsTold, Parsed, IsFilterOf, Passes, IsOkUnlessMemory, IsAsTold, answer_from, parsed_of, answer_of, IsAnswered}
 use Rattle.trace_filter.proofs.Options.{some_is}
 use Rattle.trace_filter.proofs.Verdicts.{law, only}
 use Rattle.trace_filter.proofs.Truths.{AllFit, all_fit, value_is}
 use Rattle.trace_filter.proofs.RowTruths.{tests_decide}
+use Rattle.trace_filter.proofs.TrimLemmas.{trimmed_tokens}
+use Rattle.trace_filter.proofs.Subjects.{InTests, tree_in_tests, tested_is, about_is}
 
 -- a test is refused as syntax, for its field or for its operator alone
 record NoTestFault (fault : FilterFault) : Type 0 where
@@ -69,13 +71,13 @@ no_memory = record { syntax = λ at h. cc; field = λ at h. cc; operator = λ at
 
 module _ (definition : Definition) (text : List ℕ) where
   -- the cases of an answer
-  record WasRead (long : Bool) (verdict : Verdict) (misfit : Option FilterFault) (filter found : Compiled) : Type 0 where
+  record WasRead (long : Bool) (verdict : Verdict) (misfit : Option FilterFault) (filter found : Parsed) : Type 0 where
     short : long ≡ false
     fine : verdict ≡ Fine
     fits : misfit ≡ None
     same : filter ≡ found
 
-  read_from : (long : Bool) (verdict : Verdict) (misfit : Option FilterFault) (filter found : Compiled) → answer_from long verdict misfit filter ≡ Ok found → WasRead long verdict misfit filter found
+  read_from : (long : Bool) (verdict : Verdict) (misfit : Option FilterFault) (filter found : Parsed) → answer_from long verdict misfit filter ≡ Ok found → WasRead long verdict misfit filter found
   read_from false Fine None filter found h = record { short = refl; fine = refl; fits = refl; same = cc }
   read_from false Fine (Some fault) filter found h = absurd (cc)
   read_from false TooDeep misfit filter found h = absurd (cc)
@@ -85,14 +87,14 @@ module _ (definition : Definition) (text : List ℕ) where
   verdict_is : ComesTo text (reading start (spots_of text) (length text))
   verdict_is = law (length text) (spots_of text)
 
-  filter_of : (found : Compiled) → answer_of definition text ≡ Ok found → IsFilterOf definition text found
+  filter_of : (found : Parsed) → answer_of definition text ≡ Ok found → IsFilterOf definition text found
   unfolding answer_of
   filter_of found h =
-      let was = read_from (nat_lt 1024 (length (trimmed text))) (reading start (spots_of text) (length text)) (misfit_of definition text) (compiled_of definition text) found h in
+      let was = read_from (nat_lt 1024 (length (trimmed text))) (reading start (spots_of text) (length text)) (misfit_of definition text) (parsed_of definition text) found h in
       record {
         is_filter = record { short = ltb-false 1024 (length (trimmed text)) was.short; syntax = subst (ComesTo text) was.fine verdict_is; fits = was.fits };
-        text = ap (λ (f : Compiled). f.text) (sym was.same);
-        moves = ap (λ (f : Compiled). f.moves) (sym was.same);
+        text = ap (λ (f : Parsed). f.text) (sym was.same);
+        subjects = ap (λ (f : Parsed). f.subjects) (sym was.same);
       }
 
   fault_told : (fault : FilterFault) → length (trimmed text) ≤ 1024 → ComesTo text Fine → misfit_of definition text ≡ Some fault → IsTold definition text fault
@@ -102,7 +104,7 @@ module _ (definition : Definition) (text : List ℕ) where
   fault_told (WrongOperator at) short fine h = (short, fine, h)
   fault_told Memory short fine h = tt
 
-  told_from : (b : Bool) (v : Verdict) (m : Option FilterFault) (filter : Compiled) (fault : FilterFault) → nat_lt 1024 (length (trimmed text)) ≡ b → ComesTo text v → misfit_of definition text ≡ m → answer_from b v m filter ≡ Err fault → IsTold definition text fault
+  told_from : (b : Bool) (v : Verdict) (m : Option FilterFault) (filter : Parsed) (fault : FilterFault) → nat_lt 1024 (length (trimmed text)) ≡ b → ComesTo text v → misfit_of definition text ≡ m → answer_from b v m filter ≡ Err fault → IsTold definition text fault
   told_from true v m filter fault b_is comes m_is h =
       let same : TooMany ≡ fault = cc in
       subst (IsTold definition text) same (inl (ltb-true 1024 (length (trimmed text)) b_is))
@@ -119,19 +121,19 @@ module _ (definition : Definition) (text : List ℕ) where
 
   told : (fault : FilterFault) → answer_of definition text ≡ Err fault → IsTold definition text fault
   unfolding answer_of
-  told fault h = told_from (nat_lt 1024 (length (trimmed text))) (reading start (spots_of text) (length text)) (misfit_of definition text) (compiled_of definition text) fault refl verdict_is refl h
+  told fault h = told_from (nat_lt 1024 (length (trimmed text))) (reading start (spots_of text) (length text)) (misfit_of definition text) (parsed_of definition text) fault refl verdict_is refl h
 
   -- and back
-  short_answer : (v : Verdict) (m : Option FilterFault) → length (trimmed text) ≤ 1024 → ComesTo text v → misfit_of definition text ≡ m → answer_of definition text ≡ answer_from false v m (compiled_of definition text)
+  short_answer : (v : Verdict) (m : Option FilterFault) → length (trimmed text) ≤ 1024 → ComesTo text v → misfit_of definition text ≡ m → answer_of definition text ≡ answer_from false v m (parsed_of definition text)
   unfolding answer_of
-  short_answer v m short comes fits = λ i. answer_from (le-ltb 1024 (length (trimmed text)) short i) (only (length text) (spots_of text) v comes i) (fits i) (compiled_of definition text)
+  short_answer v m short comes fits = λ i. answer_from (le-ltb 1024 (length (trimmed text)) short i) (only (length text) (spots_of text) v comes i) (fits i) (parsed_of definition text)
 
-  filter_answer : IsFilter definition text → answer_of definition text ≡ Ok (compiled_of definition text)
+  filter_answer : IsFilter definition text → answer_of definition text ≡ Ok (parsed_of definition text)
   filter_answer is = short_answer Fine None is.short is.syntax is.fits
 
   refused_answer : (fault : FilterFault) → IsRefused definition text fault → answer_of definition text ≡ Err fault
   unfolding answer_of
-  refused_answer TooMany (inl more) = ap (λ b. answer_from b (reading start (spots_of text) (length text)) (misfit_of definition text) (compiled_of definition text)) (lt-ltb 1024 (length (trimmed text)) more)
+  refused_answer TooMany (inl more) = ap (λ b. answer_from b (reading start (spots_of text) (length text)) (misfit_of definition text) (parsed_of definition text)) (lt-ltb 1024 (length (trimmed text)) more)
   refused_answer TooMany (inr h) = short_answer TooDeep (misfit_of definition text) h.0 h.1 refl
   refused_answer (FilterSyntax at) (inl h) = short_answer (WrongAt at) (misfit_of definition text) h.0 h.1 refl
   refused_answer (FilterSyntax at) (inr h) = short_answer Fine (Some (FilterSyntax at)) h.0 h.1 h.2
@@ -141,9 +143,9 @@ module _ (definition : Definition) (text : List ℕ) where
 
   never_memory : answer_of definition text ≡ Err Memory → ⊥
   unfolding answer_of
-  never_memory h = from (nat_lt 1024 (length (trimmed text))) (reading start (spots_of text) (length text)) (misfit_of definition text) (compiled_of definition text) (never_told Memory no_memory definition.fields subjects.Pid (spots_of text)) h
+  never_memory h = from (nat_lt 1024 (length (trimmed text))) (reading start (spots_of text) (length text)) (misfit_of definition text) (parsed_of definition text) (never_told Memory no_memory definition.fields subjects.Pid (spots_of text)) h
     where
-      from : (b : Bool) (v : Verdict) (m : Option FilterFault) (filter : Compiled) → (m ≡ Some Memory → ⊥) → answer_from b v m filter ≡ Err Memory → ⊥
+      from : (b : Bool) (v : Verdict) (m : Option FilterFault) (filter : Parsed) → (m ≡ Some Memory → ⊥) → answer_from b v m filter ≡ Err Memory → ⊥
       from true v m filter never h = cc
       from false Fine None filter never h = cc
       from false Fine (Some f) filter never h = let same : f ≡ Memory = cc in never (ap (λ g. Some g) same)
@@ -162,8 +164,8 @@ module _ (definition : Definition) (text : List ℕ) where
   refused_of (WrongOperator at) h = told (WrongOperator at) h
   refused_of Memory h = never_memory h
 
-  pub filter_is_answered : IsFilter definition text ↔ (answer_of definition text ≡ Ok (compiled_of definition text))
-  filter_is_answered = (filter_answer, (λ h. (filter_of (compiled_of definition text) h).is_filter))
+  pub filter_is_answered : IsFilter definition text ↔ (answer_of definition text ≡ Ok (parsed_of definition text))
+  filter_is_answered = (filter_answer, (λ h. (filter_of (parsed_of definition text) h).is_filter))
 
   pub refusal_is_answered : (fault : FilterFault) → IsRefused definition text fault ↔ (answer_of definition text ≡ Err fault)
   refusal_is_answered fault = (refused_answer fault, refused_of fault)
@@ -171,12 +173,12 @@ module _ (definition : Definition) (text : List ℕ) where
   pub filter_or_refused : IsFilter definition text ⊎ ((fault : FilterFault) × IsRefused definition text fault)
   filter_or_refused = by (answer_of definition text) refl
     where
-      by : (r : Result Compiled FilterFault) → answer_of definition text ≡ r → IsFilter definition text ⊎ ((fault : FilterFault) × IsRefused definition text fault)
+      by : (r : Result Parsed FilterFault) → answer_of definition text ≡ r → IsFilter definition text ⊎ ((fault : FilterFault) × IsRefused definition text fault)
       by (Ok found) h = inl (filter_of found h).is_filter
       by (Err fault) h = inr (fault, refused_of fault h)
 
   pub never_both : (fault : FilterFault) → IsFilter definition text → IsRefused definition text fault → ⊥
-  never_both fault is refused = let h : Ok (compiled_of definition text) ≡ Err fault = sym (filter_answer is) ∙ refused_answer fault refused in cc
+  never_both fault is refused = let h : Ok (parsed_of definition text) ≡ Err fault = sym (filter_answer is) ∙ refused_answer fault refused in cc
 
   pub one_refusal : (one other : FilterFault) → IsRefused definition text one → IsRefused definition text other → one ≡ other
   one_refusal one other h k = err_is (refused_answer one h) (refused_answer other k)
@@ -188,13 +190,36 @@ module _ (definition : Definition) (text : List ℕ) where
       by none (inl is) = is
       by none (inr h) = absurd (none h.0 h.1)
 
+  -- ---- what `read` makes
+
+  fine_in_tests : ComesTo text Fine → InTests (tokens_of (spots_of text))
+  fine_in_tests fine = subst InTests fine.whole.spelled (tree_in_tests fine.whole.tree)
+
+  pub tested_subjects : ComesTo text Fine → misfit_of definition text ≡ None
+      → subjects_tested (moves_from definition.fields subjects.Pid comparisons.Equal (tokens_of (spots_of text))) ≡ subjects_in definition.fields (tokens_of (spots_of text))
+  tested_subjects fine fits = tested_is definition.fields subjects.Pid comparisons.Equal (tokens_of (spots_of text)) (fine_in_tests fine) (all_fit definition.fields subjects.Pid (spots_of text) fits)
+
+  module _ (items : List ℕ) (moves : List Move) (items_is : items ≡ trimmed text) (moves_is : moves ≡ moves_from definition.fields subjects.Pid comparisons.Equal (tokens_of (spots_of text))) where
+    -- the steps are those of the trimmed text
+    pub moves_kept : moves ≡ moves_about (subjects_tested moves) comparisons.Equal (tokens_of (spots_of items))
+    moves_kept =
+        let same : tokens_of (spots_of text) ≡ tokens_of (spots_of items) = sym (trimmed_tokens text) ∙ ap (λ t. tokens_of (spots_of t)) (sym items_is) in
+        moves_is ∙ about_is definition.fields subjects.Pid comparisons.Equal (tokens_of (spots_of text)) ∙ (λ i. moves_about (subjects_tested (sym moves_is i)) comparisons.Equal (same i))
+
+    pub filter_made : length (trimmed text) ≤ 1024 → reading start (spots_of text) (length text) ≡ Fine → misfit_of definition text ≡ None → answer_of definition text ≡ Ok (record { text = items; subjects = subjects_tested moves })
+    unfolding answer_of
+    filter_made short fine fits =
+        let tested : subjects_tested moves ≡ subjects_in definition.fields (tokens_of (spots_of text)) = ap subjects_tested moves_is ∙ tested_subjects (subst (ComesTo text) fine verdict_is) fits in
+        (λ i. answer_from (le-ltb 1024 (length (trimmed text)) short i) (fine i) (fits i) (parsed_of definition text))
+        ∙ (λ i. Ok (record { text = sym items_is i; subjects = sym tested i }))
+
   -- ---- what `parse` says
 
-  pub parse_read : (r : Result Compiled FilterFault) → IsAnswered r (answer_of definition text) → IfOk r (IsFilterOf definition text)
+  pub parse_read : (r : Result Parsed FilterFault) → IsAnswered r (answer_of definition text) → IfOk r (IsFilterOf definition text)
   parse_read (Ok found) e = filter_of found e
   parse_read (Err fault) e = tt
 
-  pub parse_refused : (r : Result Compiled FilterFault) → IsAnswered r (answer_of definition text) → IfErr r (IsTold definition text)
+  pub parse_refused : (r : Result Parsed FilterFault) → IsAnswered r (answer_of definition text) → IfErr r (IsTold definition text)
   parse_refused (Ok found) e = tt
   parse_refused (Err TooMany) e = told TooMany e
   parse_refused (Err (FilterSyntax at)) e = told (FilterSyntax at) e
@@ -202,15 +227,15 @@ module _ (definition : Definition) (text : List ℕ) where
   parse_refused (Err (WrongOperator at)) e = told (WrongOperator at) e
   parse_refused (Err Memory) e = tt
 
-  pub parse_only : (r : Result Compiled FilterFault) → IsAnswered r (answer_of definition text) → IsFilter definition text → IsOkUnlessMemory r
+  pub parse_only : (r : Result Parsed FilterFault) → IsAnswered r (answer_of definition text) → IsFilter definition text → IsOkUnlessMemory r
   parse_only (Ok found) e is = tt
-  parse_only (Err TooMany) e is = let h : Ok (compiled_of definition text) ≡ Err TooMany = sym (filter_answer is) ∙ e in cc
-  parse_only (Err (FilterSyntax at)) e is = let h : Ok (compiled_of definition text) ≡ Err (FilterSyntax at) = sym (filter_answer is) ∙ e in cc
-  parse_only (Err (NoSuchField at)) e is = let h : Ok (compiled_of definition text) ≡ Err (NoSuchField at) = sym (filter_answer is) ∙ e in cc
-  parse_only (Err (WrongOperator at)) e is = let h : Ok (compiled_of definition text) ≡ Err (WrongOperator at) = sym (filter_answer is) ∙ e in cc
+  parse_only (Err TooMany) e is = let h : Ok (parsed_of definition text) ≡ Err TooMany = sym (filter_answer is) ∙ e in cc
+  parse_only (Err (FilterSyntax at)) e is = let h : Ok (parsed_of definition text) ≡ Err (FilterSyntax at) = sym (filter_answer is) ∙ e in cc
+  parse_only (Err (NoSuchField at)) e is = let h : Ok (parsed_of definition text) ≡ Err (NoSuchField at) = sym (filter_answer is) ∙ e in cc
+  parse_only (Err (WrongOperator at)) e is = let h : Ok (parsed_of definition text) ≡ Err (WrongOperator at) = sym (filter_answer is) ∙ e in cc
   parse_only (Err Memory) e is = tt
 
-  pub parse_told : (r : Result Compiled FilterFault) → IsAnswered r (answer_of definition text) → (fault : FilterFault) → IsRefused definition text fault → IsAsTold r fault
+  pub parse_told : (r : Result Parsed FilterFault) → IsAnswered r (answer_of definition text) → (fault : FilterFault) → IsRefused definition text fault → IsAsTold r fault
   parse_told (Ok found) e fault is = let h : Ok found ≡ Err fault = sym e ∙ refused_answer fault is in cc
   parse_told (Err TooMany) e fault is = err_is e (refused_answer fault is)
   parse_told (Err (FilterSyntax at)) e fault is = err_is e (refused_answer fault is)
@@ -220,14 +245,22 @@ module _ (definition : Definition) (text : List ℕ) where
 
 -- ---- what `passes` says
 
-module _ (definition : Definition) (written : List ℕ) (filter : Compiled) (row : Cells) (emission : Emission) (same : emission.values ≡ row.values)
-    (is : IsFilterOf definition written filter) (defined : IsDefinition definition) (is_row : IsRowOf definition row) (result : Bool) (result_is : result ≡ evaluated emission at_start filter.moves) where
+module _ (definition : Definition) (written : List ℕ) (filter : Parsed) (row : Cells) (emission : Emission) (same : emission.values ≡ row.values)
+    (is : IsFilterOf definition written filter) (defined : IsDefinition definition) (is_row : IsRowOf definition row)
+    (moves : List Move) (tested : subjects_tested moves ≡ filter.subjects) (kept : moves ≡ moves_about (subjects_tested moves) comparisons.Equal (tokens_of (spots_of filter.text)))
+    (result : Bool) (result_is : result ≡ evaluated emission at_start moves) where
+  moves_are : moves ≡ moves_from definition.fields subjects.Pid comparisons.Equal (tokens_of (spots_of written))
+  moves_are =
+      let tokens : tokens_of (spots_of filter.text) ≡ tokens_of (spots_of written) = ap (λ t. tokens_of (spots_of t)) is.text ∙ trimmed_tokens written in
+      let about : subjects_tested moves ≡ subjects_tested (moves_from definition.fields subjects.Pid comparisons.Equal (tokens_of (spots_of written))) = tested ∙ is.subjects ∙ sym (tested_subjects definition written is.is_filter.syntax is.is_filter.fits) in
+      kept ∙ (λ i. moves_about (about i) comparisons.Equal (tokens i)) ∙ sym (about_is definition.fields subjects.Pid comparisons.Equal (tokens_of (spots_of written)))
+
   pub each_holds : (tree : Expr) → Spells (tokens_of (spots_of written)) tree → IsTrue result ↔ Holds definition.fields emission tree
   each_holds tree spelled =
       let fits = subst (AllFit definition.fields subjects.Pid) (sym spelled) (all_fit definition.fields subjects.Pid (spots_of written) is.is_filter.fits) in
       let shallow = subst (λ t. depth_of t ≤ 16) (sym spelled) is.is_filter.syntax.shallow in
       let value = value_is definition.fields emission (tests_decide definition row emission defined is_row same) tree subjects.Pid comparisons.Equal fits shallow in
-      let there : result ≡ evaluated emission at_start (moves_from definition.fields subjects.Pid comparisons.Equal (tokens_of (spots_of written))) = result_is ∙ ap (evaluated emission at_start) is.moves in
+      let there : result ≡ evaluated emission at_start (moves_from definition.fields subjects.Pid comparisons.Equal (tokens_of (spots_of written))) = result_is ∙ ap (evaluated emission at_start) moves_are in
       let whole : result ≡ evaluated emission at_start (moves_from definition.fields subjects.Pid comparisons.Equal (expr_tokens tree)) = there ∙ ap (λ t. evaluated emission at_start (moves_from definition.fields subjects.Pid comparisons.Equal t)) (sym spelled) in
       ((λ h. value.0 (sym whole ∙ h)), (λ h. whole ∙ value.1 h))
 

@@ -9,5 +9,7 @@ pub mod RowLemmas
 pub mod Depths
 pub mod Truths
 pub mod RowTruths
+pub mod TrimLemmas
+pub mod Subjects
 pub mod FilterLemmas
 pub mod ClassLemmas

@@ -77,11 +77,11 @@ unless_true : (b : Bool) (f : FilterFault) → unless b f ≡ None → b ≡ tru
 unless_true true f h = refl
 unless_true false f h = absurd (cc)
 
-record Named (o : Option Subject) : Type 0 where
-  subject : Subject
-  is : o ≡ Some subject
+pub record Named (o : Option Subject) : Type 0 where
+  pub subject : Subject
+  pub is : o ≡ Some subject
 
-unless_some : (o : Option Subject) (f : FilterFault) → unless_named o f ≡ None → Named o
+pub unless_some : (o : Option Subject) (f : FilterFault) → unless_named o f ≡ None → Named o
 unless_some (Some s) f h = record { subject = s; is = refl }
 unless_some None f h = absurd (cc)
 

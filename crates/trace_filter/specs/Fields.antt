@@ -1,5 +1,6 @@
 -- What the names of a filter mean, and the first of its tests that does not fit its field.
-use Rattle.std.specs.Prelude.{◌≡◌, ℕ, ◌+◌, Bool, true, false, if◌then◌else◌, bytes_eq, codes, List, [], ◌∷◌, Option, None, Some, is_some}
+use Rattle.std.specs.Prelude.{◌≡◌, ℕ, ◌+◌, Bool, true, false, if◌then◌else◌, bytes_eq, codes, List, [], ◌∷◌, ◌++◌, Option, None, Some, is_some}
+use Rattle.std.specs.Option.{option_to_list}
 use Rattle.trace_format.specs.declared.kind.Kind.{Kind}
 use Rattle.trace_format.specs.declared.kind.Kind.TheVariants as kind
 use Rattle.trace_format.specs.declared.event.Field.{Field}
@@ -27,6 +28,19 @@ unfoldable pub subject_named : List Field → List ℕ → Option Subject
 subject_named fields name = if bytes_eq name (codes "common_pid") then Some Pid
     else if bytes_eq name (codes "common_cpu") then Some Cpu
     else subject_from 0 fields name
+
+-- what the names among the tokens mean, in order
+abbrev pub subjects_in : List Field → List Token → List Subject
+subjects_in fields [] = []
+subjects_in fields (Open ∷ tokens) = subjects_in fields tokens
+subjects_in fields (Close ∷ tokens) = subjects_in fields tokens
+subjects_in fields (Bang ∷ tokens) = subjects_in fields tokens
+subjects_in fields (Both ∷ tokens) = subjects_in fields tokens
+subjects_in fields (Either ∷ tokens) = subjects_in fields tokens
+subjects_in fields (Compare by ∷ tokens) = subjects_in fields tokens
+subjects_in fields (Name name ∷ tokens) = option_to_list (subject_named fields name) ++ subjects_in fields tokens
+subjects_in fields (Value literal ∷ tokens) = subjects_in fields tokens
+subjects_in fields (Misfit ∷ tokens) = subjects_in fields tokens
 
 abbrev pub is_text : Subject → Bool
 is_text Pid = false

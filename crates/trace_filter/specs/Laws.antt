@@ -2,11 +2,11 @@
 use Rattle.std.specs.Prelude.{◌≡◌, ◌⊎◌, ◌↔◌, ℕ, List, Result, Ok, Err}
 use Rattle.trace_format.specs.Definitions.{Definition}
 use Rattle.trace_filter.specs.declared.fault.FilterFault.{FilterFault}
-use Rattle.trace_filter.specs.Filters.{IsFilter, IsRefused, compiled_of, answer_of}
+use Rattle.trace_filter.specs.Filters.{IsFilter, IsRefused, parsed_of, answer_of}
 
 -- the function of the text gives a filter exactly where the text is one by the grammar and the fields
 abbrev pub FilterIsAnswered : Type 0
-FilterIsAnswered = (definition : Definition) → (text : List ℕ) → IsFilter definition text ↔ (answer_of definition text ≡ Ok (compiled_of definition text))
+FilterIsAnswered = (definition : Definition) → (text : List ℕ) → IsFilter definition text ↔ (answer_of definition text ≡ Ok (parsed_of definition text))
 
 -- and a refusal exactly where the text is refused so by them
 abbrev pub RefusalIsAnswered : Type 0

@@ -63,6 +63,30 @@ abbrev pub moves_from : List Field → Subject → Comparison → List Token →
 moves_from fields subject by [] = []
 moves_from fields subject by (token ∷ tokens) = moves_of subject by token ++ moves_from fields (subject_behind fields subject token) (comparison_behind by token) tokens
 
+-- the steps of tokens whose tests are about these subjects, in order
+abbrev pub moves_about : List Subject → Comparison → List Token → List Move
+moves_about subjects by [] = []
+moves_about subjects by (Open ∷ tokens) = Opens ∷ moves_about subjects by tokens
+moves_about subjects by (Close ∷ tokens) = Closes ∷ moves_about subjects by tokens
+moves_about subjects by (Bang ∷ tokens) = Inverts ∷ moves_about subjects by tokens
+moves_about subjects by (Both ∷ tokens) = AndThen ∷ moves_about subjects by tokens
+moves_about subjects by (Either ∷ tokens) = OrElse ∷ moves_about subjects by tokens
+moves_about subjects by (Compare c ∷ tokens) = moves_about subjects c tokens
+moves_about subjects by (Name name ∷ tokens) = moves_about subjects by tokens
+moves_about [] by (Value literal ∷ tokens) = moves_about [] by tokens
+moves_about (subject ∷ subjects) by (Value literal ∷ tokens) = Checks subject by (datum_at (is_text subject) literal) ∷ moves_about subjects by tokens
+moves_about subjects by (Misfit ∷ tokens) = moves_about subjects by tokens
+
+-- what steps test, in order
+abbrev pub subjects_tested : List Move → List Subject
+subjects_tested [] = []
+subjects_tested (Opens ∷ moves) = subjects_tested moves
+subjects_tested (Closes ∷ moves) = subjects_tested moves
+subjects_tested (Inverts ∷ moves) = subjects_tested moves
+subjects_tested (AndThen ∷ moves) = subjects_tested moves
+subjects_tested (OrElse ∷ moves) = subjects_tested moves
+subjects_tested (Checks subject by b ∷ moves) = subject ∷ subjects_tested moves
+
 -- ---- their value
 
 -- inside one `(`: whether an alternative before this one holds, whether all factors of this one do, and whether a `!` is due

@@ -106,6 +106,10 @@ spots_from value_due (suc skip) at (b ∷ bs) = spots_from value_due skip (at + 
 spots_from value_due zero at (b ∷ bs) = if is_blank b then spots_from value_due 0 (at + 1) bs
     else (record { at = at; token = (piece_of value_due b bs).token } ∷ spots_from (is_comparison (piece_of value_due b bs).token) (piece_of value_due b bs).more (at + 1) bs)
 
+-- a token so many bytes later
+abbrev pub shifted_by : ℕ → Spot → Spot
+shifted_by more spot = record { at = more + spot.at; token = spot.token }
+
 abbrev pub tokens_of : List Spot → List Token
 tokens_of spots = map (λ spot. spot.token) spots
 

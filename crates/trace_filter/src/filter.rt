@@ -23,13 +23,18 @@ pub struct Filter {
 }
 
 impl Model for Filter {
-    ghost use Rattle.std.specs.Prelude.{map};
-    ghost use Rattle.trace_filter.specs.Filters.{Compiled};
-    ghost use Rattle.trace_filter.specs.Steps.{move_of};
+    ghost use Rattle.std.specs.Prelude.{◌≡◌, map};
+    ghost use Rattle.trace_filter.specs.declared.token.Comparison.TheVariants as comparisons;
+    ghost use Rattle.trace_filter.specs.Tokens.{spots_of, tokens_of};
+    ghost use Rattle.trace_filter.specs.Filters.{Parsed};
+    ghost use Rattle.trace_filter.specs.Steps.{move_of, moves_about, subjects_tested};
 
-    ghost Value = { Compiled };
+    ghost Value = { Parsed };
 
-    ghost view = { λ f. record { text = f.text.items; moves = map move_of f.steps.items } };
+    ghost view = { λ f. record { text = f.text.items; subjects = subjects_tested (map move_of f.steps.items) } };
+
+    // The steps are those of the text, with tests of these subjects.
+    ghost invariant = { λ f. map move_of f.steps.items ≡ moves_about (subjects_tested (map move_of f.steps.items)) comparisons.Equal (tokens_of (spots_of f.text.items)) };
 }
 
 /// How many blanks a text ends with.
