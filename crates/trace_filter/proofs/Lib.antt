@@ -7,6 +7,7 @@ pub mod Sums
 pub mod GlobLemmas
 pub mod RowLemmas
 pub mod Depths
+pub mod NamedValues
 pub mod Truths
 pub mod RowTruths
 pub mod TrimLemmas

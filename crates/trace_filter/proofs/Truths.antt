@@ -11,8 +11,9 @@ use Rattle.trace_filter.specs.declared.fault.FilterFault.TheVariants.{FilterSynt
 use Rattle.trace_filter.specs.Tokens.{Literal, Token, Open, Close, Bang, Both, Either, Compare, Name, Value, Misfit, Spot, tokens_of}
 use Rattle.trace_filter.specs.Grammar.{Expr, AllOf, Or, Conj, Only, And, Unary, Not, Group, Test, expr_tokens, conj_tokens, unary_tokens, deepest, open_count, Opened, behind}
 use Rattle.trace_filter.specs.Fields.{is_text, takes_at, fits_at, unless, unless_named, fault_at, subject_named, named_or, subject_behind, first_fault, or_later}
-use Rattle.trace_filter.specs.Truth.{Emission, value_of, value_named, DatumCompares, Holds, ConjHolds, UnaryHolds}
-use Rattle.trace_filter.specs.Steps.{moves_of, moves_from, comparison_behind, datum_at, Move, Opens, Closes, Inverts, AndThen, OrElse, Checks, State, fresh, inverted, with_operand, total, test_of, evaluated, at_start, opened}
+use Rattle.trace_filter.specs.Truth.{Emission, value_named, DatumCompares, Holds, ConjHolds, UnaryHolds}
+use Rattle.trace_filter.specs.Steps.{value_of, moves_of, moves_from, comparison_behind, datum_at, Move, Opens, Closes, Inverts, AndThen, OrElse, Checks, State, fresh, inverted, with_operand, total, test_of, evaluated, at_start, opened}
+use Rattle.trace_filter.proofs.NamedValues.{value_if, value_named-subject}
 use Rattle.trace_filter.proofs.Verdicts.{deepest-first}
 
 -- ---- values where any depth is allowed
@@ -243,7 +244,7 @@ module _ (fields : List Field) (emission : Emission) where
           let decided = tests name found.subject c literal found.is takes fits in
           record {
             holds = test_of c (value_of emission found.subject) (datum_at (is_text found.subject) literal);
-            decides = subst (λ o. (test_of c (value_of emission found.subject) (datum_at (is_text found.subject) literal) ≡ true) ↔ DatumCompares c (value_named emission o) literal) (sym found.is) decided;
+            decides = subst (λ o. (test_of c (value_of emission found.subject) (datum_at (is_text found.subject) literal) ≡ true) ↔ DatumCompares c o literal) (sym (value_named-subject fields emission name ∙ ap (value_if emission) found.is)) decided;
             last = named_or (subject_named fields name) subject;
             last_by = c;
             fit = fit.1.1.1;

@@ -1,9 +1,10 @@
 -- A filter as the program keeps and evaluates it. That its value is the truth of the filter's tree is a law on `Filter::passes`.
-use Rattle.std.specs.Prelude.{◌≡◌, ℕ, ◌+◌, ◌<◌, ℤ, pos, Bool, true, false, not, ◌&&◌, ◌||◌, nat_lt, if◌then◌else◌, List, [], ◌∷◌, ◌++◌, length, take, map, reverse, Option, None, Some, unwrap_or}
+use Rattle.std.specs.Prelude.{◌≡◌, ℕ, ◌+◌, ◌<◌, ℤ, pos, Bool, true, false, not, ◌&&◌, ◌||◌, nat_lt, if◌then◌else◌, List, [], ◌∷◌, ◌++◌, length, take, map, reverse, Option, None, Some, unwrap_or, slice_get}
 use Rattle.trace_format.specs.declared.event.Field.{Field}
 use Rattle.trace_format.specs.Cells.{Datum, Whole, Bytes, datum_of}
 use Rattle.trace_filter.specs.declared.token.Comparison.{Comparison}
 use Rattle.trace_filter.specs.declared.test.Subject.{Subject}
+use Rattle.trace_filter.specs.declared.test.Subject.TheVariants.{Pid, Cpu, NumberField, TextField}
 use Rattle.trace_filter.specs.declared.steps.Step as step
 use Rattle.trace_filter.specs.declared.steps.Step.TheVariants as steps
 use Rattle.trace_filter.specs.declared.steps.Test as test
@@ -11,7 +12,7 @@ use Rattle.trace_filter.specs.declared.frames.Frame.{Frame}
 use Rattle.trace_filter.specs.declared.frames.Frames.{Frames}
 use Rattle.trace_filter.specs.Tokens.{Literal, Token, Open, Close, Bang, Both, Either, Compare, Name, Value, Misfit}
 use Rattle.trace_filter.specs.Fields.{is_text, subject_behind}
-use Rattle.trace_filter.specs.Truth.{Emission, value_of, literal_number, literal_bytes}
+use Rattle.trace_filter.specs.Truth.{Emission, literal_number, literal_bytes}
 use Rattle.trace_filter.specs.Tests.{datum_test}
 
 -- ---- steps
@@ -88,6 +89,13 @@ subjects_tested (OrElse ∷ moves) = subjects_tested moves
 subjects_tested (Checks subject by b ∷ moves) = subject ∷ subjects_tested moves
 
 -- ---- their value
+
+-- the value of a subject
+abbrev pub value_of : Emission → Subject → Option Datum
+value_of emission Pid = Some (Whole emission.pid)
+value_of emission Cpu = Some (Whole (pos emission.cpu))
+value_of emission (NumberField place) = slice_get emission.values place
+value_of emission (TextField place) = slice_get emission.values place
 
 -- inside one `(`: whether an alternative before this one holds, whether all factors of this one do, and whether a `!` is due
 pub record State : Type 0 where

@@ -34,8 +34,7 @@ pub(crate) enum Step {
 }
 
 impl Test {
-    ghost use Rattle.trace_filter.specs.Truth.{value_of};
-    ghost use Rattle.trace_filter.specs.Steps.{test_of};
+    ghost use Rattle.trace_filter.specs.Steps.{value_of, test_of};
 
     /// Whether the test holds of a row's values, a CPU and a process.
     fn holds(&self, values: &[Value], cpu: u32, pid: i32) -> bool
