@@ -14,7 +14,8 @@ use Rattle.trace_filter.specs.declared.token.Comparison.TheVariants as compariso
 use Rattle.trace_filter.specs.Tokens.{Token, Open, Close, Bang, Both, Either, Compare, Name, Value, Misfit, Spot, trimmed, spots_of, tokens_of}
 use Rattle.trace_filter.specs.Grammar.{Expr, Spells, expr_tokens, IsVerdict, depth_of}
 use Rattle.trace_filter.specs.Syntax.{start, reading}
-use Rattle.trace_filter.specs.Fields.{is_text, takes_at, fits_at, unless, unless_named, fault_at, subject_named, subject_behind, subjects_in, first_fault, or_later}
+use Rattle.trace_filter.specs.Fields.{name_has_text, takes_at, fits_at, unless, or_later, operator_fault, value_fault, test_fault, fault_of_test, first_misfit}
+use Rattle.trace_filter.specs.Places.{subjects_in, first_fault, IsToldAs}
 use Rattle.trace_filter.specs.Truth.{Emission, Holds}
 use Rattle.trace_filter.specs.Steps.{Move, moves_from, moves_about, subjects_tested, evaluated, at_start}
 use Rattle.trace_filter.specs.Filters.{ComesTo, misfit_of, IsFilter, IsRefused, IsTold, Parsed, IsFilterOf, Passes, IsOkUnlessMemory, IsAsTold, answer_from, parsed_of, answer_of, IsAnswered}
@@ -23,7 +24,8 @@ use Rattle.trace_filter.proofs.Verdicts.{law, only}
 use Rattle.trace_filter.proofs.Truths.{AllFit, all_fit, value_is}
 use Rattle.trace_filter.proofs.RowTruths.{tests_decide}
 use Rattle.trace_filter.proofs.TrimLemmas.{trimmed_tokens}
-use Rattle.trace_filter.proofs.Subjects.{InTests, tree_in_tests, tested_is, about_is}
+use Rattle.trace_filter.proofs.Misfits.{fault_is_misfit}
+use Rattle.trace_filter.proofs.TestedMoves.{InTests, tree_in_tests, tested_is, about_is}
 
 -- a test is refused as syntax, for its field or for its operator alone
 record NoTestFault (fault : FilterFault) : Type 0 where
@@ -31,11 +33,14 @@ record NoTestFault (fault : FilterFault) : Type 0 where
   field : (at : ℕ) → NoSuchField at ≡ fault → ⊥
   operator : (at : ℕ) → WrongOperator at ≡ fault → ⊥
 
-never_told : (fault : FilterFault) → NoTestFault fault → (fields : List Field) (subject : Subject) (spots : List Spot) → first_fault fields subject spots ≡ Some fault → ⊥
-never_told fault none fields subject [] h = cc
-never_told fault none fields subject (spot ∷ spots) h =
-    by (fault_at fields subject spot.token spot.at) (here spot.token) (never_told fault none fields (subject_behind fields subject spot.token) spots) h
+never_told : (fault : FilterFault) → NoTestFault fault → (fields : List Field) (spots : List Spot) → first_misfit fields spots ≡ Some fault → ⊥
+never_told fault none fields [] h = cc
+never_told fault none fields (spot ∷ spots) h = by (fault_of_test fields spot.token spot.at spots) (first_misfit fields spots) (here spot.token spot.at spots) (never_told fault none fields spots) h
   where
+    by : (o later : Option FilterFault) → (o ≡ Some fault → ⊥) → (later ≡ Some fault → ⊥) → or_later o later ≡ Some fault → ⊥
+    by None later first rest h = rest h
+    by (Some f) later first rest h = first h
+
     operator : (b : Bool) (at : ℕ) → unless b (WrongOperator at) ≡ Some fault → ⊥
     operator true at h = cc
     operator false at h = none.operator at (some_is h)
@@ -44,24 +49,22 @@ never_told fault none fields subject (spot ∷ spots) h =
     syntax true at h = cc
     syntax false at h = none.syntax at (some_is h)
 
-    field : (o : Option Subject) (at : ℕ) → unless_named o (NoSuchField at) ≡ Some fault → ⊥
-    field None at h = none.field at (some_is h)
-    field (Some s) at h = cc
+    wrong_operator : (text : Bool) (token : Token) (at : ℕ) → operator_fault text token at ≡ Some fault → ⊥
+    wrong_operator text (Compare by) at h = operator (takes_at text by) at h
+    wrong_operator text _ at h = cc
 
-    here : (token : Token) → fault_at fields subject token spot.at ≡ Some fault → ⊥
-    here Open h = cc
-    here Close h = cc
-    here Bang h = cc
-    here Both h = cc
-    here Either h = cc
-    here Misfit h = cc
-    here (Compare by) h = operator (takes_at (is_text subject) by) spot.at h
-    here (Name name) h = field (subject_named fields name) spot.at h
-    here (Value literal) h = syntax (fits_at (is_text subject) literal) spot.at h
+    wrong_value : (text : Bool) (token : Token) (at : ℕ) → value_fault text token at ≡ Some fault → ⊥
+    wrong_value text (Value literal) at h = syntax (fits_at text literal) at h
+    wrong_value text _ at h = cc
 
-    by : (o : Option FilterFault) → (o ≡ Some fault → ⊥) → (first_fault fields (subject_behind fields subject spot.token) spots ≡ Some fault → ⊥) → or_later o (first_fault fields (subject_behind fields subject spot.token) spots) ≡ Some fault → ⊥
-    by None first later h = later h
-    by (Some f) first later h = first h
+    wrong_test : (o : Option Bool) (at : ℕ) (op value : Spot) → test_fault o at op value ≡ Some fault → ⊥
+    wrong_test None at op value h = none.field at (some_is h)
+    wrong_test (Some text) at op value h =
+        by (operator_fault text op.token op.at) (value_fault text value.token value.at) (wrong_operator text op.token op.at) (wrong_value text value.token value.at) h
+
+    here : (token : Token) (at : ℕ) (rest : List Spot) → fault_of_test fields token at rest ≡ Some fault → ⊥
+    here (Name name) at (op ∷ value ∷ rest) h = wrong_test (name_has_text fields name) at op value h
+    here _ at rest h = cc
 
 no_too_many : NoTestFault TooMany
 no_too_many = record { syntax = λ at h. cc; field = λ at h. cc; operator = λ at h. cc }
@@ -98,7 +101,7 @@ module _ (definition : Definition) (text : List ℕ) where
       }
 
   fault_told : (fault : FilterFault) → length (trimmed text) ≤ 1024 → ComesTo text Fine → misfit_of definition text ≡ Some fault → IsTold definition text fault
-  fault_told TooMany short fine h = absurd (never_told TooMany no_too_many definition.fields subjects.Pid (spots_of text) h)
+  fault_told TooMany short fine h = absurd (never_told TooMany no_too_many definition.fields (spots_of text) h)
   fault_told (FilterSyntax at) short fine h = inr (short, fine, h)
   fault_told (NoSuchField at) short fine h = (short, fine, h)
   fault_told (WrongOperator at) short fine h = (short, fine, h)
@@ -143,7 +146,7 @@ module _ (definition : Definition) (text : List ℕ) where
 
   never_memory : answer_of definition text ≡ Err Memory → ⊥
   unfolding answer_of
-  never_memory h = from (nat_lt 1024 (length (trimmed text))) (reading start (spots_of text) (length text)) (misfit_of definition text) (parsed_of definition text) (never_told Memory no_memory definition.fields subjects.Pid (spots_of text)) h
+  never_memory h = from (nat_lt 1024 (length (trimmed text))) (reading start (spots_of text) (length text)) (misfit_of definition text) (parsed_of definition text) (never_told Memory no_memory definition.fields (spots_of text)) h
     where
       from : (b : Bool) (v : Verdict) (m : Option FilterFault) (filter : Parsed) → (m ≡ Some Memory → ⊥) → answer_from b v m filter ≡ Err Memory → ⊥
       from true v m filter never h = cc
@@ -195,9 +198,15 @@ module _ (definition : Definition) (text : List ℕ) where
   fine_in_tests : ComesTo text Fine → InTests (tokens_of (spots_of text))
   fine_in_tests fine = subst InTests fine.whole.spelled (tree_in_tests fine.whole.tree)
 
+  pub misfit_found : ComesTo text Fine → first_fault definition.fields subjects.Pid (spots_of text) ≡ misfit_of definition text
+  misfit_found fine = fault_is_misfit definition.fields (spots_of text) subjects.Pid (fine_in_tests fine)
+
+  pub no_fault_in : ComesTo text Fine → misfit_of definition text ≡ None → first_fault definition.fields subjects.Pid (spots_of text) ≡ None
+  no_fault_in fine fits = misfit_found fine ∙ fits
+
   pub tested_subjects : ComesTo text Fine → misfit_of definition text ≡ None
       → subjects_tested (moves_from definition.fields subjects.Pid comparisons.Equal (tokens_of (spots_of text))) ≡ subjects_in definition.fields (tokens_of (spots_of text))
-  tested_subjects fine fits = tested_is definition.fields subjects.Pid comparisons.Equal (tokens_of (spots_of text)) (fine_in_tests fine) (all_fit definition.fields subjects.Pid (spots_of text) fits)
+  tested_subjects fine fits = tested_is definition.fields subjects.Pid comparisons.Equal (tokens_of (spots_of text)) (fine_in_tests fine) (all_fit definition.fields subjects.Pid (spots_of text) (no_fault_in fine fits))
 
   module _ (items : List ℕ) (moves : List Move) (items_is : items ≡ trimmed text) (moves_is : moves ≡ moves_from definition.fields subjects.Pid comparisons.Equal (tokens_of (spots_of text))) where
     -- the steps are those of the trimmed text
@@ -206,12 +215,29 @@ module _ (definition : Definition) (text : List ℕ) where
         let same : tokens_of (spots_of text) ≡ tokens_of (spots_of items) = sym (trimmed_tokens text) ∙ ap (λ t. tokens_of (spots_of t)) (sym items_is) in
         moves_is ∙ about_is definition.fields subjects.Pid comparisons.Equal (tokens_of (spots_of text)) ∙ (λ i. moves_about (subjects_tested (sym moves_is i)) comparisons.Equal (same i))
 
-    pub filter_made : length (trimmed text) ≤ 1024 → reading start (spots_of text) (length text) ≡ Fine → misfit_of definition text ≡ None → answer_of definition text ≡ Ok (record { text = items; subjects = subjects_tested moves })
+    pub filter_made : length (trimmed text) ≤ 1024 → reading start (spots_of text) (length text) ≡ Fine → first_fault definition.fields subjects.Pid (spots_of text) ≡ None → answer_of definition text ≡ Ok (record { text = items; subjects = subjects_tested moves })
     unfolding answer_of
-    filter_made short fine fits =
-        let tested : subjects_tested moves ≡ subjects_in definition.fields (tokens_of (spots_of text)) = ap subjects_tested moves_is ∙ tested_subjects (subst (ComesTo text) fine verdict_is) fits in
+    filter_made short fine found =
+        let comes = subst (ComesTo text) fine verdict_is in
+        let fits : misfit_of definition text ≡ None = sym (misfit_found comes) ∙ found in
+        let tested : subjects_tested moves ≡ subjects_in definition.fields (tokens_of (spots_of text)) = ap subjects_tested moves_is ∙ tested_subjects comes fits in
         (λ i. answer_from (le-ltb 1024 (length (trimmed text)) short i) (fine i) (fits i) (parsed_of definition text))
         ∙ (λ i. Ok (record { text = sym items_is i; subjects = sym tested i }))
+
+  -- ---- what `read` tells
+
+  pub fault_made : length (trimmed text) ≤ 1024 → reading start (spots_of text) (length text) ≡ Fine → (fault : FilterFault) → IsToldAs (first_fault definition.fields subjects.Pid (spots_of text)) fault → IsAnswered (Err fault) (answer_of definition text)
+  fault_made short fine fault found = by fault found
+    where
+      answer : (f : FilterFault) → first_fault definition.fields subjects.Pid (spots_of text) ≡ Some f → answer_of definition text ≡ Err f
+      answer f h = let comes = subst (ComesTo text) fine verdict_is in short_answer Fine (Some f) short comes (sym (misfit_found comes) ∙ h)
+
+      by : (f : FilterFault) → IsToldAs (first_fault definition.fields subjects.Pid (spots_of text)) f → IsAnswered (Err f) (answer_of definition text)
+      by TooMany h = answer TooMany h
+      by (FilterSyntax at) h = answer (FilterSyntax at) h
+      by (NoSuchField at) h = answer (NoSuchField at) h
+      by (WrongOperator at) h = answer (WrongOperator at) h
+      by Memory h = tt
 
   -- ---- what `parse` says
 
@@ -257,7 +283,7 @@ module _ (definition : Definition) (written : List ℕ) (filter : Parsed) (row :
 
   pub each_holds : (tree : Expr) → Spells (tokens_of (spots_of written)) tree → IsTrue result ↔ Holds definition.fields emission tree
   each_holds tree spelled =
-      let fits = subst (AllFit definition.fields subjects.Pid) (sym spelled) (all_fit definition.fields subjects.Pid (spots_of written) is.is_filter.fits) in
+      let fits = subst (AllFit definition.fields subjects.Pid) (sym spelled) (all_fit definition.fields subjects.Pid (spots_of written) (no_fault_in definition written is.is_filter.syntax is.is_filter.fits)) in
       let shallow = subst (λ t. depth_of t ≤ 16) (sym spelled) is.is_filter.syntax.shallow in
       let value = value_is definition.fields emission (tests_decide definition row emission defined is_row same) tree subjects.Pid comparisons.Equal fits shallow in
       let there : result ≡ evaluated emission at_start (moves_from definition.fields subjects.Pid comparisons.Equal (tokens_of (spots_of written))) = result_is ∙ ap (evaluated emission at_start) moves_are in

@@ -11,6 +11,7 @@ pub mod NamedValues
 pub mod Truths
 pub mod RowTruths
 pub mod TrimLemmas
-pub mod Subjects
+pub mod TestedMoves
+pub mod Misfits
 pub mod FilterLemmas
 pub mod ClassLemmas

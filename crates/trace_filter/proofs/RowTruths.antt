@@ -20,7 +20,8 @@ use Rattle.trace_filter.specs.declared.test.Subject.{Subject}
 use Rattle.trace_filter.specs.declared.test.Subject.TheVariants.{Pid, Cpu, NumberField, TextField}
 use Rattle.trace_filter.specs.Tokens.{Literal, Word, Quoted}
 use Rattle.trace_filter.specs.Globs.{parts_of, is_match}
-use Rattle.trace_filter.specs.Fields.{subject_at, subject_from, subject_named, is_text, takes_at, fits_at}
+use Rattle.trace_filter.specs.Fields.{takes_at, fits_at}
+use Rattle.trace_filter.specs.Places.{subject_at, subject_from, subject_named, is_text}
 use Rattle.trace_filter.specs.Truth.{pattern_of, NumbersCompare, TextsCompare, literal_number, literal_bytes, NumberCompares, DatumCompares, Emission}
 use Rattle.trace_filter.specs.Tests.{number_test, text_test, datum_test}
 use Rattle.trace_filter.specs.Steps.{value_of, datum_at, test_of}

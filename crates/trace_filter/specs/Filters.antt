@@ -7,11 +7,11 @@ use Rattle.trace_filter.specs.declared.fault.FilterFault.TheVariants.{TooMany, F
 use Rattle.trace_filter.specs.declared.syntax.Verdict.{Verdict}
 use Rattle.trace_filter.specs.declared.syntax.Verdict.TheVariants.{Fine, TooDeep, WrongAt}
 use Rattle.trace_filter.specs.declared.test.Subject.{Subject}
-use Rattle.trace_filter.specs.declared.test.Subject.TheVariants as subjects
 use Rattle.trace_filter.specs.Tokens.{Spot, Token, trimmed, spots_of, spots_from, tokens_of}
 use Rattle.trace_filter.specs.Grammar.{Expr, Spells, IsVerdict}
 use Rattle.trace_filter.specs.Syntax.{start, reading}
-use Rattle.trace_filter.specs.Fields.{subjects_in, first_fault}
+use Rattle.trace_filter.specs.Fields.{first_misfit}
+use Rattle.trace_filter.specs.Places.{subjects_in}
 use Rattle.trace_filter.specs.Truth.{Emission, Holds}
 
 -- at most 1,024 bytes between the blanks at both ends
@@ -24,7 +24,7 @@ ComesTo text verdict = IsVerdict (spots_of text) (length text) verdict
 
 -- the first test of a text that does not fit its field, if there is one
 abbrev pub misfit_of : Definition → List ℕ → Option FilterFault
-misfit_of definition text = first_fault definition.fields subjects.Pid (spots_of text)
+misfit_of definition text = first_misfit definition.fields (spots_of text)
 
 -- a text is a filter of an event: it is short, it is in the grammar, and its tests fit the event's fields
 pub record IsFilter (definition : Definition) (text : List ℕ) : Type 0 where

@@ -5,6 +5,7 @@ pub mod Seen
 pub mod Globs
 pub mod SeenGlobs
 pub mod Fields
+pub mod Places
 pub mod Truth
 pub mod Tests
 pub mod Steps

@@ -11,7 +11,7 @@ use Rattle.trace_filter.specs.declared.steps.Test as test
 use Rattle.trace_filter.specs.declared.frames.Frame.{Frame}
 use Rattle.trace_filter.specs.declared.frames.Frames.{Frames}
 use Rattle.trace_filter.specs.Tokens.{Literal, Token, Open, Close, Bang, Both, Either, Compare, Name, Value, Misfit}
-use Rattle.trace_filter.specs.Fields.{is_text, subject_behind}
+use Rattle.trace_filter.specs.Places.{is_text, subject_behind}
 use Rattle.trace_filter.specs.Truth.{Emission, literal_number, literal_bytes}
 use Rattle.trace_filter.specs.Tests.{datum_test}
 

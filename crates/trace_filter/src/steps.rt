@@ -5,7 +5,7 @@ ghost use Rattle.trace_format.specs.Cells.{datum_of};
 ghost use Rattle.trace_filter.specs.declared.token.Comparison.TheVariants as comparisons;
 ghost use Rattle.trace_filter.specs.declared.test.Subject.TheVariants as subjects;
 ghost use Rattle.trace_filter.specs.Tokens.{spots_from, tokens_of};
-ghost use Rattle.trace_filter.specs.Fields.{first_fault, IsToldAs};
+ghost use Rattle.trace_filter.specs.Places.{first_fault, IsToldAs};
 ghost use Rattle.trace_filter.specs.Steps.{move_of, moves_from, evaluated, at_start};
 
 use crate::fault::FilterFault;
@@ -88,7 +88,7 @@ pub(crate) struct Compiler {
 impl Compiler {
     ghost use Rattle.trace_filter.specs.Seen.{token_of};
     ghost use Rattle.trace_filter.specs.Steps.{moves_of, comparison_behind};
-    ghost use Rattle.trace_filter.specs.Fields.{fault_at, subject_behind};
+    ghost use Rattle.trace_filter.specs.Places.{fault_at, subject_behind};
 
     fn new(alloc: Global) -> Compiler
         ensures subject { result.subject ≡ subjects.Pid }

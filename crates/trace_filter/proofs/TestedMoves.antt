@@ -7,7 +7,7 @@ use Rattle.trace_filter.specs.declared.test.Subject.{Subject}
 use Rattle.trace_filter.specs.declared.fault.FilterFault.TheVariants.{NoSuchField}
 use Rattle.trace_filter.specs.Tokens.{Literal, Token, Open, Close, Bang, Both, Either, Compare, Name, Value, Misfit}
 use Rattle.trace_filter.specs.Grammar.{Expr, AllOf, Or, Conj, Only, And, Unary, Not, Group, Test, expr_tokens, conj_tokens, unary_tokens}
-use Rattle.trace_filter.specs.Fields.{is_text, subject_named, subjects_in, named_or, subject_behind}
+use Rattle.trace_filter.specs.Places.{is_text, subject_named, subjects_in, named_or, subject_behind}
 use Rattle.trace_filter.specs.Steps.{Move, Opens, Closes, Inverts, AndThen, OrElse, Checks, datum_at, moves_from, moves_about, subjects_tested}
 use Rattle.trace_filter.proofs.Truths.{AllFit, unless_some}
 
