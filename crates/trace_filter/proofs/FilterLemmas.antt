@@ -1,5 +1,5 @@
 -- What `Filter::parse` and `Filter::passes` say.
-use Rattle.std.proofs.Common.{◌≡◌, ◌⊎◌, ◌↔◌, ℕ, ◌<◌, ◌≤◌, nat_lt, Bool, true, false, ℤ, IsTrue, List, [], ◌∷◌, length, Option, None, Some, Result, Ok, Err, IfOk, IfErr, refl, sym, ap, ◌∙◌, subst, inl, inr, arith, ltb-true, lt-ltb}
+use Rattle.std.proofs.Common.{◌≡◌, ◌⊎◌, ◌↔◌, ℕ, ◌≤◌, nat_lt, Bool, true, false, IsTrue, List, [], ◌∷◌, length, Option, None, Some, Result, Ok, Err, IfOk, IfErr, refl, sym, ap, ◌∙◌, subst, inl, inr, ltb-true, lt-ltb}
 use Rattle.std.proofs.lemmas.Bool.{ltb-false, le-ltb}
 use Rattle.trace_format.specs.declared.event.Field.{Field}
 use Rattle.trace_format.specs.Cells.{Cells, IsRowOf}
@@ -8,11 +8,10 @@ use Rattle.trace_filter.specs.declared.fault.FilterFault.{FilterFault}
 use Rattle.trace_filter.specs.declared.fault.FilterFault.TheVariants.{TooMany, FilterSyntax, NoSuchField, WrongOperator, Memory}
 use Rattle.trace_filter.specs.declared.syntax.Verdict.{Verdict}
 use Rattle.trace_filter.specs.declared.syntax.Verdict.TheVariants.{Fine, TooDeep, WrongAt}
-use Rattle.trace_filter.specs.declared.test.Subject.{Subject}
 use Rattle.trace_filter.specs.declared.test.Subject.TheVariants as subjects
 use Rattle.trace_filter.specs.declared.token.Comparison.TheVariants as comparisons
-use Rattle.trace_filter.specs.Tokens.{Token, Open, Close, Bang, Both, Either, Compare, Name, Value, Misfit, Spot, trimmed, spots_of, tokens_of}
-use Rattle.trace_filter.specs.Grammar.{Expr, Spells, expr_tokens, IsVerdict, depth_of}
+use Rattle.trace_filter.specs.Tokens.{Token, Compare, Name, Value, Spot, trimmed, spots_of, tokens_of}
+use Rattle.trace_filter.specs.Grammar.{Expr, Spells, expr_tokens, depth_of}
 use Rattle.trace_filter.specs.Syntax.{start, reading}
 use Rattle.trace_filter.specs.Fields.{name_has_text, takes_at, fits_at, unless, or_later, operator_fault, value_fault, test_fault, fault_of_test, first_misfit}
 use Rattle.trace_filter.specs.Places.{subjects_in, first_fault, IsToldAs}

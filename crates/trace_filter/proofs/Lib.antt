@@ -13,5 +13,6 @@ pub mod RowTruths
 pub mod TrimLemmas
 pub mod TestedMoves
 pub mod Misfits
+pub mod TrimmedFilters
 pub mod FilterLemmas
 pub mod ClassLemmas

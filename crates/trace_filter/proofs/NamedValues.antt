@@ -4,9 +4,9 @@ use Rattle.std.specs.Prelude.{slice_get}
 use Rattle.trace_format.specs.declared.event.Field.{Field}
 use Rattle.trace_format.specs.declared.kind.Kind.{Kind}
 use Rattle.trace_format.specs.declared.kind.Kind.TheVariants as kind
-use Rattle.trace_format.specs.Cells.{Datum, Whole, Bytes, value_at}
+use Rattle.trace_format.specs.Cells.{Datum, Whole, value_at}
 use Rattle.trace_filter.specs.declared.test.Subject.{Subject}
-use Rattle.trace_filter.specs.declared.test.Subject.TheVariants.{Pid, Cpu, NumberField, TextField}
+use Rattle.trace_filter.specs.declared.test.Subject.TheVariants.{Pid, Cpu}
 use Rattle.trace_filter.specs.Places.{subject_at, subject_from, subject_named}
 use Rattle.trace_filter.specs.Truth.{Emission, value_named}
 use Rattle.trace_filter.specs.Steps.{value_of}

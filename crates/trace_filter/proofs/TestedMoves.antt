@@ -1,14 +1,14 @@
 -- The steps of a filter, by what its tests are about.
-use Rattle.std.proofs.Common.{◌≡◌, ℕ, Bool, true, false, List, [], ◌∷◌, ◌++◌, Option, None, Some, refl, sym, ap, ◌∙◌, subst, append_assoc, append-nil}
+use Rattle.std.proofs.Common.{◌≡◌, List, [], ◌∷◌, ◌++◌, refl, sym, ap, ◌∙◌, subst, append_assoc, append-nil}
 use Rattle.std.specs.Option.{option_to_list}
 use Rattle.trace_format.specs.declared.event.Field.{Field}
 use Rattle.trace_filter.specs.declared.token.Comparison.{Comparison}
 use Rattle.trace_filter.specs.declared.test.Subject.{Subject}
 use Rattle.trace_filter.specs.declared.fault.FilterFault.TheVariants.{NoSuchField}
-use Rattle.trace_filter.specs.Tokens.{Literal, Token, Open, Close, Bang, Both, Either, Compare, Name, Value, Misfit}
+use Rattle.trace_filter.specs.Tokens.{Token, Open, Close, Bang, Both, Either, Compare, Name, Value, Misfit}
 use Rattle.trace_filter.specs.Grammar.{Expr, AllOf, Or, Conj, Only, And, Unary, Not, Group, Test, expr_tokens, conj_tokens, unary_tokens}
-use Rattle.trace_filter.specs.Places.{is_text, subject_named, subjects_in, named_or, subject_behind}
-use Rattle.trace_filter.specs.Steps.{Move, Opens, Closes, Inverts, AndThen, OrElse, Checks, datum_at, moves_from, moves_about, subjects_tested}
+use Rattle.trace_filter.specs.Places.{is_text, subject_named, subjects_in, named_or}
+use Rattle.trace_filter.specs.Steps.{Opens, Closes, Inverts, AndThen, OrElse, Checks, datum_at, moves_from, moves_about, subjects_tested}
 use Rattle.trace_filter.proofs.Truths.{AllFit, unless_some}
 
 -- each name has a comparison and a value behind it, and each value stands so

@@ -1,11 +1,11 @@
 -- The tokens of a text without blanks at both ends are those of the text, at shifted places.
-use Rattle.std.proofs.Common.{◌≡◌, ℕ, zero, suc, ◌+◌, ◌-◌, ◌≤◌, Bool, true, false, if◌then◌else◌, List, [], ◌∷◌, ◌++◌, length, reverse, map, take, drop, refl, sym, ap, ◌∙◌, subst, arith, add-zero, one-add, length-drop}
+use Rattle.std.proofs.Common.{◌≡◌, ℕ, zero, suc, ◌+◌, ◌-◌, ◌≤◌, Bool, true, false, if◌then◌else◌, List, [], ◌∷◌, ◌++◌, length, reverse, map, take, drop, refl, sym, ap, ◌∙◌, arith, one-add, length-drop}
 use Rattle.std.specs.List.{prefix_len}
 use Rattle.std.proofs.lemmas.Bool.{cond_both}
 use Rattle.std.proofs.lemmas.List.{reverse-append, take-append-drop, length-reverse}
 use Rattle.std.proofs.lemmas.List.Sums.{prefix_len-le-length}
 use Rattle.std.proofs.Math.Seq.{drop-append_seam}
-use Rattle.trace_filter.specs.Tokens.{is_blank, is_comparison, piece_of, Token, Spot, spots_from, without_end, trimmed, spots_of, tokens_of, shifted_by}
+use Rattle.trace_filter.specs.Tokens.{is_blank, is_comparison, piece_of, Spot, spots_from, without_end, trimmed, spots_of, tokens_of, shifted_by}
 use Rattle.trace_filter.proofs.SpotLemmas.{blanks}
 
 -- ---- places

@@ -1,5 +1,5 @@
 -- What the names of a filter mean in an event, and the first of its tests that does not fit.
-use Rattle.std.specs.Prelude.{◌≡◌, ℕ, Bool, true, false, if◌then◌else◌, bytes_eq, codes, List, [], ◌∷◌, Option, None, Some, is_some}
+use Rattle.std.specs.Prelude.{ℕ, Bool, true, false, if◌then◌else◌, bytes_eq, codes, List, [], ◌∷◌, Option, None, Some, is_some}
 use Rattle.trace_format.specs.declared.kind.Kind.{Kind}
 use Rattle.trace_format.specs.declared.kind.Kind.TheVariants as kind
 use Rattle.trace_format.specs.declared.event.Field.{Field}
@@ -8,7 +8,7 @@ use Rattle.trace_filter.specs.declared.token.Comparison.{Comparison}
 use Rattle.trace_filter.specs.declared.token.Comparison.TheVariants as comparison
 use Rattle.trace_filter.specs.declared.fault.FilterFault.{FilterFault}
 use Rattle.trace_filter.specs.declared.fault.FilterFault.TheVariants.{FilterSyntax, NoSuchField, WrongOperator}
-use Rattle.trace_filter.specs.Tokens.{Literal, Word, Quoted, Token, Open, Close, Bang, Both, Either, Compare, Name, Value, Misfit, Spot}
+use Rattle.trace_filter.specs.Tokens.{Literal, Word, Quoted, Token, Compare, Name, Value, Spot}
 
 -- a field has numbers or texts
 abbrev pub is_text_kind : Kind → Bool

@@ -1,13 +1,12 @@
 -- Filters of an event: which texts are filters, how others are refused, and when a filter passes an emission.
 use Rattle.std.specs.Prelude.{◌≡◌, ◌⊎◌, ◌<◌, ◌≤◌, ℕ, Bool, true, false, nat_lt, List, length, Option, None, Some, Result, Ok, Err}
-use Rattle.trace_format.specs.declared.event.Field.{Field}
 use Rattle.trace_format.specs.Definitions.{Definition}
 use Rattle.trace_filter.specs.declared.fault.FilterFault.{FilterFault}
 use Rattle.trace_filter.specs.declared.fault.FilterFault.TheVariants.{TooMany, FilterSyntax, NoSuchField, WrongOperator, Memory}
 use Rattle.trace_filter.specs.declared.syntax.Verdict.{Verdict}
 use Rattle.trace_filter.specs.declared.syntax.Verdict.TheVariants.{Fine, TooDeep, WrongAt}
 use Rattle.trace_filter.specs.declared.test.Subject.{Subject}
-use Rattle.trace_filter.specs.Tokens.{Spot, Token, trimmed, spots_of, spots_from, tokens_of}
+use Rattle.trace_filter.specs.Tokens.{trimmed, spots_of, tokens_of}
 use Rattle.trace_filter.specs.Grammar.{Expr, Spells, IsVerdict}
 use Rattle.trace_filter.specs.Syntax.{start, reading}
 use Rattle.trace_filter.specs.Fields.{first_misfit}

@@ -1,5 +1,5 @@
 -- A filter as the program keeps and evaluates it. That its value is the truth of the filter's tree is a law on `Filter::passes`.
-use Rattle.std.specs.Prelude.{◌≡◌, ℕ, ◌+◌, ◌<◌, ℤ, pos, Bool, true, false, not, ◌&&◌, ◌||◌, nat_lt, if◌then◌else◌, List, [], ◌∷◌, ◌++◌, length, take, map, reverse, Option, None, Some, unwrap_or, slice_get}
+use Rattle.std.specs.Prelude.{pos, Bool, true, false, not, ◌&&◌, ◌||◌, nat_lt, if◌then◌else◌, List, [], ◌∷◌, ◌++◌, length, take, reverse, Option, None, Some, unwrap_or, slice_get}
 use Rattle.trace_format.specs.declared.event.Field.{Field}
 use Rattle.trace_format.specs.Cells.{Datum, Whole, Bytes, datum_of}
 use Rattle.trace_filter.specs.declared.token.Comparison.{Comparison}
@@ -7,7 +7,6 @@ use Rattle.trace_filter.specs.declared.test.Subject.{Subject}
 use Rattle.trace_filter.specs.declared.test.Subject.TheVariants.{Pid, Cpu, NumberField, TextField}
 use Rattle.trace_filter.specs.declared.steps.Step as step
 use Rattle.trace_filter.specs.declared.steps.Step.TheVariants as steps
-use Rattle.trace_filter.specs.declared.steps.Test as test
 use Rattle.trace_filter.specs.declared.frames.Frame.{Frame}
 use Rattle.trace_filter.specs.declared.frames.Frames.{Frames}
 use Rattle.trace_filter.specs.Tokens.{Literal, Token, Open, Close, Bang, Both, Either, Compare, Name, Value, Misfit}

@@ -1,12 +1,12 @@
 -- When a filter holds of a row, a CPU and a process.
-use Rattle.std.specs.Prelude.{◌≡◌, ◌⊎◌, ◌<◌, ◌≤◌, ℕ, ◌+◌, ◌-◌, ◌%◌, ◌^◌, ℤ, pos, negsuc, ◌≤ℤ◌, bit_and, List, [], ◌∷◌, if◌then◌else◌, bytes_eq, codes, Option, None, Some}
+use Rattle.std.specs.Prelude.{◌≡◌, ◌⊎◌, ℕ, ◌-◌, ◌%◌, ◌^◌, ℤ, pos, negsuc, ◌≤ℤ◌, bit_and, List, if◌then◌else◌, bytes_eq, codes, Option, None, Some}
 use Rattle.trace_format.specs.declared.event.Field.{Field}
 use Rattle.trace_format.specs.Numbers.{number_of}
 use Rattle.trace_format.specs.Cells.{Datum, Whole, Bytes, value_at}
 use Rattle.trace_filter.specs.declared.token.Comparison.{Comparison}
 use Rattle.trace_filter.specs.declared.token.Comparison.TheVariants as comparison
-use Rattle.trace_filter.specs.Tokens.{Literal, Word, Quoted, Token, tokens_of, spots_of}
-use Rattle.trace_filter.specs.Grammar.{Expr, AllOf, Or, Conj, Only, And, Unary, Not, Group, Test, Spells}
+use Rattle.trace_filter.specs.Tokens.{Literal, Word, Quoted}
+use Rattle.trace_filter.specs.Grammar.{Expr, AllOf, Or, Conj, Only, And, Unary, Not, Group, Test}
 use Rattle.trace_filter.specs.Globs.{parts_of, Matches}
 
 -- the 64 low bits of a number's two's complement

@@ -1,4 +1,4 @@
-use Rattle.std.proofs.Common.{◌≡◌, rules, List, ℕ, map, refl, sym, ap, ◌∙◌}
+use Rattle.std.proofs.Common.{◌≡◌, rules, List, map, refl, ap, ◌∙◌}
 use Rattle.trace_format.specs.Cells.{datum_of}
 use Rattle.trace_filter.specs.declared.token.Comparison.TheVariants as comparisons
 use Rattle.trace_filter.specs.Tokens.{spots_of, tokens_of}
