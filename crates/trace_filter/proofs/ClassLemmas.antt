@@ -1,12 +1,12 @@
 -- Behind a `[` whose class isn't closed, no class is.
-use Rattle.std.proofs.Common.{◌≡◌, ℕ, zero, suc, ◌+◌, ◌<◌, ◌≤◌, ◌==◌, nat_lt, Bool, true, false, not, ◌&&◌, if◌then◌else◌, List, [], ◌∷◌, length, take, drop, refl, sym, ap, ◌∙◌, subst, one-add, arith, drop-drop, eqb→eq}
+use Rattle.std.proofs.Common.{◌≡◌, ℕ, zero, suc, ◌+◌, ◌≤◌, ◌==◌, nat_lt, Bool, true, false, not, ◌&&◌, if◌then◌else◌, List, [], ◌∷◌, length, take, drop, refl, sym, ap, ◌∙◌, subst, one-add, arith, drop-drop, eqb→eq}
 use Rattle.std.specs.List.{prefix_len}
 use Rattle.std.specs.Bool.{passes}
 use Rattle.std.proofs.lemmas.Bool.{cond-true, cond-false, cond_both, and_parts, le-ltb, ltb-false}
 use Rattle.trace_filter.specs.declared.glob.PartPiece as pieces
 use Rattle.trace_filter.specs.Tokens.{is_not}
-use Rattle.trace_filter.specs.Globs.{Part, AnyBytes, OneByte, PartPiece, itself, class_from, class_piece, part_of}
-use Rattle.trace_filter.specs.SeenGlobs.{glob_part_of, IsPartPiece}
+use Rattle.trace_filter.specs.Globs.{OneByte, itself, class_from, class_piece, part_of}
+use Rattle.trace_filter.specs.SeenGlobs.{IsPartPiece}
 
 -- no byte is a `]`
 abbrev NoBracket : List ℕ → Type 0

@@ -1,8 +1,8 @@
 -- One more token opens one more at most.
-use Rattle.std.proofs.Common.{◌≡◌, ℕ, ◌+◌, ◌≤◌, Bool, true, false, List, [], ◌∷◌, length, Some, None, refl, sym, ap, ◌∙◌, subst, arith}
+use Rattle.std.proofs.Common.{◌≡◌, ℕ, ◌+◌, ◌≤◌, Bool, true, false, List, [], ◌∷◌, length, ap, arith}
 use Rattle.std.specs.List.{sum}
 use Rattle.trace_filter.specs.Tokens.{Token, Open, Close, Bang, Both, Either, Compare, Name, Value, Misfit}
-use Rattle.trace_filter.specs.Grammar.{Opened, behind, open_count}
+use Rattle.trace_filter.specs.Grammar.{behind, open_count}
 use Rattle.trace_filter.specs.Syntax.{Standing, step, Takes}
 use Rattle.trace_filter.proofs.Sums.{sum-cons}
 use Rattle.trace_filter.proofs.Verdicts.{step_opened}

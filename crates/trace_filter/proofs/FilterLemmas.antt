@@ -1,5 +1,5 @@
 -- What `Filter::parse` and `Filter::passes` say.
-use Rattle.std.proofs.Common.{◌≡◌, ◌⊎◌, ◌↔◌, ℕ, ◌<◌, ◌≤◌, nat_lt, Bool, true, false, ℤ, IsTrue, List, [], ◌∷◌, length, Option, None, Some, Result, Ok, Err, IfOk, IfErr, refl, sym, ap, ◌∙◌, subst, inl, inr, arith, ltb-true, lt-ltb}
+use Rattle.std.proofs.Common.{◌≡◌, ◌⊎◌, ◌↔◌, ℕ, ◌≤◌, nat_lt, Bool, true, false, IsTrue, List, [], ◌∷◌, length, Option, None, Some, Result, Ok, Err, IfOk, IfErr, refl, sym, ap, ◌∙◌, subst, inl, inr, ltb-true, lt-ltb}
 use Rattle.std.proofs.lemmas.Bool.{ltb-false, le-ltb}
 use Rattle.trace_format.specs.declared.event.Field.{Field}
 use Rattle.trace_format.specs.Cells.{Cells, IsRowOf}
@@ -8,62 +8,78 @@ use Rattle.trace_filter.specs.declared.fault.FilterFault.{FilterFault}
 use Rattle.trace_filter.specs.declared.fault.FilterFault.TheVariants.{TooMany, FilterSyntax, NoSuchField, WrongOperator, Memory}
 use Rattle.trace_filter.specs.declared.syntax.Verdict.{Verdict}
 use Rattle.trace_filter.specs.declared.syntax.Verdict.TheVariants.{Fine, TooDeep, WrongAt}
-use Rattle.trace_filter.specs.declared.test.Subject.{Subject}
 use Rattle.trace_filter.specs.declared.test.Subject.TheVariants as subjects
 use Rattle.trace_filter.specs.declared.token.Comparison.TheVariants as comparisons
-use Rattle.trace_filter.specs.Tokens.{Token, Open, Close, Bang, Both, Either, Compare, Name, Value, Misfit, Spot, trimmed, spots_of, tokens_of}
-use Rattle.trace_filter.specs.Grammar.{Expr, Spells, expr_tokens, IsVerdict, depth_of}
+use Rattle.trace_filter.specs.Tokens.{Token, Compare, Name, Value, Spot, trimmed, spots_of, tokens_of}
+use Rattle.trace_filter.specs.Grammar.{Expr, Spells, expr_tokens, depth_of}
 use Rattle.trace_filter.specs.Syntax.{start, reading}
-use Rattle.trace_filter.specs.Fields.{is_text, takes_at, fits_at, unless, unless_named, fault_at, subject_named, subject_behind, first_fault, or_later}
+use Rattle.trace_filter.specs.Fields.{name_has_text, takes_at, fits_at, unless, or_later, operator_fault, value_fault, test_fault, fault_of_test, first_misfit}
+use Rattle.trace_filter.specs.Places.{subjects_in, first_fault, IsToldAs}
 use Rattle.trace_filter.specs.Truth.{Emission, Holds}
-use Rattle.trace_filter.specs.Steps.{moves_from, evaluated, at_start}
-use Rattle.trace_filter.specs.Filters.{ComesTo, misfit_of, IsFilter, IsRefused, IsTold, Compiled, IsFilterOf, Passes, IsOkUnlessMemory, IsAsTold, answer_from, compiled_of, answer_of, IsAnswered}
+use Rattle.trace_filter.specs.Steps.{Move, moves_from, moves_about, subjects_tested, evaluated, at_start}
+use Rattle.trace_filter.specs.Filters.{ComesTo, misfit_of, IsFilter, IsRefused, IsTold, Parsed, IsFilterOf, Passes, IsOkUnlessMemory, IsAsTold, answer_from, parsed_of, answer_of, IsAnswered}
 use Rattle.trace_filter.proofs.Options.{some_is}
 use Rattle.trace_filter.proofs.Verdicts.{law, only}
 use Rattle.trace_filter.proofs.Truths.{AllFit, all_fit, value_is}
 use Rattle.trace_filter.proofs.RowTruths.{tests_decide}
+use Rattle.trace_filter.proofs.TrimLemmas.{trimmed_tokens}
+use Rattle.trace_filter.proofs.Misfits.{fault_is_misfit}
+use Rattle.trace_filter.proofs.TestedMoves.{InTests, tree_in_tests, tested_is, about_is}
 
--- no test is refused as too many
-never_too_many : (fields : List Field) (subject : Subject) (spots : List Spot) → first_fault fields subject spots ≡ Some TooMany → ⊥
-never_too_many fields subject [] h = cc
-never_too_many fields subject (spot ∷ spots) h = by (fault_at fields subject spot.token spot.at) (here spot.token) (never_too_many fields (subject_behind fields subject spot.token) spots) h
+-- a test is refused as syntax, for its field or for its operator alone
+record NoTestFault (fault : FilterFault) : Type 0 where
+  syntax : (at : ℕ) → FilterSyntax at ≡ fault → ⊥
+  field : (at : ℕ) → NoSuchField at ≡ fault → ⊥
+  operator : (at : ℕ) → WrongOperator at ≡ fault → ⊥
+
+never_told : (fault : FilterFault) → NoTestFault fault → (fields : List Field) (spots : List Spot) → first_misfit fields spots ≡ Some fault → ⊥
+never_told fault none fields [] h = cc
+never_told fault none fields (spot ∷ spots) h = by (fault_of_test fields spot.token spot.at spots) (first_misfit fields spots) (here spot.token spot.at spots) (never_told fault none fields spots) h
   where
-    operator : (b : Bool) (at : ℕ) → unless b (WrongOperator at) ≡ Some TooMany → ⊥
+    by : (o later : Option FilterFault) → (o ≡ Some fault → ⊥) → (later ≡ Some fault → ⊥) → or_later o later ≡ Some fault → ⊥
+    by None later first rest h = rest h
+    by (Some f) later first rest h = first h
+
+    operator : (b : Bool) (at : ℕ) → unless b (WrongOperator at) ≡ Some fault → ⊥
     operator true at h = cc
-    operator false at h = cc
+    operator false at h = none.operator at (some_is h)
 
-    syntax : (b : Bool) (at : ℕ) → unless b (FilterSyntax at) ≡ Some TooMany → ⊥
+    syntax : (b : Bool) (at : ℕ) → unless b (FilterSyntax at) ≡ Some fault → ⊥
     syntax true at h = cc
-    syntax false at h = cc
+    syntax false at h = none.syntax at (some_is h)
 
-    field : (o : Option Subject) (at : ℕ) → unless_named o (NoSuchField at) ≡ Some TooMany → ⊥
-    field None at h = cc
-    field (Some s) at h = cc
+    wrong_operator : (text : Bool) (token : Token) (at : ℕ) → operator_fault text token at ≡ Some fault → ⊥
+    wrong_operator text (Compare by) at h = operator (takes_at text by) at h
+    wrong_operator text _ at h = cc
 
-    here : (token : Token) → fault_at fields subject token spot.at ≡ Some TooMany → ⊥
-    here Open h = cc
-    here Close h = cc
-    here Bang h = cc
-    here Both h = cc
-    here Either h = cc
-    here Misfit h = cc
-    here (Compare by) h = operator (takes_at (is_text subject) by) spot.at h
-    here (Name name) h = field (subject_named fields name) spot.at h
-    here (Value literal) h = syntax (fits_at (is_text subject) literal) spot.at h
+    wrong_value : (text : Bool) (token : Token) (at : ℕ) → value_fault text token at ≡ Some fault → ⊥
+    wrong_value text (Value literal) at h = syntax (fits_at text literal) at h
+    wrong_value text _ at h = cc
 
-    by : (o : Option FilterFault) → (o ≡ Some TooMany → ⊥) → (first_fault fields (subject_behind fields subject spot.token) spots ≡ Some TooMany → ⊥) → or_later o (first_fault fields (subject_behind fields subject spot.token) spots) ≡ Some TooMany → ⊥
-    by None first later h = later h
-    by (Some f) first later h = first h
+    wrong_test : (o : Option Bool) (at : ℕ) (op value : Spot) → test_fault o at op value ≡ Some fault → ⊥
+    wrong_test None at op value h = none.field at (some_is h)
+    wrong_test (Some text) at op value h =
+        by (operator_fault text op.token op.at) (value_fault text value.token value.at) (wrong_operator text op.token op.at) (wrong_value text value.token value.at) h
+
+    here : (token : Token) (at : ℕ) (rest : List Spot) → fault_of_test fields token at rest ≡ Some fault → ⊥
+    here (Name name) at (op ∷ value ∷ rest) h = wrong_test (name_has_text fields name) at op value h
+    here _ at rest h = cc
+
+no_too_many : NoTestFault TooMany
+no_too_many = record { syntax = λ at h. cc; field = λ at h. cc; operator = λ at h. cc }
+
+no_memory : NoTestFault Memory
+no_memory = record { syntax = λ at h. cc; field = λ at h. cc; operator = λ at h. cc }
 
 module _ (definition : Definition) (text : List ℕ) where
   -- the cases of an answer
-  record WasRead (long : Bool) (verdict : Verdict) (misfit : Option FilterFault) (filter found : Compiled) : Type 0 where
+  record WasRead (long : Bool) (verdict : Verdict) (misfit : Option FilterFault) (filter found : Parsed) : Type 0 where
     short : long ≡ false
     fine : verdict ≡ Fine
     fits : misfit ≡ None
     same : filter ≡ found
 
-  read_from : (long : Bool) (verdict : Verdict) (misfit : Option FilterFault) (filter found : Compiled) → answer_from long verdict misfit filter ≡ Ok found → WasRead long verdict misfit filter found
+  read_from : (long : Bool) (verdict : Verdict) (misfit : Option FilterFault) (filter found : Parsed) → answer_from long verdict misfit filter ≡ Ok found → WasRead long verdict misfit filter found
   read_from false Fine None filter found h = record { short = refl; fine = refl; fits = refl; same = cc }
   read_from false Fine (Some fault) filter found h = absurd (cc)
   read_from false TooDeep misfit filter found h = absurd (cc)
@@ -73,24 +89,24 @@ module _ (definition : Definition) (text : List ℕ) where
   verdict_is : ComesTo text (reading start (spots_of text) (length text))
   verdict_is = law (length text) (spots_of text)
 
-  filter_of : (found : Compiled) → answer_of definition text ≡ Ok found → IsFilterOf definition text found
+  filter_of : (found : Parsed) → answer_of definition text ≡ Ok found → IsFilterOf definition text found
   unfolding answer_of
   filter_of found h =
-      let was = read_from (nat_lt 1024 (length (trimmed text))) (reading start (spots_of text) (length text)) (misfit_of definition text) (compiled_of definition text) found h in
+      let was = read_from (nat_lt 1024 (length (trimmed text))) (reading start (spots_of text) (length text)) (misfit_of definition text) (parsed_of definition text) found h in
       record {
         is_filter = record { short = ltb-false 1024 (length (trimmed text)) was.short; syntax = subst (ComesTo text) was.fine verdict_is; fits = was.fits };
-        text = ap (λ (f : Compiled). f.text) (sym was.same);
-        moves = ap (λ (f : Compiled). f.moves) (sym was.same);
+        text = ap (λ (f : Parsed). f.text) (sym was.same);
+        subjects = ap (λ (f : Parsed). f.subjects) (sym was.same);
       }
 
   fault_told : (fault : FilterFault) → length (trimmed text) ≤ 1024 → ComesTo text Fine → misfit_of definition text ≡ Some fault → IsTold definition text fault
-  fault_told TooMany short fine h = absurd (never_too_many definition.fields subjects.Pid (spots_of text) h)
+  fault_told TooMany short fine h = absurd (never_told TooMany no_too_many definition.fields (spots_of text) h)
   fault_told (FilterSyntax at) short fine h = inr (short, fine, h)
   fault_told (NoSuchField at) short fine h = (short, fine, h)
   fault_told (WrongOperator at) short fine h = (short, fine, h)
   fault_told Memory short fine h = tt
 
-  told_from : (b : Bool) (v : Verdict) (m : Option FilterFault) (filter : Compiled) (fault : FilterFault) → nat_lt 1024 (length (trimmed text)) ≡ b → ComesTo text v → misfit_of definition text ≡ m → answer_from b v m filter ≡ Err fault → IsTold definition text fault
+  told_from : (b : Bool) (v : Verdict) (m : Option FilterFault) (filter : Parsed) (fault : FilterFault) → nat_lt 1024 (length (trimmed text)) ≡ b → ComesTo text v → misfit_of definition text ≡ m → answer_from b v m filter ≡ Err fault → IsTold definition text fault
   told_from true v m filter fault b_is comes m_is h =
       let same : TooMany ≡ fault = cc in
       subst (IsTold definition text) same (inl (ltb-true 1024 (length (trimmed text)) b_is))
@@ -107,19 +123,19 @@ module _ (definition : Definition) (text : List ℕ) where
 
   told : (fault : FilterFault) → answer_of definition text ≡ Err fault → IsTold definition text fault
   unfolding answer_of
-  told fault h = told_from (nat_lt 1024 (length (trimmed text))) (reading start (spots_of text) (length text)) (misfit_of definition text) (compiled_of definition text) fault refl verdict_is refl h
+  told fault h = told_from (nat_lt 1024 (length (trimmed text))) (reading start (spots_of text) (length text)) (misfit_of definition text) (parsed_of definition text) fault refl verdict_is refl h
 
   -- and back
-  short_answer : (v : Verdict) (m : Option FilterFault) → length (trimmed text) ≤ 1024 → ComesTo text v → misfit_of definition text ≡ m → answer_of definition text ≡ answer_from false v m (compiled_of definition text)
+  short_answer : (v : Verdict) (m : Option FilterFault) → length (trimmed text) ≤ 1024 → ComesTo text v → misfit_of definition text ≡ m → answer_of definition text ≡ answer_from false v m (parsed_of definition text)
   unfolding answer_of
-  short_answer v m short comes fits = λ i. answer_from (le-ltb 1024 (length (trimmed text)) short i) (only (length text) (spots_of text) v comes i) (fits i) (compiled_of definition text)
+  short_answer v m short comes fits = λ i. answer_from (le-ltb 1024 (length (trimmed text)) short i) (only (length text) (spots_of text) v comes i) (fits i) (parsed_of definition text)
 
-  filter_answer : IsFilter definition text → answer_of definition text ≡ Ok (compiled_of definition text)
+  filter_answer : IsFilter definition text → answer_of definition text ≡ Ok (parsed_of definition text)
   filter_answer is = short_answer Fine None is.short is.syntax is.fits
 
   refused_answer : (fault : FilterFault) → IsRefused definition text fault → answer_of definition text ≡ Err fault
   unfolding answer_of
-  refused_answer TooMany (inl more) = ap (λ b. answer_from b (reading start (spots_of text) (length text)) (misfit_of definition text) (compiled_of definition text)) (lt-ltb 1024 (length (trimmed text)) more)
+  refused_answer TooMany (inl more) = ap (λ b. answer_from b (reading start (spots_of text) (length text)) (misfit_of definition text) (parsed_of definition text)) (lt-ltb 1024 (length (trimmed text)) more)
   refused_answer TooMany (inr h) = short_answer TooDeep (misfit_of definition text) h.0 h.1 refl
   refused_answer (FilterSyntax at) (inl h) = short_answer (WrongAt at) (misfit_of definition text) h.0 h.1 refl
   refused_answer (FilterSyntax at) (inr h) = short_answer Fine (Some (FilterSyntax at)) h.0 h.1 h.2
@@ -127,13 +143,108 @@ module _ (definition : Definition) (text : List ℕ) where
   refused_answer (WrongOperator at) h = short_answer Fine (Some (WrongOperator at)) h.0 h.1 h.2
   refused_answer Memory h = absurd h
 
+  never_memory : answer_of definition text ≡ Err Memory → ⊥
+  unfolding answer_of
+  never_memory h = from (nat_lt 1024 (length (trimmed text))) (reading start (spots_of text) (length text)) (misfit_of definition text) (parsed_of definition text) (never_told Memory no_memory definition.fields (spots_of text)) h
+    where
+      from : (b : Bool) (v : Verdict) (m : Option FilterFault) (filter : Parsed) → (m ≡ Some Memory → ⊥) → answer_from b v m filter ≡ Err Memory → ⊥
+      from true v m filter never h = cc
+      from false Fine None filter never h = cc
+      from false Fine (Some f) filter never h = let same : f ≡ Memory = cc in never (ap (λ g. Some g) same)
+      from false TooDeep m filter never h = cc
+      from false (WrongAt at) m filter never h = cc
+
+  -- ---- the laws
+
+  err_is : {f g : FilterFault} → answer_of definition text ≡ Err f → answer_of definition text ≡ Err g → f ≡ g
+  err_is a b = cc
+
+  refused_of : (fault : FilterFault) → answer_of definition text ≡ Err fault → IsRefused definition text fault
+  refused_of TooMany h = told TooMany h
+  refused_of (FilterSyntax at) h = told (FilterSyntax at) h
+  refused_of (NoSuchField at) h = told (NoSuchField at) h
+  refused_of (WrongOperator at) h = told (WrongOperator at) h
+  refused_of Memory h = never_memory h
+
+  pub filter_is_answered : IsFilter definition text ↔ (answer_of definition text ≡ Ok (parsed_of definition text))
+  filter_is_answered = (filter_answer, (λ h. (filter_of (parsed_of definition text) h).is_filter))
+
+  pub refusal_is_answered : (fault : FilterFault) → IsRefused definition text fault ↔ (answer_of definition text ≡ Err fault)
+  refusal_is_answered fault = (refused_answer fault, refused_of fault)
+
+  pub filter_or_refused : IsFilter definition text ⊎ ((fault : FilterFault) × IsRefused definition text fault)
+  filter_or_refused = by (answer_of definition text) refl
+    where
+      by : (r : Result Parsed FilterFault) → answer_of definition text ≡ r → IsFilter definition text ⊎ ((fault : FilterFault) × IsRefused definition text fault)
+      by (Ok found) h = inl (filter_of found h).is_filter
+      by (Err fault) h = inr (fault, refused_of fault h)
+
+  pub never_both : (fault : FilterFault) → IsFilter definition text → IsRefused definition text fault → ⊥
+  never_both fault is refused = let h : Ok (parsed_of definition text) ≡ Err fault = sym (filter_answer is) ∙ refused_answer fault refused in cc
+
+  pub one_refusal : (one other : FilterFault) → IsRefused definition text one → IsRefused definition text other → one ≡ other
+  one_refusal one other h k = err_is (refused_answer one h) (refused_answer other k)
+
+  pub never_refused : IsFilter definition text ↔ ((fault : FilterFault) → IsRefused definition text fault → ⊥)
+  never_refused = ((λ is fault refused. never_both fault is refused), (λ none. by none filter_or_refused))
+    where
+      by : ((fault : FilterFault) → IsRefused definition text fault → ⊥) → IsFilter definition text ⊎ ((fault : FilterFault) × IsRefused definition text fault) → IsFilter definition text
+      by none (inl is) = is
+      by none (inr h) = absurd (none h.0 h.1)
+
+  -- ---- what `read` makes
+
+  fine_in_tests : ComesTo text Fine → InTests (tokens_of (spots_of text))
+  fine_in_tests fine = subst InTests fine.whole.spelled (tree_in_tests fine.whole.tree)
+
+  pub misfit_found : ComesTo text Fine → first_fault definition.fields subjects.Pid (spots_of text) ≡ misfit_of definition text
+  misfit_found fine = fault_is_misfit definition.fields (spots_of text) subjects.Pid (fine_in_tests fine)
+
+  pub no_fault_in : ComesTo text Fine → misfit_of definition text ≡ None → first_fault definition.fields subjects.Pid (spots_of text) ≡ None
+  no_fault_in fine fits = misfit_found fine ∙ fits
+
+  pub tested_subjects : ComesTo text Fine → misfit_of definition text ≡ None
+      → subjects_tested (moves_from definition.fields subjects.Pid comparisons.Equal (tokens_of (spots_of text))) ≡ subjects_in definition.fields (tokens_of (spots_of text))
+  tested_subjects fine fits = tested_is definition.fields subjects.Pid comparisons.Equal (tokens_of (spots_of text)) (fine_in_tests fine) (all_fit definition.fields subjects.Pid (spots_of text) (no_fault_in fine fits))
+
+  module _ (items : List ℕ) (moves : List Move) (items_is : items ≡ trimmed text) (moves_is : moves ≡ moves_from definition.fields subjects.Pid comparisons.Equal (tokens_of (spots_of text))) where
+    -- the steps are those of the trimmed text
+    pub moves_kept : moves ≡ moves_about (subjects_tested moves) comparisons.Equal (tokens_of (spots_of items))
+    moves_kept =
+        let same : tokens_of (spots_of text) ≡ tokens_of (spots_of items) = sym (trimmed_tokens text) ∙ ap (λ t. tokens_of (spots_of t)) (sym items_is) in
+        moves_is ∙ about_is definition.fields subjects.Pid comparisons.Equal (tokens_of (spots_of text)) ∙ (λ i. moves_about (subjects_tested (sym moves_is i)) comparisons.Equal (same i))
+
+    pub filter_made : length (trimmed text) ≤ 1024 → reading start (spots_of text) (length text) ≡ Fine → first_fault definition.fields subjects.Pid (spots_of text) ≡ None → answer_of definition text ≡ Ok (record { text = items; subjects = subjects_tested moves })
+    unfolding answer_of
+    filter_made short fine found =
+        let comes = subst (ComesTo text) fine verdict_is in
+        let fits : misfit_of definition text ≡ None = sym (misfit_found comes) ∙ found in
+        let tested : subjects_tested moves ≡ subjects_in definition.fields (tokens_of (spots_of text)) = ap subjects_tested moves_is ∙ tested_subjects comes fits in
+        (λ i. answer_from (le-ltb 1024 (length (trimmed text)) short i) (fine i) (fits i) (parsed_of definition text))
+        ∙ (λ i. Ok (record { text = sym items_is i; subjects = sym tested i }))
+
+  -- ---- what `read` tells
+
+  pub fault_made : length (trimmed text) ≤ 1024 → reading start (spots_of text) (length text) ≡ Fine → (fault : FilterFault) → IsToldAs (first_fault definition.fields subjects.Pid (spots_of text)) fault → IsAnswered (Err fault) (answer_of definition text)
+  fault_made short fine fault found = by fault found
+    where
+      answer : (f : FilterFault) → first_fault definition.fields subjects.Pid (spots_of text) ≡ Some f → answer_of definition text ≡ Err f
+      answer f h = let comes = subst (ComesTo text) fine verdict_is in short_answer Fine (Some f) short comes (sym (misfit_found comes) ∙ h)
+
+      by : (f : FilterFault) → IsToldAs (first_fault definition.fields subjects.Pid (spots_of text)) f → IsAnswered (Err f) (answer_of definition text)
+      by TooMany h = answer TooMany h
+      by (FilterSyntax at) h = answer (FilterSyntax at) h
+      by (NoSuchField at) h = answer (NoSuchField at) h
+      by (WrongOperator at) h = answer (WrongOperator at) h
+      by Memory h = tt
+
   -- ---- what `parse` says
 
-  pub parse_read : (r : Result Compiled FilterFault) → IsAnswered r (answer_of definition text) → IfOk r (IsFilterOf definition text)
+  pub parse_read : (r : Result Parsed FilterFault) → IsAnswered r (answer_of definition text) → IfOk r (IsFilterOf definition text)
   parse_read (Ok found) e = filter_of found e
   parse_read (Err fault) e = tt
 
-  pub parse_refused : (r : Result Compiled FilterFault) → IsAnswered r (answer_of definition text) → IfErr r (IsTold definition text)
+  pub parse_refused : (r : Result Parsed FilterFault) → IsAnswered r (answer_of definition text) → IfErr r (IsTold definition text)
   parse_refused (Ok found) e = tt
   parse_refused (Err TooMany) e = told TooMany e
   parse_refused (Err (FilterSyntax at)) e = told (FilterSyntax at) e
@@ -141,18 +252,15 @@ module _ (definition : Definition) (text : List ℕ) where
   parse_refused (Err (WrongOperator at)) e = told (WrongOperator at) e
   parse_refused (Err Memory) e = tt
 
-  pub parse_only : (r : Result Compiled FilterFault) → IsAnswered r (answer_of definition text) → IsFilter definition text → IsOkUnlessMemory r
+  pub parse_only : (r : Result Parsed FilterFault) → IsAnswered r (answer_of definition text) → IsFilter definition text → IsOkUnlessMemory r
   parse_only (Ok found) e is = tt
-  parse_only (Err TooMany) e is = let h : Ok (compiled_of definition text) ≡ Err TooMany = sym (filter_answer is) ∙ e in cc
-  parse_only (Err (FilterSyntax at)) e is = let h : Ok (compiled_of definition text) ≡ Err (FilterSyntax at) = sym (filter_answer is) ∙ e in cc
-  parse_only (Err (NoSuchField at)) e is = let h : Ok (compiled_of definition text) ≡ Err (NoSuchField at) = sym (filter_answer is) ∙ e in cc
-  parse_only (Err (WrongOperator at)) e is = let h : Ok (compiled_of definition text) ≡ Err (WrongOperator at) = sym (filter_answer is) ∙ e in cc
+  parse_only (Err TooMany) e is = let h : Ok (parsed_of definition text) ≡ Err TooMany = sym (filter_answer is) ∙ e in cc
+  parse_only (Err (FilterSyntax at)) e is = let h : Ok (parsed_of definition text) ≡ Err (FilterSyntax at) = sym (filter_answer is) ∙ e in cc
+  parse_only (Err (NoSuchField at)) e is = let h : Ok (parsed_of definition text) ≡ Err (NoSuchField at) = sym (filter_answer is) ∙ e in cc
+  parse_only (Err (WrongOperator at)) e is = let h : Ok (parsed_of definition text) ≡ Err (WrongOperator at) = sym (filter_answer is) ∙ e in cc
   parse_only (Err Memory) e is = tt
 
-  err_is : {f g : FilterFault} → answer_of definition text ≡ Err f → answer_of definition text ≡ Err g → f ≡ g
-  err_is a b = cc
-
-  pub parse_told : (r : Result Compiled FilterFault) → IsAnswered r (answer_of definition text) → (fault : FilterFault) → IsRefused definition text fault → IsAsTold r fault
+  pub parse_told : (r : Result Parsed FilterFault) → IsAnswered r (answer_of definition text) → (fault : FilterFault) → IsRefused definition text fault → IsAsTold r fault
   parse_told (Ok found) e fault is = let h : Ok found ≡ Err fault = sym e ∙ refused_answer fault is in cc
   parse_told (Err TooMany) e fault is = err_is e (refused_answer fault is)
   parse_told (Err (FilterSyntax at)) e fault is = err_is e (refused_answer fault is)
@@ -162,14 +270,22 @@ module _ (definition : Definition) (text : List ℕ) where
 
 -- ---- what `passes` says
 
-module _ (definition : Definition) (written : List ℕ) (filter : Compiled) (row : Cells) (emission : Emission) (same : emission.values ≡ row.values)
-    (is : IsFilterOf definition written filter) (defined : IsDefinition definition) (is_row : IsRowOf definition row) (result : Bool) (result_is : result ≡ evaluated emission at_start filter.moves) where
+module _ (definition : Definition) (written : List ℕ) (filter : Parsed) (row : Cells) (emission : Emission) (same : emission.values ≡ row.values)
+    (is : IsFilterOf definition written filter) (defined : IsDefinition definition) (is_row : IsRowOf definition row)
+    (moves : List Move) (tested : subjects_tested moves ≡ filter.subjects) (kept : moves ≡ moves_about (subjects_tested moves) comparisons.Equal (tokens_of (spots_of filter.text)))
+    (result : Bool) (result_is : result ≡ evaluated emission at_start moves) where
+  moves_are : moves ≡ moves_from definition.fields subjects.Pid comparisons.Equal (tokens_of (spots_of written))
+  moves_are =
+      let tokens : tokens_of (spots_of filter.text) ≡ tokens_of (spots_of written) = ap (λ t. tokens_of (spots_of t)) is.text ∙ trimmed_tokens written in
+      let about : subjects_tested moves ≡ subjects_tested (moves_from definition.fields subjects.Pid comparisons.Equal (tokens_of (spots_of written))) = tested ∙ is.subjects ∙ sym (tested_subjects definition written is.is_filter.syntax is.is_filter.fits) in
+      kept ∙ (λ i. moves_about (about i) comparisons.Equal (tokens i)) ∙ sym (about_is definition.fields subjects.Pid comparisons.Equal (tokens_of (spots_of written)))
+
   pub each_holds : (tree : Expr) → Spells (tokens_of (spots_of written)) tree → IsTrue result ↔ Holds definition.fields emission tree
   each_holds tree spelled =
-      let fits = subst (AllFit definition.fields subjects.Pid) (sym spelled) (all_fit definition.fields subjects.Pid (spots_of written) is.is_filter.fits) in
+      let fits = subst (AllFit definition.fields subjects.Pid) (sym spelled) (all_fit definition.fields subjects.Pid (spots_of written) (no_fault_in definition written is.is_filter.syntax is.is_filter.fits)) in
       let shallow = subst (λ t. depth_of t ≤ 16) (sym spelled) is.is_filter.syntax.shallow in
       let value = value_is definition.fields emission (tests_decide definition row emission defined is_row same) tree subjects.Pid comparisons.Equal fits shallow in
-      let there : result ≡ evaluated emission at_start (moves_from definition.fields subjects.Pid comparisons.Equal (tokens_of (spots_of written))) = result_is ∙ ap (evaluated emission at_start) is.moves in
+      let there : result ≡ evaluated emission at_start (moves_from definition.fields subjects.Pid comparisons.Equal (tokens_of (spots_of written))) = result_is ∙ ap (evaluated emission at_start) moves_are in
       let whole : result ≡ evaluated emission at_start (moves_from definition.fields subjects.Pid comparisons.Equal (expr_tokens tree)) = there ∙ ap (λ t. evaluated emission at_start (moves_from definition.fields subjects.Pid comparisons.Equal t)) (sym spelled) in
       ((λ h. value.0 (sym whole ∙ h)), (λ h. whole ∙ value.1 h))
 

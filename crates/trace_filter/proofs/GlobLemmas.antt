@@ -1,7 +1,8 @@
 -- The marks say what a glob matches.
-use Rattle.std.proofs.Common.{◌≡◌, ◌⊎◌, ◌↔◌, ℕ, zero, suc, ◌+◌, Bool, true, false, ◌||◌, ◌&&◌, IsTrue, List, [], ◌∷◌, ◌++◌, length, map, refl, sym, ap, ◌∙◌, subst, inl, inr, arith}
+use Rattle.std.proofs.Common.{◌≡◌, ◌⊎◌, ◌↔◌, ℕ, Bool, true, false, ◌||◌, ◌&&◌, List, [], ◌∷◌, ◌++◌, length, map, refl, sym, ap, subst, inl, inr}
 use Rattle.std.proofs.lemmas.Bool.{and_parts, and_from}
-use Rattle.trace_filter.specs.Globs.{Class, is_in_class, Part, AnyBytes, OneByte, Matches, spread, shift, advance, advance_all, mark_at, first_row, is_match}
+use Rattle.trace_filter.specs.Globs.{Class, is_in_class, Part, AnyBytes, OneByte, Matches}
+use Rattle.trace_filter.specs.Marks.{spread, shift, advance, advance_all, mark_at, first_row, is_match}
 
 -- some marked front of the text has behind it what the parts match
 abbrev Reaches : List Part → List Bool → List ℕ → Type 0

@@ -7,7 +7,12 @@ pub mod Sums
 pub mod GlobLemmas
 pub mod RowLemmas
 pub mod Depths
+pub mod NamedValues
 pub mod Truths
 pub mod RowTruths
+pub mod TrimLemmas
+pub mod TestedMoves
+pub mod Misfits
+pub mod TrimmedFilters
 pub mod FilterLemmas
 pub mod ClassLemmas

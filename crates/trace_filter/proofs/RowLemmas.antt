@@ -1,8 +1,9 @@
 -- Rows of marks as the program moves them.
-use Rattle.std.proofs.Common.{◌≡◌, ℕ, zero, suc, ◌+◌, ◌-◌, ◌<◌, ◌≤◌, Bool, true, false, ◌||◌, ◌&&◌, List, [], ◌∷◌, ◌++◌, length, length-drop, map, take, drop, replicate, get_or, refl, sym, ap, ◌∙◌, subst, add-one, one-add, arith}
+use Rattle.std.proofs.Common.{◌≡◌, ℕ, zero, suc, ◌+◌, ◌-◌, ◌<◌, ◌≤◌, Bool, true, false, ◌||◌, ◌&&◌, List, [], ◌∷◌, ◌++◌, length, length-drop, map, take, drop, replicate, get_or, refl, sym, ap, ◌∙◌, add-one, arith}
 use Rattle.std.proofs.Math.ListN.{set}
 use Rattle.trace_filter.specs.declared.glob.PartPiece as pieces
-use Rattle.trace_filter.specs.Globs.{Class, is_in_class, spread, shift, advance, advance_all, Part, parts_from, part_of, mark_at, first_row}
+use Rattle.trace_filter.specs.Globs.{Class, is_in_class, parts_from, part_of}
+use Rattle.trace_filter.specs.Marks.{spread, shift, advance, advance_all, mark_at, first_row}
 use Rattle.trace_filter.specs.SeenGlobs.{glob_part_of, IsPartPiece}
 
 pub spread_one : (row : List Bool) (i : ℕ) (seen d : Bool) → i < length row

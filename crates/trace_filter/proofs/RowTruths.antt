@@ -1,5 +1,5 @@
 -- The tests of a filter decide what they say, in a row of the event.
-use Rattle.std.proofs.Common.{◌≡◌, ◌⊎◌, ◌↔◌, ℕ, zero, suc, ◌+◌, ◌<◌, ◌≤◌, ◌==◌, nat_lt, nat_le, ℤ, pos, ◌≤ℤ◌, bit_and, bytes_eq, codes, Bool, true, false, not, ◌&&◌, IsTrue, T, if◌then◌else◌, List, [], ◌∷◌, ◌++◌, length, map, Option, None, Some, is_some, unwrap_or, refl, sym, ap, ◌∙◌, subst, inl, inr, arith, lt-ltb, eqb→eq, eq-eqb, add-zero}
+use Rattle.std.proofs.Common.{◌≡◌, ◌↔◌, ℕ, suc, ◌+◌, ◌<◌, ◌≤◌, ◌==◌, nat_lt, nat_le, ℤ, pos, ◌≤ℤ◌, bit_and, bytes_eq, codes, Bool, true, false, IsTrue, T, if◌then◌else◌, List, [], ◌∷◌, ◌++◌, length, map, Option, None, Some, is_some, unwrap_or, refl, sym, ap, ◌∙◌, subst, arith, lt-ltb, eqb→eq, eq-eqb, add-zero}
 use Rattle.std.specs.Prelude.{int_le, slice_get}
 use Rattle.std.specs.Ordering.{int_eq}
 use Rattle.std.specs.Bool.{passes}
@@ -12,18 +12,20 @@ use Rattle.trace_format.specs.declared.kind.Kind.{Kind}
 use Rattle.trace_format.specs.declared.kind.Kind.TheVariants as kind
 use Rattle.trace_format.specs.declared.event.Field.{Field}
 use Rattle.trace_format.specs.Numbers.{number_of}
-use Rattle.trace_format.specs.Cells.{Datum, Whole, Bytes, Cells, Holds, kinds_of, IsRowOf}
-use Rattle.trace_format.specs.Definitions.{Definition, IsField, AreFields, IsDefinition, is_kind}
+use Rattle.trace_format.specs.Cells.{Datum, Whole, Bytes, Cells, Holds, IsRowOf}
+use Rattle.trace_format.specs.Definitions.{Definition, AreFields, IsDefinition, is_kind}
 use Rattle.trace_filter.specs.declared.token.Comparison.{Comparison}
 use Rattle.trace_filter.specs.declared.token.Comparison.TheVariants as comparison
 use Rattle.trace_filter.specs.declared.test.Subject.{Subject}
-use Rattle.trace_filter.specs.declared.test.Subject.TheVariants.{Pid, Cpu, NumberField, TextField}
+use Rattle.trace_filter.specs.declared.test.Subject.TheVariants.{Pid, Cpu}
 use Rattle.trace_filter.specs.Tokens.{Literal, Word, Quoted}
-use Rattle.trace_filter.specs.Globs.{parts_of, is_match}
-use Rattle.trace_filter.specs.Fields.{subject_at, subject_from, subject_named, is_text, takes_at, fits_at}
-use Rattle.trace_filter.specs.Truth.{pattern_of, NumbersCompare, TextsCompare, literal_number, literal_bytes, NumberCompares, DatumCompares, Emission, value_of}
-use Rattle.trace_filter.specs.Tests.{number_test, text_test, datum_test}
-use Rattle.trace_filter.specs.Steps.{datum_at, test_of}
+use Rattle.trace_filter.specs.Globs.{parts_of}
+use Rattle.trace_filter.specs.Marks.{is_match}
+use Rattle.trace_filter.specs.Fields.{fits_at}
+use Rattle.trace_filter.specs.Places.{subject_at, subject_from, subject_named, is_text}
+use Rattle.trace_filter.specs.Truth.{pattern_of, NumbersCompare, TextsCompare, literal_bytes, NumberCompares, DatumCompares, Emission}
+use Rattle.trace_filter.specs.Tests.{number_test, text_test}
+use Rattle.trace_filter.specs.Steps.{value_of, datum_at, test_of}
 use Rattle.trace_filter.proofs.Options.{some_is}
 use Rattle.trace_filter.proofs.GlobLemmas.{is_match-Decides}
 use Rattle.trace_filter.proofs.Truths.{TestsDecide, not_decides}

@@ -2,10 +2,10 @@
 use Rattle.std.proofs.Common.{◌≡◌, ℕ, ◌+◌, List, [], ◌∷◌, ◌++◌, Option, None, Some, option_and_then, refl, sym, ap, ◌∙◌, append_assoc, append-nil}
 use Rattle.trace_filter.specs.declared.syntax.Due.{Due}
 use Rattle.trace_filter.specs.declared.syntax.Due.TheVariants as due
-use Rattle.trace_filter.specs.Tokens.{Token, Open, Close, Bang, Both, Either}
+use Rattle.trace_filter.specs.Tokens.{Token, Close, Both, Either}
 use Rattle.trace_filter.specs.Grammar.{Expr, AllOf, Or, Conj, Only, And, Unary, Not, Group, Test, expr_tokens, conj_tokens, unary_tokens, IsWhole, Begins, Opened, behind}
 use Rattle.trace_filter.specs.Syntax.{Standing, step, start}
-use Rattle.trace_filter.proofs.Options.{Gave, and_then_some}
+use Rattle.trace_filter.proofs.Options.{and_then_some}
 
 -- where tokens lead
 abbrev pub run : Standing → List Token → Option Standing

@@ -1,9 +1,8 @@
 -- Lemmas on the tokens of a text.
-use Rattle.std.proofs.Common.{◌≡◌, ℕ, zero, suc, ◌+◌, ◌-◌, ◌<◌, ◌≤◌, Bool, true, false, List, [], ◌∷◌, length, take, drop, refl, sym, ap, ◌∙◌, subst, add-zero, one-add, arith, length-drop, drop-drop}
+use Rattle.std.proofs.Common.{◌≡◌, ℕ, zero, suc, ◌+◌, ◌-◌, ◌≤◌, Bool, false, List, [], ◌∷◌, length, drop, refl, sym, ap, ◌∙◌, subst, add-zero, one-add, arith, length-drop, drop-drop}
 use Rattle.std.specs.List.{prefix_len}
 use Rattle.std.proofs.lemmas.Bool.{cond-true, cond-false, cond_both}
 use Rattle.trace_filter.specs.declared.token.Piece as pieces
-use Rattle.trace_filter.specs.declared.token.Spot as spots
 use Rattle.trace_filter.specs.Tokens.{is_blank, piece_of, is_comparison, Token, Spot, spots_from}
 use Rattle.trace_filter.specs.Seen.{token_of, IsPiece, IsNextToken}
 

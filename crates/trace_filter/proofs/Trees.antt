@@ -1,15 +1,15 @@
 -- Tokens that can be taken spell a part of a tree, which can be completed.
-use Rattle.std.proofs.Common.{◌≡◌, ℕ, zero, suc, ◌+◌, add-one, Bool, true, false, IsTrue, if◌then◌else◌, List, [], ◌∷◌, ◌++◌, length, map, Option, None, Some, option_map, refl, sym, ap, ◌∙◌, subst, append_assoc, append-nil}
+use Rattle.std.proofs.Common.{◌≡◌, ℕ, zero, suc, ◌+◌, add-one, true, List, [], ◌∷◌, ◌++◌, map, Option, None, Some, option_map, refl, sym, ap, ◌∙◌, subst, append_assoc, append-nil}
 use Rattle.std.specs.List.{list_all}
 use Rattle.std.proofs.lemmas.Bool.{and_from}
 use Rattle.trace_filter.specs.declared.token.Comparison.{Comparison}
 use Rattle.trace_filter.specs.declared.token.Comparison.TheVariants as comparison
 use Rattle.trace_filter.specs.declared.syntax.Due.{Due}
 use Rattle.trace_filter.specs.declared.syntax.Due.TheVariants as due
-use Rattle.trace_filter.specs.Tokens.{Literal, Word, Token, Open, Close, Bang, Both, Either, Compare, Name, Value, Misfit}
+use Rattle.trace_filter.specs.Tokens.{Literal, Word, Token, Open, Close, Bang, Both, Either, Compare, Name, Value}
 use Rattle.trace_filter.specs.Grammar.{Expr, AllOf, Or, Conj, Only, And, Unary, Not, Group, Test, expr_tokens, conj_tokens, unary_tokens, IsWhole, Begins, is_written}
 use Rattle.trace_filter.specs.Syntax.{Standing, step, next_due, moved, start}
-use Rattle.trace_filter.proofs.Options.{some_is, Gave, and_then_some}
+use Rattle.trace_filter.proofs.Options.{some_is, and_then_some}
 use Rattle.trace_filter.proofs.Runs.{run, standing_at}
 
 -- ---- a level: what was read inside one `(`, before an operand

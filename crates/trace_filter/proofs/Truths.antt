@@ -1,6 +1,5 @@
 -- The value of a filter's steps is the truth of each tree that its tokens spell.
-use Rattle.std.proofs.Common.{◌≡◌, ◌⊎◌, ◌↔◌, ℕ, zero, suc, ◌+◌, ◌<◌, ◌≤◌, nat_lt, Bool, true, false, not, ◌&&◌, ◌||◌, if◌then◌else◌, List, [], ◌∷◌, ◌++◌, length, Option, None, Some, refl, sym, ap, ◌∙◌, subst, inl, inr, arith, append_assoc, append-nil, lt-ltb}
-use Rattle.std.specs.List.{sum}
+use Rattle.std.proofs.Common.{◌≡◌, ◌⊎◌, ◌↔◌, ℕ, zero, suc, ◌+◌, ◌<◌, ◌≤◌, nat_lt, Bool, true, false, not, ◌&&◌, ◌||◌, List, [], ◌∷◌, ◌++◌, length, Option, None, Some, refl, sym, ap, ◌∙◌, subst, inl, inr, arith, append_assoc, append-nil, lt-ltb}
 use Rattle.std.proofs.lemmas.Bool.{cond-true, and_parts, and_from}
 use Rattle.trace_format.specs.declared.event.Field.{Field}
 use Rattle.trace_filter.specs.declared.token.Comparison.{Comparison}
@@ -9,10 +8,12 @@ use Rattle.trace_filter.specs.declared.frames.Frame.{Frame}
 use Rattle.trace_filter.specs.declared.fault.FilterFault.{FilterFault}
 use Rattle.trace_filter.specs.declared.fault.FilterFault.TheVariants.{FilterSyntax, NoSuchField, WrongOperator}
 use Rattle.trace_filter.specs.Tokens.{Literal, Token, Open, Close, Bang, Both, Either, Compare, Name, Value, Misfit, Spot, tokens_of}
-use Rattle.trace_filter.specs.Grammar.{Expr, AllOf, Or, Conj, Only, And, Unary, Not, Group, Test, expr_tokens, conj_tokens, unary_tokens, deepest, open_count, Opened, behind}
-use Rattle.trace_filter.specs.Fields.{is_text, takes_at, fits_at, unless, unless_named, fault_at, subject_named, named_or, subject_behind, first_fault, or_later}
-use Rattle.trace_filter.specs.Truth.{Emission, value_of, value_named, DatumCompares, Holds, ConjHolds, UnaryHolds}
-use Rattle.trace_filter.specs.Steps.{moves_of, moves_from, comparison_behind, datum_at, Move, Opens, Closes, Inverts, AndThen, OrElse, Checks, State, fresh, inverted, with_operand, total, test_of, evaluated, at_start, opened}
+use Rattle.trace_filter.specs.Grammar.{Expr, AllOf, Or, Conj, Only, And, Unary, Not, Group, Test, expr_tokens, conj_tokens, unary_tokens, deepest}
+use Rattle.trace_filter.specs.Fields.{takes_at, fits_at, unless, or_later}
+use Rattle.trace_filter.specs.Places.{is_text, unless_named, fault_at, subject_named, named_or, subject_behind, first_fault}
+use Rattle.trace_filter.specs.Truth.{Emission, DatumCompares, Holds, ConjHolds, UnaryHolds}
+use Rattle.trace_filter.specs.Steps.{value_of, moves_from, datum_at, Move, Opens, Closes, Inverts, AndThen, OrElse, Checks, fresh, inverted, with_operand, total, test_of, evaluated, at_start}
+use Rattle.trace_filter.proofs.NamedValues.{value_if, value_named-subject}
 use Rattle.trace_filter.proofs.Verdicts.{deepest-first}
 
 -- ---- values where any depth is allowed
@@ -77,11 +78,11 @@ unless_true : (b : Bool) (f : FilterFault) → unless b f ≡ None → b ≡ tru
 unless_true true f h = refl
 unless_true false f h = absurd (cc)
 
-record Named (o : Option Subject) : Type 0 where
-  subject : Subject
-  is : o ≡ Some subject
+pub record Named (o : Option Subject) : Type 0 where
+  pub subject : Subject
+  pub is : o ≡ Some subject
 
-unless_some : (o : Option Subject) (f : FilterFault) → unless_named o f ≡ None → Named o
+pub unless_some : (o : Option Subject) (f : FilterFault) → unless_named o f ≡ None → Named o
 unless_some (Some s) f h = record { subject = s; is = refl }
 unless_some None f h = absurd (cc)
 
@@ -243,7 +244,7 @@ module _ (fields : List Field) (emission : Emission) where
           let decided = tests name found.subject c literal found.is takes fits in
           record {
             holds = test_of c (value_of emission found.subject) (datum_at (is_text found.subject) literal);
-            decides = subst (λ o. (test_of c (value_of emission found.subject) (datum_at (is_text found.subject) literal) ≡ true) ↔ DatumCompares c (value_named emission o) literal) (sym found.is) decided;
+            decides = subst (λ o. (test_of c (value_of emission found.subject) (datum_at (is_text found.subject) literal) ≡ true) ↔ DatumCompares c o literal) (sym (value_named-subject fields emission name ∙ ap (value_if emission) found.is)) decided;
             last = named_or (subject_named fields name) subject;
             last_by = c;
             fit = fit.1.1.1;

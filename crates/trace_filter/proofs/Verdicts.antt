@@ -1,16 +1,16 @@
 -- What is read token by token is what the grammar says of the tokens, and nothing else is.
-use Rattle.std.proofs.Common.{◌≡◌, ◌⊎◌, ℕ, ◌+◌, ◌<◌, ◌≤◌, nat_lt, max, Bool, true, false, if◌then◌else◌, List, [], ◌∷◌, ◌++◌, length, map, Option, None, Some, option_and_then, refl, sym, ap, ◌∙◌, subst, inl, inr, arith, append_assoc, append-nil, ltb-true, lt-ltb}
+use Rattle.std.proofs.Common.{◌≡◌, ◌⊎◌, ℕ, ◌<◌, ◌≤◌, nat_lt, max, Bool, true, false, if◌then◌else◌, List, [], ◌∷◌, ◌++◌, Option, None, Some, option_and_then, refl, sym, ap, ◌∙◌, subst, inl, inr, arith, append_assoc, append-nil, ltb-true}
 use Rattle.std.proofs.lemmas.List.{map-append}
-use Rattle.std.proofs.lemmas.Bool.{cond-true, cond-false}
+use Rattle.std.proofs.lemmas.Bool.{cond-false}
 use Rattle.trace_filter.specs.declared.syntax.Due.{Due}
 use Rattle.trace_filter.specs.declared.syntax.Due.TheVariants as due
 use Rattle.trace_filter.specs.Tokens.{Token, Spot, tokens_of}
 use Rattle.trace_filter.specs.declared.syntax.Verdict.{Verdict}
 use Rattle.trace_filter.specs.declared.syntax.Verdict.TheVariants.{Fine, TooDeep, WrongAt}
-use Rattle.trace_filter.specs.Grammar.{IsWhole, Begins, Opened, behind, open_count, nothing_open, deepest, depth_of, IsMisplaced, EndsEarly, IsTooDeep, IsFine, IsVerdict}
-use Rattle.trace_filter.specs.Syntax.{Standing, next_due, moved, step, may_end, start, ended, going_on, reading}
+use Rattle.trace_filter.specs.Grammar.{Opened, behind, open_count, nothing_open, deepest, depth_of, IsMisplaced, EndsEarly, IsVerdict}
+use Rattle.trace_filter.specs.Syntax.{Standing, next_due, moved, step, start, ended, going_on, reading}
 use Rattle.trace_filter.proofs.Options.{some_is, and_then_some, map_some}
-use Rattle.trace_filter.proofs.Runs.{run, run-append, standing_at, tree_runs, whole_runs, Leads, begins_run, opened_behind}
+use Rattle.trace_filter.proofs.Runs.{run, run-append, standing_at, tree_runs, whole_runs, begins_run, opened_behind}
 use Rattle.trace_filter.proofs.Trees.{Stands, stands-start, stands-step, stands-run, begins, whole_at, stands_joint}
 
 tokens-push : (front : List Spot) (spot : Spot) → tokens_of (front ++ spot ∷ []) ≡ tokens_of front ++ spot.token ∷ []

@@ -1,5 +1,5 @@
--- What the names of a filter mean, and the first of its tests that does not fit its field.
-use Rattle.std.specs.Prelude.{◌≡◌, ℕ, ◌+◌, Bool, true, false, if◌then◌else◌, bytes_eq, codes, List, [], ◌∷◌, Option, None, Some, is_some}
+-- What the names of a filter mean in an event, and the first of its tests that does not fit.
+use Rattle.std.specs.Prelude.{ℕ, Bool, true, false, if◌then◌else◌, bytes_eq, codes, List, [], ◌∷◌, Option, None, Some, is_some}
 use Rattle.trace_format.specs.declared.kind.Kind.{Kind}
 use Rattle.trace_format.specs.declared.kind.Kind.TheVariants as kind
 use Rattle.trace_format.specs.declared.event.Field.{Field}
@@ -7,32 +7,24 @@ use Rattle.trace_format.specs.Numbers.{number_of}
 use Rattle.trace_filter.specs.declared.token.Comparison.{Comparison}
 use Rattle.trace_filter.specs.declared.token.Comparison.TheVariants as comparison
 use Rattle.trace_filter.specs.declared.fault.FilterFault.{FilterFault}
-use Rattle.trace_filter.specs.declared.fault.FilterFault.TheVariants.{TooMany, FilterSyntax, NoSuchField, WrongOperator, Memory}
-use Rattle.trace_filter.specs.declared.test.Subject.{Subject}
-use Rattle.trace_filter.specs.declared.test.Subject.TheVariants.{Pid, Cpu, NumberField, TextField}
-use Rattle.trace_filter.specs.Tokens.{Literal, Word, Quoted, Token, Open, Close, Bang, Both, Either, Compare, Name, Value, Misfit, Spot}
+use Rattle.trace_filter.specs.declared.fault.FilterFault.TheVariants.{FilterSyntax, NoSuchField, WrongOperator}
+use Rattle.trace_filter.specs.Tokens.{Literal, Word, Quoted, Token, Compare, Name, Value, Spot}
 
--- the field at a place
-abbrev pub subject_at : ℕ → Kind → Subject
-subject_at place (kind.Number t) = NumberField place
-subject_at place (kind.Char n) = TextField place
+-- a field has numbers or texts
+abbrev pub is_text_kind : Kind → Bool
+is_text_kind (kind.Number t) = false
+is_text_kind (kind.Char n) = true
 
--- the first field of a name, where the fields begin at a place
-abbrev pub subject_from : ℕ → List Field → List ℕ → Option Subject
-subject_from place [] name = None
-subject_from place (field ∷ fields) name = if bytes_eq field.name name then Some (subject_at place field.kind) else subject_from (place + 1) fields name
+-- whether the field of a name has texts, if there is one
+abbrev pub field_has_text : List Field → List ℕ → Option Bool
+field_has_text [] name = None
+field_has_text (field ∷ fields) name = if bytes_eq field.name name then Some (is_text_kind field.kind) else field_has_text fields name
 
--- what a name means: every event has `common_pid` and `common_cpu`
-unfoldable pub subject_named : List Field → List ℕ → Option Subject
-subject_named fields name = if bytes_eq name (codes "common_pid") then Some Pid
-    else if bytes_eq name (codes "common_cpu") then Some Cpu
-    else subject_from 0 fields name
-
-abbrev pub is_text : Subject → Bool
-is_text Pid = false
-is_text Cpu = false
-is_text (NumberField place) = false
-is_text (TextField place) = true
+-- the same of any name: every event has the numbers `common_pid` and `common_cpu`
+abbrev pub name_has_text : List Field → List ℕ → Option Bool
+name_has_text fields name = if bytes_eq name (codes "common_pid") then Some false
+    else if bytes_eq name (codes "common_cpu") then Some false
+    else field_has_text fields name
 
 -- texts are compared by `==`, `!=` and `~`; numbers by all but `~`
 abbrev pub takes_at : Bool → Comparison → Bool
@@ -63,51 +55,31 @@ abbrev pub unless : Bool → FilterFault → Option FilterFault
 unless true fault = None
 unless false fault = Some fault
 
-abbrev pub unless_named : Option Subject → FilterFault → Option FilterFault
-unless_named (Some subject) fault = None
-unless_named None fault = Some fault
-
--- what is wrong with a token at a place, where the subject was named last: no such field, a wrong operator, no number
-abbrev pub fault_at : List Field → Subject → Token → ℕ → Option FilterFault
-fault_at fields subject Open at = None
-fault_at fields subject Close at = None
-fault_at fields subject Bang at = None
-fault_at fields subject Both at = None
-fault_at fields subject Either at = None
-fault_at fields subject (Compare by) at = unless (takes_at (is_text subject) by) (WrongOperator at)
-fault_at fields subject (Name name) at = unless_named (subject_named fields name) (NoSuchField at)
-fault_at fields subject (Value literal) at = unless (fits_at (is_text subject) literal) (FilterSyntax at)
-fault_at fields subject Misfit at = None
-
-abbrev pub named_or : Option Subject → Subject → Subject
-named_or None subject = subject
-named_or (Some named) subject = named
-
--- which subject was named last behind a token
-abbrev pub subject_behind : List Field → Subject → Token → Subject
-subject_behind fields subject Open = subject
-subject_behind fields subject Close = subject
-subject_behind fields subject Bang = subject
-subject_behind fields subject Both = subject
-subject_behind fields subject Either = subject
-subject_behind fields subject (Compare by) = subject
-subject_behind fields subject (Name name) = named_or (subject_named fields name) subject
-subject_behind fields subject (Value literal) = subject
-subject_behind fields subject Misfit = subject
-
 abbrev pub or_later : Option FilterFault → Option FilterFault → Option FilterFault
 or_later (Some fault) later = Some fault
 or_later None later = later
 
--- the first of these faults, from left to right
-abbrev pub first_fault : List Field → Subject → List Spot → Option FilterFault
-first_fault fields subject [] = None
-first_fault fields subject (spot ∷ spots) = or_later (fault_at fields subject spot.token spot.at) (first_fault fields (subject_behind fields subject spot.token) spots)
+-- an operator that the field does not take
+abbrev pub operator_fault : Bool → Token → ℕ → Option FilterFault
+operator_fault text (Compare by) at = unless (takes_at text by) (WrongOperator at)
+operator_fault text _ at = None
 
--- the fault is the one that is there, or memory was refused
-abbrev pub IsToldAs : Option FilterFault → FilterFault → Type 0
-IsToldAs there TooMany = there ≡ Some TooMany
-IsToldAs there (FilterSyntax at) = there ≡ Some (FilterSyntax at)
-IsToldAs there (NoSuchField at) = there ≡ Some (NoSuchField at)
-IsToldAs there (WrongOperator at) = there ≡ Some (WrongOperator at)
-IsToldAs there Memory = Unit {0}
+-- a value that is no NUMBER, where one is needed
+abbrev pub value_fault : Bool → Token → ℕ → Option FilterFault
+value_fault text (Value literal) at = unless (fits_at text literal) (FilterSyntax at)
+value_fault text _ at = None
+
+-- what is wrong with a test: its field, then its operator, then its value
+abbrev pub test_fault : Option Bool → ℕ → Spot → Spot → Option FilterFault
+test_fault None at operator value = Some (NoSuchField at)
+test_fault (Some text) at operator value = or_later (operator_fault text operator.token operator.at) (value_fault text value.token value.at)
+
+-- the same of the test that begins with a token, if one does: a name, an operator and a value
+abbrev pub fault_of_test : List Field → Token → ℕ → List Spot → Option FilterFault
+fault_of_test fields (Name name) at (operator ∷ value ∷ spots) = test_fault (name_has_text fields name) at operator value
+fault_of_test fields _ at spots = None
+
+-- what is wrong with the first test, from left to right, that does not fit its field
+abbrev pub first_misfit : List Field → List Spot → Option FilterFault
+first_misfit fields [] = None
+first_misfit fields (spot ∷ spots) = or_later (fault_of_test fields spot.token spot.at spots) (first_misfit fields spots)

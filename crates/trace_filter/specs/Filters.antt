@@ -1,19 +1,17 @@
 -- Filters of an event: which texts are filters, how others are refused, and when a filter passes an emission.
 use Rattle.std.specs.Prelude.{◌≡◌, ◌⊎◌, ◌<◌, ◌≤◌, ℕ, Bool, true, false, nat_lt, List, length, Option, None, Some, Result, Ok, Err}
-use Rattle.trace_format.specs.declared.event.Field.{Field}
 use Rattle.trace_format.specs.Definitions.{Definition}
 use Rattle.trace_filter.specs.declared.fault.FilterFault.{FilterFault}
 use Rattle.trace_filter.specs.declared.fault.FilterFault.TheVariants.{TooMany, FilterSyntax, NoSuchField, WrongOperator, Memory}
 use Rattle.trace_filter.specs.declared.syntax.Verdict.{Verdict}
 use Rattle.trace_filter.specs.declared.syntax.Verdict.TheVariants.{Fine, TooDeep, WrongAt}
-use Rattle.trace_filter.specs.declared.test.Subject.TheVariants as subjects
-use Rattle.trace_filter.specs.declared.token.Comparison.TheVariants as comparisons
-use Rattle.trace_filter.specs.Tokens.{Spot, Token, trimmed, spots_of, spots_from, tokens_of}
+use Rattle.trace_filter.specs.declared.test.Subject.{Subject}
+use Rattle.trace_filter.specs.Tokens.{trimmed, spots_of, tokens_of}
 use Rattle.trace_filter.specs.Grammar.{Expr, Spells, IsVerdict}
 use Rattle.trace_filter.specs.Syntax.{start, reading}
-use Rattle.trace_filter.specs.Fields.{first_fault}
+use Rattle.trace_filter.specs.Fields.{first_misfit}
+use Rattle.trace_filter.specs.Places.{subjects_in}
 use Rattle.trace_filter.specs.Truth.{Emission, Holds}
-use Rattle.trace_filter.specs.Steps.{Move, moves_from}
 
 -- at most 1,024 bytes between the blanks at both ends
 abbrev pub IsShort : List ℕ → Type 0
@@ -25,7 +23,7 @@ ComesTo text verdict = IsVerdict (spots_of text) (length text) verdict
 
 -- the first test of a text that does not fit its field, if there is one
 abbrev pub misfit_of : Definition → List ℕ → Option FilterFault
-misfit_of definition text = first_fault definition.fields subjects.Pid (spots_of text)
+misfit_of definition text = first_misfit definition.fields (spots_of text)
 
 -- a text is a filter of an event: it is short, it is in the grammar, and its tests fit the event's fields
 pub record IsFilter (definition : Definition) (text : List ℕ) : Type 0 where
@@ -60,16 +58,16 @@ IsTold definition text (NoSuchField at) = IsRefused definition text (NoSuchField
 IsTold definition text (WrongOperator at) = IsRefused definition text (WrongOperator at)
 IsTold definition text Memory = Unit {0}
 
--- a filter: its text, and the steps that it was compiled to
-pub record Compiled : Type 0 where
+-- a filter: its text, and what its tests are about, in order
+pub record Parsed : Type 0 where
   pub text : List ℕ
-  pub moves : List Move
+  pub subjects : List Subject
 
--- what a text, which is a filter of the event, was compiled to
-pub record IsFilterOf (definition : Definition) (written : List ℕ) (filter : Compiled) : Type 0 where
+-- the filter that a text is, which is one of the event: the text without blanks at both ends, and what its names mean in the event
+pub record IsFilterOf (definition : Definition) (written : List ℕ) (filter : Parsed) : Type 0 where
   pub is_filter : IsFilter definition written
   pub text : filter.text ≡ trimmed written
-  pub moves : filter.moves ≡ moves_from definition.fields subjects.Pid comparisons.Equal (tokens_of (spots_of written))
+  pub subjects : filter.subjects ≡ subjects_in definition.fields (tokens_of (spots_of written))
 
 -- some tree that the text's tokens spell holds
 pub record Passes (definition : Definition) (text : List ℕ) (emission : Emission) : Type 0 where
@@ -96,22 +94,22 @@ IsAsTold (Err Memory) fault = Unit {0}
 
 -- ---- all of this as one function of the text
 
-abbrev pub answer_from : Bool → Verdict → Option FilterFault → Compiled → Result Compiled FilterFault
+abbrev pub answer_from : Bool → Verdict → Option FilterFault → Parsed → Result Parsed FilterFault
 answer_from true verdict misfit filter = Err TooMany
 answer_from false Fine None filter = Ok filter
 answer_from false Fine (Some fault) filter = Err fault
 answer_from false TooDeep misfit filter = Err TooMany
 answer_from false (WrongAt at) misfit filter = Err (FilterSyntax at)
 
-abbrev pub compiled_of : Definition → List ℕ → Compiled
-compiled_of definition text = record { text = trimmed text; moves = moves_from definition.fields subjects.Pid comparisons.Equal (tokens_of (spots_of text)) }
+abbrev pub parsed_of : Definition → List ℕ → Parsed
+parsed_of definition text = record { text = trimmed text; subjects = subjects_in definition.fields (tokens_of (spots_of text)) }
 
 -- the filter that a text is, or the fault for which it is refused
-unfoldable pub answer_of : Definition → List ℕ → Result Compiled FilterFault
-answer_of definition text = answer_from (nat_lt 1024 (length (trimmed text))) (reading start (spots_of text) (length text)) (misfit_of definition text) (compiled_of definition text)
+unfoldable pub answer_of : Definition → List ℕ → Result Parsed FilterFault
+answer_of definition text = answer_from (nat_lt 1024 (length (trimmed text))) (reading start (spots_of text) (length text)) (misfit_of definition text) (parsed_of definition text)
 
 -- what `parse` answers is this, unless memory was refused
-abbrev pub IsAnswered : Result Compiled FilterFault → Result Compiled FilterFault → Type 0
+abbrev pub IsAnswered : Result Parsed FilterFault → Result Parsed FilterFault → Type 0
 IsAnswered (Ok filter) answer = answer ≡ Ok filter
 IsAnswered (Err TooMany) answer = answer ≡ Err TooMany
 IsAnswered (Err (FilterSyntax at)) answer = answer ≡ Err (FilterSyntax at)

@@ -1,5 +1,5 @@
 -- Globs: which texts a pattern matches.
-use Rattle.std.specs.Prelude.{◌≡◌, ◌⊎◌, ◌<◌, ◌≤◌, ℕ, zero, suc, ◌+◌, Bool, true, false, not, ◌&&◌, ◌||◌, ◌==◌, nat_lt, nat_le, IsTrue, if◌then◌else◌, List, [], ◌∷◌, ◌++◌, length, take, drop, map}
+use Rattle.std.specs.Prelude.{◌≡◌, ℕ, zero, suc, ◌+◌, Bool, true, false, not, ◌&&◌, ◌==◌, nat_lt, nat_le, IsTrue, if◌then◌else◌, List, [], ◌∷◌, ◌++◌, length, take}
 use Rattle.std.specs.List.{prefix_len, list_any}
 use Rattle.trace_filter.specs.Tokens.{is_not}
 
@@ -80,34 +80,3 @@ abbrev pub Matches : List Part → List ℕ → Type 0
 Matches [] text = text ≡ []
 Matches (AnyBytes ∷ parts) text = (front : List ℕ) × (rest : List ℕ) × (text ≡ front ++ rest) × Matches parts rest
 Matches (OneByte class ∷ parts) text = (first : ℕ) × (rest : List ℕ) × (text ≡ first ∷ rest) × IsTrue (is_in_class class first) × Matches parts rest
-
--- ---- a row of marks, one for each front of the text: whether the parts so far match it
-
-abbrev pub spread : Bool → List Bool → List Bool
-spread seen [] = []
-spread seen (b ∷ row) = (seen || b) ∷ spread (seen || b) row
-
-abbrev pub shift : Class → Bool → List Bool → List ℕ → List Bool
-shift class carry [] text = []
-shift class carry (b ∷ row) [] = carry ∷ []
-shift class carry (b ∷ row) (t ∷ text) = carry ∷ shift class (b && is_in_class class t) row text
-
-abbrev pub advance : Part → List Bool → List ℕ → List Bool
-advance AnyBytes row text = spread false row
-advance (OneByte class) row text = shift class false row text
-
-abbrev pub advance_all : List Part → List Bool → List ℕ → List Bool
-advance_all [] row text = row
-advance_all (part ∷ parts) row text = advance_all parts (advance part row text) text
-
--- the mark of the whole text
-abbrev pub mark_at : ℕ → List Bool → Bool
-mark_at n [] = false
-mark_at zero (b ∷ row) = b
-mark_at (suc n) (b ∷ row) = mark_at n row
-
-abbrev pub first_row : List ℕ → List Bool
-first_row text = true ∷ map (λ b. false) text
-
-abbrev pub is_match : List Part → List ℕ → Bool
-is_match parts text = mark_at (length text) (advance_all parts (first_row text) text)

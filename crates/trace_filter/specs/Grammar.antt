@@ -2,13 +2,13 @@
 --   expr  := and ( "||" and )*
 --   and   := unary ( "&&" unary )*
 --   unary := "!" unary | "(" expr ")" | name op value
-use Rattle.std.specs.Prelude.{◌≡◌, ◌⊎◌, ℕ, ◌+◌, ◌-◌, ◌<◌, ◌≤◌, Bool, true, false, ◌&&◌, nat_lt, max, IsTrue, List, [], ◌∷◌, ◌++◌, length, sum}
+use Rattle.std.specs.Prelude.{◌≡◌, ◌⊎◌, ℕ, ◌+◌, ◌<◌, ◌≤◌, Bool, true, false, ◌&&◌, ◌||◌, nat_lt, max, IsTrue, List, [], ◌∷◌, ◌++◌, length, sum}
 use Rattle.std.specs.List.{list_all}
 use Rattle.trace_format.specs.Names.{is_name}
 use Rattle.trace_filter.specs.declared.token.Comparison.{Comparison}
 use Rattle.trace_filter.specs.declared.syntax.Verdict.{Verdict}
 use Rattle.trace_filter.specs.declared.syntax.Verdict.TheVariants.{Fine, TooDeep, WrongAt}
-use Rattle.trace_filter.specs.Tokens.{Literal, Word, Quoted, Token, Open, Close, Bang, Both, Either, Compare, Name, Value, Misfit, is_word_byte, Spot, spots_of, tokens_of}
+use Rattle.trace_filter.specs.Tokens.{Literal, Word, Quoted, Token, Open, Close, Bang, Both, Either, Compare, Name, Value, Misfit, is_word_byte, is_not, Spot, tokens_of}
 
 mutual
   -- some conjunctions with `||` between them
@@ -40,7 +40,7 @@ abbrev mutual
   unary_tokens (Group e) = Open ∷ (expr_tokens e ++ Close ∷ [])
   unary_tokens (Test name comparison literal) = Name name ∷ Compare comparison ∷ Value literal ∷ []
 
--- tokens that some text has: names are names, and bare words have a byte or more
+-- tokens that some text has: names are names, bare words have a byte or more, and what is quoted lacks `"` (34) or `'` (39)
 abbrev pub is_word : List ℕ → Bool
 is_word bytes = nat_lt 0 (length bytes) && list_all is_word_byte bytes
 
@@ -53,7 +53,7 @@ is_written Either = true
 is_written (Compare comparison) = true
 is_written (Name bytes) = is_name bytes
 is_written (Value (Word bytes)) = is_word bytes
-is_written (Value (Quoted bytes)) = true
+is_written (Value (Quoted bytes)) = list_all (is_not 34) bytes || list_all (is_not 39) bytes
 is_written Misfit = false
 
 -- the tokens spell the filter

@@ -3,9 +3,12 @@ pub mod Grammar
 pub mod Syntax
 pub mod Seen
 pub mod Globs
+pub mod Marks
 pub mod SeenGlobs
 pub mod Fields
+pub mod Places
 pub mod Truth
 pub mod Tests
 pub mod Steps
 pub mod Filters
+pub mod Laws

@@ -1,12 +1,12 @@
 -- What the program's tokens stand for.
-use Rattle.std.specs.Prelude.{◌≡◌, ◌≤◌, ◌<◌, ℕ, ◌+◌, Bool, List, [], ◌∷◌, length, drop}
+use Rattle.std.specs.Prelude.{◌≡◌, ◌≤◌, ◌<◌, ℕ, Bool, List, ◌∷◌, length, drop}
 use Rattle.trace_filter.specs.declared.token.Literal as literal
 use Rattle.trace_filter.specs.declared.token.Literal.TheVariants as literals
 use Rattle.trace_filter.specs.declared.token.Token as token
 use Rattle.trace_filter.specs.declared.token.Token.TheVariants as tokens
 use Rattle.trace_filter.specs.declared.token.Piece as pieces
 use Rattle.trace_filter.specs.declared.token.Spot as spots
-use Rattle.trace_filter.specs.Tokens.{Literal, Word, Quoted, Token, Open, Close, Bang, Both, Either, Compare, Name, Value, Misfit, Piece, Spot, is_comparison, spots_from}
+use Rattle.trace_filter.specs.Tokens.{Literal, Word, Quoted, Token, Open, Close, Bang, Both, Either, Compare, Name, Value, Misfit, Piece, is_comparison, spots_from}
 
 abbrev pub literal_of : literal.Literal → Literal
 literal_of (literals.Word bytes) = Word bytes.now

@@ -1,17 +1,17 @@
 -- A filter as the program keeps and evaluates it. That its value is the truth of the filter's tree is a law on `Filter::passes`.
-use Rattle.std.specs.Prelude.{◌≡◌, ℕ, ◌+◌, ◌<◌, ℤ, pos, Bool, true, false, not, ◌&&◌, ◌||◌, nat_lt, if◌then◌else◌, List, [], ◌∷◌, ◌++◌, length, take, map, reverse, Option, None, Some, unwrap_or}
+use Rattle.std.specs.Prelude.{pos, Bool, true, false, not, ◌&&◌, ◌||◌, nat_lt, if◌then◌else◌, List, [], ◌∷◌, ◌++◌, length, take, reverse, Option, None, Some, unwrap_or, slice_get}
 use Rattle.trace_format.specs.declared.event.Field.{Field}
 use Rattle.trace_format.specs.Cells.{Datum, Whole, Bytes, datum_of}
 use Rattle.trace_filter.specs.declared.token.Comparison.{Comparison}
 use Rattle.trace_filter.specs.declared.test.Subject.{Subject}
+use Rattle.trace_filter.specs.declared.test.Subject.TheVariants.{Pid, Cpu, NumberField, TextField}
 use Rattle.trace_filter.specs.declared.steps.Step as step
 use Rattle.trace_filter.specs.declared.steps.Step.TheVariants as steps
-use Rattle.trace_filter.specs.declared.steps.Test as test
 use Rattle.trace_filter.specs.declared.frames.Frame.{Frame}
 use Rattle.trace_filter.specs.declared.frames.Frames.{Frames}
 use Rattle.trace_filter.specs.Tokens.{Literal, Token, Open, Close, Bang, Both, Either, Compare, Name, Value, Misfit}
-use Rattle.trace_filter.specs.Fields.{is_text, subject_behind}
-use Rattle.trace_filter.specs.Truth.{Emission, value_of, literal_number, literal_bytes}
+use Rattle.trace_filter.specs.Places.{is_text, subject_behind}
+use Rattle.trace_filter.specs.Truth.{Emission, literal_number, literal_bytes}
 use Rattle.trace_filter.specs.Tests.{datum_test}
 
 -- ---- steps
@@ -63,7 +63,38 @@ abbrev pub moves_from : List Field → Subject → Comparison → List Token →
 moves_from fields subject by [] = []
 moves_from fields subject by (token ∷ tokens) = moves_of subject by token ++ moves_from fields (subject_behind fields subject token) (comparison_behind by token) tokens
 
+-- the steps of tokens whose tests are about these subjects, in order
+abbrev pub moves_about : List Subject → Comparison → List Token → List Move
+moves_about subjects by [] = []
+moves_about subjects by (Open ∷ tokens) = Opens ∷ moves_about subjects by tokens
+moves_about subjects by (Close ∷ tokens) = Closes ∷ moves_about subjects by tokens
+moves_about subjects by (Bang ∷ tokens) = Inverts ∷ moves_about subjects by tokens
+moves_about subjects by (Both ∷ tokens) = AndThen ∷ moves_about subjects by tokens
+moves_about subjects by (Either ∷ tokens) = OrElse ∷ moves_about subjects by tokens
+moves_about subjects by (Compare c ∷ tokens) = moves_about subjects c tokens
+moves_about subjects by (Name name ∷ tokens) = moves_about subjects by tokens
+moves_about [] by (Value literal ∷ tokens) = moves_about [] by tokens
+moves_about (subject ∷ subjects) by (Value literal ∷ tokens) = Checks subject by (datum_at (is_text subject) literal) ∷ moves_about subjects by tokens
+moves_about subjects by (Misfit ∷ tokens) = moves_about subjects by tokens
+
+-- what steps test, in order
+abbrev pub subjects_tested : List Move → List Subject
+subjects_tested [] = []
+subjects_tested (Opens ∷ moves) = subjects_tested moves
+subjects_tested (Closes ∷ moves) = subjects_tested moves
+subjects_tested (Inverts ∷ moves) = subjects_tested moves
+subjects_tested (AndThen ∷ moves) = subjects_tested moves
+subjects_tested (OrElse ∷ moves) = subjects_tested moves
+subjects_tested (Checks subject by b ∷ moves) = subject ∷ subjects_tested moves
+
 -- ---- their value
+
+-- the value of a subject
+abbrev pub value_of : Emission → Subject → Option Datum
+value_of emission Pid = Some (Whole emission.pid)
+value_of emission Cpu = Some (Whole (pos emission.cpu))
+value_of emission (NumberField place) = slice_get emission.values place
+value_of emission (TextField place) = slice_get emission.values place
 
 -- inside one `(`: whether an alternative before this one holds, whether all factors of this one do, and whether a `!` is due
 pub record State : Type 0 where

@@ -2,7 +2,7 @@
 use Rattle.std.specs.Prelude.{◌≡◌, ℕ, Bool, true, false, nat_lt, if◌then◌else◌, List, [], ◌∷◌, Option, None, Some, option_map}
 use Rattle.trace_filter.specs.declared.syntax.Due.{Due}
 use Rattle.trace_filter.specs.declared.syntax.Due.TheVariants as due
-use Rattle.trace_filter.specs.Tokens.{Token, Open, Close, Bang, Both, Either, Compare, Name, Value, Misfit, Spot, spots_of}
+use Rattle.trace_filter.specs.Tokens.{Token, Open, Close, Bang, Both, Either, Compare, Name, Value, Misfit, Spot}
 use Rattle.trace_filter.specs.declared.syntax.Verdict.{Verdict}
 use Rattle.trace_filter.specs.declared.syntax.Verdict.TheVariants.{Fine, TooDeep, WrongAt}
 use Rattle.trace_filter.specs.Grammar.{Opened, behind, open_count, nothing_open}
@@ -84,10 +84,6 @@ going_on (Some next) at rest = if nat_lt 16 (open_count next.opened) then TooDee
 abbrev pub reading : Standing → List Spot → ℕ → Verdict
 reading standing [] len = ended standing len
 reading standing (spot ∷ spots) len = going_on (step standing spot.token) spot.at (λ next. reading next spots len)
-
--- what a text comes to
-unfoldable pub verdict_of : List ℕ → ℕ → Verdict
-verdict_of text len = reading start (spots_of text) len
 
 -- the reader takes a token exactly where it can stand, and then stands behind it
 abbrev pub Takes : Option Standing → Bool → Standing → Type 0

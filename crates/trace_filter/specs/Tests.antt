@@ -1,11 +1,12 @@
 -- Tests as the program makes them. That they are what `Truth` says is a law on `Filter::passes`.
-use Rattle.std.specs.Prelude.{◌≡◌, ℕ, ◌<◌, ℤ, int_le, Bool, true, false, not, ◌&&◌, ◌==◌, nat_lt, bytes_eq, bit_and, List, length, Option, None, Some}
+use Rattle.std.specs.Prelude.{ℕ, ℤ, int_le, Bool, false, not, ◌&&◌, ◌==◌, nat_lt, bytes_eq, bit_and, List, length}
 use Rattle.std.specs.Ordering.{int_eq}
 use Rattle.trace_format.specs.Cells.{Datum, Whole, Bytes}
 use Rattle.trace_filter.specs.declared.token.Comparison.{Comparison}
 use Rattle.trace_filter.specs.declared.token.Comparison.TheVariants as comparison
 use Rattle.trace_filter.specs.Truth.{pattern_of}
-use Rattle.trace_filter.specs.Globs.{parts_of, is_match}
+use Rattle.trace_filter.specs.Globs.{parts_of}
+use Rattle.trace_filter.specs.Marks.{is_match}
 
 abbrev pub number_test : Comparison → ℤ → ℤ → Bool
 number_test comparison.Equal a b = int_eq a b

@@ -1,6 +1,6 @@
 -- The tokens of a filter: a function of its text alone.
-use Rattle.std.specs.Prelude.{◌≡◌, ◌≤◌, ◌<◌, ℕ, zero, suc, ◌+◌, ◌-◌, Bool, true, false, not, ◌||◌, ◌&&◌, ◌==◌, nat_lt, if◌then◌else◌, List, [], ◌∷◌, length, map, take, drop, reverse}
-use Rattle.std.specs.List.{prefix_len, list_all}
+use Rattle.std.specs.Prelude.{ℕ, zero, suc, ◌+◌, ◌-◌, Bool, true, false, not, ◌||◌, ◌==◌, nat_lt, if◌then◌else◌, List, [], ◌∷◌, length, map, take, drop, reverse}
+use Rattle.std.specs.List.{prefix_len}
 use Rattle.trace_format.specs.Names.{is_name, is_name_byte}
 use Rattle.trace_filter.specs.declared.token.Comparison.{Comparison}
 use Rattle.trace_filter.specs.declared.token.Comparison.TheVariants as comparison
@@ -105,6 +105,10 @@ spots_from value_due skip at [] = []
 spots_from value_due (suc skip) at (b ∷ bs) = spots_from value_due skip (at + 1) bs
 spots_from value_due zero at (b ∷ bs) = if is_blank b then spots_from value_due 0 (at + 1) bs
     else (record { at = at; token = (piece_of value_due b bs).token } ∷ spots_from (is_comparison (piece_of value_due b bs).token) (piece_of value_due b bs).more (at + 1) bs)
+
+-- a token so many bytes later
+abbrev pub shifted_by : ℕ → Spot → Spot
+shifted_by more spot = record { at = more + spot.at; token = spot.token }
 
 abbrev pub tokens_of : List Spot → List Token
 tokens_of spots = map (λ spot. spot.token) spots

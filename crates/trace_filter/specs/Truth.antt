@@ -1,16 +1,12 @@
 -- When a filter holds of a row, a CPU and a process.
-use Rattle.std.specs.Prelude.{◌≡◌, ◌⊎◌, ◌<◌, ◌≤◌, ℕ, ◌+◌, ◌-◌, ◌%◌, ◌^◌, ℤ, pos, negsuc, ◌≤ℤ◌, bit_and, List, [], ◌∷◌, Option, None, Some, slice_get}
+use Rattle.std.specs.Prelude.{◌≡◌, ◌⊎◌, ℕ, ◌-◌, ◌%◌, ◌^◌, ℤ, pos, negsuc, ◌≤ℤ◌, bit_and, List, if◌then◌else◌, bytes_eq, codes, Option, None, Some}
 use Rattle.trace_format.specs.declared.event.Field.{Field}
 use Rattle.trace_format.specs.Numbers.{number_of}
-use Rattle.trace_format.specs.Cells.{Datum, Whole, Bytes, Cells}
-use Rattle.trace_format.specs.Definitions.{Definition}
+use Rattle.trace_format.specs.Cells.{Datum, Whole, Bytes, value_at}
 use Rattle.trace_filter.specs.declared.token.Comparison.{Comparison}
 use Rattle.trace_filter.specs.declared.token.Comparison.TheVariants as comparison
-use Rattle.trace_filter.specs.declared.test.Subject.{Subject}
-use Rattle.trace_filter.specs.declared.test.Subject.TheVariants.{Pid, Cpu, NumberField, TextField}
-use Rattle.trace_filter.specs.Tokens.{Literal, Word, Quoted, Token, tokens_of, spots_of}
-use Rattle.trace_filter.specs.Grammar.{Expr, AllOf, Or, Conj, Only, And, Unary, Not, Group, Test, Spells}
-use Rattle.trace_filter.specs.Fields.{subject_named}
+use Rattle.trace_filter.specs.Tokens.{Literal, Word, Quoted}
+use Rattle.trace_filter.specs.Grammar.{Expr, AllOf, Or, Conj, Only, And, Unary, Not, Group, Test}
 use Rattle.trace_filter.specs.Globs.{parts_of, Matches}
 
 -- the 64 low bits of a number's two's complement
@@ -65,16 +61,11 @@ pub record Emission : Type 0 where
   pub cpu : ℕ
   pub pid : ℤ
 
--- the value of a subject
-abbrev pub value_of : Emission → Subject → Option Datum
-value_of emission Pid = Some (Whole emission.pid)
-value_of emission Cpu = Some (Whole (pos emission.cpu))
-value_of emission (NumberField place) = slice_get emission.values place
-value_of emission (TextField place) = slice_get emission.values place
-
-abbrev pub value_named : Emission → Option Subject → Option Datum
-value_named emission None = None
-value_named emission (Some subject) = value_of emission subject
+-- the value that a name means: `common_pid` and `common_cpu` are the process and the CPU, another name is a field's
+abbrev pub value_named : List Field → Emission → List ℕ → Option Datum
+value_named fields emission name = if bytes_eq name (codes "common_pid") then Some (Whole emission.pid)
+    else if bytes_eq name (codes "common_cpu") then Some (Whole (pos emission.cpu))
+    else value_at fields emission.values name
 
 -- truth by cases on a filter's tree
 abbrev mutual
@@ -89,4 +80,4 @@ abbrev mutual
   pub UnaryHolds : List Field → Emission → Unary → Type 0
   UnaryHolds fields emission (Not u) = UnaryHolds fields emission u → ⊥
   UnaryHolds fields emission (Group e) = Holds fields emission e
-  UnaryHolds fields emission (Test name by literal) = DatumCompares by (value_named emission (subject_named fields name)) literal
+  UnaryHolds fields emission (Test name by literal) = DatumCompares by (value_named fields emission name) literal

@@ -23,13 +23,18 @@ pub struct Filter {
 }
 
 impl Model for Filter {
-    ghost use Rattle.std.specs.Prelude.{map};
-    ghost use Rattle.trace_filter.specs.Filters.{Compiled};
-    ghost use Rattle.trace_filter.specs.Steps.{move_of};
+    ghost use Rattle.std.specs.Prelude.{◌≡◌, map};
+    ghost use Rattle.trace_filter.specs.declared.token.Comparison.TheVariants as comparisons;
+    ghost use Rattle.trace_filter.specs.Tokens.{spots_of, tokens_of};
+    ghost use Rattle.trace_filter.specs.Filters.{Parsed};
+    ghost use Rattle.trace_filter.specs.Steps.{move_of, moves_about, subjects_tested};
 
-    ghost Value = { Compiled };
+    ghost Value = { Parsed };
 
-    ghost view = { λ f. record { text = f.text.items; moves = map move_of f.steps.items } };
+    ghost view = { λ f. record { text = f.text.items; subjects = subjects_tested (map move_of f.steps.items) } };
+
+    // The steps are those of the text, with tests of these subjects.
+    ghost invariant = { λ f. map move_of f.steps.items ≡ moves_about (subjects_tested (map move_of f.steps.items)) comparisons.Equal (tokens_of (spots_of f.text.items)) };
 }
 
 /// How many blanks a text ends with.
@@ -121,11 +126,14 @@ impl Filter {
     }
 }
 
-ghost use Rattle.trace_filter.specs.Filters.{IsFilter as IsFilterText};
+ghost use Rattle.trace_filter.specs.declared.fault.FilterFault.{FilterFault as fault_type};
+ghost use Rattle.trace_filter.specs.Filters.{IsFilter as IsFilterText, IsRefused as IsRefusedText};
 
 /// Whether a text is a filter of an event: whether `Filter::parse` refuses it for no cause but memory.
+#[tactic(auto, using(crate::proofs::FilterLemmas::never_refused))]
 pub fn applies_to(alloc: Global, text: &[u8], def: &EventDef) -> Result<bool, AllocError>
-    ensures { IfOk result (λ applies. IsTrue applies ↔ IsFilterText def.now text.now) }
+    ensures filter { IfOk result (λ applies. IsTrue applies ↔ IsFilterText def.now text.now) }
+    ensures unrefused { IfOk result (λ applies. IsTrue applies ↔ ((fault : fault_type) → IsRefusedText def.now text.now fault → ⊥)) }
 {
     match Filter::parse(alloc, text, def) {
         Ok(_) => Ok(true),

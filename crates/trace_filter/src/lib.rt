@@ -5,6 +5,7 @@ mod fault;
 mod filter;
 mod frames;
 mod glob;
+pub mod laws;
 mod steps;
 mod syntax;
 mod test;

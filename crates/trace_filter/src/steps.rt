@@ -5,7 +5,7 @@ ghost use Rattle.trace_format.specs.Cells.{datum_of};
 ghost use Rattle.trace_filter.specs.declared.token.Comparison.TheVariants as comparisons;
 ghost use Rattle.trace_filter.specs.declared.test.Subject.TheVariants as subjects;
 ghost use Rattle.trace_filter.specs.Tokens.{spots_from, tokens_of};
-ghost use Rattle.trace_filter.specs.Fields.{first_fault, IsToldAs};
+ghost use Rattle.trace_filter.specs.Places.{first_fault, IsToldAs};
 ghost use Rattle.trace_filter.specs.Steps.{move_of, moves_from, evaluated, at_start};
 
 use crate::fault::FilterFault;
@@ -34,8 +34,7 @@ pub(crate) enum Step {
 }
 
 impl Test {
-    ghost use Rattle.trace_filter.specs.Truth.{value_of};
-    ghost use Rattle.trace_filter.specs.Steps.{test_of};
+    ghost use Rattle.trace_filter.specs.Steps.{value_of, test_of};
 
     /// Whether the test holds of a row's values, a CPU and a process.
     fn holds(&self, values: &[Value], cpu: u32, pid: i32) -> bool
@@ -89,7 +88,7 @@ pub(crate) struct Compiler {
 impl Compiler {
     ghost use Rattle.trace_filter.specs.Seen.{token_of};
     ghost use Rattle.trace_filter.specs.Steps.{moves_of, comparison_behind};
-    ghost use Rattle.trace_filter.specs.Fields.{fault_at, subject_behind};
+    ghost use Rattle.trace_filter.specs.Places.{fault_at, subject_behind};
 
     fn new(alloc: Global) -> Compiler
         ensures subject { result.subject ≡ subjects.Pid }

@@ -2,7 +2,8 @@
 
 ghost use Rattle.std.specs.Prelude.{◌≡◌, is_some, IfOk, IfSome};
 ghost use Rattle.trace_format.specs.Cells.{datum_of};
-ghost use Rattle.trace_filter.specs.Fields.{subject_at, subject_from, subject_named as spec_subject_named, is_text as spec_is_text, takes_at, fits_at};
+ghost use Rattle.trace_filter.specs.Fields.{takes_at, fits_at};
+ghost use Rattle.trace_filter.specs.Places.{subject_at, subject_from, subject_named as spec_subject_named, is_text as spec_is_text};
 ghost use Rattle.trace_filter.specs.Truth.{pattern_of};
 ghost use Rattle.trace_filter.specs.Seen.{literal_of};
 ghost use Rattle.trace_filter.specs.Steps.{datum_at};
@@ -38,7 +39,7 @@ impl Subject {
     }
 
     /// What a name means, if it means something.
-    #[tactic(auto, unfolding(crate::specs::Fields::subject_named))]
+    #[tactic(auto, unfolding(crate::specs::Places::subject_named))]
     pub(crate) fn named(fields: &[Field], name: &[u8]) -> Option<Subject>
         ensures { result ≡ spec_subject_named fields.now name.now }
     {

@@ -28,11 +28,16 @@ q==x && n==1@NoSuchField { at: 0 }
 n~x && q==1@WrongOperator { at: 1 }
 q==1 && n ^ 1@FilterSyntax { at: 10 }
 n ~ 3@WrongOperator { at: 2 }
+n ~ 'x' && q==1@WrongOperator { at: 2 }
+n == 1 && (n ~ 3 || n==x)@WrongOperator { at: 13 }
 !!!!!!!!!!!!!!!!!n==1@TooMany
 !!!!!!!!!!!!!!!!n==1@-
 !!!!!!!!!!!!!!!!!n ^ 1@TooMany
 n ^ 1 !!!!!!!!!!!!!!!!!@FilterSyntax { at: 2 }
 ((((((((((((((((n==1))))))))))))))))@-
+(((((((((((((((((n==1)))))))))))))))))@TooMany
+((((((((!!!!!!!!n==1))))))))@-
+((((((((!!!!!!!!!n==1))))))))@TooMany
   common_pid==7&&!( common_cpu < 2||n & 4 )  @-";
 
 /// Declarations, filters and rows, each with whether the filter passes on CPU 1 for process -7.
@@ -121,19 +126,37 @@ fn truths(rt: HostRuntime) -> Result<(), Fail> {
     Ok(())
 }
 
-#[test]
-fn lengths(rt: HostRuntime) -> Result<(), Fail> {
-    let def = EventDef::parse(rt.alloc(), b"tick u64 n")?;
-    let mut text = String::new(rt.alloc());
+/// A test with so many blanks in it, and some at both ends.
+fn spaced(alloc: Global, blanks: usize) -> Result<String, Fail> {
+    let mut text = String::new(alloc);
     text.push_str("  n ==")?;
-    for _ in 0..1019 {
+    for _ in 0..blanks {
         text.push(' ')?;
     }
     text.push_str("1  ")?;
-    let filter = Filter::parse(rt.alloc(), text.as_bytes(), &def)?;
+    Ok(text)
+}
+
+#[test]
+fn lengths(rt: HostRuntime) -> Result<(), Fail> {
+    let def = EventDef::parse(rt.alloc(), b"tick u64 n")?;
+    let longest = spaced(rt.alloc(), 1019)?;
+    let filter = Filter::parse(rt.alloc(), longest.as_bytes(), &def)?;
     assert_eq!(rt; filter.text().len(), 1024);
-    let longer = format!(in rt.alloc(); "(n==1 || {text}")?;
-    let found = parsed(rt.alloc(), &def, &longer)?;
+    let longer = spaced(rt.alloc(), 1020)?;
+    let found = parsed(rt.alloc(), &def, longer.as_str())?;
+    assert_eq!(rt; found.as_str(), "TooMany");
+    Ok(())
+}
+
+#[test]
+fn parentheses(rt: HostRuntime) -> Result<(), Fail> {
+    let def = EventDef::parse(rt.alloc(), b"tick u64 n")?;
+    let mut text = String::new(rt.alloc());
+    for _ in 0..1024 {
+        text.push('(')?;
+    }
+    let found = parsed(rt.alloc(), &def, text.as_str())?;
     assert_eq!(rt; found.as_str(), "TooMany");
     Ok(())
 }

@@ -1,6 +1,7 @@
-use Rattle.std.proofs.Common.{◌≡◌, ◌<◌, ◌+◌, length, drop, sym, ap, ◌∙◌, arith, false, not, ◌&&◌}
+use Rattle.std.proofs.Common.{◌<◌, length, drop, sym, ap, ◌∙◌, arith, false, not, ◌&&◌}
 use Rattle.std.proofs.lemmas.List.{nil_from_length}
-use Rattle.trace_filter.specs.Globs.{advance_all, parts_from, mark_at, class_piece}
+use Rattle.trace_filter.specs.Globs.{parts_from, class_piece}
+use Rattle.trace_filter.specs.Marks.{advance_all, mark_at}
 use Rattle.trace_filter.proofs.RowLemmas.{part_step, take_rest, mark_at-get}
 use Rattle.trace_filter.proofs.ClassLemmas.{still_closed}
 use Rattle.trace_filter.proofs.glob.match_parts.Goals as goal

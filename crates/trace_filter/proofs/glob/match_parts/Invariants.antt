@@ -1,5 +1,6 @@
 use Rattle.std.proofs.Common.{◌≡◌, ℕ, false, length, drop}
-use Rattle.trace_filter.specs.Globs.{advance_all, parts_from, class_piece, itself}
+use Rattle.trace_filter.specs.Globs.{parts_from, class_piece, itself}
+use Rattle.trace_filter.specs.Marks.{advance_all}
 use Rattle.trace_filter.proofs.glob.match_parts.Given as goal
 
 abbrev pub invariant-parts : goal.invariant-parts

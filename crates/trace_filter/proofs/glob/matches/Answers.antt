@@ -1,5 +1,6 @@
-use Rattle.std.proofs.Common.{◌≡◌, length, ap, ◌∙◌}
-use Rattle.trace_filter.specs.Globs.{advance_all, parts_of, mark_at}
+use Rattle.std.proofs.Common.{length, ap, ◌∙◌}
+use Rattle.trace_filter.specs.Globs.{parts_of}
+use Rattle.trace_filter.specs.Marks.{advance_all, mark_at}
 use Rattle.trace_filter.proofs.RowLemmas.{first_row_is}
 use Rattle.trace_filter.proofs.glob.matches.Goals as goal
 

@@ -1,5 +1,5 @@
 use Rattle.std.proofs.Common.{◌≡◌, ◌++◌, false, take, drop}
-use Rattle.trace_filter.specs.Globs.{shift}
+use Rattle.trace_filter.specs.Marks.{shift}
 use Rattle.trace_filter.specs.SeenGlobs.{class_of}
 use Rattle.trace_filter.proofs.glob.shift.Given as goal
 

@@ -1,5 +1,5 @@
 use Rattle.std.proofs.Common.{◌≡◌, ◌++◌, false, take, drop}
-use Rattle.trace_filter.specs.Globs.{spread}
+use Rattle.trace_filter.specs.Marks.{spread}
 use Rattle.trace_filter.proofs.glob.spread.Given as goal
 
 abbrev pub invariant-loop-mark : goal.invariant-loop-mark

@@ -2,7 +2,7 @@ use Rattle.std.proofs.Common.{◌≡◌, ◌-◌, ◌≤◌, ◌++◌, false, le
 use Rattle.trace_filter.specs.declared.token.Comparison.TheVariants as comparisons
 use Rattle.trace_filter.specs.declared.test.Subject.TheVariants as subjects
 use Rattle.trace_filter.specs.Tokens.{spots_from, tokens_of}
-use Rattle.trace_filter.specs.Fields.{first_fault}
+use Rattle.trace_filter.specs.Places.{first_fault}
 use Rattle.trace_filter.specs.Steps.{move_of, moves_from}
 use Rattle.trace_filter.proofs.steps.compile.Given as goal
 

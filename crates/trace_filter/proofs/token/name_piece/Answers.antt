@@ -1,4 +1,4 @@
-use Rattle.std.proofs.Common.{◌≡◌, ◌≤◌, ◌+◌, ◌∷◌, List, ℕ, length, take, one-add, if◌then◌else◌, sym, ap, subst, ◌∙◌, refl}
+use Rattle.std.proofs.Common.{◌≤◌, ◌+◌, ◌∷◌, List, ℕ, length, take, one-add, if◌then◌else◌, ap, subst, ◌∙◌}
 use Rattle.trace_format.specs.Names.{is_name}
 use Rattle.trace_filter.specs.Tokens.{Token, Name, Misfit}
 use Rattle.trace_filter.proofs.token.name_piece.Goals as goal

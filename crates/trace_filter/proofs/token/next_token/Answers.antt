@@ -1,4 +1,4 @@
-use Rattle.std.proofs.Common.{◌+◌, take, length, length-drop, sym, ap, ◌∙◌, arith}
+use Rattle.std.proofs.Common.{length, length-drop, sym, ap, ◌∙◌, arith}
 use Rattle.std.specs.List.{prefix_len}
 use Rattle.std.proofs.lemmas.List.{nil_from_length}
 use Rattle.trace_filter.specs.Tokens.{is_blank}

@@ -1,5 +1,5 @@
 use Rattle.std.proofs.Common.{◌≡◌, drop}
-use Rattle.trace_filter.specs.Fields.{subject_from}
+use Rattle.trace_filter.specs.Places.{subject_from}
 use Rattle.trace_filter.proofs.test.Subject.field_named.Given as goal
 
 abbrev pub invariant-loop-place : goal.invariant-loop-place

@@ -1,0 +1,104 @@
+-- The first fault of the tokens is that of the tests.
+use Rattle.std.proofs.Common.{◌≡◌, ℕ, ◌+◌, Bool, true, false, if◌then◌else◌, bytes_eq, codes, List, [], ◌∷◌, Option, None, Some, option_map, refl, sym, ap, ◌∙◌}
+use Rattle.trace_format.specs.declared.kind.Kind.{Kind}
+use Rattle.trace_format.specs.declared.kind.Kind.TheVariants as kind
+use Rattle.trace_format.specs.declared.event.Field.{Field}
+use Rattle.trace_filter.specs.declared.token.Comparison.{Comparison}
+use Rattle.trace_filter.specs.declared.fault.FilterFault.TheVariants.{FilterSyntax, NoSuchField, WrongOperator}
+use Rattle.trace_filter.specs.declared.test.Subject.{Subject}
+use Rattle.trace_filter.specs.declared.test.Subject.TheVariants.{Pid, Cpu}
+use Rattle.trace_filter.specs.Tokens.{Literal, Token, Open, Close, Bang, Both, Either, Compare, Name, Value, Misfit, Spot, tokens_of}
+use Rattle.trace_filter.specs.Fields.{is_text_kind, field_has_text, name_has_text, takes_at, fits_at, unless, or_later, test_fault, first_misfit}
+use Rattle.trace_filter.specs.Places.{is_text, subject_at, subject_from, subject_named, unless_named, named_or, first_fault}
+use Rattle.trace_filter.proofs.TestedMoves.{InTests}
+
+module _ (name : List ℕ) where
+  field_has_text-subject : (place : ℕ) (fields : List Field) → field_has_text fields name ≡ option_map is_text (subject_from place fields name)
+  field_has_text-subject place [] = refl
+  field_has_text-subject place (field ∷ fields) = by (bytes_eq field.name name) field.kind (field_has_text-subject (place + 1) fields)
+    where
+      by : (same : Bool) (k : Kind) → field_has_text fields name ≡ option_map is_text (subject_from (place + 1) fields name)
+          → (if same then Some (is_text_kind k) else field_has_text fields name) ≡ option_map is_text (if same then Some (subject_at place k) else subject_from (place + 1) fields name)
+      by true (kind.Number t) later = refl
+      by true (kind.Char n) later = refl
+      by false k later = later
+
+  name_has_text-subject : (fields : List Field) → name_has_text fields name ≡ option_map is_text (subject_named fields name)
+  unfolding subject_named
+  name_has_text-subject fields = by (bytes_eq name (codes "common_pid")) (bytes_eq name (codes "common_cpu")) (field_has_text-subject 0 fields)
+    where
+      by : (p q : Bool) → field_has_text fields name ≡ option_map is_text (subject_from 0 fields name)
+          → (if p then Some false else if q then Some false else field_has_text fields name) ≡ option_map is_text (if p then Some Pid else if q then Some Cpu else subject_from 0 fields name)
+      by true q later = refl
+      by false true later = refl
+      by false false later = later
+
+module _ (fields : List Field) where
+  -- the two agree behind some tokens
+  abbrev Agree : List Spot → Type 0
+  Agree spots = (subject : Subject) → InTests (tokens_of spots) → first_fault fields subject spots ≡ first_misfit fields spots
+
+  one_test : (name : List ℕ) (at : ℕ) (by : Comparison) (by_at : ℕ) (literal : Literal) (value_at : ℕ) (rest : List Spot) (subject : Subject)
+      → InTests (tokens_of rest) → Agree rest
+      → first_fault fields subject (record { at = at; token = Name name } ∷ record { at = by_at; token = Compare by } ∷ record { at = value_at; token = Value literal } ∷ rest)
+      ≡ first_misfit fields (record { at = at; token = Name name } ∷ record { at = by_at; token = Compare by } ∷ record { at = value_at; token = Value literal } ∷ rest)
+  one_test name at by by_at literal value_at rest subject h agree =
+      named (subject_named fields name)
+      ∙ ap (λ text. or_later (test_fault text at (record { at = by_at; token = Compare by }) (record { at = value_at; token = Value literal })) (first_misfit fields rest)) (sym (name_has_text-subject name fields))
+    where
+      fits : (s : Subject) (takes fit : Bool)
+          → or_later (unless takes (WrongOperator by_at)) (or_later (unless fit (FilterSyntax value_at)) (first_fault fields s rest))
+          ≡ or_later (or_later (unless takes (WrongOperator by_at)) (unless fit (FilterSyntax value_at))) (first_misfit fields rest)
+      fits s true true = agree s h
+      fits s true false = refl
+      fits s false fit = refl
+
+      named : (o : Option Subject)
+          → or_later (unless_named o (NoSuchField at))
+          (or_later (unless (takes_at (is_text (named_or o subject)) by) (WrongOperator by_at)) (or_later (unless (fits_at (is_text (named_or o subject)) literal) (FilterSyntax value_at)) (first_fault fields (named_or o subject) rest)))
+          ≡ or_later (test_fault (option_map is_text o) at (record { at = by_at; token = Compare by }) (record { at = value_at; token = Value literal })) (first_misfit fields rest)
+      named None = refl
+      named (Some s) = fits s (takes_at (is_text s) by) (fits_at (is_text s) literal)
+
+  -- a token that begins no test says nothing
+  last_token : (token : Token) (at : ℕ) → Agree (record { at = at; token = token } ∷ [])
+  last_token Open at subject h = refl
+  last_token Close at subject h = refl
+  last_token Bang at subject h = refl
+  last_token Both at subject h = refl
+  last_token Either at subject h = refl
+  last_token (Compare by) at subject h = absurd h
+  last_token (Name name) at subject h = absurd h
+  last_token (Value literal) at subject h = absurd h
+  last_token Misfit at subject h = absurd h
+
+  two_tokens : (token : Token) (at : ℕ) (next : Token) (next_at : ℕ) → Agree (record { at = next_at; token = next } ∷ []) → Agree (record { at = at; token = token } ∷ record { at = next_at; token = next } ∷ [])
+  two_tokens Open at next next_at later subject h = later subject h
+  two_tokens Close at next next_at later subject h = later subject h
+  two_tokens Bang at next next_at later subject h = later subject h
+  two_tokens Both at next next_at later subject h = later subject h
+  two_tokens Either at next next_at later subject h = later subject h
+  two_tokens (Compare by) at next next_at later subject h = absurd h
+  two_tokens (Name name) at (Compare by) next_at later subject h = absurd h
+  two_tokens (Name name) at _ next_at later subject h = absurd h
+  two_tokens (Value literal) at next next_at later subject h = absurd h
+  two_tokens Misfit at next next_at later subject h = absurd h
+
+  more_tokens : (token : Token) (at : ℕ) (next : Token) (next_at : ℕ) (third : Token) (third_at : ℕ) (rest : List Spot) → Agree (record { at = next_at; token = next } ∷ record { at = third_at; token = third } ∷ rest) → Agree rest
+      → Agree (record { at = at; token = token } ∷ record { at = next_at; token = next } ∷ record { at = third_at; token = third } ∷ rest)
+  more_tokens Open at next next_at third third_at rest later latest subject h = later subject h
+  more_tokens Close at next next_at third third_at rest later latest subject h = later subject h
+  more_tokens Bang at next next_at third third_at rest later latest subject h = later subject h
+  more_tokens Both at next next_at third third_at rest later latest subject h = later subject h
+  more_tokens Either at next next_at third third_at rest later latest subject h = later subject h
+  more_tokens (Compare by) at next next_at third third_at rest later latest subject h = absurd h
+  more_tokens (Name name) at (Compare by) next_at (Value literal) third_at rest later latest subject h = one_test name at by next_at literal third_at rest subject h latest
+  more_tokens (Name name) at _ next_at _ third_at rest later latest subject h = absurd h
+  more_tokens (Value literal) at next next_at third third_at rest later latest subject h = absurd h
+  more_tokens Misfit at next next_at third third_at rest later latest subject h = absurd h
+
+  pub fault_is_misfit : (spots : List Spot) → Agree spots
+  fault_is_misfit [] subject h = refl
+  fault_is_misfit (spot ∷ []) subject h = last_token spot.token spot.at subject h
+  fault_is_misfit (spot ∷ next ∷ []) subject h = two_tokens spot.token spot.at next.token next.at (fault_is_misfit (next ∷ [])) subject h
+  fault_is_misfit (spot ∷ next ∷ third ∷ rest) subject h = more_tokens spot.token spot.at next.token next.at third.token third.at rest (fault_is_misfit (next ∷ third ∷ rest)) (fault_is_misfit rest) subject h

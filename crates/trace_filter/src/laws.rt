@@ -1,0 +1,21 @@
+//! What the definitions of the contracts mean. Each function does nothing: its contract is a theorem.
+
+ghost use Rattle.trace_filter.specs.Laws.{FilterIsAnswered, RefusalIsAnswered, FilterOrRefused, NeverBoth, OneRefusal, TrimmedHasTheTokens, TrimmedIsTheFilter, TrimmedPassesTheSame, TrimmedOnce};
+
+/// A text is a filter of an event exactly where it is in the grammar, short, shallow and fits the event's fields; it is refused for a
+/// fault exactly where the grammar, or the first test that doesn't fit, has that fault. Each text is one or the other, for one fault.
+pub fn filters_are_as_written()
+    ensures filter { FilterIsAnswered }
+    ensures refused { RefusalIsAnswered }
+    ensures either { FilterOrRefused }
+    ensures not_both { NeverBoth }
+    ensures unique { OneRefusal }
+{}
+
+/// A text without the blanks at both ends has the tokens of the text as written, at shifted places, so it is the same filter.
+pub fn trimming_keeps_filters()
+    ensures tokens { TrimmedHasTheTokens }
+    ensures filter { TrimmedIsTheFilter }
+    ensures passes { TrimmedPassesTheSame }
+    ensures once { TrimmedOnce }
+{}
