@@ -1,7 +1,11 @@
 -- The answer that the requests done so far give a request, and which histories are legal. The newest request stands first.
-use Rattle.std.specs.Prelude.{◌≡◌, ℕ, ◌<◌, nat_lt, Bool, true, false, not, ◌&&◌, is_some, IsOk, if◌then◌else◌, List, [], ◌∷◌, length, map, flat_map, reverse, All, Option, Some, None, Result, Ok, Err, codes, ⊤}
+use Rattle.std.specs.Prelude.{◌≡◌, ℕ, ◌<◌, nat_lt, Bool, true, false, not, ◌&&◌, is_some, IsOk, if◌then◌else◌, List, [], ◌∷◌, ◌++◌, length, map, flat_map, reverse, All, Option, Some, None, Result, Ok, Err, codes, ⊤}
 use Rattle.page_ring.specs.Account.{stats_of}
-use Rattle.trace_book.specs.Paths.{File, Trace, CpuTrace, TracePipe, CpuTracePipe, CpuStats, Overwrite, TraceOptions, SyntheticEvents, EventEnable, EventFormat}
+use Rattle.trace_book.specs.Paths.{File, Trace, CpuTrace, TracePipe, CpuTracePipe, CpuStats, Overwrite, TraceOptions, SyntheticEvents, EventsEnable, EventsFilter, EventEnable, EventFilter, EventFormat}
+use Rattle.std.specs.List.{list_any}
+use Rattle.trace_filter.specs.declared.fault.FilterFault.{FilterFault}
+use Rattle.trace_filter.specs.Filters.{Parsed, answer_of}
+use Rattle.trace_filter.specs.Tokens as filters
 use Rattle.trace_format.specs.Catalogs.{id_for}
 use Rattle.trace_format.specs.Cells.{Cells}
 use Rattle.trace_format.specs.Definitions.{Definition}
@@ -14,15 +18,15 @@ use Rattle.trace_text.specs.FormatText.{format_text}
 use Rattle.trace_text.specs.StatsText.{stats_text}
 use Rattle.trace_book.specs.TraceFiles.{trace_text, pipe_text}
 use Rattle.trace_book.specs.Requests.{Request, Emission, MakeInstance, RemoveInstance, WriteFile, ReadFile, request_of}
-use Rattle.trace_book.specs.Settings.{NumberedEvent, event_named, declared_events, written_flag, written_option, is_enabled, overwrites, now_of}
-use Rattle.trace_book.specs.Refusals.{refusal_of_catalog}
+use Rattle.trace_book.specs.Settings.{NumberedEvent, event_named, declared_events, written_flag, written_option, is_enabled, clears_filter, can_take, filter_of, overwrites, now_of}
+use Rattle.trace_book.specs.Refusals.{refusal_of_catalog, refusal_of_filter}
 use Rattle.trace_book.specs.Rings.{ring_events}
 use Rattle.trace_book.specs.declared.command.Config.{Config}
 use Rattle.trace_book.specs.declared.command.Entry.{Entry}
 use Rattle.trace_book.specs.declared.command.Reply.{Reply}
 use Rattle.trace_book.specs.declared.command.Reply.TheVariants.{Done, Text}
 use Rattle.trace_book.specs.declared.refusal.Refusal.{Refusal}
-use Rattle.trace_book.specs.declared.refusal.Refusal.TheVariants.{NoSuchFile, NotWritable, BadValue, NoSuchEvent, BadDefinition, Busy, NoSuchCpu, BadRow, HistoryFull}
+use Rattle.trace_book.specs.declared.refusal.Refusal.TheVariants.{NoSuchFile, NotReadable, NotWritable, BadValue, NoSuchEvent, BadDefinition, Busy, NoSuchCpu, BadRow, HistoryFull}
 
 -- ---- emissions
 
@@ -62,6 +66,25 @@ declaration_answer g past append text = read_declaration_answer g past append (d
 unfoldable pub switch_answer : List ℕ → Result Reply Refusal
 switch_answer text = if is_some (written_flag text) then Ok Done else Err BadValue
 
+-- a filter of an event: one that the event can take, or the text that clears
+abbrev pub taken_answer : Result Parsed FilterFault → Result Reply Refusal
+taken_answer (Ok filter) = Ok Done
+taken_answer (Err fault) = Err (refusal_of_filter fault)
+
+unfoldable pub filter_answer : List ℕ → Definition → Result Reply Refusal
+filter_answer text event = if clears_filter text then Ok Done else taken_answer (answer_of event text)
+
+-- the event's name is one that was declared
+abbrev pub named_filter_answer : List ℕ → Option NumberedEvent → Result Reply Refusal
+named_filter_answer text None = Ok Done
+named_filter_answer text (Some k) = filter_answer text k.event
+
+-- a filter of all events: one that some event can take, else refused as the first event refuses it; none without an event
+unfoldable pub filter_of_all_answer : List ℕ → List Definition → Result Reply Refusal
+filter_of_all_answer text [] = Err NoSuchEvent
+filter_of_all_answer text (event ∷ events) =
+    if list_any (can_take text) (event ∷ events) then Ok Done else filter_answer text event
+
 -- the word of an option
 unfoldable pub option_answer : List ℕ → Result Reply Refusal
 option_answer text = if is_some (written_option text) then Ok Done else Err BadValue
@@ -77,6 +100,9 @@ write_answer g past append text Overwrite = switch_answer text
 write_answer g past append text TraceOptions = option_answer text
 write_answer g past append text SyntheticEvents = declaration_answer g past append text
 write_answer g past append text (EventEnable event) = switch_answer text
+write_answer g past append text EventsEnable = switch_answer text
+write_answer g past append text EventsFilter = filter_of_all_answer text (declared_events past)
+write_answer g past append text (EventFilter event) = named_filter_answer text (event_named event past)
 write_answer g past append text (EventFormat event) = Err NotWritable
 
 -- ---- what each file shows
@@ -102,6 +128,21 @@ option_text flag = if flag then codes "overwrite\n" else codes "nooverwrite\n"
 unfoldable pub declarations_text : List Request → List ℕ
 declarations_text past = flat_map declaration_text (declared_events past)
 
+-- whether some events are enabled, and whether some are not
+unfoldable pub mixture_text : Bool → Bool → List ℕ
+mixture_text false false = codes "?\n"
+mixture_text false true = codes "0\n"
+mixture_text true false = codes "1\n"
+mixture_text true true = codes "X\n"
+
+abbrev pub switches_text : List Bool → List ℕ
+switches_text flags = mixture_text (list_any (λ flag. flag) flags) (list_any not flags)
+
+-- an event's filter without the blanks at its ends
+unfoldable pub filter_text : Option (List ℕ) → List ℕ
+filter_text None = codes "none\n"
+filter_text (Some text) = filters.trimmed text ++ codes "\n"
+
 -- the format of an event; its name is one that was declared
 abbrev pub format_of_event : Option NumberedEvent → List ℕ
 format_of_event None = []
@@ -118,6 +159,9 @@ read_answer g past limit Overwrite = whole_text limit (flag_text (overwrites pas
 read_answer g past limit TraceOptions = whole_text limit (option_text (overwrites past))
 read_answer g past limit SyntheticEvents = whole_text limit (declarations_text past)
 read_answer g past limit (EventEnable event) = whole_text limit (flag_text (is_enabled event past))
+read_answer g past limit EventsEnable = whole_text limit (switches_text (map (λ event. is_enabled event.name past) (declared_events past)))
+read_answer g past limit EventsFilter = Err NotReadable
+read_answer g past limit (EventFilter event) = whole_text limit (filter_text (filter_of event past))
 read_answer g past limit (EventFormat event) = whole_text limit (format_of_event (event_named event past))
 
 -- ---- the answer
@@ -136,6 +180,7 @@ missing g past (CpuTrace cpu) = missing_cpu g cpu
 missing g past (CpuTracePipe cpu) = missing_cpu g cpu
 missing g past (CpuStats cpu) = missing_cpu g cpu
 missing g past (EventEnable event) = missing_event past event
+missing g past (EventFilter event) = missing_event past event
 missing g past (EventFormat event) = missing_event past event
 missing g past _ = None
 

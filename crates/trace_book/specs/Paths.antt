@@ -10,7 +10,7 @@ use Rattle.trace_book.specs.Decimals.{decimal_number, has_leading_zero}
 abbrev pub parts : List ℕ → List (List ℕ)
 parts path = slice_split (λ b. b == 47) path
 
--- a file; an event's by its name, a CPU's by its number
+-- a file; an event's by its name, a CPU's by its number; those of all events, of which there is one system alone, by no name
 pub data File : Type 0 where
   Trace : File
   CpuTrace : ℕ → File
@@ -20,7 +20,10 @@ pub data File : Type 0 where
   Overwrite : File
   TraceOptions : File
   SyntheticEvents : File
+  EventsEnable : File
+  EventsFilter : File
   EventEnable : List ℕ → File
+  EventFilter : List ℕ → File
   EventFormat : List ℕ → File
 
 -- the number in `cpuN`: decimal, without leading zeros
@@ -40,6 +43,16 @@ top_file name =
 unfoldable pub option_file : List ℕ → Option File
 option_file name = if bytes_eq name (codes "overwrite") then Some Overwrite else None
 
+-- a file of all events, below `events`
+unfoldable pub events_file : List ℕ → Option File
+events_file name = if bytes_eq name (codes "enable") then Some EventsEnable else None
+
+-- a file of all events of the one system
+unfoldable pub system_file : List ℕ → Option File
+system_file name =
+    if bytes_eq name (codes "enable") then Some EventsEnable
+    else (if bytes_eq name (codes "filter") then Some EventsFilter else None)
+
 -- a file of a CPU
 unfoldable pub cpu_file : ℕ → List ℕ → Option File
 cpu_file cpu name =
@@ -51,14 +64,18 @@ cpu_file cpu name =
 unfoldable pub event_file : List ℕ → List ℕ → Option File
 event_file event name =
     if bytes_eq name (codes "enable") then Some (EventEnable event)
-    else (if bytes_eq name (codes "format") then Some (EventFormat event) else None)
+    else (if bytes_eq name (codes "filter") then Some (EventFilter event)
+    else (if bytes_eq name (codes "format") then Some (EventFormat event) else None))
 
 -- the file that the parts of a path name
 abbrev pub file_in : List (List ℕ) → Option File
 file_in (name ∷ []) = top_file name
-file_in (first ∷ name ∷ []) = if bytes_eq first (codes "options") then option_file name else None
+file_in (first ∷ name ∷ []) =
+    if bytes_eq first (codes "options") then option_file name
+    else (if bytes_eq first (codes "events") then events_file name else None)
 file_in (first ∷ second ∷ name ∷ []) =
-    if bytes_eq first (codes "per_cpu") then option_and_then (λ cpu. cpu_file cpu name) (cpu_number second) else None
+    if bytes_eq first (codes "per_cpu") then option_and_then (λ cpu. cpu_file cpu name) (cpu_number second)
+    else (if bytes_eq first (codes "events") && bytes_eq second (codes "synthetic") then system_file name else None)
 file_in (first ∷ second ∷ third ∷ name ∷ []) =
     if bytes_eq first (codes "events") && (bytes_eq second (codes "synthetic") && is_name third) then event_file third name else None
 file_in _ = None

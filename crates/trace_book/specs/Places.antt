@@ -2,7 +2,7 @@
 use Rattle.std.specs.Prelude.{ℕ, List, [], Option, Some, None}
 use Rattle.std.specs.Borrow.{Bor}
 use Rattle.trace_book.specs.Decimals.{value_after}
-use Rattle.trace_book.specs.Paths.{File, Trace, CpuTrace, TracePipe, CpuTracePipe, CpuStats, Overwrite, TraceOptions, SyntheticEvents, EventEnable, EventFormat, parts}
+use Rattle.trace_book.specs.Paths.{File, Trace, CpuTrace, TracePipe, CpuTracePipe, CpuStats, Overwrite, TraceOptions, SyntheticEvents, EventsEnable, EventsFilter, EventEnable, EventFilter, EventFormat, parts}
 use Rattle.trace_book.specs.declared.place.Place.{Place}
 use Rattle.trace_book.specs.declared.place.Place.TheVariants as place
 
@@ -24,5 +24,8 @@ file_at (place.CpuStats digits) = CpuStats (cpu_at digits)
 file_at place.Overwrite = Overwrite
 file_at place.TraceOptions = TraceOptions
 file_at place.SyntheticEvents = SyntheticEvents
+file_at place.EventsEnable = EventsEnable
+file_at place.EventsFilter = EventsFilter
 file_at (place.EventEnable name) = EventEnable name.now
+file_at (place.EventFilter name) = EventFilter name.now
 file_at (place.EventFormat name) = EventFormat name.now

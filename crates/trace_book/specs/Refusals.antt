@@ -1,5 +1,7 @@
 -- The refusals' numbers, and answers that want of memory may take the place of.
 use Rattle.std.specs.Prelude.{◌≡◌, ◌≢◌, ℕ, Result, Ok, Err}
+use Rattle.trace_filter.specs.declared.fault.FilterFault.{FilterFault}
+use Rattle.trace_filter.specs.declared.fault.FilterFault.TheVariants as filter
 use Rattle.trace_format.specs.declared.fault.DefinitionFault.{DefinitionFault}
 use Rattle.trace_format.specs.declared.fault.DefinitionFault.TheVariants as definition
 use Rattle.trace_format.specs.declared.fault.CatalogFault.{CatalogFault}
@@ -36,7 +38,7 @@ number_of HistoryFull = 22
 number_of Memory = 23
 number_of Worn = 24
 
--- ---- the refusals that the faults of formats become
+-- ---- the refusals that the faults of formats and filters become
 
 abbrev pub refusal_of_definition : DefinitionFault → Refusal
 refusal_of_definition (definition.BadDefinition at) = BadDefinition at
@@ -51,6 +53,13 @@ refusal_of_catalog catalog.Memory = Memory
 abbrev pub refusal_of_row : RowFault → Refusal
 refusal_of_row (row.BadRow field) = BadRow field
 refusal_of_row row.Memory = Memory
+
+abbrev pub refusal_of_filter : FilterFault → Refusal
+refusal_of_filter filter.TooMany = TooMany
+refusal_of_filter (filter.FilterSyntax at) = FilterSyntax at
+refusal_of_filter (filter.NoSuchField at) = NoSuchField at
+refusal_of_filter (filter.WrongOperator at) = WrongOperator at
+refusal_of_filter filter.Memory = Memory
 
 -- ---- answers
 

@@ -1,15 +1,18 @@
 -- What the requests that were done brought to the ring of a CPU. The newest request stands first, the newest event of the ring last.
-use Rattle.std.specs.Prelude.{ℕ, ◌+◌, ◌-◌, ◌*◌, ◌/◌, ◌==◌, min, ℤ, Bool, false, not, ◌&&◌, if◌then◌else◌, List, [], ◌∷◌, ◌++◌, length, map, replicate, Option, Some, None}
-use Rattle.std.specs.Option.{option_map, option_and_then, option_to_list}
+use Rattle.std.specs.Prelude.{ℕ, ◌+◌, ◌-◌, ◌*◌, ◌/◌, ◌==◌, min, ℤ, Bool, true, false, not, ◌&&◌, if◌then◌else◌, List, [], ◌∷◌, ◌++◌, length, map, replicate, Option, Some, None}
+use Rattle.std.specs.Option.{option_and_then, option_to_list}
 use Rattle.std.specs.Result.{result_ok}
 use Rattle.page_ring.specs.Events as ring
 use Rattle.page_ring.specs.Record.{head_bytes}
 use Rattle.page_ring.specs.Account.{readings_of}
 use Rattle.trace_book.specs.Paths.{Trace, CpuTrace, TracePipe, CpuTracePipe}
+use Rattle.trace_filter.specs.Filters.{parsed_of}
+use Rattle.trace_filter.specs.Values.{holds_of}
 use Rattle.trace_format.specs.Cells.{Cells, payload_of}
+use Rattle.trace_format.specs.Definitions.{Definition}
 use Rattle.trace_format.specs.Rows.{row_of}
 use Rattle.trace_format.specs.declared.pair.Pair.{Pair}
-use Rattle.trace_book.specs.Settings.{NumberedEvent, event_named, is_enabled, overwrites, now_of}
+use Rattle.trace_book.specs.Settings.{NumberedEvent, event_named, is_enabled, filter_of, overwrites, now_of}
 use Rattle.trace_book.specs.Requests.{Request, Emission, MakeInstance, RemoveInstance, WriteFile, ReadFile}
 use Rattle.trace_book.specs.declared.command.Config.{Config}
 
@@ -23,13 +26,22 @@ record_bytes timestamp pid id row =
     head_bytes (record { ts = timestamp; pid = pid; event = id; payload = length (payload_of row) })
     ++ payload_of row ++ replicate (padding (length (payload_of row))) 0
 
--- the record of an emission of a numbered event
-abbrev pub record_of_event : ℕ → ℤ → List Pair → NumberedEvent → Option (List ℕ)
-record_of_event timestamp pid pairs k = option_map (record_bytes timestamp pid k.id) (result_ok (row_of k.event pairs))
+-- whether an event's filter holds of an emission; `holds_of` is the truth of the trees that the text spells, as `Passes` says of them
+-- (trace_filter)
+unfoldable pub filter_holds : Definition → Option (List ℕ) → Cells → ℕ → ℤ → Bool
+filter_holds event None row cpu pid = true
+filter_holds event (Some text) row cpu pid = holds_of (parsed_of event text) (record { values = row.values; cpu = cpu; pid = pid })
+
+-- the record of an emission's row, where the event's filter holds
+abbrev pub record_of_row : ℕ → Option (List ℕ) → ℕ → ℤ → NumberedEvent → Cells → Option (List ℕ)
+record_of_row timestamp filter cpu pid k row = if filter_holds k.event filter row cpu pid then Some (record_bytes timestamp pid k.id row) else None
+
+abbrev pub record_of_event : ℕ → Option (List ℕ) → ℕ → ℤ → List Pair → NumberedEvent → Option (List ℕ)
+record_of_event timestamp filter cpu pid pairs k = option_and_then (record_of_row timestamp filter cpu pid k) (result_ok (row_of k.event pairs))
 
 -- the record of an emission after this past: its timestamp is the clock's next value
-abbrev pub emitted_record : List Request → List ℕ → ℤ → List Pair → Option (List ℕ)
-emitted_record past name pid pairs = option_and_then (record_of_event (now_of past + 1) pid pairs) (event_named name past)
+abbrev pub emitted_record : List Request → List ℕ → ℕ → ℤ → List Pair → Option (List ℕ)
+emitted_record past name cpu pid pairs = option_and_then (record_of_event (now_of past + 1) (filter_of name past) cpu pid pairs) (event_named name past)
 
 -- how many records a read with this limit consumes, of so many that are kept
 abbrev pub up_to_limit : Option ℕ → ℕ → ℕ
@@ -42,11 +54,11 @@ consumed cpu (ReadFile (Some TracePipe) limit) kept = up_to_limit limit kept
 consumed cpu (ReadFile (Some (CpuTracePipe c)) limit) kept = if c == cpu then up_to_limit limit kept else 0
 consumed cpu _ kept = 0
 
--- the put of an emission after this past, on its CPU, where the event is enabled
+-- the put of an emission after this past, on its CPU, where the event is enabled and its filter holds
 abbrev pub put_of : ℕ → List Request → Request → List ring.Event
 put_of cpu past (Emission name event_cpu pid pairs) =
     if event_cpu == cpu && is_enabled name past
-    then map (λ bytes. ring.Put bytes (overwrites past)) (option_to_list (emitted_record past name pid pairs)) else []
+    then map (λ bytes. ring.Put bytes (overwrites past)) (option_to_list (emitted_record past name event_cpu pid pairs)) else []
 put_of cpu past _ = []
 
 -- whether a request empties the ring of a CPU: a write to a trace file, but not to append

@@ -1,10 +1,12 @@
 -- What the requests that were done say of events, their switches, overwriting and the clock. The newest request stands first.
-use Rattle.std.specs.Prelude.{ℕ, suc, ◌+◌, ◌==◌, Bool, true, false, if◌then◌else◌, List, [], ◌∷◌, ◌++◌, Option, Some, None, Result, Ok, Err, unwrap_or, codes}
+use Rattle.std.specs.Prelude.{ℕ, suc, ◌+◌, ◌==◌, Bool, true, false, if◌then◌else◌, List, [], ◌∷◌, ◌++◌, Option, Some, None, Result, Ok, Err, unwrap_or, is_ok, is_some, codes}
 use Rattle.std.specs.Option.{option_map, option_and_then, option_to_list}
 use Rattle.std.specs.Result.{result_ok}
 use Rattle.std.specs.Str.{bytes_eq}
+use Rattle.trace_book.specs.Blanks.{trimmed}
 use Rattle.trace_book.specs.Decimals.{written_number}
-use Rattle.trace_book.specs.Paths.{File, Trace, CpuTrace, TracePipe, CpuTracePipe, CpuStats, Overwrite, TraceOptions, SyntheticEvents, EventEnable, EventFormat}
+use Rattle.trace_book.specs.Paths.{File, Trace, CpuTrace, TracePipe, CpuTracePipe, CpuStats, Overwrite, TraceOptions, SyntheticEvents, EventsEnable, EventsFilter, EventEnable, EventFilter, EventFormat}
+use Rattle.trace_filter.specs.Filters.{answer_of}
 use Rattle.trace_format.specs.Catalogs.{id_of, event_of}
 use Rattle.trace_format.specs.Definitions.{Definition}
 use Rattle.trace_format.specs.Reading.{definition_of}
@@ -51,14 +53,45 @@ flag_of n = if n == 0 then Some false else (if n == 1 then Some true else None)
 unfoldable pub written_flag : List ℕ → Option Bool
 written_flag text = option_and_then flag_of (written_number text)
 
--- how a request switches an event
-abbrev pub switches : List ℕ → Request → Option Bool
-switches event (WriteFile (Some (EventEnable name)) append text) = if bytes_eq event name then written_flag text else None
-switches event _ = None
+-- how a request after this past switches an event: a write to the switch of all switches the events that are declared by then
+abbrev pub switches : List ℕ → List Request → Request → Option Bool
+switches event past (WriteFile (Some (EventEnable name)) append text) = if bytes_eq event name then written_flag text else None
+switches event past (WriteFile (Some EventsEnable) append text) = if is_some (event_named event past) then written_flag text else None
+switches event past _ = None
 
 -- an event is disabled until it is switched on
 abbrev pub is_enabled : List ℕ → List Request → Bool
-is_enabled event past = setting (switches event) false past
+is_enabled event [] = false
+is_enabled event (request ∷ past) = unwrap_or (switches event past request) (is_enabled event past)
+
+-- a filter's text that is the one byte 0 between blanks clears
+unfoldable pub clears_filter : List ℕ → Bool
+clears_filter text = bytes_eq (trimmed text) (codes "0")
+
+-- an event can take a filter where the text is one of the event. `answer_of` gives a filter exactly where the text is in the grammar and
+-- fits the event's fields, as `IsFilter` says of them (trace_filter).
+unfoldable pub can_take : List ℕ → Definition → Bool
+can_take text event = is_ok (answer_of event text)
+
+-- the filter that a text writes: none where it clears
+abbrev pub written_filter : List ℕ → Option (List ℕ)
+written_filter text = if clears_filter text then None else Some text
+
+-- what a write to the filter of all events sets for one: nothing where it is not declared or can't take the filter
+abbrev pub written_to_all : List ℕ → Option NumberedEvent → Option (Option (List ℕ))
+written_to_all text None = None
+written_to_all text (Some k) = if clears_filter text then Some None else (if can_take text k.event then Some (Some text) else None)
+
+-- the filter that a request after this past sets for an event
+abbrev pub sets_filter : List ℕ → List Request → Request → Option (Option (List ℕ))
+sets_filter event past (WriteFile (Some (EventFilter name)) append text) = if bytes_eq event name then Some (written_filter text) else None
+sets_filter event past (WriteFile (Some EventsFilter) append text) = written_to_all text (event_named event past)
+sets_filter event past _ = None
+
+-- an event's filter as it was written, none until one is set
+abbrev pub filter_of : List ℕ → List Request → Option (List ℕ)
+filter_of event [] = None
+filter_of event (request ∷ past) = unwrap_or (sets_filter event past request) (filter_of event past)
 
 -- the word of an option that is written to `trace_options`, exactly
 unfoldable pub written_option : List ℕ → Option Bool

@@ -1,5 +1,5 @@
 -- When what a book keeps agrees with the requests that were done, and what a change does to it.
-use Rattle.std.specs.Prelude.{◌≡◌, ℕ, ◌^◌, ℤ, slice_index_or, replicate, unwrap_or, Vec, ◌+◌, ◌<◌, ◌≤◌, Bool, true, false, List, [], ◌∷◌, ◌++◌, length, map, IsSome, IsOk, Option, Some, None, Result, Ok, Err, ◌≢◌, if◌then◌else◌, ⊤}
+use Rattle.std.specs.Prelude.{◌≡◌, ℕ, ◌^◌, ℤ, slice_index_or, slice_set, replicate, unwrap_or, Vec, ◌+◌, ◌<◌, ◌≤◌, Bool, true, false, ◌&&◌, is_some, List, [], ◌∷◌, ◌++◌, length, map, IsSome, IsOk, Option, Some, None, Result, Ok, Err, ◌≢◌, if◌then◌else◌, codes, ⊤}
 use Rattle.std.specs.List.{AllByRecursion}
 use Rattle.std.specs.Option.{option_to_list, option_map}
 use Rattle.std.specs.Global.{Global}
@@ -8,14 +8,16 @@ use Rattle.page_ring.specs.Events as ring
 use Rattle.page_ring.specs.Record.{IsRecord}
 use Rattle.page_ring.specs.Account.{readings_of}
 use Rattle.page_ring.specs.Shown as shown
-use Rattle.trace_format.specs.Catalogs.{id_for}
+use Rattle.trace_filter.specs.Filters.{Parsed, parsed_of}
+use Rattle.trace_filter.specs.Values.{holds_of}
+use Rattle.trace_format.specs.Catalogs.{id_for, AreEvents}
 use Rattle.trace_format.specs.Cells.{Cells, record_size_of}
 use Rattle.trace_format.specs.Definitions.{Definition}
 use Rattle.trace_book.specs.Requests.{Request}
-use Rattle.trace_book.specs.Settings.{NumberedEvent, event_named, declares, declared_events, switches, is_enabled, sets_overwrite, overwrites, ticks, now_of}
-use Rattle.trace_book.specs.Rings.{record_bytes, up_to_limit, consumed, put_of, clears, ring_events}
+use Rattle.trace_book.specs.Settings.{NumberedEvent, event_named, declares, declared_events, switches, is_enabled, clears_filter, can_take, written_filter, sets_filter, filter_of, sets_overwrite, overwrites, ticks, now_of}
+use Rattle.trace_book.specs.Rings.{filter_holds, record_bytes, up_to_limit, consumed, put_of, clears, ring_events}
 use Rattle.trace_book.specs.Switches.{switched_all}
-use Rattle.trace_book.specs.History.{answer_with_room}
+use Rattle.trace_book.specs.History.{answer_with_room, filter_answer}
 use Rattle.trace_book.specs.TraceFiles.{pipe_text}
 use Rattle.trace_book.specs.declared.command.Config.{Config}
 use Rattle.trace_book.specs.declared.command.Reply.{Reply}
@@ -25,7 +27,9 @@ use Rattle.trace_book.specs.declared.refusal.Refusal.TheVariants.{BadValue, Memo
 use Rattle.trace_book.specs.declared.state.State.{State}
 use Rattle.trace_book.specs.declared.state.Found.{Found}
 use Rattle.trace_book.specs.declared.state.Change.{Change}
-use Rattle.trace_book.specs.declared.state.Change.TheVariants.{Nothing, Declare, Switch, SetOverwrite, Clear, Take, Emit}
+use Rattle.trace_book.specs.declared.state.Change.TheVariants.{Nothing, Declare, Switch, SwitchAll, SetFilter, SetFilters, SetOverwrite, Clear, Take, Emit}
+use Rattle.trace_book.specs.declared.state.FilterChange.{FilterChange}
+use Rattle.trace_book.specs.declared.state.FilterChange.TheVariants as filter
 use Rattle.trace_book.specs.declared.state.Prepared.{Prepared}
 
 -- an event that was found, with its id
@@ -43,13 +47,20 @@ pub record IsFit (page_bytes : ℕ) (event : Definition) : Type 0 where
   pub fields : length event.fields ≤ 16
   pub size : record_size_of event ≤ page_bytes
 
+-- an event's filter as an instance keeps it
+abbrev pub kept_filter : List Request → Definition → Option Parsed
+kept_filter past event = option_map (parsed_of event) (filter_of event.name past)
+
 -- each part of the state is what the requests say of it
 pub record StandsFor (g : Config) (state : State) (past : List Request) : Type 0 where
   pub events : state.catalog ≡ declared_events past
   pub few_events : length (declared_events past) ≤ 64
   pub fit : AllByRecursion (IsFit g.page_bytes) (declared_events past)
+  pub distinct : AreEvents [] (declared_events past)
   pub enabled : state.top.enabled ≡ map (λ event. is_enabled event.name past) (declared_events past)
   pub unknown : (name : List ℕ) → event_named name past ≡ None → is_enabled name past ≡ false
+  pub filters : state.top.filters ≡ map (kept_filter past) (declared_events past)
+  pub unfiltered : (name : List ℕ) → event_named name past ≡ None → filter_of name past ≡ None
   pub overwrite : state.top.overwrite ≡ overwrites past
   pub clock : state.clock ≡ now_of past
   pub early : state.clock ≤ length past
@@ -64,9 +75,10 @@ abbrev pub declared_by : Change → Option Definition
 declared_by (Declare event) = Some event
 declared_by _ = None
 
-abbrev pub switched_by : List ℕ → Change → Option Bool
-switched_by event (Switch name flag) = if bytes_eq event name then Some flag else None
-switched_by event _ = None
+abbrev pub switched_by : List ℕ → List Request → Change → Option Bool
+switched_by event past (Switch name flag) = if bytes_eq event name then Some flag else None
+switched_by event past (SwitchAll flag) = if is_some (event_named event past) then Some flag else None
+switched_by event past _ = None
 
 -- the event that a change switches
 abbrev pub addressed_by : Change → Option (List ℕ)
@@ -102,7 +114,31 @@ ring_after change overwrite events =
 abbrev pub flags_after : Change → List Definition → List Bool → List Bool
 flags_after (Declare event) events flags = flags ++ false ∷ []
 flags_after (Switch name flag) events flags = switched_all name flag events flags
+flags_after (SwitchAll flag) events flags = map (λ old. flag) flags
 flags_after _ events flags = flags
+
+-- a filter after a change of it
+abbrev pub changed_filter : FilterChange → Option Parsed → Option Parsed
+changed_filter filter.Keep old = old
+changed_filter filter.Drop old = None
+changed_filter (filter.Set new) old = Some new
+
+-- the filters after a change of each
+abbrev pub changed_filters : List FilterChange → List (Option Parsed) → List (Option Parsed)
+changed_filters [] filters = filters
+changed_filters (change ∷ changes) [] = []
+changed_filters (change ∷ changes) (old ∷ filters) = changed_filter change old ∷ changed_filters changes filters
+
+-- the filters of the events that were declared before a change
+abbrev pub filters_after : Change → List (Option Parsed) → List (Option Parsed)
+filters_after (SetFilter index new) filters = slice_set filters index new
+filters_after (SetFilters changes) filters = changed_filters changes.items filters
+filters_after _ filters = filters
+
+-- an event that a change declares has none
+abbrev pub filters_with : Change → List (Option Parsed) → List (Option Parsed)
+filters_with (Declare event) filters = filters ++ None ∷ []
+filters_with _ filters = filters
 
 -- how many records of the one CPU's ring are kept after this past
 abbrev pub kept_count : Config → List Request → ℕ
@@ -113,8 +149,10 @@ pub record IsChangeOf (g : Config) (past : List Request) (request : Request) (ch
   pub declares : declares request ≡ declared_by change
   pub fresh : (event : Definition) → declared_by change ≡ Some event
       → (event_named event.name past ≡ None) × (length (declared_events past) < 64) × IsFit g.page_bytes event
-  pub switches : (event : List ℕ) → switches event request ≡ switched_by event change
+  pub switches : (event : List ℕ) → switches event past request ≡ switched_by event past change
   pub addressed : (name : List ℕ) → addressed_by change ≡ Some name → IsSome (event_named name past)
+  pub filters : map (kept_filter (request ∷ past)) (declared_events past) ≡ filters_after change (map (kept_filter past) (declared_events past))
+  pub unfiltered : (name : List ℕ) → event_named name past ≡ None → sets_filter name past request ≡ None
   pub overwrite : sets_overwrite request ≡ overwrite_by change
   pub ticks : ticks request ≡ ticks_by change
   pub clears : clears 0 request ≡ clears_by change
@@ -123,8 +161,10 @@ pub record IsChangeOf (g : Config) (past : List Request) (request : Request) (ch
 
 -- what was grown for a change is there
 abbrev pub IsReady : State → Change → Type 0
-IsReady state (Declare event) = IsOk (id_for state.catalog event state.top.ring.page_bytes) × (length state.top.enabled < 64)
+IsReady state (Declare event) = IsOk (id_for state.catalog event state.top.ring.page_bytes) × (length state.top.enabled < 64) × (length state.top.filters < 64)
 IsReady state (Switch name flag) = length state.catalog ≡ length state.top.enabled
+IsReady state (SetFilter index new) = index < length state.top.filters
+IsReady state (SetFilters changes) = length changes.items ≡ length state.top.filters
 IsReady state (Emit (Some bytes)) =
     IsRecord bytes.items × (length bytes.items ≤ state.top.ring.page_bytes) × (length bytes.items ≤ state.top.ring.ready)
 IsReady state _ = ⊤
@@ -133,6 +173,7 @@ IsReady state _ = ⊤
 pub record IsStep (old new : State) (change : Change) : Type 0 where
   pub events : new.catalog ≡ old.catalog ++ option_to_list (declared_by change)
   pub enabled : new.top.enabled ≡ flags_after change old.catalog old.top.enabled
+  pub filters : new.top.filters ≡ filters_with change (filters_after change old.top.filters)
   pub overwrite : new.top.overwrite ≡ unwrap_or (overwrite_by change) old.top.overwrite
   pub clock : new.clock ≡ old.clock + ticks_by change
   pub ring : (events : List ring.Event) → shown.StandsFor old.top.ring events → shown.StandsFor new.top.ring (ring_after change old.top.overwrite events)
@@ -153,11 +194,19 @@ pub record IsUsable (state : State) : Type 0 where
   pub few_events : length state.catalog ≤ 64
   pub fit : AllByRecursion (IsFit state.top.ring.page_bytes) state.catalog
   pub switches : length state.top.enabled ≡ length state.catalog
+  pub filters : length state.top.filters ≡ length state.catalog
+  pub distinct : AreEvents [] state.catalog
 
--- the record that an emission writes, where its event is enabled
-abbrev pub written_record : State → ℕ → ℤ → Cells → Option (List ℕ)
-written_record state index pid row =
-    if slice_index_or state.top.enabled index false then Some (record_bytes (state.clock + 1) pid (index + 1) row) else None
+-- whether a kept filter holds of an emission
+unfoldable pub kept_holds : Option Parsed → Cells → ℕ → ℤ → Bool
+kept_holds None row cpu pid = true
+kept_holds (Some kept) row cpu pid = holds_of kept (record { values = row.values; cpu = cpu; pid = pid })
+
+-- the record that an emission writes, where its event is enabled and its filter holds
+abbrev pub written_record : State → ℕ → ℕ → ℤ → Cells → Option (List ℕ)
+written_record state index cpu pid row =
+    if slice_index_or state.top.enabled index false && kept_holds (slice_index_or state.top.filters index None) row cpu pid
+    then Some (record_bytes (state.clock + 1) pid (index + 1) row) else None
 
 -- the bytes of a record, if there is one
 abbrev pub bytes_in : Option (Vec ℕ Global) → Option (List ℕ)
@@ -176,6 +225,25 @@ clearing append = record { change = if append then Nothing else Clear; reply = D
 abbrev pub overwriting : Option Bool → Result Prepared Refusal
 overwriting (Some flag) = Ok (record { change = SetOverwrite flag; reply = Done })
 overwriting None = Err BadValue
+
+-- a switch of all events
+abbrev pub switching : Option Bool → Result Prepared Refusal
+switching (Some flag) = Ok (record { change = SwitchAll flag; reply = Done })
+switching None = Err BadValue
+
+-- the filter of an event that a text writes, or why the event can't take it
+abbrev pub IsWrittenFilter : List ℕ → Definition → Result (Option Parsed) Refusal → Type 0
+IsWrittenFilter text event (Ok kept) = (filter_answer text event ≡ Ok Done) × (kept ≡ option_map (parsed_of event) (written_filter text))
+IsWrittenFilter text event (Err refusal) = refusal ≢ Memory → filter_answer text event ≡ Err refusal
+
+-- what a text that is written to the filter of all events changes of one's
+abbrev pub change_of : List ℕ → Definition → FilterChange
+change_of text event = if clears_filter text then filter.Drop else (if can_take text event then filter.Set (parsed_of event text) else filter.Keep)
+
+-- the text of a kept filter
+unfoldable pub shown_filter : Option Parsed → List ℕ
+shown_filter None = codes "none\n"
+shown_filter (Some kept) = kept.text ++ codes "\n"
 
 -- the text of a pipe read, and how many records it consumes
 abbrev pub IsTaking : Config → List Request → Option ℕ → Result Prepared Refusal → Type 0

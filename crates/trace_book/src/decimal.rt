@@ -13,7 +13,7 @@ pub(crate) fn is_blank(byte: u8) -> bool
 }
 
 /// The text without the blanks at its ends.
-fn trimmed(text: &[u8]) -> &[u8]
+pub(crate) fn trimmed(text: &[u8]) -> &[u8]
     ensures { result.now ≡ blanks.trimmed text.now }
 {
     without_trailing(without_leading(text))

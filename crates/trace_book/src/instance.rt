@@ -1,27 +1,38 @@
 //! A trace instance: which events it records, and its rings.
 
-ghost use Rattle.std.specs.Prelude.{◌≡◌, ℕ, ◌+◌, ◌%◌, ◌^◌, ◌≤◌, ◌<◌, Bool, true, false, List, [], ◌∷◌, ◌++◌, length, map, slice_index_or, max, replicate, if◌then◌else◌, IfOk, OnOk, OnErr};
+ghost use Rattle.std.specs.Prelude.{◌≡◌, ℕ, ◌+◌, ◌%◌, ◌^◌, ◌≤◌, ◌<◌, Bool, true, false, not, Option, None, List, [], ◌∷◌, ◌++◌, length, map, slice_index_or, slice_set, option_copied, max, replicate, if◌then◌else◌, IfOk, OnOk, OnErr};
 ghost use Rattle.std.specs.Str.{bytes_eq};
 ghost use Rattle.page_ring.specs.Record.{IsRecord};
 ghost use Rattle.page_ring.specs.Events as event;
 ghost use Rattle.page_ring.specs.Account.{stats_of, readings_of};
 ghost use Rattle.page_ring.specs.Shown.{Seen, StandsFor, offered};
 ghost use Rattle.trace_book.specs.Instances.{InstanceSeen};
+ghost use Rattle.std.specs.List.{list_any};
+ghost use Rattle.trace_book.specs.States.{kept_holds, changed_filters};
 ghost use Rattle.trace_book.specs.Switches.{switched_all};
 
-use crate::state::event_at;
+use crate::state::{FilterChange, event_at};
 use page_ring::{KeptRecords, Ring, RingStats};
 use std::alloc::{AllocError, Global};
 use std::marker::Model;
-use trace_format::{Catalog, EventDef};
+use trace_filter::Filter;
+use trace_format::{Catalog, EventDef, Row};
 
 /// How many events there may ever be.
 pub(crate) const EVENTS: usize = 64;
+
+/// Whether some events are enabled, and whether some are not.
+#[derive(Clone, Copy)]
+pub(crate) struct Mixture {
+    pub some_on: bool,
+    pub some_off: bool,
+}
 
 /// A trace instance, as in ftrace.rst, "Instances": events are switched for each instance, and each has its own ring for each CPU.
 #[derive(Drop)]
 pub struct Instance {
     enabled: Vec<bool>,
+    filters: Vec<Option<Filter>>,
     overwrite: bool,
     ring: Ring,
 }
@@ -32,9 +43,10 @@ impl Model for Instance {
 
     ghost Value = { InstanceSeen };
 
-    ghost view = { λ i. record { enabled = i.enabled.items; overwrite = i.overwrite; ring = i.ring } };
+    ghost view = { λ i. record { enabled = i.enabled.items; filters = i.filters.items; overwrite = i.overwrite; ring = i.ring } };
 
-    ghost invariant = { λ i. (vec_len i.enabled ≤ 64) × (64 ≤ vec_capacity i.enabled) };
+    ghost invariant = { λ i. (vec_len i.enabled ≤ 64) × (64 ≤ vec_capacity i.enabled)
+        × (vec_len i.filters ≤ 64) × (64 ≤ vec_capacity i.filters) };
 }
 
 impl Instance {
@@ -43,6 +55,7 @@ impl Instance {
         requires pages { (2 ≤ pages) × (pages ≤ 1024) }
         requires page_bytes { (64 ≤ page_bytes) × (page_bytes ≤ 4080) × (page_bytes % 8 ≡ 0) }
         ensures enabled { IfOk result (λ instance. instance.enabled ≡ []) }
+        ensures filters { IfOk result (λ instance. instance.filters ≡ []) }
         ensures overwrite { IfOk result (λ instance. instance.overwrite ≡ true) }
         ensures stands { IfOk result (λ instance. StandsFor instance.ring []) }
         ensures pages { IfOk result (λ instance. instance.ring.pages ≡ pages) }
@@ -51,6 +64,7 @@ impl Instance {
     {
         Ok(Instance {
             enabled: Vec::with_capacity(alloc, EVENTS)?,
+            filters: Vec::with_capacity(alloc, EVENTS)?,
             overwrite: true,
             ring: Ring::new(alloc, pages, page_bytes)?,
         })
@@ -64,12 +78,70 @@ impl Instance {
         self.enabled[event]
     }
 
-    /// Takes in one more event, which is disabled.
+    /// Whether each event of some is enabled, and each of the others is not: whether some are, and whether some are not.
+    pub(crate) fn are_enabled(&self) -> Mixture
+        ensures some_on { result.some_on ≡ list_any (λ flag. flag) self.now.enabled }
+        ensures some_off { result.some_off ≡ list_any not self.now.enabled }
+    {
+        Mixture {
+            some_on: self.enabled.iter().any(|flag| *flag),
+            some_off: self.enabled.iter().any(|flag| !*flag),
+        }
+    }
+
+    /// The filter of the event of this number, from 0.
+    pub(crate) fn filter(&self, event: usize) -> Option<&Filter>
+        requires { event < length self.now.filters }
+        ensures { option_copied result ≡ slice_index_or self.now.filters event None }
+    {
+        self.filters[event].as_ref()
+    }
+
+    /// Whether an emission of the event of this number passes its filter.
+    #[tactic(auto, unfolding(crate::specs::States::kept_holds))]
+    pub(crate) fn passes(&self, event: usize, row: &Row, cpu: u32, pid: i32) -> bool
+        requires { event < length self.now.filters }
+        ensures { result ≡ kept_holds (slice_index_or self.now.filters event None) row.now cpu pid }
+    {
+        match self.filter(event) {
+            Some(filter) => filter.passes(row, cpu, pid),
+            None => true,
+        }
+    }
+
+    /// Takes in one more event, which is disabled and has no filter.
     pub(crate) fn add_event(&mut self)
-        requires { length self.old.enabled < 64 }
-        ensures { self.new ≡ record self.old { enabled = self.old.enabled ++ false ∷ [] } }
+        requires enabled { length self.old.enabled < 64 }
+        requires filters { length self.old.filters < 64 }
+        ensures { self.new ≡ record self.old { enabled = self.old.enabled ++ false ∷ []; filters = self.old.filters ++ None ∷ [] } }
     {
         self.enabled.push_reserved(false);
+        self.filters.push_reserved(None);
+    }
+
+    /// Switches all events.
+    pub(crate) fn switch_all(&mut self, flag: bool)
+        ensures { self.new ≡ record self.old { enabled = map (λ old. flag) self.old.enabled } }
+    {
+        for enabled in self.enabled.iter_mut() {
+            *enabled = flag;
+        }
+    }
+
+    /// Sets the filter of the event of this number, from 0.
+    pub(crate) fn set_filter(&mut self, event: usize, filter: Option<Filter>)
+        requires { event < length self.old.filters }
+        ensures { self.new ≡ record self.old { filters = slice_set self.old.filters event filter } }
+    {
+        self.filters[event] = filter;
+    }
+
+    /// Changes the filter of each event.
+    pub(crate) fn set_filters(&mut self, changes: Vec<FilterChange>)
+        requires { length changes.items ≡ length self.old.filters }
+        ensures { self.new ≡ record self.old { filters = changed_filters changes.items self.old.filters } }
+    {
+        change_all(&mut self.filters, changes);
     }
 
     /// Switches the event of this name.
@@ -112,6 +184,7 @@ impl Instance {
         ensures stands { (events : List event.Event) → StandsFor self.old.ring events
             → StandsFor self.new.ring (events ++ event.Put rec.now self.old.overwrite ∷ []) }
         ensures enabled { self.new.enabled ≡ self.old.enabled }
+        ensures filters { self.new.filters ≡ self.old.filters }
         ensures overwrite { self.new.overwrite ≡ self.old.overwrite }
         ensures pages { self.new.ring.pages ≡ self.old.ring.pages }
         ensures page_bytes { self.new.ring.page_bytes ≡ self.old.ring.page_bytes }
@@ -125,6 +198,7 @@ impl Instance {
         ensures stands { (events : List event.Event) → StandsFor self.old.ring events
             → StandsFor self.new.ring (events ++ replicate count event.Take) }
         ensures enabled { self.new.enabled ≡ self.old.enabled }
+        ensures filters { self.new.filters ≡ self.old.filters }
         ensures overwrite { self.new.overwrite ≡ self.old.overwrite }
         ensures pages { self.new.ring.pages ≡ self.old.ring.pages }
         ensures page_bytes { self.new.ring.page_bytes ≡ self.old.ring.page_bytes }
@@ -137,6 +211,7 @@ impl Instance {
     pub(crate) fn clear(&mut self)
         ensures stands { StandsFor self.new.ring [] }
         ensures enabled { self.new.enabled ≡ self.old.enabled }
+        ensures filters { self.new.filters ≡ self.old.filters }
         ensures overwrite { self.new.overwrite ≡ self.old.overwrite }
         ensures pages { self.new.ring.pages ≡ self.old.ring.pages }
         ensures page_bytes { self.new.ring.page_bytes ≡ self.old.ring.page_bytes }
@@ -175,6 +250,20 @@ fn take_all(ring: &mut Ring, count: u64)
 {
     for _i in 0..count {
         let _lost = ring.take();
+    }
+}
+
+// Changes each filter.
+fn change_all(filters: &mut [Option<Filter>], changes: Vec<FilterChange>)
+    requires { length changes.items ≡ length filters.old }
+    ensures { filters.new ≡ changed_filters changes.items filters.old }
+{
+    for (i, change) in changes.into_iter().enumerate() {
+        match change {
+            FilterChange::Keep => {}
+            FilterChange::Drop => filters[i] = None,
+            FilterChange::Set(filter) => filters[i] = Some(filter),
+        }
     }
 }
 

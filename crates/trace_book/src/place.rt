@@ -19,7 +19,10 @@ pub(crate) enum Place<'a> {
     Overwrite,
     TraceOptions,
     SyntheticEvents,
+    EventsEnable,
+    EventsFilter,
     EventEnable(&'a [u8]),
+    EventFilter(&'a [u8]),
     EventFormat(&'a [u8]),
 }
 
@@ -66,13 +69,39 @@ fn top_place(name: &[u8]) -> Option<Place<'_>>
     None
 }
 
-fn option_place_in<'a>(first: &[u8], name: &[u8]) -> Option<Place<'a>>
+fn place_in_two<'a>(first: &[u8], name: &[u8]) -> Option<Place<'a>>
     ensures { option_map file_at result ≡ paths.file_in (first.now ∷ name.now ∷ []) }
 {
-    if first != b"options".as_slice() {
-        return None;
+    if first == b"options".as_slice() {
+        return option_place(name);
     }
-    option_place(name)
+    if first == b"events".as_slice() {
+        return events_place(name);
+    }
+    None
+}
+
+#[tactic(auto, unfolding(crate::specs::Paths::events_file))]
+fn events_place<'a>(name: &[u8]) -> Option<Place<'a>>
+    ensures { option_map file_at result ≡ paths.events_file name.now }
+{
+    if name == b"enable".as_slice() {
+        return Some(Place::EventsEnable);
+    }
+    None
+}
+
+#[tactic(auto, unfolding(crate::specs::Paths::system_file))]
+fn system_place<'a>(name: &[u8]) -> Option<Place<'a>>
+    ensures { option_map file_at result ≡ paths.system_file name.now }
+{
+    if name == b"enable".as_slice() {
+        return Some(Place::EventsEnable);
+    }
+    if name == b"filter".as_slice() {
+        return Some(Place::EventsFilter);
+    }
+    None
 }
 
 #[tactic(auto, unfolding(crate::specs::Paths::option_file))]
@@ -90,7 +119,7 @@ fn place_below<'a>(first: &[u8], rest: &'a [u8]) -> Option<Place<'a>>
 {
     let (second, rest) = cut(rest);
     match rest {
-        None => option_place_in(first, second),
+        None => place_in_two(first, second),
         Some(rest) => place_below_two(first, second, rest),
     }
 }
@@ -100,7 +129,7 @@ fn place_below_two<'a>(first: &[u8], second: &'a [u8], rest: &'a [u8]) -> Option
 {
     let (third, rest) = cut(rest);
     match rest {
-        None => cpu_place_in(first, second, third),
+        None => place_in_three(first, second, third),
         Some(rest) => place_below_three(first, second, third, rest),
     }
 }
@@ -121,13 +150,16 @@ fn place_below_three<'a>(
     }
 }
 
-fn cpu_place_in<'a>(first: &[u8], second: &'a [u8], name: &[u8]) -> Option<Place<'a>>
+fn place_in_three<'a>(first: &[u8], second: &'a [u8], name: &[u8]) -> Option<Place<'a>>
     ensures { option_map file_at result ≡ paths.file_in (first.now ∷ second.now ∷ name.now ∷ []) }
 {
-    if first != b"per_cpu".as_slice() {
-        return None;
+    if first == b"per_cpu".as_slice() {
+        return cpu_place(cpu_digits(second)?, name);
     }
-    cpu_place(cpu_digits(second)?, name)
+    if first == b"events".as_slice() && second == b"synthetic".as_slice() {
+        return system_place(name);
+    }
+    None
 }
 
 // The digits in `cpuN`.
@@ -177,6 +209,9 @@ fn event_place<'a>(event: &'a [u8], name: &[u8]) -> Option<Place<'a>>
 {
     if name == b"enable".as_slice() {
         return Some(Place::EventEnable(event));
+    }
+    if name == b"filter".as_slice() {
+        return Some(Place::EventFilter(event));
     }
     if name == b"format".as_slice() {
         return Some(Place::EventFormat(event));

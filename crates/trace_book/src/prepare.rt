@@ -1,16 +1,16 @@
 //! Commands are prepared before anything changes: all memory that they need is taken here.
 
-ghost use Rattle.std.specs.Prelude.{◌≡◌, ℕ, ◌^◌, ◌≤◌, ◌<◌, ◌++◌, Bool, List, Option, Some, None, is_some, nat_lt, length, if◌then◌else◌, IfOk, OnOk};
-ghost use Rattle.std.specs.List.{flat_map};
+ghost use Rattle.std.specs.Prelude.{◌≡◌, ℕ, ◌^◌, ◌≤◌, ◌<◌, ◌++◌, Bool, List, Option, Some, None, is_some, nat_lt, length, map, option_copied, if◌then◌else◌, IfOk, OnOk};
+ghost use Rattle.std.specs.List.{flat_map, list_any};
 ghost use Rattle.trace_book.specs.Decimals.{value_after};
 ghost use Rattle.trace_book.specs.Configs.{IsInRange};
 ghost use Rattle.trace_book.specs.History as history;
 ghost use Rattle.trace_book.specs.Refusals.{OrMemory};
-ghost use Rattle.trace_book.specs.Paths.{SyntheticEvents, EventEnable, EventFormat, CpuStats};
+ghost use Rattle.trace_book.specs.Paths.{SyntheticEvents, EventsFilter, EventEnable, EventFilter, EventFormat, CpuStats};
 ghost use Rattle.trace_book.specs.Requests.{Request, Emission, WriteFile, ReadFile};
 ghost use Rattle.trace_book.specs.Requests as requests;
 ghost use Rattle.trace_book.specs.Settings as settings;
-ghost use Rattle.trace_book.specs.States.{StandsFor, IsPrepared, IsReady, IsUsable, IsTaking, bytes_in, clearing, overwriting, written_record, with_nothing};
+ghost use Rattle.trace_book.specs.States.{StandsFor, IsPrepared, IsReady, IsUsable, IsTaking, IsWrittenFilter, bytes_in, change_of, clearing, overwriting, shown_filter, switching, written_record, with_nothing};
 ghost use Rattle.trace_book.specs.Places.{file_at};
 ghost use Rattle.trace_book.specs.declared.command.Config.{Config};
 ghost use Rattle.trace_book.specs.TraceFiles.{trace_text};
@@ -22,13 +22,15 @@ ghost use Rattle.trace_book.specs.declared.refusal.Refusal.TheVariants as refusa
 ghost use Rattle.trace_book.specs.declared.state.Change.TheVariants as change;
 
 use crate::command::{Command, Config, Reply};
-use crate::decimal::{digits_value, written_number};
+use crate::decimal::{digits_value, trimmed, written_number};
+use crate::instance::Mixture;
 use crate::place::{Place, place_of};
 use crate::refusal::Refusal;
 use crate::row::record;
-use crate::state::{Change, Prepared, State, event_at, find};
+use crate::state::{Change, FilterChange, Prepared, State, event_at, find};
 use crate::pipe_text::{push_records, push_taken};
 use std::alloc::{AllocError, Global};
+use trace_filter::{Filter, FilterFault};
 use trace_format::{Catalog, CatalogFault, EventDef, Pair, Row, Text, payload_size, record_size};
 use trace_text::{declaration_text, format_text, stats_text, trace_head_text};
 
@@ -105,18 +107,19 @@ impl State {
         let index = found.index;
         let size = payload_size(found.event);
         let row = Row::build(alloc, found.event, pairs)?;
-        let written = self.write_ahead(alloc, index, pid, size, &row)?;
+        let written = self.write_ahead(alloc, index, cpu, pid, size, &row)?;
         Ok(Prepared {
             change: Change::Emit(written),
             reply: Reply::Done,
         })
     }
 
-    // The record of an emission of the event of this number, if it is enabled, with room in the ring.
+    // The record of an emission of the event of this number, if it is enabled and its filter holds, with room in the ring.
     fn write_ahead(
         &mut self,
         alloc: Global,
         index: usize,
+        cpu: u32,
         pid: i32,
         size: usize,
         row: &Row,
@@ -127,10 +130,11 @@ impl State {
         requires fits { record_size size ≤ self.old.top.ring.page_bytes }
         requires small { size < 2 ^ 12 }
         ensures stands { (g : Config) (past : List Request) → StandsFor g self.old past → StandsFor g self.new past }
-        ensures record { IfOk result (λ written. bytes_in written ≡ written_record self.old index pid row.now) }
+        ensures record { IfOk result (λ written. bytes_in written ≡ written_record self.old index cpu pid row.now) }
         ensures ready { IfOk result (λ written. IsReady self.new (change.Emit written)) }
     {
-        if !self.top.is_enabled(index) {
+        let recorded = self.top.is_enabled(index) && self.top.passes(index, row, cpu, pid);
+        if !recorded {
             return Ok(None);
         }
         let record = record(alloc, self.clock + 1, pid, index as u16 + 1, size, row)?;
@@ -164,7 +168,10 @@ impl State {
             Place::Overwrite => prepare_overwrite(written_flag(text)),
             Place::TraceOptions => prepare_overwrite(written_option(text)),
             Place::SyntheticEvents => self.prepare_declaration(alloc, config, append, text),
+            Place::EventsEnable => prepare_switch_all(written_flag(text)),
+            Place::EventsFilter => self.prepare_filters(alloc, text),
             Place::EventEnable(name) => self.prepare_switch(alloc, name, text),
+            Place::EventFilter(name) => self.prepare_filter(alloc, name, text),
             Place::EventFormat(name) => Err(self.no_event_write(name)),
         }
     }
@@ -224,6 +231,41 @@ impl State {
         })
     }
 
+    // A filter of an event: the event, and then the filter.
+    fn prepare_filter(&self, alloc: Global, name: &[u8], text: &[u8]) -> Result<Prepared, Refusal>
+        requires { IsUsable self.now }
+        ensures { (g : Config) (past : List Request) (append : Bool) → StandsFor g self.now past
+            → IsPrepared g past (WriteFile (Some (EventFilter name.now)) append text.now) self.now result }
+    {
+        let Some(found) = find(&self.catalog, name) else {
+            return Err(Refusal::NoSuchEvent);
+        };
+        let filter = written_filter(alloc, text, found.event)?;
+        Ok(Prepared {
+            change: Change::SetFilter(found.index, filter),
+            reply: Reply::Done,
+        })
+    }
+
+    // A filter of all events: it is for those that can take it, of which there is one at least.
+    fn prepare_filters(&self, alloc: Global, text: &[u8]) -> Result<Prepared, Refusal>
+        requires { IsUsable self.now }
+        ensures { (g : Config) (past : List Request) (append : Bool) → StandsFor g self.now past
+            → IsPrepared g past (WriteFile (Some EventsFilter) append text.now) self.now result }
+    {
+        if self.catalog.is_empty() {
+            return Err(Refusal::NoSuchEvent);
+        }
+        let Taken { changes, some } = filter_changes(alloc, &self.catalog, text)?;
+        if !some {
+            let _filter = written_filter(alloc, text, event_at(&self.catalog, 0))?;
+        }
+        Ok(Prepared {
+            change: Change::SetFilters(changes),
+            reply: Reply::Done,
+        })
+    }
+
     fn prepare_read(
         &self,
         alloc: Global,
@@ -257,7 +299,13 @@ impl State {
                 option_text(alloc, self.top.overwrites()),
             )),
             Place::SyntheticEvents => unchanged(self.read_declarations(alloc, limit)),
+            Place::EventsEnable => unchanged(read_text(
+                limit,
+                mixture_text(alloc, self.top.are_enabled()),
+            )),
+            Place::EventsFilter => Err(Refusal::NotReadable),
             Place::EventEnable(name) => unchanged(self.read_enable(alloc, name, limit)),
+            Place::EventFilter(name) => unchanged(self.read_filter(alloc, name, limit)),
             Place::EventFormat(name) => unchanged(self.read_format(alloc, name, limit)),
         }
     }
@@ -346,6 +394,21 @@ impl State {
         Ok(Reply::Text(Text::from(out)))
     }
 
+    fn read_filter(&self, alloc: Global, name: &[u8], limit: Option<u64>) -> Result<Reply, Refusal>
+        requires { IsUsable self.now }
+        ensures { (g : Config) (past : List Request) → StandsFor g self.now past
+            → OrMemory result (history.answer_with_room g past (ReadFile (Some (EventFilter name.now)) limit)) }
+    {
+        let Some(found) = find(&self.catalog, name) else {
+            return Err(Refusal::NoSuchEvent);
+        };
+        if limit.is_some() {
+            return Err(Refusal::BadValue);
+        }
+        let text = filter_text(alloc, self.top.filter(found.index))?;
+        Ok(Reply::Text(text))
+    }
+
     fn read_format(&self, alloc: Global, name: &[u8], limit: Option<u64>) -> Result<Reply, Refusal>
         requires { IsUsable self.now }
         ensures { (g : Config) (past : List Request) → StandsFor g self.now past
@@ -375,6 +438,74 @@ impl State {
         push_declarations(alloc, &self.catalog, &mut out)?;
         Ok(Reply::Text(Text::from(out)))
     }
+}
+
+// A switch of all events.
+fn prepare_switch_all(flag: Option<bool>) -> Result<Prepared, Refusal>
+    ensures { result ≡ switching flag }
+{
+    match flag {
+        Some(flag) => Ok(Prepared {
+            change: Change::SwitchAll(flag),
+            reply: Reply::Done,
+        }),
+        None => Err(Refusal::BadValue),
+    }
+}
+
+// Whether a text written to a filter clears it.
+#[tactic(auto, unfolding(crate::specs::Settings::clears_filter))]
+fn clears_filter(text: &[u8]) -> bool
+    ensures { result ≡ settings.clears_filter text.now }
+{
+    trimmed(text) == b"0".as_slice()
+}
+
+// The filter of an event that a text writes, none where it clears.
+fn written_filter(alloc: Global, text: &[u8], event: &EventDef) -> Result<Option<Filter>, Refusal>
+    ensures { IsWrittenFilter text.now event.now result }
+{
+    if clears_filter(text) {
+        return Ok(None);
+    }
+    Ok(Some(Filter::parse(alloc, text, event)?))
+}
+
+/// What a filter of all events changes, and whether some event takes it.
+#[derive(Drop)]
+struct Taken {
+    changes: Vec<FilterChange>,
+    some: bool,
+}
+
+// What a text that is written to the filter of all events changes of one's.
+fn filter_change(alloc: Global, event: &EventDef, text: &[u8]) -> Result<FilterChange, AllocError>
+    ensures { IfOk result (λ change. change ≡ change_of text.now event.now) }
+{
+    if clears_filter(text) {
+        return Ok(FilterChange::Drop);
+    }
+    match Filter::parse(alloc, text, event) {
+        Ok(filter) => Ok(FilterChange::Set(filter)),
+        Err(FilterFault::Memory) => Err(AllocError),
+        Err(_) => Ok(FilterChange::Keep),
+    }
+}
+
+// The same for all events.
+fn filter_changes(alloc: Global, events: &Catalog, text: &[u8]) -> Result<Taken, AllocError>
+    requires { length events.now ≤ 64 }
+    ensures changes { IfOk result (λ taken. taken.changes.items ≡ map (change_of text.now) events.now) }
+    ensures some { IfOk result (λ taken. taken.some ≡ list_any (settings.can_take text.now) events.now) }
+{
+    let mut changes = Vec::new(alloc);
+    let mut some = false;
+    for i in 0..events.len() {
+        let change = filter_change(alloc, event_at(events, i), text)?;
+        some |= matches!(change, FilterChange::Set(_));
+        changes.push(change)?;
+    }
+    Ok(Taken { changes, some })
 }
 
 // The number that an event would get in the catalog, or why it can't be added.
@@ -510,6 +641,31 @@ fn option_text(alloc: Global, flag: bool) -> Result<Text, AllocError>
     } else {
         Text::from_slice(alloc, b"nooverwrite\n".as_slice())
     }
+}
+
+// The text of a mixture of switches.
+#[tactic(auto, unfolding(crate::specs::History::mixture_text))]
+fn mixture_text(alloc: Global, mixture: Mixture) -> Result<Text, AllocError>
+    ensures { IfOk result (λ text. text ≡ history.mixture_text mixture.some_on mixture.some_off) }
+{
+    match (mixture.some_on, mixture.some_off) {
+        (false, false) => Text::from_slice(alloc, b"?\n".as_slice()),
+        (false, true) => Text::from_slice(alloc, b"0\n".as_slice()),
+        (true, false) => Text::from_slice(alloc, b"1\n".as_slice()),
+        (true, true) => Text::from_slice(alloc, b"X\n".as_slice()),
+    }
+}
+
+// The text of a filter.
+fn filter_text(alloc: Global, filter: Option<&Filter>) -> Result<Text, AllocError>
+    ensures { IfOk result (λ text. text ≡ shown_filter (option_copied filter.entry)) }
+{
+    let Some(filter) = filter else {
+        return Text::from_slice(alloc, b"none\n".as_slice());
+    };
+    let mut text = Vec::from_slice(alloc, filter.text())?;
+    text.push(b'\n')?;
+    Ok(Text::from(text))
 }
 
 // The text of a switch.

@@ -1,9 +1,10 @@
 ghost use Rattle.std.specs.Prelude.{◌≡◌};
-ghost use Rattle.trace_book.specs.Refusals.{refusal_of_definition, refusal_of_catalog, refusal_of_row};
+ghost use Rattle.trace_book.specs.Refusals.{refusal_of_definition, refusal_of_catalog, refusal_of_row, refusal_of_filter};
 ghost use Rattle.trace_book.specs.declared.refusal.Refusal.TheVariants.{Memory};
 
 use std::alloc::{AllocError, AllocFailed};
 use thiserror::Error;
+use trace_filter::FilterFault;
 use trace_format::{CatalogFault, DefinitionFault, RowFault, Text};
 
 /// Why a command was refused. A refused command changes nothing and is not in the history.
@@ -121,6 +122,20 @@ impl From<CatalogFault> for Refusal {
             CatalogFault::TooMany => Refusal::TooMany,
             CatalogFault::TooBig => Refusal::TooBig,
             CatalogFault::Memory => Refusal::Memory,
+        }
+    }
+}
+
+impl From<FilterFault> for Refusal {
+    ghost from_gives = { λ fault refusal. refusal ≡ refusal_of_filter fault };
+
+    fn from(fault: FilterFault) -> Refusal {
+        match fault {
+            FilterFault::TooMany => Refusal::TooMany,
+            FilterFault::FilterSyntax { at } => Refusal::FilterSyntax { at },
+            FilterFault::NoSuchField { at } => Refusal::NoSuchField { at },
+            FilterFault::WrongOperator { at } => Refusal::WrongOperator { at },
+            FilterFault::Memory => Refusal::Memory,
         }
     }
 }

@@ -10,6 +10,7 @@ ghost use Rattle.trace_book.specs.declared.refusal.Refusal.TheVariants as refusa
 use crate::command::{Config, Reply};
 use crate::instance::Instance;
 use crate::refusal::Refusal;
+use trace_filter::Filter;
 use trace_format::{Catalog, EventDef, Text};
 
 /// The declared events, the clock, and the top instance.
@@ -28,6 +29,12 @@ pub(crate) enum Change {
     Declare(EventDef),
     /// The event of this name is switched.
     Switch(Text, bool),
+    /// All events are switched.
+    SwitchAll(bool),
+    /// The event of this number, from 0, gets this filter, or none.
+    SetFilter(usize, Option<Filter>),
+    /// Each event's filter is changed.
+    SetFilters(Vec<FilterChange>),
     /// Records may overwrite older ones, or not.
     SetOverwrite(bool),
     /// The ring is emptied.
@@ -36,6 +43,14 @@ pub(crate) enum Change {
     Take(u64),
     /// The clock ticks, and the record is written if the event is enabled.
     Emit(Option<Vec<u8>>),
+}
+
+/// What becomes of an event's filter.
+#[derive(Drop)]
+pub(crate) enum FilterChange {
+    Keep,
+    Drop,
+    Set(Filter),
 }
 
 /// A command for which all memory is at hand: what it will change, and its reply.
@@ -93,6 +108,9 @@ impl State {
                 self.top.add_event();
             }
             Change::Switch(name, flag) => self.top.switch(&self.catalog, name.as_bytes(), flag),
+            Change::SwitchAll(flag) => self.top.switch_all(flag),
+            Change::SetFilter(index, filter) => self.top.set_filter(index, filter),
+            Change::SetFilters(changes) => self.top.set_filters(changes),
             Change::SetOverwrite(flag) => self.top.set_overwrite(flag),
             Change::Clear => self.top.clear(),
             Change::Take(count) => self.top.take(count),

@@ -17,6 +17,7 @@ use Rattle.trace_filter.specs.Fields.{name_has_text, takes_at, fits_at, unless, 
 use Rattle.trace_filter.specs.Places.{subjects_in, first_fault, IsToldAs}
 use Rattle.trace_filter.specs.Truth.{Emission, Holds}
 use Rattle.trace_filter.specs.Steps.{Move, moves_from, moves_about, subjects_tested, evaluated, at_start}
+use Rattle.trace_filter.specs.Values.{holds_of}
 use Rattle.trace_filter.specs.Filters.{ComesTo, misfit_of, IsFilter, IsRefused, IsTold, Parsed, IsFilterOf, Passes, IsOkUnlessMemory, IsAsTold, answer_from, parsed_of, answer_of, IsAnswered}
 use Rattle.trace_filter.proofs.Options.{some_is}
 use Rattle.trace_filter.proofs.Verdicts.{law, only}
@@ -293,3 +294,26 @@ module _ (definition : Definition) (written : List ℕ) (filter : Parsed) (row :
   some_passes =
       let whole = is.is_filter.syntax.whole in
       ((λ h. record { tree = whole.tree; spelled = whole.spelled; holds = (each_holds whole.tree whole.spelled).0 h }), (λ p. (each_holds p.tree p.spelled).1 p.holds))
+
+-- ---- a filter's value as one function
+
+pub value_of_filter : (filter : Parsed) (emission : Emission)
+    → evaluated emission at_start (moves_about filter.subjects comparisons.Equal (tokens_of (spots_of filter.text))) ≡ holds_of filter emission
+unfolding holds_of
+value_of_filter filter emission = refl
+
+pub holds_as_its_tree : (definition : Definition) (text : List ℕ) (row : Cells) (emission : Emission) → IsFilter definition text → IsDefinition definition → IsRowOf definition row
+    → emission.values ≡ row.values → IsTrue (holds_of (parsed_of definition text) emission) ↔ Passes definition text emission
+holds_as_its_tree definition text row emission is_filter defined is_row same =
+    let tokens = tokens_of (spots_of text) in
+    let moves = moves_from definition.fields subjects.Pid comparisons.Equal tokens in
+    let tested : subjects_tested moves ≡ subjects_in definition.fields tokens = tested_subjects definition text is_filter.syntax is_filter.fits in
+    let trimmed_same : tokens_of (spots_of (trimmed text)) ≡ tokens = trimmed_tokens text in
+    let kept : moves ≡ moves_about (subjects_tested moves) comparisons.Equal (tokens_of (spots_of (trimmed text))) =
+    about_is definition.fields subjects.Pid comparisons.Equal tokens ∙ ap (λ ts. moves_about (subjects_tested moves) comparisons.Equal ts) (sym trimmed_same) in
+    let value : holds_of (parsed_of definition text) emission ≡ evaluated emission at_start moves =
+    sym (value_of_filter (parsed_of definition text) emission)
+    ∙ ap (λ ss. evaluated emission at_start (moves_about ss comparisons.Equal (tokens_of (spots_of (trimmed text))))) (sym tested)
+    ∙ ap (evaluated emission at_start) (sym kept) in
+    some_passes definition text (parsed_of definition text) row emission same (record { is_filter = is_filter; text = refl; subjects = refl }) defined is_row moves tested kept
+    (holds_of (parsed_of definition text) emission) value

@@ -1,11 +1,13 @@
 -- What `Filters` says, as laws without a program.
-use Rattle.std.specs.Prelude.{◌≡◌, ◌⊎◌, ◌↔◌, ℕ, List, map, Ok, Err}
+use Rattle.std.specs.Prelude.{◌≡◌, ◌⊎◌, ◌↔◌, ℕ, List, map, IsTrue, Ok, Err}
 use Rattle.std.specs.List.{prefix_len}
-use Rattle.trace_format.specs.Definitions.{Definition}
+use Rattle.trace_format.specs.Cells.{Cells, IsRowOf}
+use Rattle.trace_format.specs.Definitions.{Definition, IsDefinition}
 use Rattle.trace_filter.specs.declared.fault.FilterFault.{FilterFault}
 use Rattle.trace_filter.specs.Tokens.{is_blank, without_end, trimmed, spots_of, shifted_by}
 use Rattle.trace_filter.specs.Truth.{Emission}
 use Rattle.trace_filter.specs.Filters.{IsFilter, IsRefused, Passes, parsed_of, answer_of}
+use Rattle.trace_filter.specs.Values.{holds_of}
 
 -- the function of the text gives a filter exactly where the text is one by the grammar and the fields
 abbrev pub FilterIsAnswered : Type 0
@@ -40,3 +42,8 @@ TrimmedPassesTheSame = (definition : Definition) → (text : List ℕ) → (emis
 
 abbrev pub TrimmedOnce : Type 0
 TrimmedOnce = (text : List ℕ) → trimmed (trimmed text) ≡ trimmed text
+
+-- a filter of an event holds, as a function, of the emissions of a row of the event that a tree of its text holds of
+abbrev pub HoldsAsItsTree : Type 0
+HoldsAsItsTree = (definition : Definition) → (text : List ℕ) → (row : Cells) → (emission : Emission) → IsFilter definition text → IsDefinition definition → IsRowOf definition row
+    → emission.values ≡ row.values → IsTrue (holds_of (parsed_of definition text) emission) ↔ Passes definition text emission

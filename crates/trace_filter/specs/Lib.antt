@@ -11,4 +11,5 @@ pub mod Truth
 pub mod Tests
 pub mod Steps
 pub mod Filters
+pub mod Values
 pub mod Laws

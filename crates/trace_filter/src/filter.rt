@@ -68,6 +68,7 @@ impl Filter {
     ghost use Rattle.trace_filter.specs.Grammar.{Expr, Spells};
     ghost use Rattle.trace_filter.specs.Tokens.{spots_of, tokens_of};
     ghost use Rattle.trace_filter.specs.Truth.{Holds};
+    ghost use Rattle.trace_filter.specs.Values.{holds_of};
     ghost use Rattle.trace_filter.specs.Filters.{IsFilter, IsFilterOf, IsRefused, IsTold, Passes, IsOkUnlessMemory, IsAsTold, IsAnswered, answer_of};
 
     /// The filter of an event that a text is: tests `name op value`, joined by `!`, `&&`, `||` and parentheses. The parser takes time
@@ -110,6 +111,8 @@ impl Filter {
 
     /// Whether the filter holds of a row of its event, emitted on a CPU by a process. It takes no memory.
     pub fn passes(&self, row: &Row, cpu: u32, pid: i32) -> bool
+        // As one function of the filter and the emission.
+        ensures exact { result ≡ holds_of self.now (record { values = row.now.values; cpu = cpu; pid = pid }) }
         // It passes what a tree that its text spells holds of.
         ensures truth { (definition : Definition) → (written : List ℕ) → IsFilterOf definition written self.now → IsDefinition definition → IsRowOf definition row.now → IsTrue result ↔ Passes definition written (record { values = row.now.values; cpu = cpu; pid = pid }) }
         // All such trees agree.

@@ -1,6 +1,6 @@
 //! What the definitions of the contracts mean. Each function does nothing: its contract is a theorem.
 
-ghost use Rattle.trace_filter.specs.Laws.{FilterIsAnswered, RefusalIsAnswered, FilterOrRefused, NeverBoth, OneRefusal, TrimmedHasTheTokens, TrimmedIsTheFilter, TrimmedPassesTheSame, TrimmedOnce};
+ghost use Rattle.trace_filter.specs.Laws.{FilterIsAnswered, RefusalIsAnswered, FilterOrRefused, NeverBoth, OneRefusal, TrimmedHasTheTokens, TrimmedIsTheFilter, TrimmedPassesTheSame, TrimmedOnce, HoldsAsItsTree};
 
 /// A text is a filter of an event exactly where it is in the grammar, short, shallow and fits the event's fields; it is refused for a
 /// fault exactly where the grammar, or the first test that doesn't fit, has that fault. Each text is one or the other, for one fault.
@@ -18,4 +18,9 @@ pub fn trimming_keeps_filters()
     ensures filter { TrimmedIsTheFilter }
     ensures passes { TrimmedPassesTheSame }
     ensures once { TrimmedOnce }
+{}
+
+/// Whether a filter holds of an emission, as one function, is the truth of the trees that its text spells.
+pub fn filters_hold_as_their_trees()
+    ensures { HoldsAsItsTree }
 {}

@@ -5,7 +5,7 @@ use Rattle.trace_filter.specs.Tokens.{spots_of, tokens_of}
 use Rattle.trace_filter.specs.Truth.{Emission}
 use Rattle.trace_filter.specs.Steps.{Move, move_of, moves_about, subjects_tested, evaluated, at_start}
 use Rattle.trace_filter.specs.Filters.{Parsed}
-use Rattle.trace_filter.proofs.FilterLemmas.{each_holds, some_passes}
+use Rattle.trace_filter.proofs.FilterLemmas.{each_holds, some_passes, value_of_filter}
 use Rattle.trace_filter.proofs.filter.Filter.passes.Goals as goal
 
 pub returns-clause-truth : goal.returns-clause-truth
@@ -27,3 +27,11 @@ returns-clause-each c = λ definition written is defined is_row.
     moves (ap (λ (f : Parsed). f.subjects) c.self.view_is) (c.self.invariant ∙ ap (λ (f : Parsed). moves_about (subjects_tested moves) comparisons.Equal (tokens_of (spots_of f.text))) c.self.view_is)
     c.evaluate.result
     (found ∙ (λ i. evaluated (record { values = c.values.ensures.values i; cpu = c.args.cpu; pid = c.args.pid }) at_start (map move_of (c.deref.ensures.value i))))
+
+pub returns-clause-exact : goal.returns-clause-exact
+returns-clause-exact c =
+    let emission : Emission = record { values = c.args.row.now.values; cpu = c.args.cpu; pid = c.args.pid } in
+    let found : c.evaluate.result ≡ evaluated (record { values = map datum_of c.values.result.now; cpu = c.args.cpu; pid = c.args.pid }) at_start (map move_of c.deref.result.now) = search rules in
+    found ∙ (λ i. evaluated (record { values = c.values.ensures.values i; cpu = c.args.cpu; pid = c.args.pid }) at_start (map move_of (c.deref.ensures.value i)))
+    ∙ ap (evaluated emission at_start) (c.self.invariant ∙ ap (λ (f : Parsed). moves_about f.subjects comparisons.Equal (tokens_of (spots_of f.text))) c.self.view_is)
+    ∙ value_of_filter c.args.self.now emission
