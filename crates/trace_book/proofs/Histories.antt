@@ -82,16 +82,21 @@ usable-from_stands g state past in_range stands few = record {
   few_events = rw stands.events stands.few_events;
   fit = rw (stands.events, stands.page_bytes) stands.fit;
   switches = rw (stands.enabled, stands.events) (length-map _ _);
+  filters = rw (stands.filters, stands.events) (length-map _ _);
+  distinct = rw stands.events stands.distinct;
 }
 
 -- a new book's state stands for no request
-pub stands-new : (g : Config) (state : State) → state.catalog ≡ [] → state.top.enabled ≡ [] → state.top.overwrite ≡ true → state.clock ≡ 0 → shown.StandsFor state.top.ring []
+pub stands-new : (g : Config) (state : State) → state.catalog ≡ [] → state.top.enabled ≡ [] → state.top.filters ≡ [] → state.top.overwrite ≡ true → state.clock ≡ 0 → shown.StandsFor state.top.ring []
     → state.top.ring.pages ≡ g.pages → state.top.ring.page_bytes ≡ g.page_bytes → shown.offered state.top.ring ≡ 0 → StandsFor g state (past_of [])
 unfolding past_of
-stands-new g state events enabled overwrite clock ring pages page_bytes offered = record {
+stands-new g state events enabled filters overwrite clock ring pages page_bytes offered = record {
   events = events;
   few_events = omega arith;
   fit = tt;
+  distinct = tt;
+  filters = filters;
+  unfiltered = λ name none. refl;
   enabled = enabled;
   unknown = λ name none. refl;
   overwrite = overwrite;

@@ -1,4 +1,6 @@
+pub mod EventLists
 pub mod Events
+pub mod Filtering
 pub mod Histories
 pub mod Parts
 pub mod Prepared

@@ -1,5 +1,5 @@
 -- What is prepared for a request is what the definitions say of it.
-use Rattle.std.proofs.Common.{◌≡◌, ℕ, zero, suc, ℤ, ◌+◌, ◌<◌, ◌≤◌, ◌==◌, eqb, Bool, true, false, cond, ◌&&◌, List, [], ◌∷◌, ◌++◌, length, map, get_or, is_some, IsSome, Option, Some, None, Result, Ok, Err, refl, sym, ap, ◌∙◌, arith, Bor, Vec}
+use Rattle.std.proofs.Common.{◌≡◌, ℕ, zero, suc, ℤ, ◌+◌, ◌<◌, ◌≤◌, ◌==◌, eqb, Bool, true, false, cond, ◌&&◌, List, [], ◌∷◌, ◌++◌, length, map, get_or, unwrap_or, is_some, IsSome, Option, Some, None, Result, Ok, Err, refl, sym, ap, ◌∙◌, arith, Bor, Vec}
 use Rattle.std.specs.Option.{option_map, option_to_list, option_and_then}
 use Rattle.std.specs.Str.{bytes_eq}
 use Rattle.std.specs.Global.{Global}
@@ -9,14 +9,16 @@ use Rattle.page_ring.specs.Events as ring
 use Rattle.trace_book.specs.Paths.{File, EventEnable}
 use Rattle.trace_book.specs.Refusals.{OrMemory}
 use Rattle.trace_book.specs.Requests.{Request, Emission, WriteFile, ReadFile}
+use Rattle.trace_filter.specs.Filters.{Parsed, parsed_of}
 use Rattle.trace_format.specs.Cells.{Cells}
 use Rattle.trace_format.specs.Definitions.{Definition}
 use Rattle.trace_format.specs.Rows.{row_of}
 use Rattle.trace_format.specs.declared.pair.Pair.{Pair}
-use Rattle.trace_book.specs.Rings.{record_bytes, record_of_event, emitted_record, consumed, put_of, clears}
-use Rattle.trace_book.specs.Settings.{NumberedEvent, event_named, event_named_in, declared_events, declares, switches, is_enabled, sets_overwrite, overwrites, written_flag, written_option, now_of}
+use Rattle.trace_book.specs.Rings.{filter_holds, record_bytes, record_of_event, emitted_record, consumed, put_of, clears}
+use Rattle.trace_book.specs.Settings.{NumberedEvent, event_named, event_named_in, declared_events, declares, switches, is_enabled, sets_filter, filter_of, sets_overwrite, overwrites, written_flag, written_option, now_of}
 use Rattle.trace_book.specs.History.{emission_answer, switch_answer, option_answer, answer_with_room, flag_text, whole_text}
-use Rattle.trace_book.specs.States.{StandsFor, IsChangeOf, IsPrepared, IsReady, IsPlaceOf, numbered, with_nothing, bytes_in, written_record, kept_count, puts_by, overwriting}
+use Rattle.trace_book.specs.States.{StandsFor, IsChangeOf, IsPrepared, IsReady, IsPlaceOf, kept_filter, kept_holds, numbered, with_nothing, bytes_in, written_record, kept_count, puts_by, overwriting}
+use Rattle.trace_book.proofs.EventLists.{map-agrees}
 use Rattle.trace_book.specs.declared.command.Config.{Config}
 use Rattle.trace_book.specs.declared.command.Reply.{Reply}
 use Rattle.trace_book.specs.declared.command.Reply.TheVariants as reply
@@ -36,6 +38,8 @@ prepared-nothing g past file limit state (Ok text) none given = (
     fresh = λ event e. absurd (cc);
     switches = λ event. refl;
     addressed = λ name e. absurd (cc);
+    filters = refl;
+    unfiltered = λ name none. refl;
     overwrite = refl;
     ticks = refl;
     clears = refl;
@@ -76,22 +80,57 @@ reads-enable g past name (Some n) k flag text there whole set is = absurd (cc)
 reads-enable g past name None k flag text there whole set is =
     rw there (ap (λ (t : List ℕ). Ok (reply.Text t)) (sym (is ∙ ap flag_text set)))
 
+-- the truth of a kept filter is that of the filter's text
+kept-holds : (event : Definition) (filter : Option (List ℕ)) (row : Cells) (cpu : ℕ) (pid : ℤ)
+    → kept_holds (option_map (parsed_of event) filter) row cpu pid ≡ filter_holds event filter row cpu pid
+unfolding kept_holds filter_holds
+kept-holds event None row cpu pid = refl
+kept-holds event (Some text) row cpu pid = refl
+
+-- an element of a mapped list
+map_get : {A B : Type 0} (f : A → B) (xs : List A) (i : ℕ) (d : A) (b : B) → i < length xs → get_or (map f xs) i b ≡ f (get_or xs i d)
+map_get f [] i d b within = absurd (omega arith)
+map_get f (x ∷ xs) zero d b within = refl
+map_get f (x ∷ xs) (suc i) d b within = map_get f xs i d b (omega arith)
+
+-- the filter of an event that was found is the one that the requests set
+pub filter-found : (g : Config) (state : State) (past : List Request) (name : List ℕ) (found : Found) → StandsFor g state past
+    → IsPlaceOf state.catalog name found.index found.event.now
+    → get_or state.top.filters found.index None ≡ option_map (parsed_of found.event.now) (filter_of name past)
+filter-found g state past name found stands place =
+    let event = found.event.now in
+    let inside : found.index < length (declared_events past) = rw (← stands.events) place.inside in
+    let there : get_or (declared_events past) found.index event ≡ event = rw (← stands.events) (sym place.there) in
+    let named : event.name ≡ name = sym ((bytes_eq-Decides name event.name).0 place.named) in
+    rw stands.filters (map_get (kept_filter past) (declared_events past) found.index event None inside ∙ ap (kept_filter past) there
+    ∙ ap (λ (n : List ℕ). option_map (parsed_of event) (filter_of n past)) named)
+
 -- what an emission on the one CPU brings to its ring
 pub puts-emission : (g : Config) (state : State) (past : List Request) (name : List ℕ) (cpu : ℕ) (pid : ℤ) (pairs : List Pair) (found : Found) (row : Cells)
-    (written : Option (Vec ℕ Global)) (flag : Bool) → StandsFor g state past → cpu ≡ 0 → event_named name past ≡ Some (numbered found)
+    (written : Option (Vec ℕ Global)) (flag holds : Bool) → StandsFor g state past → eqb cpu 0 ≡ true → event_named name past ≡ Some (numbered found)
     → row_of found.event.now pairs ≡ Ok row → flag ≡ is_enabled name past → get_or state.top.enabled found.index false ≡ flag
-    → bytes_in written ≡ written_record state found.index pid row
+    → filter_holds found.event.now (filter_of name past) row cpu pid ≡ holds → kept_holds (get_or state.top.filters found.index None) row cpu pid ≡ holds
+    → bytes_in written ≡ written_record state found.index cpu pid row
     → put_of 0 past (Emission name cpu pid pairs) ≡ puts_by (overwrites past) (Emit written)
-puts-emission g state past name cpu pid pairs found row None true stands first_cpu there built set at bytes =
-    absurd (let h = rw at at bytes in cc)
-puts-emission g state past name cpu pid pairs found row None false stands first_cpu there built set at bytes = rw (first_cpu, ← set) refl
-puts-emission g state past name cpu pid pairs found row (Some v) true stands first_cpu there built set at bytes =
-    let is : Some v.items ≡ Some (record_bytes (state.clock + 1) pid (found.index + 1) row) = rw at at bytes in
+puts-emission g state past name cpu pid pairs found row None true true stands first_cpu there built set at holds kept bytes =
+    absurd (let h = rw (at, kept) at bytes in cc)
+puts-emission g state past name cpu pid pairs found row None true false stands first_cpu there built set at holds kept bytes =
+    rw (first_cpu, ← set, there, built, holds) refl
+puts-emission g state past name cpu pid pairs found row None false either stands first_cpu there built set at holds kept bytes = rw (first_cpu, ← set) refl
+puts-emission g state past name cpu pid pairs found row (Some v) true true stands first_cpu there built set at holds kept bytes =
+    let is : Some v.items ≡ Some (record_bytes (state.clock + 1) pid (found.index + 1) row) = rw (at, kept) at bytes in
     let clock = stands.clock in
     let same : v.items ≡ record_bytes (now_of past + 1) pid (found.index + 1) row = cc in
-    rw (first_cpu, ← set, there, built, same) refl
-puts-emission g state past name cpu pid pairs found row (Some v) false stands first_cpu there built set at bytes =
+    rw (first_cpu, ← set, there, built, holds, same) refl
+puts-emission g state past name cpu pid pairs found row (Some v) true false stands first_cpu there built set at holds kept bytes =
+    absurd (let h = rw (at, kept) at bytes in cc)
+puts-emission g state past name cpu pid pairs found row (Some v) false either stands first_cpu there built set at holds kept bytes =
     absurd (let h = rw at at bytes in cc)
+
+-- a kept filter holds as the requests' filter does
+pub kept-found : (event : Definition) (filter : Option (List ℕ)) (kept : Option Parsed) (row : Cells) (cpu : ℕ) (pid : ℤ)
+    → kept ≡ option_map (parsed_of event) filter → kept_holds kept row cpu pid ≡ filter_holds event filter row cpu pid
+kept-found event filter kept row cpu pid is = ap (λ (k : Option Parsed). kept_holds k row cpu pid) is ∙ kept-holds event filter row cpu pid
 
 -- an emission is done where its CPU and its event are there and its row is right
 pub answers-emission : (g : Config) (past : List Request) (name : List ℕ) (cpu : ℕ) (pairs : List Pair) (k : NumberedEvent) (row : Cells) → cpu < g.cpus
@@ -107,6 +146,8 @@ changes-emission g past name cpu pid pairs written puts = record {
   fresh = λ event e. absurd (cc);
   switches = λ event. refl;
   addressed = λ n e. absurd (cc);
+  filters = refl;
+  unfiltered = λ n none. refl;
   overwrite = refl;
   ticks = refl;
   clears = refl;
@@ -118,15 +159,21 @@ changes-emission g past name cpu pid pairs written puts = record {
 pub prepared-option : (g : Config) (past : List Request) (file : File) (append : Bool) (text : List ℕ) (state : State) (flag : Option Bool)
     → sets_overwrite (WriteFile (Some file) append text) ≡ flag
     → answer_with_room g past (WriteFile (Some file) append text) ≡ cond (is_some flag) (Ok reply.Done) (Err refusal.BadValue)
-    → declares (WriteFile (Some file) append text) ≡ None → ((event : List ℕ) → switches event (WriteFile (Some file) append text) ≡ None)
+    → declares (WriteFile (Some file) append text) ≡ None → ((event : List ℕ) → switches event past (WriteFile (Some file) append text) ≡ None)
+    → ((event : List ℕ) → sets_filter event past (WriteFile (Some file) append text) ≡ None)
     → clears 0 (WriteFile (Some file) append text) ≡ false → IsPrepared g past (WriteFile (Some file) append text) state (overwriting flag)
-prepared-option g past file append text state (Some flag) sets answered nothing none not_cleared = (
+prepared-option g past file append text state (Some flag) sets answered nothing none unset not_cleared = (
   answered,
   record {
     declares = nothing;
     fresh = λ event e. absurd (cc);
     switches = none;
     addressed = λ name e. absurd (cc);
+    filters = map-agrees (kept_filter (WriteFile (Some file) append text ∷ past)) (kept_filter past) (declared_events past) (record { name = []; fields = [] })
+        (λ j inside. ap (λ (o : Option (Option (List ℕ))). option_map (parsed_of (get_or (declared_events past) j (record { name = []; fields = [] })))
+        (unwrap_or o (filter_of (get_or (declared_events past) j (record { name = []; fields = [] })).name past)))
+        (unset (get_or (declared_events past) j (record { name = []; fields = [] })).name));
+    unfiltered = λ n gone. unset n;
     overwrite = sets;
     ticks = refl;
     clears = not_cleared;
@@ -135,7 +182,7 @@ prepared-option g past file append text state (Some flag) sets answered nothing 
   },
   tt,
 )
-prepared-option g past file append text state None sets answered nothing none not_cleared = λ other. answered
+prepared-option g past file append text state None sets answered nothing none unset not_cleared = λ other. answered
 
 -- a switch answers by whether it is one
 pub answers-switch : (text : List ℕ) (flag : Option Bool) → written_flag text ≡ flag → switch_answer text ≡ cond (is_some flag) (Ok reply.Done) (Err refusal.BadValue)

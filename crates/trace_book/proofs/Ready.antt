@@ -16,14 +16,17 @@ stands-ready seen ready events stands = stands
 
 -- nor is it part of what a state stands for
 pub stands-with_room : (g : Config) (state : State) (past : List Request) (top : InstanceSeen) (ready : ℕ) → StandsState g state past
-    → top ≡ record { enabled = state.top.enabled; overwrite = state.top.overwrite; ring = record state.top.ring { ready = ready } }
+    → top ≡ record { enabled = state.top.enabled; filters = state.top.filters; overwrite = state.top.overwrite; ring = record state.top.ring { ready = ready } }
     → StandsState g (record { catalog = state.catalog; clock = state.clock; top = top }) past
 stands-with_room g state past top ready stands is = rw is (record {
   events = stands.events;
   few_events = stands.few_events;
   fit = stands.fit;
+  distinct = stands.distinct;
   enabled = stands.enabled;
   unknown = stands.unknown;
+  filters = stands.filters;
+  unfiltered = stands.unfiltered;
   overwrite = stands.overwrite;
   clock = stands.clock;
   early = stands.early;

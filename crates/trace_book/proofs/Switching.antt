@@ -1,8 +1,11 @@
 -- One step of switching all events.
-use Rattle.std.proofs.Common.{◌≡◌, ℕ, ◌+◌, ◌<◌, suc, Bool, false, cond, List, [], ◌∷◌, ◌++◌, length, get_or, set, take, drop, refl, sym, ap, ◌∙◌, arith, add-one, append_assoc}
+use Rattle.std.proofs.Common.{◌≡◌, ℕ, ◌+◌, ◌<◌, suc, Bool, false, cond, List, [], ◌∷◌, ◌++◌, length, Option, None, get_or, set, take, drop, refl, sym, ap, ◌∙◌, arith, add-one, append_assoc}
 use Rattle.std.proofs.Math.Seq.{drop-cons}
 use Rattle.std.proofs.lemmas.List.{take_more_set, drop-set-lt}
 use Rattle.std.specs.Str.{bytes_eq}
+use Rattle.trace_filter.specs.Filters.{Parsed}
+use Rattle.trace_book.specs.States.{changed_filter, changed_filters}
+use Rattle.trace_book.specs.declared.state.FilterChange.{FilterChange}
 use Rattle.trace_book.specs.Switches.{switched_all}
 use Rattle.trace_format.specs.Definitions.{Definition}
 
@@ -18,3 +21,12 @@ switch_step name flag events enabled all i event new within same is gives so_far
     let before = rw (event_first, switch_first, ← gives) at so_far in
     let behind : drop (i + 1) (set enabled i new) ≡ drop (i + 1) enabled = drop-set-lt (i + 1) enabled i new (omega arith) in
     rw (take_more_set enabled i new inside, behind, append_assoc) before
+
+pub change_step : (change : FilterChange) (rest : List FilterChange) (filters all : List (Option Parsed)) (i : ℕ) (new : Option Parsed) → i < length filters
+    → new ≡ changed_filter change (get_or filters i None) → take i filters ++ changed_filters (change ∷ rest) (drop i filters) ≡ all
+    → take (i + 1) (set filters i new) ++ changed_filters rest (drop (i + 1) (set filters i new)) ≡ all
+change_step change rest filters all i new inside gives so_far =
+    let first : drop i filters ≡ get_or filters i None ∷ drop (i + 1) filters = rw add-one (drop-cons filters i None inside) in
+    let before = rw (first, ← gives) at so_far in
+    let behind : drop (i + 1) (set filters i new) ≡ drop (i + 1) filters = drop-set-lt (i + 1) filters i new (omega arith) in
+    rw (take_more_set filters i new inside, behind, append_assoc) before

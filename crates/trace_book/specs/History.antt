@@ -2,7 +2,7 @@
 use Rattle.std.specs.Prelude.{◌≡◌, ℕ, ◌<◌, nat_lt, Bool, true, false, not, ◌&&◌, is_some, IsOk, if◌then◌else◌, List, [], ◌∷◌, ◌++◌, length, map, flat_map, reverse, All, Option, Some, None, Result, Ok, Err, codes, ⊤}
 use Rattle.page_ring.specs.Account.{stats_of}
 use Rattle.trace_book.specs.Paths.{File, Trace, CpuTrace, TracePipe, CpuTracePipe, CpuStats, Overwrite, TraceOptions, SyntheticEvents, EventsEnable, EventsFilter, EventEnable, EventFilter, EventFormat}
-use Rattle.std.specs.List.{list_any}
+use Rattle.std.specs.List.{list_all, list_any}
 use Rattle.trace_filter.specs.declared.fault.FilterFault.{FilterFault}
 use Rattle.trace_filter.specs.Filters.{Parsed, answer_of}
 use Rattle.trace_filter.specs.Tokens as filters
@@ -128,15 +128,15 @@ option_text flag = if flag then codes "overwrite\n" else codes "nooverwrite\n"
 unfoldable pub declarations_text : List Request → List ℕ
 declarations_text past = flat_map declaration_text (declared_events past)
 
--- whether some events are enabled, and whether some are not
+-- whether no event is enabled, and whether some event is not
 unfoldable pub mixture_text : Bool → Bool → List ℕ
-mixture_text false false = codes "?\n"
-mixture_text false true = codes "0\n"
-mixture_text true false = codes "1\n"
-mixture_text true true = codes "X\n"
+mixture_text true false = codes "?\n"
+mixture_text true true = codes "0\n"
+mixture_text false false = codes "1\n"
+mixture_text false true = codes "X\n"
 
 abbrev pub switches_text : List Bool → List ℕ
-switches_text flags = mixture_text (list_any (λ flag. flag) flags) (list_any not flags)
+switches_text flags = mixture_text (list_all not flags) (list_any not flags)
 
 -- an event's filter without the blanks at its ends
 unfoldable pub filter_text : Option (List ℕ) → List ℕ

@@ -10,7 +10,7 @@ use Rattle.page_ring.specs.Account.{readings_of}
 use Rattle.page_ring.specs.Shown as shown
 use Rattle.trace_filter.specs.Filters.{Parsed, parsed_of}
 use Rattle.trace_filter.specs.Values.{holds_of}
-use Rattle.trace_format.specs.Catalogs.{id_for, AreEvents}
+use Rattle.trace_format.specs.Catalogs.{id_for, IsEvent, AreEvents}
 use Rattle.trace_format.specs.Cells.{Cells, record_size_of}
 use Rattle.trace_format.specs.Definitions.{Definition}
 use Rattle.trace_book.specs.Requests.{Request}
@@ -114,7 +114,7 @@ ring_after change overwrite events =
 abbrev pub flags_after : Change → List Definition → List Bool → List Bool
 flags_after (Declare event) events flags = flags ++ false ∷ []
 flags_after (Switch name flag) events flags = switched_all name flag events flags
-flags_after (SwitchAll flag) events flags = map (λ old. flag) flags
+flags_after (SwitchAll flag) events flags = replicate (length flags) flag
 flags_after _ events flags = flags
 
 -- a filter after a change of it
@@ -122,6 +122,12 @@ abbrev pub changed_filter : FilterChange → Option Parsed → Option Parsed
 changed_filter filter.Keep old = old
 changed_filter filter.Drop old = None
 changed_filter (filter.Set new) old = Some new
+
+-- whether the event gets a filter
+abbrev pub is_set : FilterChange → Bool
+is_set filter.Keep = false
+is_set filter.Drop = false
+is_set (filter.Set new) = true
 
 -- the filters after a change of each
 abbrev pub changed_filters : List FilterChange → List (Option Parsed) → List (Option Parsed)
@@ -148,7 +154,7 @@ kept_count g past = length (readings_of g.pages g.page_bytes (ring_events g 0 pa
 pub record IsChangeOf (g : Config) (past : List Request) (request : Request) (change : Change) : Type 0 where
   pub declares : declares request ≡ declared_by change
   pub fresh : (event : Definition) → declared_by change ≡ Some event
-      → (event_named event.name past ≡ None) × (length (declared_events past) < 64) × IsFit g.page_bytes event
+      → (event_named event.name past ≡ None) × (length (declared_events past) < 64) × IsFit g.page_bytes event × IsEvent (declared_events past) event
   pub switches : (event : List ℕ) → switches event past request ≡ switched_by event past change
   pub addressed : (name : List ℕ) → addressed_by change ≡ Some name → IsSome (event_named name past)
   pub filters : map (kept_filter (request ∷ past)) (declared_events past) ≡ filters_after change (map (kept_filter past) (declared_events past))

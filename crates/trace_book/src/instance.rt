@@ -7,7 +7,7 @@ ghost use Rattle.page_ring.specs.Events as event;
 ghost use Rattle.page_ring.specs.Account.{stats_of, readings_of};
 ghost use Rattle.page_ring.specs.Shown.{Seen, StandsFor, offered};
 ghost use Rattle.trace_book.specs.Instances.{InstanceSeen};
-ghost use Rattle.std.specs.List.{list_any};
+ghost use Rattle.std.specs.List.{list_all, list_any};
 ghost use Rattle.trace_book.specs.States.{kept_holds, changed_filters};
 ghost use Rattle.trace_book.specs.Switches.{switched_all};
 
@@ -20,13 +20,6 @@ use trace_format::{Catalog, EventDef, Row};
 
 /// How many events there may ever be.
 pub(crate) const EVENTS: usize = 64;
-
-/// Whether some events are enabled, and whether some are not.
-#[derive(Clone, Copy)]
-pub(crate) struct Mixture {
-    pub some_on: bool,
-    pub some_off: bool,
-}
 
 /// A trace instance, as in ftrace.rst, "Instances": events are switched for each instance, and each has its own ring for each CPU.
 #[derive(Drop)]
@@ -78,15 +71,18 @@ impl Instance {
         self.enabled[event]
     }
 
-    /// Whether each event of some is enabled, and each of the others is not: whether some are, and whether some are not.
-    pub(crate) fn are_enabled(&self) -> Mixture
-        ensures some_on { result.some_on ≡ list_any (λ flag. flag) self.now.enabled }
-        ensures some_off { result.some_off ≡ list_any not self.now.enabled }
+    /// Whether no event is enabled.
+    pub(crate) fn none_on(&self) -> bool
+        ensures { result ≡ list_all not self.now.enabled }
     {
-        Mixture {
-            some_on: self.enabled.iter().any(|flag| *flag),
-            some_off: self.enabled.iter().any(|flag| !*flag),
-        }
+        self.enabled.iter().all(|flag| !*flag)
+    }
+
+    /// Whether some event is not enabled.
+    pub(crate) fn some_off(&self) -> bool
+        ensures { result ≡ list_any not self.now.enabled }
+    {
+        self.enabled.iter().any(|flag| !*flag)
     }
 
     /// The filter of the event of this number, from 0.
@@ -121,11 +117,9 @@ impl Instance {
 
     /// Switches all events.
     pub(crate) fn switch_all(&mut self, flag: bool)
-        ensures { self.new ≡ record self.old { enabled = map (λ old. flag) self.old.enabled } }
+        ensures { self.new ≡ record self.old { enabled = replicate (length self.old.enabled) flag } }
     {
-        for enabled in self.enabled.iter_mut() {
-            *enabled = flag;
-        }
+        self.enabled.fill(flag);
     }
 
     /// Sets the filter of the event of this number, from 0.
@@ -258,12 +252,10 @@ fn change_all(filters: &mut [Option<Filter>], changes: Vec<FilterChange>)
     requires { length changes.items ≡ length filters.old }
     ensures { filters.new ≡ changed_filters changes.items filters.old }
 {
-    for (i, change) in changes.into_iter().enumerate() {
-        match change {
-            FilterChange::Keep => {}
-            FilterChange::Drop => filters[i] = None,
-            FilterChange::Set(filter) => filters[i] = Some(filter),
-        }
+    let mut i = 0;
+    for change in changes {
+        change.apply(&mut filters[i]);
+        i += 1;
     }
 }
 

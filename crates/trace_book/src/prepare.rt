@@ -10,7 +10,7 @@ ghost use Rattle.trace_book.specs.Paths.{SyntheticEvents, EventsFilter, EventEna
 ghost use Rattle.trace_book.specs.Requests.{Request, Emission, WriteFile, ReadFile};
 ghost use Rattle.trace_book.specs.Requests as requests;
 ghost use Rattle.trace_book.specs.Settings as settings;
-ghost use Rattle.trace_book.specs.States.{StandsFor, IsPrepared, IsReady, IsUsable, IsTaking, IsWrittenFilter, bytes_in, change_of, clearing, overwriting, shown_filter, switching, written_record, with_nothing};
+ghost use Rattle.trace_book.specs.States.{StandsFor, IsPrepared, IsReady, IsUsable, IsTaking, IsWrittenFilter, bytes_in, change_of, clearing, is_set, overwriting, shown_filter, switching, written_record, with_nothing};
 ghost use Rattle.trace_book.specs.Places.{file_at};
 ghost use Rattle.trace_book.specs.declared.command.Config.{Config};
 ghost use Rattle.trace_book.specs.TraceFiles.{trace_text};
@@ -23,7 +23,6 @@ ghost use Rattle.trace_book.specs.declared.state.Change.TheVariants as change;
 
 use crate::command::{Command, Config, Reply};
 use crate::decimal::{digits_value, trimmed, written_number};
-use crate::instance::Mixture;
 use crate::place::{Place, place_of};
 use crate::refusal::Refusal;
 use crate::row::record;
@@ -253,16 +252,11 @@ impl State {
         ensures { (g : Config) (past : List Request) (append : Bool) → StandsFor g self.now past
             → IsPrepared g past (WriteFile (Some EventsFilter) append text.now) self.now result }
     {
-        if self.catalog.is_empty() {
-            return Err(Refusal::NoSuchEvent);
-        }
         let Taken { changes, some } = filter_changes(alloc, &self.catalog, text)?;
-        if !some {
-            let _filter = written_filter(alloc, text, event_at(&self.catalog, 0))?;
-        }
+        let reply = filter_of_all(alloc, &self.catalog, text, some)?;
         Ok(Prepared {
             change: Change::SetFilters(changes),
-            reply: Reply::Done,
+            reply,
         })
     }
 
@@ -301,7 +295,7 @@ impl State {
             Place::SyntheticEvents => unchanged(self.read_declarations(alloc, limit)),
             Place::EventsEnable => unchanged(read_text(
                 limit,
-                mixture_text(alloc, self.top.are_enabled()),
+                mixture_text(alloc, self.top.none_on(), self.top.some_off()),
             )),
             Place::EventsFilter => Err(Refusal::NotReadable),
             Place::EventEnable(name) => unchanged(self.read_enable(alloc, name, limit)),
@@ -496,16 +490,32 @@ fn filter_change(alloc: Global, event: &EventDef, text: &[u8]) -> Result<FilterC
 fn filter_changes(alloc: Global, events: &Catalog, text: &[u8]) -> Result<Taken, AllocError>
     requires { length events.now ≤ 64 }
     ensures changes { IfOk result (λ taken. taken.changes.items ≡ map (change_of text.now) events.now) }
-    ensures some { IfOk result (λ taken. taken.some ≡ list_any (settings.can_take text.now) events.now) }
+    ensures some { IfOk result (λ taken. taken.some ≡ list_any (λ event. is_set (change_of text.now event)) events.now) }
 {
     let mut changes = Vec::new(alloc);
     let mut some = false;
     for i in 0..events.len() {
         let change = filter_change(alloc, event_at(events, i), text)?;
-        some |= matches!(change, FilterChange::Set(_));
+        some |= change.sets();
         changes.push(change)?;
     }
     Ok(Taken { changes, some })
+}
+
+// The reply to a filter of all events: where no event takes it, the first event says why.
+fn filter_of_all(alloc: Global, events: &Catalog, text: &[u8], some: bool) -> Result<Reply, Refusal>
+    requires few { length events.now ≤ 64 }
+    requires some { some ≡ list_any (λ event. is_set (change_of text.now event)) events.now }
+    ensures { OrMemory result (history.filter_of_all_answer text.now events.now) }
+{
+    if events.is_empty() {
+        return Err(Refusal::NoSuchEvent);
+    }
+    if some {
+        return Ok(Reply::Done);
+    }
+    let _filter = written_filter(alloc, text, event_at(events, 0))?;
+    Ok(Reply::Done)
 }
 
 // The number that an event would get in the catalog, or why it can't be added.
@@ -645,18 +655,19 @@ fn option_text(alloc: Global, flag: bool) -> Result<Text, AllocError>
 
 // The text of a mixture of switches.
 #[tactic(auto, unfolding(crate::specs::History::mixture_text))]
-fn mixture_text(alloc: Global, mixture: Mixture) -> Result<Text, AllocError>
-    ensures { IfOk result (λ text. text ≡ history.mixture_text mixture.some_on mixture.some_off) }
+fn mixture_text(alloc: Global, none_on: bool, some_off: bool) -> Result<Text, AllocError>
+    ensures { IfOk result (λ text. text ≡ history.mixture_text none_on some_off) }
 {
-    match (mixture.some_on, mixture.some_off) {
-        (false, false) => Text::from_slice(alloc, b"?\n".as_slice()),
-        (false, true) => Text::from_slice(alloc, b"0\n".as_slice()),
-        (true, false) => Text::from_slice(alloc, b"1\n".as_slice()),
-        (true, true) => Text::from_slice(alloc, b"X\n".as_slice()),
+    match (none_on, some_off) {
+        (true, false) => Text::from_slice(alloc, b"?\n".as_slice()),
+        (true, true) => Text::from_slice(alloc, b"0\n".as_slice()),
+        (false, false) => Text::from_slice(alloc, b"1\n".as_slice()),
+        (false, true) => Text::from_slice(alloc, b"X\n".as_slice()),
     }
 }
 
 // The text of a filter.
+#[tactic(auto, unfolding(crate::specs::States::shown_filter))]
 fn filter_text(alloc: Global, filter: Option<&Filter>) -> Result<Text, AllocError>
     ensures { IfOk result (λ text. text ≡ shown_filter (option_copied filter.entry)) }
 {

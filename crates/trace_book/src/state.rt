@@ -53,6 +53,26 @@ pub(crate) enum FilterChange {
     Set(Filter),
 }
 
+impl FilterChange {
+    /// Whether the event gets a filter.
+    pub(crate) fn sets(&self) -> bool
+        ensures { result ≡ states.is_set self.now }
+    {
+        matches!(self, FilterChange::Set(_))
+    }
+
+    /// Makes the change.
+    pub(crate) fn apply(self, filter: &mut Option<Filter>)
+        ensures { filter.new ≡ states.changed_filter self filter.old }
+    {
+        match self {
+            FilterChange::Keep => {}
+            FilterChange::Drop => *filter = None,
+            FilterChange::Set(new) => *filter = Some(new),
+        }
+    }
+}
+
 /// A command for which all memory is at hand: what it will change, and its reply.
 #[derive(Drop)]
 pub(crate) struct Prepared {

@@ -10,6 +10,6 @@ invariant_of-result c =
       in_range = in_range;
       few = rw c.new.ensures.items (omega arith);
       legal = rw c.new.ensures.items (IsLegal-none c.args.config);
-      stands = rw c.new.ensures.items (stands-new c.args.config _ c.new-2.ensures c.in_ok-new.ensures.enabled c.in_ok-new.ensures.overwrite refl c.in_ok-new.ensures.stands
+      stands = rw c.new.ensures.items (stands-new c.args.config _ c.new-2.ensures c.in_ok-new.ensures.enabled c.in_ok-new.ensures.filters c.in_ok-new.ensures.overwrite refl c.in_ok-new.ensures.stands
           c.in_ok-new.ensures.pages c.in_ok-new.ensures.page_bytes c.in_ok-new.ensures.offered);
     }
