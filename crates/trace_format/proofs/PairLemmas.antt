@@ -1,7 +1,7 @@
 -- What pairs give as functions is what they give as a map, and they are refused where the first wrong pair or missing field is.
-use Rattle.std.proofs.Common.{◌≡◌, ℕ, Bool, true, false, not, ◌||◌, ◌&&◌, if◌then◌else◌, List, [], ◌∷◌, ◌++◌, bytes_eq, find, filter_map, Option, None, Some, is_some, option_and_then, IsTrue, Result, Ok, Err, IfOk, IfErr, inl, inr, ⊎_elim, ◌⊎◌, refl, sym, ap, ◌∙◌, subst, append_assoc, append-nil, true≢false}
-use Rattle.std.specs.List.{list_any, AllByRecursion, AllZip, cons_option}
-use Rattle.std.proofs.lemmas.Bool.{and_parts, and_from, not-true, cond-true, cond-false, false_from_ne_true}
+use Rattle.std.proofs.Common.{◌≡◌, ℕ, Bool, true, false, not, ◌||◌, if◌then◌else◌, List, [], ◌∷◌, ◌++◌, bytes_eq, filter_map, Option, None, Some, is_some, option_and_then, IsTrue, Result, Ok, Err, IfOk, IfErr, inl, inr, ◌⊎◌, refl, sym, ap, ◌∙◌, subst, append_assoc, append-nil, true≢false}
+use Rattle.std.specs.List.{AllByRecursion, AllZip, cons_option}
+use Rattle.std.proofs.lemmas.Bool.{and_parts, and_from, not-true, cond-true, false_from_ne_true}
 use Rattle.std.proofs.lemmas.Slice.Eq.{bytes_eq-Decides}
 use Rattle.trace_format.specs.declared.event.Field.{Field}
 use Rattle.trace_format.specs.declared.pair.Pair.{Pair}

@@ -1,5 +1,5 @@
 -- Which row pairs of names and texts give, and where other pairs are refused.
-use Rattle.std.specs.Prelude.{◌≡◌, ◌⊎◌, ℕ, Bool, false, bytes_eq, IsTrue, List, [], ◌∷◌, ◌++◌, Option, None, Some}
+use Rattle.std.specs.Prelude.{◌≡◌, ◌⊎◌, ℕ, Bool, false, bytes_eq, IsTrue, List, [], ◌∷◌, ◌++◌, None, Some}
 use Rattle.std.specs.List.{list_any, AllByRecursion}
 use Rattle.trace_format.specs.declared.event.Field.{Field}
 use Rattle.trace_format.specs.declared.pair.Pair.{Pair}

@@ -1,6 +1,6 @@
-use Rattle.std.proofs.Common.{◌≡◌, ◌^◌, ◌<◌, [], length, drop, Option, Some, ok_or, Result, Ok, ℕ, sym, ap, ◌∙◌, arith}
+use Rattle.std.proofs.Common.{◌≡◌, ◌^◌, ◌<◌, length, Some, ok_or, Ok, sym, ap, ◌∙◌, arith}
 use Rattle.trace_format.specs.Definitions.{Definition}
-use Rattle.trace_format.specs.Words.{spots_of, spots_from}
+use Rattle.trace_format.specs.Words.{spots_of}
 use Rattle.trace_format.specs.Reading.{reading, finish, definition_of}
 use Rattle.trace_format.proofs.Verdicts.{read_declared}
 use Rattle.trace_format.proofs.event.EventDef.read.Goals as goal
