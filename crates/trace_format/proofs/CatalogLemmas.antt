@@ -1,13 +1,16 @@
 -- The table of events by their names.
-use Rattle.std.proofs.Common.{◌≡◌, ℕ, zero, suc, ◌+◌, ◌<◌, ◌≤◌, false, not, cond, nat_lt, List, [], ◌∷◌, ◌++◌, length, map, bytes_eq, slice_get, position, Option, None, Some, is_some, option_map, Ok, Vec, Global, refl, sym, ap, ◌∙◌, arith}
+use Rattle.std.proofs.Common.{◌≡◌, ℕ, zero, suc, ◌+◌, ◌<◌, ◌≤◌, Bool, true, false, not, cond, nat_lt, if◌then◌else◌, List, [], ◌∷◌, ◌++◌, length, take, map, bytes_eq, slice_get, position, Option, None, Some, is_some, option_map, Ok, Vec, Global, refl, sym, ap, ◌∙◌, subst, arith, append_assoc, append-nil, add-one, one-add, lt-ltb, ⊎_elim}
 use Rattle.std.specs.List.{AllByRecursion, position_or_len}
 use Rattle.std.proofs.lemmas.List.{length-map, length_push, map-append}
-use Rattle.std.proofs.lemmas.Bool.{cond-false, true≢false, lt-leb, le-ltb}
+use Rattle.std.proofs.lemmas.Bool.{cond-true, cond-false, cases_lt, true≢false, lt-leb, le-ltb}
+use Rattle.std.proofs.lemmas.Slice.Eq.{bytes_eq-Decides}
 use Rattle.std.specs.Map.{lookup}
 use Rattle.indexmap.proofs.MapLemmas.{some_index}
-use Rattle.trace_format.specs.Definitions.{Definition}
+use Rattle.trace_format.specs.Definitions.{Definition, IsDefinition}
 use Rattle.trace_format.specs.Cells.{record_size_of}
-use Rattle.trace_format.specs.Catalogs.{id_of, event_of, id_for, IsCatalog}
+use Rattle.trace_format.specs.Catalogs.{id_of, event_of, id_for, IsCatalog, IsEvent, AreEvents}
+use Rattle.trace_format.proofs.Lists.{AllByRecursion-push}
+use Rattle.trace_format.proofs.Options.{map_some, some_is}
 
 abbrev pub Entry : Type 0
 Entry = Vec ℕ Global × Definition
@@ -36,18 +39,21 @@ module _ (name : List ℕ) where
       → id_of (events_of entries) name ≡ option_map (λ place. place + 1) (position (λ (k : Vec ℕ Global). bytes_eq name k.items) (keys entries))
   id_is entries named = ap (option_map (λ place. place + 1)) (sym (same_place entries named))
 
-AllByRecursion-push : {X : Type 0} (P : X → Type 0) (xs : List X) (x : X) → AllByRecursion P xs → P x → AllByRecursion P (xs ++ x ∷ [])
-AllByRecursion-push P [] x all h = (h, tt)
-AllByRecursion-push P (y ∷ ys) x all h = (all.0, AllByRecursion-push P ys x all.1 h)
-
-pub one_more : (entries : List Entry) (key : Vec ℕ Global) (event : Definition) → IsCatalog entries → length entries < 64 → key.items ≡ event.name → IsCatalog (entries ++ (key, event) ∷ [])
-one_more entries key event is room named = record {
-  named = AllByRecursion-push (λ e. e.0.items ≡ e.1.name) entries (key, event) is.named named;
-  few = omega (arith, length_push entries (let e : Entry = (key, event) in e));
-}
+AreEvents-push : (before events : List Definition) (event : Definition) → AreEvents before events → IsEvent (before ++ events) event → AreEvents before (events ++ event ∷ [])
+AreEvents-push before [] event are is = (subst (λ (b : List Definition). IsEvent b event) (append-nil before) is, tt)
+AreEvents-push before (first ∷ events) event are is =
+    (are.0, AreEvents-push (before ++ first ∷ []) events event are.1 (subst (λ (b : List Definition). IsEvent b event) (sym (append_assoc before (first ∷ []) events)) is))
 
 pub events-push : (entries : List Entry) (key : Vec ℕ Global) (event : Definition) → events_of (entries ++ (key, event) ∷ []) ≡ events_of entries ++ event ∷ []
 events-push entries key event = map-append (λ (e : Entry). e.1) entries ((key, event) ∷ [])
+
+pub one_more : (entries : List Entry) (key : Vec ℕ Global) (event : Definition) → IsCatalog entries → length entries < 64 → key.items ≡ event.name → IsEvent (events_of entries) event
+    → IsCatalog (entries ++ (key, event) ∷ [])
+one_more entries key event is room named new = record {
+  named = AllByRecursion-push (λ e. e.0.items ≡ e.1.name) entries (key, event) is.named named;
+  few = omega (arith, length_push entries (let e : Entry = (key, event) in e));
+  events = subst (AreEvents []) (sym (events-push entries key event)) (AreEvents-push [] (events_of entries) event is.events new);
+}
 
 pub event_at : (entries : List Entry) (place : ℕ) → event_of (events_of entries) (suc place) ≡ option_map (λ (e : Entry). e.1) (slice_get entries place)
 event_at [] place = refl
@@ -62,6 +68,10 @@ none_from : {A : Type 0} (o : Option A) → is_some o ≡ false → o ≡ None
 none_from None h = refl
 none_from (Some x) h = absurd (true≢false h)
 
+-- an event that may be added
+pub new_event : (events : List Definition) (event : Definition) → IsDefinition event → length event.fields ≤ 16 → is_some (id_of events event.name) ≡ false → IsEvent events event
+new_event events event defined few absent = record { defined = defined; few = few; new = none_from (id_of events event.name) absent }
+
 -- a name without a number is no key
 pub no_key : (entries : List Entry) (key : Vec ℕ Global) (name : List ℕ) → AllByRecursion (λ e. e.0.items ≡ e.1.name) entries → key.items ≡ name
     → is_some (id_of (events_of entries) name) ≡ false → lookup (λ (k : Vec ℕ Global). bytes_eq key.items k.items) entries ≡ None
@@ -73,3 +83,72 @@ pub id_for_ok : (events : List Definition) (definition : Definition) (page_bytes
     → id_for events definition page_bytes ≡ Ok (length events + 1)
 id_for_ok events definition page_bytes new fields room small =
     cond-false _ _ _ new ∙ cond-false _ _ _ (le-ltb 16 (length definition.fields) fields) ∙ cond-false _ _ _ (lt-leb 64 (length events) room) ∙ cond-false _ _ _ (le-ltb page_bytes (record_size_of definition) small)
+
+-- ---- places of names
+
+abbrev place_of : List Definition → List ℕ → Option ℕ
+place_of events name = position (λ (event : Definition). bytes_eq name event.name) events
+
+-- the place of a name is 0, or one more than its place behind the first event
+place-step : (event : Definition) (events : List Definition) (name : List ℕ) → place_of (event ∷ events) name ≡ (if bytes_eq name event.name then Some 0 else option_map (λ place. suc place) (place_of events name))
+place-step event events name = by (bytes_eq name event.name) (position_or_len (λ (e : Definition). bytes_eq name e.name) events) (length events)
+  where
+    by : (here : Bool) (place size : ℕ) → cond (nat_lt (cond (not here) (1 + place) 0) (suc size)) (Some (cond (not here) (1 + place) 0)) None
+        ≡ (if here then Some 0 else option_map (λ p. suc p) (cond (nat_lt place size) (Some place) None))
+    by true place size = cond-true _ _ _ (lt-ltb 0 (suc size) (omega arith))
+    by false place size =
+        ⊎_elim (λ (a : place < size). cond-true _ _ _ (lt-ltb (1 + place) (suc size) (omega (arith, a))) ∙ ap Some (one-add place) ∙ sym (ap (option_map (λ p. suc p)) (cond-true _ _ _ (lt-ltb place size a))))
+        (λ (a : size ≤ place). cond-false _ _ _ (le-ltb (1 + place) (suc size) (omega (arith, a))) ∙ sym (ap (option_map (λ p. suc p)) (cond-false _ _ _ (le-ltb place size a)))) (cases_lt place size)
+
+-- the event at the place of a name has it
+named_at : (events : List Definition) (name : List ℕ) (place : ℕ) → place_of events name ≡ Some place → option_map (λ (e : Definition). e.name) (slice_get events place) ≡ Some name
+named_at [] name place h = absurd (cc)
+named_at (event ∷ events) name place h = by (bytes_eq name event.name) (bytes_eq-Decides name event.name).0 (sym (place-step event events name) ∙ h) (named_at events name)
+  where
+    by : (here : Bool) → (here ≡ true → name ≡ event.name) → (if here then Some 0 else option_map (λ p. suc p) (place_of events name)) ≡ Some place
+        → ((p : ℕ) → place_of events name ≡ Some p → option_map (λ (e : Definition). e.name) (slice_get events p) ≡ Some name)
+        → option_map (λ (e : Definition). e.name) (slice_get (event ∷ events) place) ≡ Some name
+    by true same h' others = subst (λ p. option_map (λ (e : Definition). e.name) (slice_get (event ∷ events) p) ≡ Some name) (some_is h') (ap Some (sym (same refl)))
+    by false same h' others =
+        let there = map_some (λ p. suc p) (place_of events name) place h' in
+        subst (λ p. option_map (λ (e : Definition). e.name) (slice_get (event ∷ events) p) ≡ Some name) there.gives (others there.value there.was)
+
+-- a name that no event before a place has
+own_at : (events : List Definition) (place : ℕ) (event : Definition) → slice_get events place ≡ Some event → place_of (take place events) event.name ≡ None → place_of events event.name ≡ Some place
+own_at [] place event h none = absurd (cc)
+own_at (first ∷ events) zero event h none = place-step first events event.name ∙ cond-true _ _ _ ((bytes_eq-Decides event.name first.name).1 (ap (λ (e : Definition). e.name) (sym (some_is h))))
+own_at (first ∷ events) (suc place) event h none =
+    place-step first events event.name ∙ by (bytes_eq event.name first.name) (sym (place-step first (take place events) event.name) ∙ none) (own_at events place event h)
+  where
+    by : (here : Bool) → (if here then Some 0 else option_map (λ p. suc p) (place_of (take place events) event.name)) ≡ None
+        → (place_of (take place events) event.name ≡ None → place_of events event.name ≡ Some place)
+        → (if here then Some 0 else option_map (λ p. suc p) (place_of events event.name)) ≡ Some (suc place)
+    by true h' others = absurd (cc)
+    by false h' others =
+        ap (option_map (λ p. suc p)) (others (none_from (place_of (take place events) event.name) (sym (some-map (λ p. suc p) (place_of (take place events) event.name)) ∙ ap is_some h')))
+
+-- ---- the event of a number
+
+pub id_named : (events : List Definition) (name : List ℕ) (id : ℕ) → id_of events name ≡ Some id → option_map (λ (e : Definition). e.name) (event_of events id) ≡ Some name
+id_named events name id h =
+    let place = map_some (λ p. p + 1) (place_of events name) id h in
+    subst (λ i. option_map (λ (e : Definition). e.name) (event_of events i) ≡ Some name) (sym (add-one place.value) ∙ place.gives) (named_at events name place.value place.was)
+
+is_event : (before events : List Definition) (place : ℕ) (event : Definition) → AreEvents before events → slice_get events place ≡ Some event → IsEvent (before ++ take place events) event
+is_event before [] place event are h = absurd (cc)
+is_event before (first ∷ events) zero event are h = subst (λ (b : List Definition). IsEvent b event) (sym (append-nil before)) (subst (IsEvent before) (some_is h) are.0)
+is_event before (first ∷ events) (suc place) event are h =
+    subst (λ (b : List Definition). IsEvent b event) (append_assoc before (first ∷ []) (take place events)) (is_event (before ++ first ∷ []) events place event are.1 h)
+
+-- an event that a number finds
+pub record IsFound (events : List Definition) (id : ℕ) (event : Definition) : Type 0 where
+  pub defined : IsDefinition event
+  pub few : length event.fields ≤ 16
+  pub named : id_of events event.name ≡ Some id
+
+pub found_event : (events : List Definition) (id : ℕ) (event : Definition) → AreEvents [] events → event_of events id ≡ Some event → IsFound events id event
+found_event events zero event are h = absurd (cc)
+found_event events (suc place) event are h =
+    let is = is_event [] events place event are h in
+    let none = none_from (place_of (take place events) event.name) (sym (some-map (λ p. p + 1) (place_of (take place events) event.name)) ∙ ap is_some is.new) in
+    record { defined = is.defined; few = is.few; named = ap (option_map (λ p. p + 1)) (own_at events place event h none) ∙ ap Some (add-one place) }

@@ -1,10 +1,13 @@
 pub mod BuildLemmas
 pub mod CatalogLemmas
+pub mod FieldNames
 pub mod FreshNames
 pub mod Lengths
+pub mod Lists
 pub mod MapLemmas
 pub mod NumberLemmas
 pub mod Options
+pub mod PairLemmas
 pub mod Patterns
 pub mod Payloads
 pub mod ReadingLemmas

@@ -6,7 +6,9 @@ use Rattle.std.proofs.lemmas.Slice.Eq.{bytes_eq-Decides}
 use Rattle.trace_format.specs.declared.event.Field.{Field}
 use Rattle.trace_format.specs.declared.pair.Pair.{Pair}
 use Rattle.trace_format.specs.Cells.{Datum, value_at}
-use Rattle.trace_format.specs.Rows.{value_of, field_named, pair_value, pair_named, is_right, first_wrong, first_missing, given, HasPair}
+use Rattle.trace_format.specs.Rows.{value_of, field_named, pair_value, pair_named, is_right, first_wrong, first_missing, given}
+use Rattle.trace_format.specs.Pairs.{HasPair}
+use Rattle.trace_format.proofs.Options.{and_then_some}
 
 -- the first of two lists where nothing is found in the first
 find-append : {X : Type 0} (test : X → Bool) (xs ys : List X) → is_some (find test xs) ≡ false → find test (xs ++ ys) ≡ find test ys
@@ -25,11 +27,11 @@ own_pair before after pair h =
     ∙ ap (λ t. if t then Some pair else pair_named after pair.name) ((bytes_eq-Decides pair.name pair.name).1 refl)
 
 -- a test that found no fault passed
-no_fault : {X : Type 0} (passes : Bool) (others : Option X) (fault : X) → (if passes then others else Some fault) ≡ None → (passes ≡ true) × (others ≡ None)
+pub no_fault : {X : Type 0} (passes : Bool) (others : Option X) (fault : X) → (if passes then others else Some fault) ≡ None → (passes ≡ true) × (others ≡ None)
 no_fault true others fault h = (refl, h)
 no_fault false others fault h = absurd (cc)
 
-is_value : {X : Type 0} (o : Option X) → is_some o ≡ true → (x : X) × (o ≡ Some x)
+pub is_value : {X : Type 0} (o : Option X) → is_some o ≡ true → (x : X) × (o ≡ Some x)
 is_value None h = absurd (true≢false (sym h))
 is_value (Some x) h = (x, refl)
 
@@ -56,8 +58,10 @@ each fields before [] all right = tt
 each fields before (pair ∷ pairs) all right =
     let test = no_fault (is_right fields before pair) _ _ right in
     let own = own_pair before pairs pair (not-true _ (and_parts _ _ test.0).1) in
-    let joined = append_assoc before (pair ∷ []) pairs in (
-      value_there (before ++ pair ∷ pairs) pair own fields all,
+    let joined = append_assoc before (pair ∷ []) pairs in
+    let value = is_value (pair_value fields pair) (and_parts _ _ test.0).0 in
+    let read = and_then_some (λ (field : Field). value_of field.kind pair.value) (field_named fields pair.name) value.0 value.1 in (
+      record { field = read.value; named = read.was; value = value.0; written = read.gives; there = value_there (before ++ pair ∷ pairs) pair own fields all ∙ value.1 },
       subst (λ (ps : List Pair). AllByRecursion (HasPair fields (filter_map (given ps) fields)) pairs) joined
           (each fields (before ++ pair ∷ []) pairs (subst (λ (ps : List Pair). first_missing fields ps ≡ None) (sym joined) all) test.1),
     )

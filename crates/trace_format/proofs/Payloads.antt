@@ -12,7 +12,7 @@ use Rattle.trace_format.specs.declared.kind.Kind.TheVariants.{Number, Char}
 use Rattle.trace_format.specs.Kinds.{number_size, size_of}
 use Rattle.trace_format.specs.Cells.{Datum, Whole, Bytes, datum_of, Cells, Holds, is_printable, two's_complement, field_bytes, bytes_of, size_of_all, IsRowOf, kinds_of, payload_of}
 use Rattle.trace_format.specs.Definitions.{Definition}
-use Rattle.trace_format.specs.Decoding.{is_zero, is_not_zero, text_at, text_from, field_from, values_from}
+use Rattle.trace_format.specs.Decoding.{is_zero, is_not_zero, text_at, text_from, field_from, values_from, row_from}
 use Rattle.trace_format.proofs.Options.{if_some, some_is, map_some, and_then_some}
 use Rattle.trace_format.proofs.Patterns.{AreBytes, length-little_endian, number-written, number-read, number-held}
 
@@ -171,6 +171,26 @@ not_decoded definition bytes row h = (
       let clash : None ≡ Some row.values = sym h ∙ all in
       cc,
 )
+
+-- the row of an event with values
+row_with : Definition → List Datum → Cells
+row_with definition values = record { kinds = kinds_of definition; values = values }
+
+-- bytes that are read as values are read as their row, and others as none
+pub decoded_exactly : (definition : Definition) (bytes : List ℕ) (kinds : List Kind) (values : List Datum) → kinds ≡ kinds_of definition → values_from (kinds_of definition) bytes ≡ Some values
+    → ◌≡◌ {A = Option Cells} (Some (record { kinds = kinds; values = values })) (row_from definition bytes)
+unfolding row_with
+decoded_exactly definition bytes kinds values kinds_are h = (λ i. Some (record { kinds = kinds_are i; values = values })) ∙ sym (ap (option_map (row_with definition)) h)
+
+pub not_decoded_exactly : (definition : Definition) (bytes : List ℕ) → values_from (kinds_of definition) bytes ≡ None → ◌≡◌ {A = Option Cells} None (row_from definition bytes)
+unfolding row_with
+not_decoded_exactly definition bytes h = sym (ap (option_map (row_with definition)) h)
+
+-- a row is what its payload is read as
+pub row_from-payload : (definition : Definition) (row : Cells) → IsRowOf definition row → row_from definition (payload_of row) ≡ Some row
+row_from-payload definition row is =
+    let kinds = sym is.kinds in
+    sym (decoded_exactly definition (payload_of row) row.kinds row.values is.kinds ((λ i. values_from (kinds i) (payload_of row)) ∙ values-written row.kinds row.values is.values))
 
 -- ---- a loop that writes fields
 

@@ -1,10 +1,10 @@
 -- The declared events, in the order in which they were added. The first has the number 1.
-use Rattle.std.specs.Prelude.{◌≡◌, ◌≤◌, Vec, ℕ, zero, suc, ◌+◌, nat_le, nat_lt, if◌then◌else◌, bytes_eq, List, length, Option, None, is_some, option_map, position, slice_get, Result, Ok, Err}
+use Rattle.std.specs.Prelude.{◌≡◌, ◌≤◌, Vec, ℕ, zero, suc, ◌+◌, nat_le, nat_lt, if◌then◌else◌, bytes_eq, List, [], ◌∷◌, ◌++◌, length, map, Option, None, is_some, option_map, position, slice_get, Result, Ok, Err}
 use Rattle.std.specs.List.{AllByRecursion}
 use Rattle.std.specs.declared.alloc.Global.{Global}
 use Rattle.trace_format.specs.declared.fault.CatalogFault.{CatalogFault}
 use Rattle.trace_format.specs.declared.fault.CatalogFault.TheVariants.{EventExists, TooMany, TooBig, Memory}
-use Rattle.trace_format.specs.Definitions.{Definition}
+use Rattle.trace_format.specs.Definitions.{Definition, IsDefinition}
 use Rattle.trace_format.specs.Cells.{record_size_of}
 
 -- the number of the event of a name
@@ -32,7 +32,19 @@ IsAdded (Err TooMany) added = added ≡ Err TooMany
 IsAdded (Err TooBig) added = added ≡ Err TooBig
 IsAdded (Err Memory) added = Unit {0}
 
+-- what may stand as an event behind the events before it: an event with at most 16 fields, whose name none of them has
+pub record IsEvent (before : List Definition) (event : Definition) : Type 0 where
+  pub defined : IsDefinition event
+  pub few : length event.fields ≤ 16
+  pub new : id_of before event.name ≡ None
+
+-- each event may stand behind those before it, so no two have one name
+abbrev pub AreEvents : List Definition → List Definition → Type 0
+AreEvents before [] = Unit {0}
+AreEvents before (event ∷ events) = IsEvent before event × AreEvents (before ++ event ∷ []) events
+
 -- a catalog's table has each event under its name
 pub record IsCatalog (entries : List (Vec ℕ Global × Definition)) : Type 0 where
   pub named : AllByRecursion (λ entry. entry.0.items ≡ entry.1.name) entries
   pub few : length entries ≤ 64
+  pub events : AreEvents [] (map (λ entry. entry.1) entries)

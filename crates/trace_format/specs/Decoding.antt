@@ -5,7 +5,8 @@ use Rattle.trace_format.specs.declared.kind.NumberType.{NumberType}
 use Rattle.trace_format.specs.declared.kind.Kind.{Kind}
 use Rattle.trace_format.specs.declared.kind.Kind.TheVariants.{Number, Char}
 use Rattle.trace_format.specs.Kinds.{number_size, is_signed, size_of}
-use Rattle.trace_format.specs.Cells.{Datum, Whole, Bytes, is_printable}
+use Rattle.trace_format.specs.Definitions.{Definition}
+use Rattle.trace_format.specs.Cells.{Datum, Whole, Bytes, Cells, kinds_of, is_printable}
 
 -- the number that bytes write, the lowest first
 abbrev pub unsigned_from : List ℕ → ℕ
@@ -42,3 +43,7 @@ values_from [] [] = Some []
 values_from [] (b ∷ bytes) = None
 values_from (kind ∷ kinds) bytes = if nat_lt (length bytes) (size_of kind) then None
     else option_and_then (λ value. option_map (λ values. value ∷ values) (values_from kinds (drop (size_of kind) bytes))) (field_from kind (take (size_of kind) bytes))
+
+-- the row of an event that a payload is
+abbrev pub row_from : Definition → List ℕ → Option Cells
+row_from definition bytes = option_map (λ values. record { kinds = kinds_of definition; values = values }) (values_from (kinds_of definition) bytes)

@@ -6,5 +6,6 @@ pub mod Definitions
 pub mod Reading
 pub mod Cells
 pub mod Rows
+pub mod Pairs
 pub mod Decoding
 pub mod Catalogs

@@ -1,4 +1,4 @@
--- Rows as pairs of field names and texts give them.
+-- Rows as pairs of field names and texts give them, as functions. That these are what `Pairs` says is a law on `Row::build`.
 use Rattle.std.specs.Prelude.{◌≡◌, ℕ, ℤ, int_le, Bool, not, ◌&&◌, nat_lt, if◌then◌else◌, bytes_eq, List, [], ◌∷◌, ◌++◌, length, find, filter_map, Option, None, Some, is_some, option_and_then, Result, Ok, Err}
 use Rattle.std.specs.List.{list_all}
 use Rattle.trace_format.specs.declared.fault.RowFault.{RowFault}
@@ -10,7 +10,7 @@ use Rattle.trace_format.specs.declared.pair.Pair.{Pair}
 use Rattle.trace_format.specs.Numbers.{number_of}
 use Rattle.trace_format.specs.Kinds.{least, greatest}
 use Rattle.trace_format.specs.Definitions.{Definition}
-use Rattle.trace_format.specs.Cells.{Datum, Whole, Bytes, Cells, kinds_of, is_printable, value_at}
+use Rattle.trace_format.specs.Cells.{Datum, Whole, Bytes, Cells, kinds_of, is_printable}
 
 -- the value that a text gives to a field of the type
 abbrev pub number_in : ℤ → ℤ → ℤ → Option Datum
@@ -74,7 +74,3 @@ IsBadRow Memory field = Unit {0}
 abbrev pub IsMissing : RowFault → Option (List ℕ) → Type 0
 IsMissing (BadRow name) missing = missing ≡ Some name
 IsMissing Memory missing = Unit {0}
-
--- the values have, at the name of a pair, the value of its text
-abbrev pub HasPair : List Field → List Datum → Pair → Type 0
-HasPair fields values pair = value_at fields values pair.name ≡ pair_value fields pair

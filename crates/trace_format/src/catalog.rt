@@ -1,6 +1,6 @@
 //! The declared events.
 
-ghost use Rattle.std.specs.Prelude.{◌≡◌, List, ℕ, [], ◌∷◌, ◌++◌, OnOk, OnErr, length, map, option_copied, ◌==◌};
+ghost use Rattle.std.specs.Prelude.{◌≡◌, ◌≤◌, List, ℕ, [], ◌∷◌, ◌++◌, OnOk, OnErr, IfSome, Some, length, map, option_copied, option_map, ◌==◌};
 
 use crate::event::EventDef;
 use crate::fault::CatalogFault;
@@ -36,7 +36,9 @@ impl Model for Catalog {
 }
 
 impl Catalog {
-    ghost use Rattle.trace_format.specs.Catalogs.{id_of, event_of, id_for, IsAdded};
+    ghost use Rattle.trace_format.specs.Definitions.{Definition, IsDefinition};
+    ghost use Rattle.trace_format.specs.Cells.{record_size_of};
+    ghost use Rattle.trace_format.specs.Catalogs.{id_of, event_of, id_for, IsAdded, AreEvents};
 
     /// A catalog with no event.
     pub fn new(alloc: Global) -> Catalog
@@ -55,6 +57,7 @@ impl Catalog {
     pub fn add(&mut self, def: EventDef, page_bytes: usize) -> Result<u16, CatalogFault>
         ensures answer { IsAdded result (id_for self.old def page_bytes) }
         ensures ok { OnOk result (self.new ≡ self.old ++ def ∷ []) }
+        ensures fits { OnOk result (record_size_of def ≤ page_bytes) }
         ensures err { OnErr result (self.new ≡ self.old) }
     {
         if self.find(def.name()).is_some() {
@@ -73,7 +76,9 @@ impl Catalog {
 
     /// The number of the event of a name, by its place in the table and without a scan of all events.
     pub fn find(&self, name: &[u8]) -> Option<u16>
-        ensures { result ≡ id_of self.now name.now }
+        ensures id { result ≡ id_of self.now name.now }
+        // The event of the number has the name.
+        ensures named { IfSome result (λ id. option_map (λ (event : Definition). event.name) (event_of self.now id) ≡ Some name.now) }
     {
         match self.events.get_index_of(name) {
             Some(place) => Some(place as u16 + 1),
@@ -83,7 +88,11 @@ impl Catalog {
 
     /// The event of a number.
     pub fn def(&self, id: u16) -> Option<&EventDef>
-        ensures { option_copied result ≡ event_of self.now id }
+        ensures event { option_copied result ≡ event_of self.now id }
+        ensures definition { IfSome result (λ def. IsDefinition def.now) }
+        ensures few { IfSome result (λ def. length def.now.fields ≤ 16) }
+        // Its name has the number.
+        ensures named { IfSome result (λ def. id_of self.now def.now.name ≡ Some id) }
     {
         let place = usize::from(id).checked_sub(1)?;
         let (_name, def) = self.events.get_index(place)?;
@@ -92,7 +101,10 @@ impl Catalog {
 
     /// How many events there are.
     pub fn len(&self) -> usize
-        ensures { result ≡ length self.now }
+        ensures len { result ≡ length self.now }
+        ensures few { length self.now ≤ 64 }
+        // Each has at most 16 fields, and a name that no other has.
+        ensures events { AreEvents [] self.now }
     {
         self.events.len()
     }

@@ -25,15 +25,17 @@ pub struct EventDef {
 }
 
 impl Model for EventDef {
-    ghost use Rattle.trace_format.specs.Definitions.{Definition};
+    ghost use Rattle.trace_format.specs.Definitions.{Definition, IsDefinition};
 
     ghost Value = { Definition };
 
     ghost view = { λ e. record { name = e.name; fields = e.fields.items } };
+
+    ghost invariant = { λ e. IsDefinition (record { name = e.name; fields = e.fields.items }) };
 }
 
 impl EventDef {
-    ghost use Rattle.trace_format.specs.Definitions.{Definition, Declares};
+    ghost use Rattle.trace_format.specs.Definitions.{Definition, IsDefinition, Declares};
     ghost use Rattle.trace_format.specs.Words.{spots_of, words_of};
     ghost use Rattle.trace_format.specs.Reading.{definition_of, IsRead, IsRefusal};
 
@@ -69,16 +71,10 @@ impl EventDef {
             }
             from = word.at + word.bytes.len();
         }
-        reader
-            .finish()
-            .ok_or(DefinitionFault::BadDefinition { at: len })
-    }
-
-    /// An event of a name and fields.
-    pub(crate) fn new(name: Text, fields: Vec<Field>) -> EventDef
-        ensures { result ≡ record { name = name; fields = fields.items } }
-    {
-        EventDef { name, fields }
+        match reader.finish() {
+            Some((name, fields)) => Ok(EventDef { name, fields }),
+            None => Err(DefinitionFault::BadDefinition { at: len }),
+        }
     }
 
     /// The event's name.
@@ -90,7 +86,9 @@ impl EventDef {
 
     /// Its fields, in order of declaration.
     pub fn fields(&self) -> &[Field]
-        ensures { result.now ≡ self.now.fields }
+        ensures fields { result.now ≡ self.now.fields }
+        // There is one at least, and no two have one name.
+        ensures definition { IsDefinition self.now }
     {
         self.fields.as_slice()
     }

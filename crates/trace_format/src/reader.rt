@@ -8,7 +8,7 @@ ghost use Rattle.trace_format.specs.Definitions.{is_reserved as reserved, has_fi
 ghost use Rattle.trace_format.specs.Reading.{is_before_bracket, text_field_of, length_of};
 ghost use Rattle.trace_format.specs.declared.kind.Kind.TheVariants as kind;
 
-use crate::event::{EventDef, Field};
+use crate::event::Field;
 use crate::kind::{Kind, NumberType};
 use crate::name::is_name;
 use crate::text::Text;
@@ -156,17 +156,13 @@ impl Reader {
         self.take_field(alloc, name, Kind::Char(length))
     }
 
-    /// The event that was read, if it may end there.
-    pub(crate) fn finish(self) -> Option<EventDef>
-        ensures { result ≡ finished self }
+    /// The name and the fields of the event that was read, if it may end there.
+    pub(crate) fn finish(self) -> Option<(Text, Vec<Field>)>
+        ensures { option_map (λ parts. record { name = parts.0; fields = parts.1.items }) result ≡ finished self }
     {
         let Reader { due, name, fields } = self;
         let may_end = matches!(due, Due::Type | Due::Joint) && !fields.is_empty();
-        if may_end {
-            Some(EventDef::new(name, fields))
-        } else {
-            None
-        }
+        if may_end { Some((name, fields)) } else { None }
     }
 
     /// The `;` behind a field.

@@ -1,6 +1,6 @@
 //! Rows: the values of an event's fields.
 
-ghost use Rattle.std.specs.Prelude.{◌≡◌, ◌≤◌, ◌↔◌, List, ℕ, IfOk, IfErr, OnErr, Some, None, Ok, length, map};
+ghost use Rattle.std.specs.Prelude.{◌≡◌, ◌≤◌, ◌↔◌, List, ℕ, IfOk, IfErr, IfSome, OnErr, Some, None, Ok, length, map};
 
 use crate::event::{EventDef, Field};
 use crate::fault::RowFault;
@@ -31,9 +31,11 @@ impl Model for Row {
 }
 
 impl Row {
-    ghost use Rattle.trace_format.specs.Cells.{Cells, datum_of, IsRow, IsRowOf, payload_of, size_of_all};
-    ghost use Rattle.std.specs.List.{AllByRecursion};
-    ghost use Rattle.trace_format.specs.Rows.{row_of, IsBuilt, HasPair};
+    ghost use Rattle.trace_format.specs.Cells.{Cells, datum_of, IsRow, IsRowOf, StandByName, payload_of, size_of_all};
+    ghost use Rattle.trace_format.specs.Definitions.{IsDefinition};
+    ghost use Rattle.trace_format.specs.Rows.{row_of, IsBuilt};
+    ghost use Rattle.trace_format.specs.Pairs.{Give, IsRefusedRow};
+    ghost use Rattle.trace_format.specs.Decoding.{row_from};
 
     /// The row that pairs of field names and texts give. Each field is in one pair, in any order.
     ///
@@ -41,9 +43,24 @@ impl Row {
     /// none such at the first field that no pair names. `Memory` comes where an allocation is refused.
     pub fn build(alloc: Global, def: &EventDef, pairs: &[Pair]) -> Result<Row, RowFault>
         ensures row { IfOk result (IsRowOf def.now) }
-        // As a map from names, it has what each pair says.
-        ensures map { IfOk result (λ row. AllByRecursion (HasPair def.now.fields row.values) pairs.now) }
-        // All of this, and each refusal, as one function of the pairs.
+        // As a map from names, the row is the pairs.
+        ensures map { IfOk result (Give def.now.fields pairs.now) }
+        // A row that the pairs give as a map is built, unless memory is refused.
+        ensures only { (row : Cells) → IsRowOf def.now row → Give def.now.fields pairs.now row → IsBuilt result (Ok row) }
+        // Other pairs are refused at the first that is wrong, else at the first field that is missing.
+        ensures refused { IfErr result (IsRefusedRow def.now pairs.now) }
+        // The value at a field's name is the one in the field's place.
+        ensures names { IfOk result (λ row. StandByName def.now.fields row.values) }
+        // What is built, and each refusal, as one function of the pairs.
+        ensures exact { IsBuilt result (row_of def.now pairs.now) }
+    {
+        Row::read(alloc, def, pairs)
+    }
+
+    /// The row, field by field.
+    fn read(alloc: Global, def: &EventDef, pairs: &[Pair]) -> Result<Row, RowFault>
+        ensures definition { IsDefinition def.now }
+        ensures row { IfOk result (IsRowOf def.now) }
         ensures exact { IsBuilt result (row_of def.now pairs.now) }
     {
         if let Some(name) = wrong_pair(def.fields(), pairs) {
@@ -65,7 +82,12 @@ impl Row {
 
     /// The row of an event whose payload the bytes are, if they are the payload of one.
     pub fn decode(alloc: Global, def: &EventDef, bytes: &[u8]) -> Result<Option<Row>, AllocError>
-        ensures { IfOk result (λ found. (row : Cells) → (found ≡ Some row) ↔ (IsRowOf def.now row × (bytes.now ≡ payload_of row))) }
+        // It finds a row exactly where the bytes are that row's payload.
+        ensures row { IfOk result (λ found. (row : Cells) → (found ≡ Some row) ↔ (IsRowOf def.now row × (bytes.now ≡ payload_of row))) }
+        // The value at a field's name is the one in the field's place.
+        ensures names { IfOk result (λ found. IfSome found (λ row. StandByName def.now.fields row.values)) }
+        // What is found as one function of the bytes.
+        ensures exact { IfOk result (λ found. found ≡ row_from def.now bytes.now) }
     {
         let Some(values) = decode_values(alloc, def.fields(), bytes)? else {
             return Ok(None);

@@ -81,6 +81,8 @@ e u8 a; u8 b|a=1,c=1|!c
 e u8 a; u8 b|a=1,a=1|!a
 e u8 a; u8 b|b=256,c=1|!b
 e u8 a; u8 b|b=1|!a
+e u8 a; u8 b|a=1,z=1,a=2|!z
+e u8 a; u8 b|a=1,a=2,z=1|!a
 e u8 a; u8 b|b=2,a=1|0102";
 
 /// Numbers as texts, each with its value, or `-` where it is none.
