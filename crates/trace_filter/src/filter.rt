@@ -89,7 +89,8 @@ impl Filter {
 
     #[tactic(auto, unfolding(crate::specs::Filters::answer_of))]
     fn read(alloc: Global, text: &[u8], def: &EventDef) -> Result<Filter, FilterFault>
-        ensures { IsAnswered result (answer_of def.now text.now) }
+        ensures exact { IsAnswered result (answer_of def.now text.now) }
+        ensures definition { IfOk result (λ _. IsDefinition def.now) }
     {
         let body = cut_end(text);
         let trimmed = cut_front(body);
@@ -111,9 +112,9 @@ impl Filter {
     /// Whether the filter holds of a row of its event, emitted on a CPU by a process. It takes no memory.
     pub fn passes(&self, row: &Row, cpu: u32, pid: i32) -> bool
         // It passes what a tree that its text spells holds of.
-        ensures truth { (definition : Definition) → (written : List ℕ) → IsFilterOf definition written self.now → IsDefinition definition → IsRowOf definition row.now → IsTrue result ↔ Passes definition written (record { values = row.now.values; cpu = cpu; pid = pid }) }
+        ensures truth { (definition : Definition) → (written : List ℕ) → IsFilterOf definition written self.now → IsRowOf definition row.now → IsTrue result ↔ Passes definition written (record { values = row.now.values; cpu = cpu; pid = pid }) }
         // All such trees agree.
-        ensures each { (definition : Definition) → (written : List ℕ) → IsFilterOf definition written self.now → IsDefinition definition → IsRowOf definition row.now → (tree : Expr) → Spells (tokens_of (spots_of written)) tree → IsTrue result ↔ Holds definition.fields (record { values = row.now.values; cpu = cpu; pid = pid }) tree }
+        ensures each { (definition : Definition) → (written : List ℕ) → IsFilterOf definition written self.now → IsRowOf definition row.now → (tree : Expr) → Spells (tokens_of (spots_of written)) tree → IsTrue result ↔ Holds definition.fields (record { values = row.now.values; cpu = cpu; pid = pid }) tree }
     {
         evaluate(&self.steps, row.values(), cpu, pid)
     }
