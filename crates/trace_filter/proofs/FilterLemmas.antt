@@ -90,15 +90,19 @@ module _ (definition : Definition) (text : List ℕ) where
   verdict_is : ComesTo text (reading start (spots_of text) (length text))
   verdict_is = law (length text) (spots_of text)
 
-  filter_of : (found : Parsed) → answer_of definition text ≡ Ok found → IsFilterOf definition text found
+  was_read : (found : Parsed) → answer_of definition text ≡ Ok found → WasRead (nat_lt 1024 (length (trimmed text))) (reading start (spots_of text) (length text)) (misfit_of definition text) (parsed_of definition text) found
   unfolding answer_of
-  filter_of found h =
-      let was = read_from (nat_lt 1024 (length (trimmed text))) (reading start (spots_of text) (length text)) (misfit_of definition text) (parsed_of definition text) found h in
-      record {
-        is_filter = record { short = ltb-false 1024 (length (trimmed text)) was.short; syntax = subst (ComesTo text) was.fine verdict_is; fits = was.fits };
-        text = ap (λ (f : Parsed). f.text) (sym was.same);
-        subjects = ap (λ (f : Parsed). f.subjects) (sym was.same);
-      }
+  was_read found h = read_from (nat_lt 1024 (length (trimmed text))) (reading start (spots_of text) (length text)) (misfit_of definition text) (parsed_of definition text) found h
+
+  is_filter : (found : Parsed) → answer_of definition text ≡ Ok found → IsFilter definition text
+  is_filter found h =
+      let was = was_read found h in
+      record { short = ltb-false 1024 (length (trimmed text)) was.short; syntax = subst (ComesTo text) was.fine verdict_is; fits = was.fits }
+
+  filter_of : (found : Parsed) → answer_of definition text ≡ Ok found → IsDefinition definition → IsFilterOf definition text found
+  filter_of found h defined =
+      let was = was_read found h in
+      record { defined = defined; is_filter = is_filter found h; text = ap (λ (f : Parsed). f.text) (sym was.same); subjects = ap (λ (f : Parsed). f.subjects) (sym was.same) }
 
   fault_told : (fault : FilterFault) → length (trimmed text) ≤ 1024 → ComesTo text Fine → misfit_of definition text ≡ Some fault → IsTold definition text fault
   fault_told TooMany short fine h = absurd (never_told TooMany no_too_many definition.fields (spots_of text) h)
@@ -168,7 +172,7 @@ module _ (definition : Definition) (text : List ℕ) where
   refused_of Memory h = never_memory h
 
   pub filter_is_answered : IsFilter definition text ↔ (answer_of definition text ≡ Ok (parsed_of definition text))
-  filter_is_answered = (filter_answer, (λ h. (filter_of (parsed_of definition text) h).is_filter))
+  filter_is_answered = (filter_answer, is_filter (parsed_of definition text))
 
   pub refusal_is_answered : (fault : FilterFault) → IsRefused definition text fault ↔ (answer_of definition text ≡ Err fault)
   refusal_is_answered fault = (refused_answer fault, refused_of fault)
@@ -177,7 +181,7 @@ module _ (definition : Definition) (text : List ℕ) where
   filter_or_refused = by (answer_of definition text) refl
     where
       by : (r : Result Parsed FilterFault) → answer_of definition text ≡ r → IsFilter definition text ⊎ ((fault : FilterFault) × IsRefused definition text fault)
-      by (Ok found) h = inl (filter_of found h).is_filter
+      by (Ok found) h = inl (is_filter found h)
       by (Err fault) h = inr (fault, refused_of fault h)
 
   pub never_both : (fault : FilterFault) → IsFilter definition text → IsRefused definition text fault → ⊥
@@ -241,9 +245,9 @@ module _ (definition : Definition) (text : List ℕ) where
 
   -- ---- what `parse` says
 
-  pub parse_read : (r : Result Parsed FilterFault) → IsAnswered r (answer_of definition text) → IfOk r (IsFilterOf definition text)
-  parse_read (Ok found) e = filter_of found e
-  parse_read (Err fault) e = tt
+  pub parse_read : (r : Result Parsed FilterFault) → IsAnswered r (answer_of definition text) → IfOk r (λ _. IsDefinition definition) → IfOk r (IsFilterOf definition text)
+  parse_read (Ok found) e defined = filter_of found e defined
+  parse_read (Err fault) e defined = tt
 
   pub parse_refused : (r : Result Parsed FilterFault) → IsAnswered r (answer_of definition text) → IfErr r (IsTold definition text)
   parse_refused (Ok found) e = tt
@@ -272,7 +276,7 @@ module _ (definition : Definition) (text : List ℕ) where
 -- ---- what `passes` says
 
 module _ (definition : Definition) (written : List ℕ) (filter : Parsed) (row : Cells) (emission : Emission) (same : emission.values ≡ row.values)
-    (is : IsFilterOf definition written filter) (defined : IsDefinition definition) (is_row : IsRowOf definition row)
+    (is : IsFilterOf definition written filter) (is_row : IsRowOf definition row)
     (moves : List Move) (tested : subjects_tested moves ≡ filter.subjects) (kept : moves ≡ moves_about (subjects_tested moves) comparisons.Equal (tokens_of (spots_of filter.text)))
     (result : Bool) (result_is : result ≡ evaluated emission at_start moves) where
   moves_are : moves ≡ moves_from definition.fields subjects.Pid comparisons.Equal (tokens_of (spots_of written))
@@ -285,7 +289,7 @@ module _ (definition : Definition) (written : List ℕ) (filter : Parsed) (row :
   each_holds tree spelled =
       let fits = subst (AllFit definition.fields subjects.Pid) (sym spelled) (all_fit definition.fields subjects.Pid (spots_of written) (no_fault_in definition written is.is_filter.syntax is.is_filter.fits)) in
       let shallow = subst (λ t. depth_of t ≤ 16) (sym spelled) is.is_filter.syntax.shallow in
-      let value = value_is definition.fields emission (tests_decide definition row emission defined is_row same) tree subjects.Pid comparisons.Equal fits shallow in
+      let value = value_is definition.fields emission (tests_decide definition row emission is.defined is_row same) tree subjects.Pid comparisons.Equal fits shallow in
       let there : result ≡ evaluated emission at_start (moves_from definition.fields subjects.Pid comparisons.Equal (tokens_of (spots_of written))) = result_is ∙ ap (evaluated emission at_start) moves_are in
       let whole : result ≡ evaluated emission at_start (moves_from definition.fields subjects.Pid comparisons.Equal (expr_tokens tree)) = there ∙ ap (λ t. evaluated emission at_start (moves_from definition.fields subjects.Pid comparisons.Equal t)) (sym spelled) in
       ((λ h. value.0 (sym whole ∙ h)), (λ h. whole ∙ value.1 h))

@@ -1,6 +1,6 @@
 -- Filters of an event: which texts are filters, how others are refused, and when a filter passes an emission.
 use Rattle.std.specs.Prelude.{◌≡◌, ◌⊎◌, ◌<◌, ◌≤◌, ℕ, Bool, true, false, nat_lt, List, length, Option, None, Some, Result, Ok, Err}
-use Rattle.trace_format.specs.Definitions.{Definition}
+use Rattle.trace_format.specs.Definitions.{Definition, IsDefinition}
 use Rattle.trace_filter.specs.declared.fault.FilterFault.{FilterFault}
 use Rattle.trace_filter.specs.declared.fault.FilterFault.TheVariants.{TooMany, FilterSyntax, NoSuchField, WrongOperator, Memory}
 use Rattle.trace_filter.specs.declared.syntax.Verdict.{Verdict}
@@ -65,6 +65,7 @@ pub record Parsed : Type 0 where
 
 -- the filter that a text is, which is one of the event: the text without blanks at both ends, and what its names mean in the event
 pub record IsFilterOf (definition : Definition) (written : List ℕ) (filter : Parsed) : Type 0 where
+  pub defined : IsDefinition definition
   pub is_filter : IsFilter definition written
   pub text : filter.text ≡ trimmed written
   pub subjects : filter.subjects ≡ subjects_in definition.fields (tokens_of (spots_of written))

@@ -33,13 +33,15 @@ OneRefusal = (definition : Definition) → (text : List ℕ) → (one other : Fi
 abbrev pub TrimmedHasTheTokens : Type 0
 TrimmedHasTheTokens = (text : List ℕ) → spots_of text ≡ map (shifted_by (prefix_len is_blank (without_end text))) (spots_of (trimmed text))
 
--- it is a filter where the text as written is one, passes the same emissions, and is left so by trimming it once more
+-- it is a filter exactly where the text as written is one
 abbrev pub TrimmedIsTheFilter : Type 0
 TrimmedIsTheFilter = (definition : Definition) → (text : List ℕ) → IsFilter definition text ↔ IsFilter definition (trimmed text)
 
+-- it passes the same emissions
 abbrev pub TrimmedPassesTheSame : Type 0
 TrimmedPassesTheSame = (definition : Definition) → (text : List ℕ) → (emission : Emission) → Passes definition text emission ↔ Passes definition (trimmed text) emission
 
+-- and nothing is left to trim of it
 abbrev pub TrimmedOnce : Type 0
 TrimmedOnce = (text : List ℕ) → trimmed (trimmed text) ≡ trimmed text
 

@@ -90,7 +90,8 @@ impl Filter {
 
     #[tactic(auto, unfolding(crate::specs::Filters::answer_of))]
     fn read(alloc: Global, text: &[u8], def: &EventDef) -> Result<Filter, FilterFault>
-        ensures { IsAnswered result (answer_of def.now text.now) }
+        ensures exact { IsAnswered result (answer_of def.now text.now) }
+        ensures definition { IfOk result (λ _. IsDefinition def.now) }
     {
         let body = cut_end(text);
         let trimmed = cut_front(body);
@@ -114,9 +115,9 @@ impl Filter {
         // As one function of the filter and the emission.
         ensures exact { result ≡ holds_of self.now (record { values = row.now.values; cpu = cpu; pid = pid }) }
         // It passes what a tree that its text spells holds of.
-        ensures truth { (definition : Definition) → (written : List ℕ) → IsFilterOf definition written self.now → IsDefinition definition → IsRowOf definition row.now → IsTrue result ↔ Passes definition written (record { values = row.now.values; cpu = cpu; pid = pid }) }
+        ensures truth { (definition : Definition) → (written : List ℕ) → IsFilterOf definition written self.now → IsRowOf definition row.now → IsTrue result ↔ Passes definition written (record { values = row.now.values; cpu = cpu; pid = pid }) }
         // All such trees agree.
-        ensures each { (definition : Definition) → (written : List ℕ) → IsFilterOf definition written self.now → IsDefinition definition → IsRowOf definition row.now → (tree : Expr) → Spells (tokens_of (spots_of written)) tree → IsTrue result ↔ Holds definition.fields (record { values = row.now.values; cpu = cpu; pid = pid }) tree }
+        ensures each { (definition : Definition) → (written : List ℕ) → IsFilterOf definition written self.now → IsRowOf definition row.now → (tree : Expr) → Spells (tokens_of (spots_of written)) tree → IsTrue result ↔ Holds definition.fields (record { values = row.now.values; cpu = cpu; pid = pid }) tree }
     {
         evaluate(&self.steps, row.values(), cpu, pid)
     }

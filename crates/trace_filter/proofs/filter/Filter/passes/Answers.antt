@@ -9,21 +9,21 @@ use Rattle.trace_filter.proofs.FilterLemmas.{each_holds, some_passes, value_of_f
 use Rattle.trace_filter.proofs.filter.Filter.passes.Goals as goal
 
 pub returns-clause-truth : goal.returns-clause-truth
-returns-clause-truth c = λ definition written is defined is_row.
+returns-clause-truth c = λ definition written is is_row.
     let emission : Emission = record { values = c.args.row.now.values; cpu = c.args.cpu; pid = c.args.pid } in
     let moves : List Move = map move_of c.self.inside.steps.items in
     let found : c.evaluate.result ≡ evaluated (record { values = map datum_of c.values.result.now; cpu = c.args.cpu; pid = c.args.pid }) at_start (map move_of c.deref.result.now) = search rules in
-    some_passes definition written c.args.self.now c.args.row.now emission refl is defined is_row
+    some_passes definition written c.args.self.now c.args.row.now emission refl is is_row
     moves (ap (λ (f : Parsed). f.subjects) c.self.view_is) (c.self.invariant ∙ ap (λ (f : Parsed). moves_about (subjects_tested moves) comparisons.Equal (tokens_of (spots_of f.text))) c.self.view_is)
     c.evaluate.result
     (found ∙ (λ i. evaluated (record { values = c.values.ensures.values i; cpu = c.args.cpu; pid = c.args.pid }) at_start (map move_of (c.deref.ensures.value i))))
 
 pub returns-clause-each : goal.returns-clause-each
-returns-clause-each c = λ definition written is defined is_row.
+returns-clause-each c = λ definition written is is_row.
     let emission : Emission = record { values = c.args.row.now.values; cpu = c.args.cpu; pid = c.args.pid } in
     let moves : List Move = map move_of c.self.inside.steps.items in
     let found : c.evaluate.result ≡ evaluated (record { values = map datum_of c.values.result.now; cpu = c.args.cpu; pid = c.args.pid }) at_start (map move_of c.deref.result.now) = search rules in
-    each_holds definition written c.args.self.now c.args.row.now emission refl is defined is_row
+    each_holds definition written c.args.self.now c.args.row.now emission refl is is_row
     moves (ap (λ (f : Parsed). f.subjects) c.self.view_is) (c.self.invariant ∙ ap (λ (f : Parsed). moves_about (subjects_tested moves) comparisons.Equal (tokens_of (spots_of f.text))) c.self.view_is)
     c.evaluate.result
     (found ∙ (λ i. evaluated (record { values = c.values.ensures.values i; cpu = c.args.cpu; pid = c.args.pid }) at_start (map move_of (c.deref.ensures.value i))))

@@ -18,8 +18,8 @@ invariant_of-result c =
     c.in_ok-steps.ensures.steps ∙ (λ i. moves_from (c.fields.ensures.fields i) subjects.Pid comparisons.Equal (tokens_of (spots_from false 0 0 (c.cut_end-body.ensures i)))) in
     moves_kept c.args.def.now c.args.text.now c.in_ok-from_slice.field-0.items (map move_of c.in_ok-steps.steps.items) items_is moves_is
 
-pub returns : goal.returns
-returns c =
+pub returns-clause-exact : goal.returns-clause-exact
+returns-clause-exact c =
     let items_is : c.in_ok-from_slice.field-0.items ≡ trimmed c.args.text.now = c.in_ok-from_slice.ensures.items ∙ c.cut_front-trimmed.ensures ∙ ap (λ w. drop (prefix_len is_blank w) w) c.cut_end-body.ensures in
     let moves_is : map move_of c.in_ok-steps.steps.items ≡ moves_from c.args.def.now.fields subjects.Pid comparisons.Equal (tokens_of (spots_of c.args.text.now)) =
     c.in_ok-steps.ensures.steps ∙ (λ i. moves_from (c.fields.ensures.fields i) subjects.Pid comparisons.Equal (tokens_of (spots_from false 0 0 (c.cut_end-body.ensures i)))) in
@@ -29,8 +29,8 @@ returns c =
     let fits : first_fault c.args.def.now.fields subjects.Pid (spots_of c.args.text.now) ≡ None = (λ i. first_fault (sym c.fields.ensures.fields i) subjects.Pid (spots_from false 0 0 (sym c.cut_end-body.ensures i))) ∙ c.in_ok-steps.ensures.fits in
     filter_made c.args.def.now c.args.text.now c.in_ok-from_slice.field-0.items (map move_of c.in_ok-steps.steps.items) items_is moves_is short fine fits
 
-pub returns-in_err-steps : goal.returns-in_err-steps
-returns-in_err-steps c =
+pub returns-in_err-steps-clause-exact : goal.returns-in_err-steps-clause-exact
+returns-in_err-steps-clause-exact c =
     let short : length (trimmed c.args.text.now) ≤ 1024 = omega (arith, c.if-trimmed-gt-LONGEST.false, ap length (c.cut_front-trimmed.ensures ∙ ap (λ w. drop (prefix_len is_blank w) w) c.cut_end-body.ensures)) in
     let fine : reading start (spots_of c.args.text.now) (length c.args.text.now) ≡ Fine =
     ap (λ w. reading start (spots_from false 0 0 w) (length c.args.text.now)) (sym c.cut_end-body.ensures) ∙ sym c.in_ok-read_syntax.ensures ∙ c.in-Fine.is in
