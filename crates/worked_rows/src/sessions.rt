@@ -1,6 +1,6 @@
 //! Sessions over memory.
 
-ghost use Rattle.std.specs.Prelude.{◌≡◌, ◌≤◌, ◌%◌, ◌^◌, ◌×◌};
+ghost use Rattle.std.specs.Prelude.{◌≡◌, ◌≤◌, ◌%◌, ◌^◌};
 ghost use Rattle.trace_book.specs.Configs.{IsInRange};
 
 use std::alloc::Global;
