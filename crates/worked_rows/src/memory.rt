@@ -14,6 +14,10 @@ const CONFIG: Config = Config {
     history_limit: 1 << 32,
 };
 
+const EVENTS: &str = "synthetic_events";
+
+const TICK: &str = "tick u64 n";
+
 /// A book, and a ticket above those of its history.
 #[derive(Drop)]
 struct Desk {
@@ -42,17 +46,14 @@ impl Desk {
         self.ask(Command::Read { path, limit })
     }
 
-    fn write(&mut self, path: &str, text: &str) -> Result<Reply, Refusal>
+    // Writes by `>`, or appends by `>>`.
+    fn write(&mut self, path: &str, append: bool, text: &str) -> Result<Reply, Refusal>
         requires { self.old.next < 2 ^ 32 }
         ensures { self.new.next ≤ self.old.next + 1 }
     {
         let path = Text::from_slice(self.alloc, path.as_bytes())?;
         let text = Text::from_slice(self.alloc, text.as_bytes())?;
-        self.ask(Command::Write {
-            path,
-            append: false,
-            text,
-        })
+        self.ask(Command::Write { path, append, text })
     }
 
     fn emit(&mut self, value: &str) -> Result<Reply, Refusal>
@@ -91,8 +92,8 @@ fn prepared_desk(alloc: Global) -> Result<Desk, Refusal>
         book: Book::new(alloc, CONFIG)?,
         next: 0,
     };
-    desk.write("synthetic_events", "tick u64 n")?;
-    desk.write("events/synthetic/tick/enable", "1")?;
+    desk.write(EVENTS, false, TICK)?;
+    desk.write("events/synthetic/tick/enable", false, "1")?;
     desk.emit("1")?;
     desk.emit("2")?;
     desk.emit("3")?;
@@ -143,4 +144,49 @@ fn a_refused_trace_changes_nothing(rt: HostRuntime) {
     let text =
         "# tracer: nop\n#\n# entries-in-buffer/entries-written: 3/3   #P:1\n#\n7 [000] 1: tick: n=1\n7 [000] 2: tick: n=2\n7 [000] 3: tick: n=3\n";
     let _ = read_survives(&rt, "trace", None, text);
+}
+
+#[test]
+fn a_refused_format_changes_nothing(rt: HostRuntime) {
+    let text =
+        "name: tick\nID: 1\nformat:\n\tfield:s32 common_pid;\toffset:8;\tsize:4;\tsigned:1;\n\n\tfield:u64 n;\toffset:16;\tsize:8;\tsigned:0;\n";
+    let _ = read_survives(&rt, "events/synthetic/tick/format", None, text);
+}
+
+#[test]
+fn a_refused_list_of_declarations_changes_nothing(rt: HostRuntime) {
+    let _ = read_survives(&rt, EVENTS, None, "tick u64 n\n");
+}
+
+/// Whether the declarations are these. Where a read was refused for want of memory, nothing is told.
+fn are_declared(rt: &impl Abort, desk: &mut Desk, want: &str)
+    requires { desk.old.next < 2 ^ 32 }
+    ensures { desk.new.next ≤ desk.old.next + 1 }
+{
+    let reply = desk.read(EVENTS, None);
+    if !matches!(reply, Err(Refusal::Memory)) {
+        assert_eq!(rt; shown(&reply), Some(want.as_bytes()));
+    }
+}
+
+/// Declares an event at a desk of its own. Where that was refused for want of memory, the events are as they were before, and the same
+/// declaration is then done.
+fn declaration_survives(rt: &(impl Abort + AllocGlobal)) -> Result<(), Refusal> {
+    let mut desk = prepared_desk(rt.alloc())?;
+    let declaration = "move char who[8]; s64 d";
+    let mut reply = desk.write(EVENTS, true, declaration);
+    if matches!(reply, Err(Refusal::Memory)) {
+        are_declared(rt, &mut desk, "tick u64 n\n");
+        let format = desk.read("events/synthetic/move/format", None);
+        assert!(rt; matches!(format, Err(Refusal::NoSuchEvent)));
+        reply = desk.write(EVENTS, true, declaration);
+    }
+    assert!(rt; matches!(reply, Ok(Reply::Done)));
+    are_declared(rt, &mut desk, "tick u64 n\nmove char who[8]; s64 d\n");
+    Ok(())
+}
+
+#[test]
+fn a_refused_declaration_changes_nothing(rt: HostRuntime) {
+    let _ = declaration_survives(&rt);
 }

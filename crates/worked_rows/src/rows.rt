@@ -1,12 +1,10 @@
-ghost use Rattle.std.specs.Prelude.{◌≤◌, ◌^◌};
-ghost use Rattle.trace_book.specs.Configs.{IsInRange};
-
 use crate::fakes::{Hesitant, Narrow, WhenFull};
+use crate::sessions::{config, session};
 use std::alloc::{AllocError, Global};
 use std::io;
 use std::io::Read;
 use std::test::Fail;
-use trace_book::{Book, Command, Config, Refusal, Text};
+use trace_book::{Book, Command, Refusal, Text};
 use trace_session::{Input, MOST_SCRIPT_BYTES, Output, Status, run_session};
 
 /// A script, what is written for it, and the exit status.
@@ -17,7 +15,7 @@ struct Row {
     status: u8,
 }
 
-const ROWS: [Row; 19] = [
+const ROWS: [Row; 25] = [
     // One event, its switch, emissions and statistics.
     Row {
         name: "stats_at_once",
@@ -116,6 +114,43 @@ const ROWS: [Row; 19] = [
         written: "! 1: N3 NotWritable\n",
         status: 1,
     },
+    // Events of all types.
+    Row {
+        name: "declaration_refusals",
+        script: "echo 'x u64 n; u32 n' >> synthetic_events\necho 'x' >> synthetic_events\necho 'x char t[65]' >> synthetic_events\n",
+        written: "! 1: N7 BadDefinition at 13\n! 2: N7 BadDefinition at 1\n! 3: N7 BadDefinition at 7\n",
+        status: 1,
+    },
+    Row {
+        name: "format_file",
+        script: "echo 'tick u64 n' > synthetic_events\necho 1 > events/synthetic/tick/enable\ncat events/synthetic/tick/format\necho 'wide char t[64]' >> synthetic_events\ncat synthetic_events\n",
+        written: "name: tick\nID: 1\nformat:\n\tfield:s32 common_pid;\toffset:8;\tsize:4;\tsigned:1;\n\n\tfield:u64 n;\toffset:16;\tsize:8;\tsigned:0;\n! 4: N8 TooBig\ntick u64 n\n",
+        status: 1,
+    },
+    Row {
+        name: "smaller_record_after_drop",
+        script: "echo 'tick u64 n' > synthetic_events\necho 1 > events/synthetic/tick/enable\necho 'big u64 a; u64 b; u64 c' >> synthetic_events\necho 1 > events/synthetic/big/enable\necho nooverwrite > trace_options\nemit 0 7 big a=1 b=2 c=3\nemit 0 7 tick n=2\nemit 0 7 big a=1 b=2 c=3\nemit 0 7 big a=1 b=2 c=3\nemit 0 7 tick n=5\ncat per_cpu/cpu0/stats\ncat trace\n",
+        written: "entries: 4\noverrun: 0\ncommit overrun: 0\nbytes: 128\noldest event ts: 1\nnow ts: 5\ndropped events: 1\nread events: 0\n# tracer: nop\n#\n# entries-in-buffer/entries-written: 4/4   #P:1\n#\n7 [000] 1: big: a=1 b=2 c=3\n7 [000] 2: tick: n=2\n7 [000] 3: big: a=1 b=2 c=3\n7 [000] 5: tick: n=5\n",
+        status: 0,
+    },
+    Row {
+        name: "declaration_refusals_in_order",
+        script: "echo 'tick u64 n' > synthetic_events\necho 'x' > synthetic_events\necho 'tick u64 n; char t[65]' > synthetic_events\necho 'x u64 n' > synthetic_events\necho 'tick char t[64]' >> synthetic_events\necho 'x char t[64]' >> synthetic_events\necho 'x char t[48]' >> synthetic_events\ncat synthetic_events\n",
+        written: "! 2: N7 BadDefinition at 1\n! 3: N7 BadDefinition at 17\n! 4: N19 Busy\n! 5: N6 EventExists\n! 6: N8 TooBig\ntick u64 n\nx char t[48]\n",
+        status: 1,
+    },
+    Row {
+        name: "refusals_of_the_format_file",
+        script: "cat synthetic_events\ncat events/synthetic/tick/format\necho 'tick u64 n' > synthetic_events\ncat events/synthetic/tock/format\ntake 1 events/synthetic/tick/format\ntake 1 synthetic_events\necho 1 > events/synthetic/tock/format\necho 1 > events/synthetic/tick/format\ncat events/synthetic/9x/format\n",
+        written: "! 2: N5 NoSuchEvent\n! 4: N5 NoSuchEvent\n! 5: N4 BadValue\n! 6: N4 BadValue\n! 7: N5 NoSuchEvent\n! 8: N3 NotWritable\n! 9: N1 NoSuchFile\n",
+        status: 1,
+    },
+    Row {
+        name: "a_text_and_a_signed_number",
+        script: "echo 'move char who[8]; s64 d' > synthetic_events\necho 1 > events/synthetic/move/enable\nemit 0 7 move who=b d=-5\nemit 0 7 move d=0x10 'who=a = b'\nemit 0 7 move d=010 who=\nemit 0 7 move who=abcdefgh d=1\nemit 0 7 move who=a who=b d=1\nemit 0 7 move who=a x=1 d=y\nemit 0 7 move who=a\ntake 1 trace_pipe\ncat trace\n",
+        written: "! 6: N21 BadRow who\n! 7: N21 BadRow who\n! 8: N21 BadRow x\n! 9: N21 BadRow d\n7 [000] 1: move: who=b d=-5\n# tracer: nop\n#\n# entries-in-buffer/entries-written: 2/2   #P:1\n#\n7 [000] 2: move: who=a = b d=16\n7 [000] 3: move: who= d=8\n",
+        status: 1,
+    },
     // Faults in a script.
     Row {
         name: "cat_alone",
@@ -137,35 +172,10 @@ const ROWS: [Row; 19] = [
     },
 ];
 
-/// One CPU with two pages of 64 bytes.
-fn config(history_limit: u64) -> Config
-    requires least { 1 ≤ history_limit }
-    requires most { history_limit ≤ 2 ^ 32 }
-    ensures { IsInRange result }
-{
-    Config {
-        cpus: 1,
-        pages: 2,
-        page_bytes: 64,
-        history_limit,
-    }
-}
-
-/// What a session over memory writes for a script, and its status.
-fn session(alloc: Global, history_limit: u64, script: &[u8]) -> (Vec<u8>, Status)
-    requires least { 1 ≤ history_limit }
-    requires most { history_limit ≤ 2 ^ 32 }
-{
-    let mut input = Input::new(script);
-    let mut output = Output::new(Vec::new(alloc));
-    let status = run_session(alloc, config(history_limit), &mut input, &mut output);
-    (output.device, status)
-}
-
 #[test]
 fn rows_hold(rt: HostRuntime) {
     for row in &ROWS {
-        let (written, status) = session(rt.alloc(), 1 << 32, row.script.as_bytes());
+        let (written, status) = session(rt.alloc(), config(64, 1 << 32), row.script.as_bytes());
         assert_eq!(rt; written.as_slice(), row.written.as_bytes(), "{}", row.name);
         assert_eq!(rt; status.code(), row.status, "{}", row.name);
     }
@@ -185,11 +195,11 @@ fn a_full_history_takes_no_more(rt: HostRuntime) -> Result<(), Fail> {
     let alloc = rt.alloc();
     let script =
         b"echo 'tick u64 n' > synthetic_events\necho 1 > events/synthetic/tick/enable\ncat per_cpu/cpu0/stats\n";
-    let (written, status) = session(alloc, 2, script.as_slice());
+    let (written, status) = session(alloc, config(64, 2), script.as_slice());
     assert_eq!(rt; written.as_slice(), b"! 3: N22 HistoryFull\n".as_slice());
     assert_eq!(rt; status, Status::Refused);
 
-    let mut book = Book::new(alloc, config(2))?;
+    let mut book = Book::new(alloc, config(64, 2))?;
     book.ask(0, 0, write(alloc, b"synthetic_events", b"tick u64 n")?)?;
     book.ask(1, 0, write(alloc, b"events/synthetic/tick/enable", b"1")?)?;
     let refused = book.ask(2, 0, write(alloc, b"events/synthetic/tick/enable", b"1")?);
@@ -214,7 +224,7 @@ fn narrow_session(
         room,
         when_full,
     });
-    let status = run_session(alloc, config(1 << 32), &mut input, &mut output);
+    let status = run_session(alloc, config(64, 1 << 32), &mut input, &mut output);
     (output.device.taken, output.failures, status)
 }
 
@@ -249,7 +259,7 @@ fn a_failed_read_writes_nothing(rt: HostRuntime) {
         fails_at_end: true,
     });
     let mut output = Output::new(Vec::new(rt.alloc()));
-    let status = run_session(rt.alloc(), config(1 << 32), &mut input, &mut output);
+    let status = run_session(rt.alloc(), config(64, 1 << 32), &mut input, &mut output);
     assert_eq!(rt; status, Status::Device);
     assert_eq!(rt; input.failures, 1);
     assert!(rt; output.device.is_empty());
@@ -264,7 +274,7 @@ fn a_script_has_a_greatest_length(rt: HostRuntime) {
         let mut input = Input::new(io::repeat(b'#').take(MOST_SCRIPT_BYTES as u64 + more));
         let mut output = Output::new(Vec::new(rt.alloc()));
         assert_eq!(rt;
-            run_session(rt.alloc(), config(1 << 32), &mut input, &mut output),
+            run_session(rt.alloc(), config(64, 1 << 32), &mut input, &mut output),
             status
         );
         assert_eq!(rt; output.device.as_slice(), written);
