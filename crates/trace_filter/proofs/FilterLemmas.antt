@@ -308,10 +308,10 @@ value_of_filter filter emission = refl
 
 pub holds_as_its_tree : (definition : Definition) (text : List ℕ) (row : Cells) (emission : Emission) → IsFilter definition text → IsDefinition definition → IsRowOf definition row
     → emission.values ≡ row.values → IsTrue (holds_of (parsed_of definition text) emission) ↔ Passes definition text emission
-holds_as_its_tree definition text row emission is_filter defined is_row same =
+holds_as_its_tree definition text row emission filter defined is_row same =
     let tokens = tokens_of (spots_of text) in
     let moves = moves_from definition.fields subjects.Pid comparisons.Equal tokens in
-    let tested : subjects_tested moves ≡ subjects_in definition.fields tokens = tested_subjects definition text is_filter.syntax is_filter.fits in
+    let tested : subjects_tested moves ≡ subjects_in definition.fields tokens = tested_subjects definition text filter.syntax filter.fits in
     let trimmed_same : tokens_of (spots_of (trimmed text)) ≡ tokens = trimmed_tokens text in
     let kept : moves ≡ moves_about (subjects_tested moves) comparisons.Equal (tokens_of (spots_of (trimmed text))) =
     about_is definition.fields subjects.Pid comparisons.Equal tokens ∙ ap (λ ts. moves_about (subjects_tested moves) comparisons.Equal ts) (sym trimmed_same) in
@@ -319,5 +319,5 @@ holds_as_its_tree definition text row emission is_filter defined is_row same =
     sym (value_of_filter (parsed_of definition text) emission)
     ∙ ap (λ ss. evaluated emission at_start (moves_about ss comparisons.Equal (tokens_of (spots_of (trimmed text))))) (sym tested)
     ∙ ap (evaluated emission at_start) (sym kept) in
-    some_passes definition text (parsed_of definition text) row emission same (record { is_filter = is_filter; text = refl; subjects = refl }) defined is_row moves tested kept
+    some_passes definition text (parsed_of definition text) row emission same (record { defined = defined; is_filter = filter; text = refl; subjects = refl }) is_row moves tested kept
     (holds_of (parsed_of definition text) emission) value

@@ -6,6 +6,8 @@ mod events;
 #[cfg(test)]
 mod fakes;
 #[cfg(test)]
+mod filters;
+#[cfg(test)]
 mod memory;
 #[cfg(test)]
 mod rows;

@@ -8,11 +8,11 @@ use trace_book::{Book, Command, Refusal, Text};
 use trace_session::{Input, MOST_SCRIPT_BYTES, Output, Status, run_session};
 
 /// A script, what is written for it, and the exit status.
-struct Row {
-    name: &'static str,
-    script: &'static str,
-    written: &'static str,
-    status: u8,
+pub(crate) struct Row {
+    pub(crate) name: &'static str,
+    pub(crate) script: &'static str,
+    pub(crate) written: &'static str,
+    pub(crate) status: u8,
 }
 
 const ROWS: [Row; 25] = [
