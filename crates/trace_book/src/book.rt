@@ -8,6 +8,7 @@ ghost use Rattle.trace_book.specs.Refusals.{OrMemory};
 ghost use Rattle.trace_book.specs.Requests.{request_of};
 ghost use Rattle.trace_book.specs.Rings.{ring_events};
 ghost use Rattle.trace_book.specs.Settings.{declared_events, is_enabled, overwrites, now_of};
+ghost use Rattle.trace_book.specs.States.{kept_filter};
 ghost use Rattle.trace_book.specs.declared.refusal.Refusal.TheVariants as refusal;
 
 use crate::command::{Command, Config, Entry, Reply};
@@ -108,6 +109,8 @@ impl Book {
             shown.StandsFor instance.now.ring (ring_events self.now.config 0 (past_of self.now.entries))) }
         ensures settings { IfSome result (λ instance. (instance.now.overwrite ≡ overwrites (past_of self.now.entries))
             × (instance.now.enabled ≡ map (λ event. is_enabled event.name (past_of self.now.entries)) (declared_events (past_of self.now.entries)))) }
+        ensures filters { IfSome result (λ instance. instance.now.filters
+            ≡ map (kept_filter (past_of self.now.entries)) (declared_events (past_of self.now.entries))) }
         ensures shape { IfSome result (λ instance. (instance.now.ring.pages ≡ self.now.config.pages)
             × (instance.now.ring.page_bytes ≡ self.now.config.page_bytes)) }
     {

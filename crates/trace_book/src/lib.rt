@@ -5,12 +5,12 @@ mod book;
 mod command;
 mod decimal;
 mod instance;
+mod pipe_text;
 mod place;
 mod prepare;
 mod refusal;
 mod row;
 mod state;
-mod pipe_text;
 
 pub use book::Book;
 pub use command::{Command, Config, Entry, Pairs, Reply};

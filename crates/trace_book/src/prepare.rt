@@ -23,11 +23,11 @@ ghost use Rattle.trace_book.specs.declared.state.Change.TheVariants as change;
 
 use crate::command::{Command, Config, Reply};
 use crate::decimal::{digits_value, trimmed, written_number};
+use crate::pipe_text::{push_records, push_taken};
 use crate::place::{Place, place_of};
 use crate::refusal::Refusal;
 use crate::row::record;
 use crate::state::{Change, FilterChange, Prepared, State, event_at, find};
-use crate::pipe_text::{push_records, push_taken};
 use std::alloc::{AllocError, Global};
 use trace_filter::{Filter, FilterFault};
 use trace_format::{Catalog, CatalogFault, EventDef, Pair, Row, Text, payload_size, record_size};
