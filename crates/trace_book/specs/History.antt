@@ -45,11 +45,12 @@ emission_answer g past name cpu pairs = if nat_lt cpu g.cpus then event_answer (
 
 -- ---- what a write to each file answers
 
--- a definition that was read: first whether it may begin anew, then its name, its fields and the number of events, and its record's size
+-- an event that is added: first its name, then its fields and the number of events, then its record's size
 abbrev pub added_answer : Result ℕ CatalogFault → Result Reply Refusal
 added_answer (Ok id) = Ok Done
 added_answer (Err fault) = Err (refusal_of_catalog fault)
 
+-- a definition that was read: first whether it may begin anew, and then whether it can be added
 abbrev pub new_event_answer : Config → List Request → Bool → Definition → Result Reply Refusal
 new_event_answer g past append definition =
     if not append && nat_lt 0 (length (declared_events past)) then Err Busy else added_answer (id_for (declared_events past) definition g.page_bytes)
@@ -66,17 +67,18 @@ declaration_answer g past append text = read_declaration_answer g past append (d
 unfoldable pub switch_answer : List ℕ → Result Reply Refusal
 switch_answer text = if is_some (written_flag text) then Ok Done else Err BadValue
 
--- a filter of an event: one that the event can take, or the text that clears
+-- a filter that an event can take, or why it can't
 abbrev pub taken_answer : Result Parsed FilterFault → Result Reply Refusal
 taken_answer (Ok filter) = Ok Done
 taken_answer (Err fault) = Err (refusal_of_filter fault)
 
+-- a filter of an event: the text that clears, or one that the event can take
 unfoldable pub filter_answer : List ℕ → Definition → Result Reply Refusal
 filter_answer text event = if clears_filter text then Ok Done else taken_answer (answer_of event text)
 
 -- the event's name is one that was declared
 abbrev pub named_filter_answer : List ℕ → Option NumberedEvent → Result Reply Refusal
-named_filter_answer text None = Ok Done
+named_filter_answer text None = Err NoSuchEvent
 named_filter_answer text (Some k) = filter_answer text k.event
 
 -- a filter of all events: one that some event can take, else refused as the first event refuses it; none without an event

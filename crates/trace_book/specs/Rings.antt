@@ -26,8 +26,8 @@ record_bytes timestamp pid id row =
     head_bytes (record { ts = timestamp; pid = pid; event = id; payload = length (payload_of row) })
     ++ payload_of row ++ replicate (padding (length (payload_of row))) 0
 
--- whether an event's filter holds of an emission; `holds_of` is the truth of the trees that the text spells, as `Passes` says of them
--- (trace_filter)
+-- whether an event's filter holds of an emission. For a filter of the event and a row of it, `holds_of` is the truth of the trees that the
+-- text spells, as a law of trace_filter says.
 unfoldable pub filter_holds : Definition → Option (List ℕ) → Cells → ℕ → ℤ → Bool
 filter_holds event None row cpu pid = true
 filter_holds event (Some text) row cpu pid = holds_of (parsed_of event text) (record { values = row.values; cpu = cpu; pid = pid })

@@ -1,4 +1,4 @@
--- What the requests that were done say of events, their switches, overwriting and the clock. The newest request stands first.
+-- What the requests that were done say of events, their switches and filters, overwriting and the clock. The newest request stands first.
 use Rattle.std.specs.Prelude.{ℕ, suc, ◌+◌, ◌==◌, Bool, true, false, if◌then◌else◌, List, [], ◌∷◌, ◌++◌, Option, Some, None, Result, Ok, Err, unwrap_or, is_ok, is_some, codes}
 use Rattle.std.specs.Option.{option_map, option_and_then, option_to_list}
 use Rattle.std.specs.Result.{result_ok}
@@ -68,8 +68,8 @@ is_enabled event (request ∷ past) = unwrap_or (switches event past request) (i
 unfoldable pub clears_filter : List ℕ → Bool
 clears_filter text = bytes_eq (trimmed text) (codes "0")
 
--- an event can take a filter where the text is one of the event. `answer_of` gives a filter exactly where the text is in the grammar and
--- fits the event's fields, as `IsFilter` says of them (trace_filter).
+-- an event can take a filter where the text is one of the event. `answer_of` gives a filter exactly where the text is short and shallow enough,
+-- is in the grammar and fits the event's fields: where it is one by `IsFilter`, as a law of trace_filter says.
 unfoldable pub can_take : List ℕ → Definition → Bool
 can_take text event = is_ok (answer_of event text)
 

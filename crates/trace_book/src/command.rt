@@ -79,7 +79,7 @@ pub struct Entry {
 /// What a book is made with.
 #[derive(Clone, Copy, Debug, PartialEq, Eq)]
 pub struct Config {
-    /// The number of CPUs, from 1 to 8.
+    /// The number of CPUs; for now it is 1.
     pub cpus: u32,
     /// The pages of each CPU's ring, from 2 to 1,024.
     pub pages: u32,

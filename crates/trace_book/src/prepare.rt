@@ -1,4 +1,4 @@
-//! Commands are prepared before anything changes: all memory that they need is taken here.
+//! Commands are prepared before anything changes: all memory that they need is taken here, but for the catalog's growth and the history's.
 
 ghost use Rattle.std.specs.Prelude.{◌≡◌, ℕ, ◌^◌, ◌≤◌, ◌<◌, ◌++◌, Bool, List, Option, Some, None, is_some, nat_lt, length, map, option_copied, if◌then◌else◌, IfOk, OnOk};
 ghost use Rattle.std.specs.List.{flat_map, list_any};
@@ -40,7 +40,7 @@ const FIELD_LIMIT: usize = 16;
 const EVENT_LIMIT: usize = 64;
 
 impl State {
-    /// Takes all memory that a command needs, and tells what it will change and its reply.
+    /// Takes the memory that a command needs, and tells what it will change and its reply.
     pub(crate) fn prepare(
         &mut self,
         alloc: Global,

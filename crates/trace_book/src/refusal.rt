@@ -30,13 +30,14 @@ pub enum Refusal {
     /// An event of this name was declared before.
     #[error("event exists")]
     EventExists,
-    /// The text is no declaration of an event: what stands at this byte can't stand there.
+    /// The text is no declaration of an event: what stands at this byte can't stand there, or the text ends too early, at its length.
     #[error("bad definition at {at}")]
     BadDefinition { at: usize },
     /// A record of the event would not fit a page.
     #[error("too big")]
     TooBig,
-    /// The text is no filter: what stands at this byte can't stand there.
+    /// The text is no filter: what stands at this byte can't stand there, or is no number where one is needed, or the text ends too early, at its
+    /// length.
     #[error("filter syntax at {at}")]
     FilterSyntax { at: usize },
     /// The event has no field of the name at this byte.
@@ -57,7 +58,7 @@ pub enum Refusal {
     /// No such trigger is attached.
     #[error("no such trigger")]
     NoSuchTrigger,
-    /// A limit on the number of something is reached.
+    /// There would be too many: over 16 fields of an event, over 64 events, or a filter of over 1,024 bytes or of over 16 open `!` and `(`.
     #[error("too many")]
     TooMany,
     /// An instance of this name is there already.

@@ -41,7 +41,7 @@ pub(crate) enum Change {
     Clear,
     /// So many records are consumed.
     Take(u64),
-    /// The clock ticks, and the record is written if the event is enabled.
+    /// The clock ticks, and the record, if there is one, is written: the event is enabled and its filter holds.
     Emit(Option<Vec<u8>>),
 }
 
@@ -73,7 +73,7 @@ impl FilterChange {
     }
 }
 
-/// A command for which all memory is at hand: what it will change, and its reply.
+/// A command that was prepared: what it will change, and its reply.
 #[derive(Drop)]
 pub(crate) struct Prepared {
     pub change: Change,

@@ -151,8 +151,8 @@ fn push_record_line(
 /// Appends the line of a record in `trace` and `trace_pipe` ("Output format" of ftrace.rst): pid, CPU in three digits, timestamp in ticks of
 /// the clock, event, and each field with its value, in order of declaration.
 ///
-/// `rec` is the record's bytes: its head, which names an event of the catalog, the payload of a row of that event, and what fills it up. Other
-/// bytes have no line.
+/// `rec` is the record's bytes: its head, which names an event of the catalog, the payload of a row of that event, and what fills it up. Bytes
+/// with no head, of no such event, or with no row of it have no line.
 ///
 /// It is refused only where an allocation is, and `out` is then as it was.
 pub fn record_text(
