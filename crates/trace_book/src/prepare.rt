@@ -16,7 +16,6 @@ ghost use Rattle.trace_book.specs.declared.command.Config.{Config};
 ghost use Rattle.trace_book.specs.TraceFiles.{trace_text};
 ghost use Rattle.trace_text.specs.DeclarationText as texts;
 ghost use Rattle.trace_format.specs.Cells.{size_of_all};
-ghost use Rattle.trace_format.specs.Catalogs.{id_for};
 ghost use Rattle.page_ring.specs.Record.{record_size};
 ghost use Rattle.trace_book.specs.declared.refusal.Refusal.TheVariants as refusal;
 ghost use Rattle.trace_book.specs.declared.state.Change.TheVariants as change;
@@ -30,14 +29,8 @@ use crate::row::record;
 use crate::state::{Change, FilterChange, Prepared, State, event_at, find};
 use std::alloc::{AllocError, Global};
 use trace_filter::{Filter, FilterFault};
-use trace_format::{Catalog, CatalogFault, EventDef, Pair, Row, Text, payload_size, record_size};
+use trace_format::{Catalog, EventDef, Pair, Row, Text, payload_size};
 use trace_text::{declaration_text, format_text, stats_text, trace_head_text};
-
-/// How many fields an event may have.
-const FIELD_LIMIT: usize = 16;
-
-/// How many events there may be.
-const EVENT_LIMIT: usize = 64;
 
 impl State {
     /// Takes the memory that a command needs, and tells what it will change and its reply.
@@ -204,7 +197,7 @@ impl State {
         if !append && !self.catalog.is_empty() {
             return Err(Refusal::Busy);
         }
-        let _id = next_id(&self.catalog, &event, config.page_bytes as usize)?;
+        let _id = self.catalog.next_id(&event, config.page_bytes as usize)?;
         Ok(Prepared {
             change: Change::Declare(event),
             reply: Reply::Done,
@@ -516,22 +509,6 @@ fn filter_of_all(alloc: Global, events: &Catalog, text: &[u8], some: bool) -> Re
     }
     let _filter = written_filter(alloc, text, event_at(events, 0))?;
     Ok(Reply::Done)
-}
-
-// The number that an event would get in the catalog, or why it can't be added.
-fn next_id(catalog: &Catalog, event: &EventDef, page_bytes: usize) -> Result<u16, CatalogFault>
-    ensures { result ≡ id_for catalog.now event.now page_bytes }
-{
-    if catalog.find(event.name()).is_some() {
-        return Err(CatalogFault::EventExists);
-    }
-    if event.fields().len() > FIELD_LIMIT || catalog.len() >= EVENT_LIMIT {
-        return Err(CatalogFault::TooMany);
-    }
-    if record_size(event) > page_bytes {
-        return Err(CatalogFault::TooBig);
-    }
-    Ok(catalog.len() as u16 + 1)
 }
 
 // Appends the declarations of all events.

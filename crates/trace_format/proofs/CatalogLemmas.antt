@@ -1,13 +1,15 @@
 -- The table of events by their names.
-use Rattle.std.proofs.Common.{◌≡◌, ℕ, zero, suc, ◌+◌, ◌<◌, ◌≤◌, Bool, true, false, not, cond, nat_lt, if◌then◌else◌, List, [], ◌∷◌, ◌++◌, length, take, map, bytes_eq, slice_get, position, Option, None, Some, is_some, option_map, Ok, Vec, Global, refl, sym, ap, ◌∙◌, subst, arith, append_assoc, append-nil, add-one, one-add, lt-ltb, ⊎_elim}
+use Rattle.std.proofs.Common.{◌≡◌, ℕ, zero, suc, ◌+◌, ◌<◌, ◌≤◌, Bool, true, false, not, cond, nat_le, nat_lt, if◌then◌else◌, List, [], ◌∷◌, ◌++◌, length, take, map, bytes_eq, slice_get, position, Option, None, Some, is_some, option_map, Result, Ok, Err, Vec, Global, refl, sym, ap, ◌∙◌, subst, arith, append_assoc, append-nil, add-one, one-add, ⊎_elim}
 use Rattle.std.specs.List.{AllByRecursion, position_or_len}
 use Rattle.std.proofs.lemmas.List.{length-map, length_push, map-append}
-use Rattle.std.proofs.lemmas.Bool.{cond-true, cond-false, cases_lt, true≢false, lt-leb, le-ltb}
+use Rattle.std.proofs.lemmas.Bool.{cond-true, cond-false, cases_lt, true≢false, lt-ltb, le-ltb}
+use Rattle.std.proofs.lemmas.Bool.Decides.{nat_tests}
 use Rattle.std.proofs.lemmas.Slice.Eq.{bytes_eq-Decides}
 use Rattle.std.specs.Map.{lookup}
 use Rattle.indexmap.proofs.MapLemmas.{some_index}
 use Rattle.trace_format.specs.Definitions.{Definition, IsDefinition}
-use Rattle.trace_format.specs.Cells.{record_size_of}
+use Rattle.trace_format.specs.declared.fault.CatalogFault.{CatalogFault}
+use Rattle.trace_format.specs.declared.fault.CatalogFault.TheVariants.{EventExists, TooMany}
 use Rattle.trace_format.specs.Catalogs.{id_of, event_of, id_for, IsCatalog, IsEvent, AreEvents}
 use Rattle.trace_format.proofs.Lists.{AllByRecursion-push}
 use Rattle.trace_format.proofs.Options.{map_some, some_is}
@@ -79,10 +81,26 @@ no_key entries key name named is none =
     let test = λ (n : List ℕ) (k : Vec ℕ Global). bytes_eq n k.items in
     none_from _ (sym (some_index (test key.items) entries) ∙ ap (λ n. is_some (position (test n) (keys entries))) is ∙ sym (some-map (λ place. place + 1) (position (test name) (keys entries))) ∙ ap is_some (sym (id_is name entries named)) ∙ none)
 
-pub id_for_ok : (events : List Definition) (definition : Definition) (page_bytes : ℕ) → is_some (id_of events definition.name) ≡ false → length definition.fields ≤ 16 → length events < 64 → record_size_of definition ≤ page_bytes
-    → id_for events definition page_bytes ≡ Ok (length events + 1)
-id_for_ok events definition page_bytes new fields room small =
-    cond-false _ _ _ new ∙ cond-false _ _ _ (le-ltb 16 (length definition.fields) fields) ∙ cond-false _ _ _ (lt-leb 64 (length events) room) ∙ cond-false _ _ _ (le-ltb page_bytes (record_size_of definition) small)
+no_fault : (test : Bool) (rest : Result ℕ CatalogFault) (fault : CatalogFault) (id : ℕ) → (if test then Err fault else rest) ≡ Ok id → (test ≡ false) × (rest ≡ Ok id)
+no_fault true rest fault id h = absurd (cc)
+no_fault false rest fault id h = (refl, h)
+
+-- an event that gets a number: its name has none yet, its fields are few, and there is room for it
+pub record IsNext (events : List Definition) (definition : Definition) : Type 0 where
+  pub new : is_some (id_of events definition.name) ≡ false
+  pub few : length definition.fields ≤ 16
+  pub room : length events < 64
+
+pub id_for_next : (events : List Definition) (definition : Definition) (page_bytes id : ℕ) → id_for events definition page_bytes ≡ Ok id → IsNext events definition
+id_for_next events definition page_bytes id h =
+    let named = no_fault (is_some (id_of events definition.name)) _ EventExists id h in
+    let wide = no_fault (nat_lt 16 (length definition.fields)) _ TooMany id named.1 in
+    let full = no_fault (nat_le 64 (length events)) _ TooMany id wide.1 in
+    record {
+      new = named.0;
+      few = let no = wide.0 in grind (arith, nat_tests);
+      room = let no = full.0 in grind (arith, nat_tests);
+    }
 
 -- ---- places of names
 

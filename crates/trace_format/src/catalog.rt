@@ -50,15 +50,12 @@ impl Catalog {
         }
     }
 
-    /// Adds an event, and answers its number: the first is 1. A page has `page_bytes` bytes for records.
+    /// The number that an event would get if it were added. A page has `page_bytes` bytes for records.
     ///
     /// It is refused as `EventExists` where an event of the name is there, then as `TooMany` where it has over 16 fields or 64 events
-    /// are there, then as `TooBig` where its record is larger than a page. After a refusal, `Memory` too, the catalog is as before.
-    pub fn add(&mut self, def: EventDef, page_bytes: usize) -> Result<u16, CatalogFault>
-        ensures answer { IsAdded result (id_for self.old def page_bytes) }
-        ensures ok { OnOk result (self.new ≡ self.old ++ def ∷ []) }
-        ensures fits { OnOk result (record_size_of def ≤ page_bytes) }
-        ensures err { OnErr result (self.new ≡ self.old) }
+    /// are there, then as `TooBig` where its record is larger than a page.
+    pub fn next_id(&self, def: &EventDef, page_bytes: usize) -> Result<u16, CatalogFault>
+        ensures { result ≡ id_for self.now def.now page_bytes }
     {
         if self.find(def.name()).is_some() {
             return Err(CatalogFault::EventExists);
@@ -66,12 +63,25 @@ impl Catalog {
         if def.fields().len() > MOST_FIELDS || self.len() >= MOST_EVENTS {
             return Err(CatalogFault::TooMany);
         }
-        if record_size(&def) > page_bytes {
+        if record_size(def) > page_bytes {
             return Err(CatalogFault::TooBig);
         }
+        Ok(self.len() as u16 + 1)
+    }
+
+    /// Adds an event, and answers its number: the first is 1. A page has `page_bytes` bytes for records.
+    ///
+    /// It is refused as `next_id` says. After a refusal, `Memory` too, the catalog is as before.
+    pub fn add(&mut self, def: EventDef, page_bytes: usize) -> Result<u16, CatalogFault>
+        ensures answer { IsAdded result (id_for self.old def page_bytes) }
+        ensures ok { OnOk result (self.new ≡ self.old ++ def ∷ []) }
+        ensures fits { OnOk result (record_size_of def ≤ page_bytes) }
+        ensures err { OnErr result (self.new ≡ self.old) }
+    {
+        let id = self.next_id(&def, page_bytes)?;
         let name = Vec::from_slice(self.alloc, def.name())?;
         self.events.insert(name, def)?;
-        Ok(self.events.len() as u16)
+        Ok(id)
     }
 
     /// The number of the event of a name, by its place in the table and without a scan of all events.

@@ -195,6 +195,7 @@ tick u64 n|1
 tick char t[64]|the event exists
 wide char t[64]|the record is larger than a page
 wide char t[48]|2
+full u8 a; u8 b; u8 c; u8 d; u8 e; u8 f; u8 g; u8 h; u8 i; u8 j; u8 k; u8 l; u8 m; u8 n; u8 o; u8 p|3
 e char a[64]; u8 b; u8 c; u8 d; u8 e; u8 f; u8 g; u8 h; u8 i; u8 j; u8 k; u8 l; u8 m; u8 n; u8 o; u8 p; u8 q|too many fields or events";
 
 /// The same, where 64 events are there.
@@ -220,7 +221,7 @@ fn add_all(rt: &impl Abort, alloc: Global, catalog: &mut Catalog, table: &str) -
 fn catalog(rt: HostRuntime) -> Result<(), Fail> {
     let mut catalog = Catalog::new(rt.alloc());
     add_all(&rt, rt.alloc(), &mut catalog, EVENTS)?;
-    for i in 3..65u16 {
+    for i in 4..65u16 {
         let declaration = format!(in rt.alloc(); "e{i} s8 n")?;
         let def = EventDef::parse(rt.alloc(), declaration.as_bytes())?;
         let id = catalog.add(def, 64)?;
