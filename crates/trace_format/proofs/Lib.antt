@@ -11,6 +11,8 @@ pub mod PairLemmas
 pub mod Patterns
 pub mod Payloads
 pub mod ReadingLemmas
+pub mod RefusalLemmas
+pub mod RowLemmas
 pub mod Standings
 pub mod TextFields
 pub mod Types

@@ -1,5 +1,5 @@
 -- What gave something.
-use Rattle.std.proofs.Common.{◌≡◌, Bool, true, false, if◌then◌else◌, Option, None, Some, option_map, option_and_then, refl}
+use Rattle.std.proofs.Common.{◌≡◌, Bool, true, false, if◌then◌else◌, Option, None, Some, option_map, option_and_then, is_some, refl, true≢false}
 
 pub if_some : {A : Type 0} {x y : A} (b : Bool) → (if b then Some x else None) ≡ Some y → (b ≡ true) × (x ≡ y)
 if_some true h = (refl, cc)
@@ -25,3 +25,7 @@ map_some f (Some x) y h = record { value = x; was = refl; gives = cc }
 
 pub some_is : {A : Type 0} {x y : A} → Some x ≡ Some y → x ≡ y
 some_is h = cc
+
+pub none_is : {A : Type 0} (o : Option A) → is_some o ≡ false → o ≡ None
+none_is None h = refl
+none_is (Some x) h = absurd (true≢false h)

@@ -20,7 +20,7 @@ use Rattle.trace_format.proofs.MapLemmas.{has_pairs, is_value, no_fault}
 -- ---- names
 
 -- a pair is found exactly where one has the name
-pair_found : (pairs : List Pair) (name : List ℕ) → is_some (pair_named pairs name) ≡ has_pair pairs name
+pub pair_found : (pairs : List Pair) (name : List ℕ) → is_some (pair_named pairs name) ≡ has_pair pairs name
 pair_found [] name = refl
 pair_found (pair ∷ pairs) name = by (bytes_eq pair.name name) (pair_found pairs name)
   where
@@ -28,7 +28,7 @@ pair_found (pair ∷ pairs) name = by (bytes_eq pair.name name) (pair_found pair
     by true others = refl
     by false others = others
 
-field_found : (fields : List Field) (name : List ℕ) → is_some (field_named fields name) ≡ has_field fields name
+pub field_found : (fields : List Field) (name : List ℕ) → is_some (field_named fields name) ≡ has_field fields name
 field_found [] name = refl
 field_found (field ∷ fields) name = by (bytes_eq field.name name) (field_found fields name) ∙ ap (λ b. b || has_field fields name) (bytes_eq-swap field.name name)
   where
@@ -66,7 +66,7 @@ module _ (fields : List Field) (before : List Pair) (pair : Pair) where
   value_is : (field : Field) (value : Datum) → field_named fields pair.name ≡ Some field → value_of field.kind pair.value ≡ Some value → pair_value fields pair ≡ Some value
   value_is field value named written = ap (option_and_then (λ (f : Field). value_of f.kind pair.value)) named ∙ written
 
-  right_from : (field : Field) (value : Datum) → field_named fields pair.name ≡ Some field → value_of field.kind pair.value ≡ Some value → has_pair before pair.name ≡ false → is_right fields before pair ≡ true
+  pub right_from : (field : Field) (value : Datum) → field_named fields pair.name ≡ Some field → value_of field.kind pair.value ≡ Some value → has_pair before pair.name ≡ false → is_right fields before pair ≡ true
   right_from field value named written new = and_from _ _ (ap is_some (value_is field value named written)) (ap not (pair_found before pair.name ∙ new))
 
   wrong_is : is_right fields before pair ≡ false → IsWrong fields before pair
@@ -112,19 +112,19 @@ module _ (fields : List Field) where
 -- ---- pairs as a map
 
 -- the text of a pair is a value of the field that it names
-record HasValue (fields : List Field) (pair : Pair) : Type 0 where
+pub record HasValue (fields : List Field) (pair : Pair) : Type 0 where
   field : Field
   named : field_named fields pair.name ≡ Some field
   value : Datum
   written : value_of field.kind pair.value ≡ Some value
 
-have_values : (fields : List Field) (before pairs : List Pair) → AreRight fields before pairs → AllByRecursion (HasValue fields) pairs
+pub have_values : (fields : List Field) (before pairs : List Pair) → AreRight fields before pairs → AllByRecursion (HasValue fields) pairs
 have_values fields before [] are = tt
 have_values fields before (pair ∷ pairs) are = (record { field = are.0.field; named = are.0.named; value = are.0.value; written = are.0.written }, have_values fields (before ++ pair ∷ []) pairs are.1)
 
 -- a field that a pair names is given a value, and one that is given a value is named
 module _ (fields : List Field) (pairs : List Pair) (field : Field) where
-  given_there : field_named fields field.name ≡ Some field → AllByRecursion (HasValue fields) pairs → has_pair pairs field.name ≡ true → is_some (given pairs field) ≡ true
+  pub given_there : field_named fields field.name ≡ Some field → AllByRecursion (HasValue fields) pairs → has_pair pairs field.name ≡ true → is_some (given pairs field) ≡ true
   given_there own values h =
       let found = found_pair (HasValue fields) pairs field.name h values in
       let same : found.holds.field ≡ field = some_is (sym found.holds.named ∙ ap (field_named fields) found.named ∙ own) in
@@ -198,17 +198,17 @@ module _ (whole : List Field) (all : List Datum) (pairs : List Pair) (each : All
       )
 
 module _ (definition : Definition) (pairs : List Pair) where
-  row_is : (row : Cells) → IsDefinition definition → IsRowOf definition row → Give definition.fields pairs row → row_of definition pairs ≡ Ok row
+  pub row_is : (row : Cells) → IsDefinition definition → IsRowOf definition row → Give definition.fields pairs row → row_of definition pairs ≡ Ok row
   row_is row is of give =
       let none = none_missing definition.fields row.values pairs give.each definition.fields row.values (fields_named definition is) (stand_by_name definition row is of) give.all in
       row_ok definition pairs row.kinds row.values (none_wrong definition.fields row.values [] pairs give.each give.once) none.0 of.kinds none.1
 
   -- ---- what `build` answers
 
-  abbrev given_row : Cells
+  abbrev pub given_row : Cells
   given_row = record { kinds = kinds_of definition; values = filter_map (given pairs) definition.fields }
 
-  give_is : (wrong missing : Option (List ℕ)) (row : Cells) → first_wrong definition.fields [] pairs ≡ wrong → first_missing definition.fields pairs ≡ missing → row_unless wrong missing given_row ≡ Ok row → Give definition.fields pairs row
+  pub give_is : (wrong missing : Option (List ℕ)) (row : Cells) → first_wrong definition.fields [] pairs ≡ wrong → first_missing definition.fields pairs ≡ missing → row_unless wrong missing given_row ≡ Ok row → Give definition.fields pairs row
   give_is (Some name) missing row w m h = absurd (cc)
   give_is None (Some name) row w m h = absurd (cc)
   give_is None None row w m h =
@@ -220,7 +220,7 @@ module _ (definition : Definition) (pairs : List Pair) where
         all = all_named definition.fields pairs m;
       })
 
-  refused_is : (wrong missing : Option (List ℕ)) (name : List ℕ) → IsDefinition definition → first_wrong definition.fields [] pairs ≡ wrong → first_missing definition.fields pairs ≡ missing → row_unless wrong missing given_row ≡ Err name
+  pub refused_is : (wrong missing : Option (List ℕ)) (name : List ℕ) → IsDefinition definition → first_wrong definition.fields [] pairs ≡ wrong → first_missing definition.fields pairs ≡ missing → row_unless wrong missing given_row ≡ Err name
       → IsWrongPair definition.fields pairs name ⊎ IsMissingField definition.fields pairs name
   refused_is (Some first) missing name is w m h =
       let same : first ≡ name = cc in

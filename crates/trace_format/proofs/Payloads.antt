@@ -1,11 +1,12 @@
 -- Fields, rows and their bytes.
 use Rattle.std.proofs.Common.{◌≡◌, ℕ, zero, suc, ◌+◌, ◌-◌, ◌<◌, ◌≤◌, Bool, true, false, if◌then◌else◌, List, [], ◌∷◌, ◌++◌, length, get_or, take, drop, map, replicate, Option, None, Some, option_map, option_and_then, refl, sym, ap, ◌∙◌, subst, ◌↔◌, Fits, w8, length-take-le, arith, one-add, lt-ltb, le-ltb, ltb-true, ltb-false, eqb-true, append-nil, take-append-drop, length-drop, length-append}
-use Rattle.std.specs.List.{list_all, prefix_len, AllZip}
+use Rattle.std.specs.List.{list_all, prefix_len, All, AllZip}
 use Rattle.std.proofs.lemmas.Bool.{and_parts, and_from, cond-true, cond-false}
 use Rattle.std.proofs.lemmas.Bool.Decides.{nat_tests}
 use Rattle.std.proofs.lemmas.List.{length-replicate, length-map, take_at, take_all, drop_at, drop_more}
 use Rattle.std.proofs.lemmas.Slice.Zip.{AllZip-long}
 use Rattle.trace_format.specs.declared.value.Value.{Value}
+use Rattle.std.proofs.lemmas.List.Elements.{All-head, All-tail}
 use Rattle.std.proofs.lemmas.List.Folds.{length-prefix_len}
 use Rattle.trace_format.specs.declared.kind.Kind.{Kind}
 use Rattle.trace_format.specs.declared.kind.Kind.TheVariants.{Number, Char}
@@ -191,6 +192,23 @@ pub row_from-payload : (definition : Definition) (row : Cells) → IsRowOf defin
 row_from-payload definition row is =
     let kinds = sym is.kinds in
     sym (decoded_exactly definition (payload_of row) row.kinds row.values is.kinds ((λ i. values_from (kinds i) (payload_of row)) ∙ values-written row.kinds row.values is.values))
+
+-- ---- the laws
+
+all_bytes : (bytes : List ℕ) → All (λ byte. byte < 256) bytes → AreBytes bytes
+all_bytes [] all = tt
+all_bytes (b ∷ bytes) all = (All-head (λ byte. byte < 256) b bytes all, all_bytes bytes (All-tail (λ byte. byte < 256) b bytes all))
+
+pub payload_is_read : (definition : Definition) (bytes : List ℕ) → All (λ byte. byte < 256) bytes → (row : Cells) → (row_from definition bytes ≡ Some row) ↔ (IsRowOf definition row × (bytes ≡ payload_of row))
+payload_is_read definition bytes all row = by (values_from (kinds_of definition) bytes) refl
+  where
+    by : (found : Option (List Datum)) → values_from (kinds_of definition) bytes ≡ found
+        → (option_map (λ values. record { kinds = kinds_of definition; values = values }) found ≡ Some row) ↔ (IsRowOf definition row × (bytes ≡ payload_of row))
+    by None h = not_decoded definition bytes row h
+    by (Some values) h = decoded definition bytes (kinds_of definition) values row (all_bytes bytes all) refl h
+
+pub one_row : (definition : Definition) (one other : Cells) → IsRowOf definition one → IsRowOf definition other → payload_of one ≡ payload_of other → one ≡ other
+one_row definition one other is and same = some_is (sym (row_from-payload definition one is) ∙ ap (row_from definition) same ∙ row_from-payload definition other and)
 
 -- ---- a loop that writes fields
 

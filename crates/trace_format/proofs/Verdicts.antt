@@ -205,7 +205,7 @@ few_spots zero at (b ∷ bytes) = cond_both (is_blank b) (spots_from 0 (at + 1) 
     (λ _. omega (arith, few_spots 0 (at + 1) bytes))
     (λ _. omega (arith, few_spots (more_of b bytes) (at + 1) bytes))
 
-law : (text : List ℕ) → length text < 2 ^ 64 → IsVerdict (spots_of text) (length text) (definition_of text)
+pub law : (text : List ℕ) → length text < 2 ^ 64 → IsVerdict (spots_of text) (length text) (definition_of text)
 unfolding definition_of
 law text small = verdict (length text) [] (spots_of text) start stands-start refl (omega (arith, few_spots 0 0 text))
 
@@ -217,7 +217,7 @@ reading-run standing last (spot ∷ spots) len definition h e =
     let step_is = and_then_some (λ next. run next (words_of spots)) (step standing spot.word) last h in
     ap (λ o. ok_or o spot.at >>= λ next. reading next spots len) step_is.was ∙ reading-run step_is.value last spots len definition step_is.gives e
 
-definition_is : (text : List ℕ) (definition : Definition) → Declares (words_of (spots_of text)) definition → definition_of text ≡ Ok definition
+pub definition_is : (text : List ℕ) (definition : Definition) → Declares (words_of (spots_of text)) definition → definition_of text ≡ Ok definition
 unfolding definition_of
 definition_is text definition h =
     let all = whole (words_of (spots_of text)) definition h in

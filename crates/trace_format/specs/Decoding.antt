@@ -1,4 +1,4 @@
--- Payloads read field by field. That this is the way back from `payload_of` is a law on `Row::decode`.
+-- Payloads read field by field. That this is the way back from `payload_of` is stated in `Laws`, as `PayloadIsRead`.
 use Rattle.std.specs.Prelude.{ℕ, ◌+◌, ◌-◌, ◌*◌, ◌/◌, ◌^◌, suc, ℤ, pos, negsuc, Bool, not, ◌&&◌, ◌==◌, nat_lt, if◌then◌else◌, List, [], ◌∷◌, length, take, drop, Option, None, Some, option_map, option_and_then}
 use Rattle.std.specs.List.{list_all, prefix_len}
 use Rattle.trace_format.specs.declared.kind.NumberType.{NumberType}

@@ -9,3 +9,4 @@ pub mod Rows
 pub mod Pairs
 pub mod Decoding
 pub mod Catalogs
+pub mod Laws

@@ -1,5 +1,5 @@
 -- A declaration read word by word: the definition that a text declares, or the place at which it is refused.
--- That this reading is what `Definitions` says of words and places is a law on `EventDef::parse`.
+-- That this reading is what `Definitions` says of words and places is stated in `Laws`, as `DefinitionIsRead` and `RefusalIsRead`.
 use Rattle.std.specs.Prelude.{◌≡◌, ℕ, ◌+◌, ◌*◌, ◌-◌, Bool, true, false, not, ◌&&◌, ◌||◌, ◌==◌, nat_lt, nat_le, if◌then◌else◌, codes, bytes_eq, List, [], ◌∷◌, ◌++◌, length, Option, None, Some, option_map, option_and_then, ok_or, Result, Ok, Err, take, drop}
 use Rattle.std.specs.Char.{is_ascii_digit}
 use Rattle.std.specs.List.{prefix_len}

@@ -1,4 +1,5 @@
--- Rows as pairs of field names and texts give them, as functions. That these are what `Pairs` says is a law on `Row::build`.
+-- Rows as pairs of field names and texts give them, as functions. That these are what `Pairs` says is stated in `Laws`, as `RowIsGiven` and
+-- `RefusalIsGiven`.
 use Rattle.std.specs.Prelude.{◌≡◌, ℕ, ℤ, int_le, Bool, not, ◌&&◌, nat_lt, if◌then◌else◌, bytes_eq, List, [], ◌∷◌, ◌++◌, length, find, filter_map, Option, None, Some, is_some, option_and_then, Result, Ok, Err}
 use Rattle.std.specs.List.{list_all}
 use Rattle.trace_format.specs.declared.fault.RowFault.{RowFault}

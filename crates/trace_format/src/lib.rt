@@ -9,6 +9,7 @@ mod event;
 mod fault;
 mod given;
 mod kind;
+pub mod laws;
 mod name;
 mod numeral;
 mod pair;

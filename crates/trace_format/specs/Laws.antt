@@ -1,0 +1,57 @@
+-- What `definition_of`, `row_of` and `row_from` say, as laws without a program.
+use Rattle.std.specs.Prelude.{◌≡◌, ◌⊎◌, ◌↔◌, ℕ, ◌<◌, ◌^◌, List, length, All, Some, Ok, Err}
+use Rattle.trace_format.specs.declared.pair.Pair.{Pair}
+use Rattle.trace_format.specs.Words.{spots_of, words_of}
+use Rattle.trace_format.specs.Definitions.{Definition, IsDefinition, Declares, IsRefusedAt}
+use Rattle.trace_format.specs.Reading.{definition_of}
+use Rattle.trace_format.specs.Cells.{Cells, IsRowOf, payload_of}
+use Rattle.trace_format.specs.Rows.{row_of}
+use Rattle.trace_format.specs.Pairs.{Give, IsWrongPair, IsMissingField}
+use Rattle.trace_format.specs.Decoding.{row_from}
+
+-- ---- declarations; a text in memory has fewer than 2 ^ 64 bytes
+
+-- reading gives a definition exactly where the words of the text declare it
+abbrev pub DefinitionIsRead : Type 0
+DefinitionIsRead = (text : List ℕ) → length text < 2 ^ 64 → (definition : Definition) → (definition_of text ≡ Ok definition) ↔ Declares (words_of (spots_of text)) definition
+
+-- and a place exactly where the text is refused there
+abbrev pub RefusalIsRead : Type 0
+RefusalIsRead = (text : List ℕ) → length text < 2 ^ 64 → (place : ℕ) → (definition_of text ≡ Err place) ↔ IsRefusedAt text place
+
+-- each text declares a definition or is refused
+abbrev pub DeclaredOrRefused : Type 0
+DeclaredOrRefused = (text : List ℕ) → length text < 2 ^ 64 → ((definition : Definition) × Declares (words_of (spots_of text)) definition) ⊎ ((place : ℕ) × IsRefusedAt text place)
+
+-- none is both
+abbrev pub NeverBoth : Type 0
+NeverBoth = (text : List ℕ) → (definition : Definition) → (place : ℕ) → Declares (words_of (spots_of text)) definition → IsRefusedAt text place → ⊥
+
+-- none declares two definitions
+abbrev pub OneDefinition : Type 0
+OneDefinition = (text : List ℕ) → (one other : Definition) → Declares (words_of (spots_of text)) one → Declares (words_of (spots_of text)) other → one ≡ other
+
+-- and none is refused at two places
+abbrev pub OneRefusal : Type 0
+OneRefusal = (text : List ℕ) → (one other : ℕ) → IsRefusedAt text one → IsRefusedAt text other → one ≡ other
+
+-- ---- rows
+
+-- pairs give a row, as a function, exactly where it is a row of the event that they give as a map from names
+abbrev pub RowIsGiven : Type 0
+RowIsGiven = (definition : Definition) → IsDefinition definition → (pairs : List Pair) → (row : Cells) → (row_of definition pairs ≡ Ok row) ↔ (IsRowOf definition row × Give definition.fields pairs row)
+
+-- and a name exactly where a pair of it is the first that is wrong, or with none wrong the first field that is missing has it
+abbrev pub RefusalIsGiven : Type 0
+RefusalIsGiven = (definition : Definition) → IsDefinition definition → (pairs : List Pair) → (name : List ℕ)
+    → (row_of definition pairs ≡ Err name) ↔ (IsWrongPair definition.fields pairs name ⊎ IsMissingField definition.fields pairs name)
+
+-- ---- payloads; a byte is below 256
+
+-- bytes are read as a row exactly where it is a row of the event and they are its payload
+abbrev pub PayloadIsRead : Type 0
+PayloadIsRead = (definition : Definition) → (bytes : List ℕ) → All (λ byte. byte < 256) bytes → (row : Cells) → (row_from definition bytes ≡ Some row) ↔ (IsRowOf definition row × (bytes ≡ payload_of row))
+
+-- two rows of an event with one payload are one row
+abbrev pub OneRow : Type 0
+OneRow = (definition : Definition) → (one other : Cells) → IsRowOf definition one → IsRowOf definition other → payload_of one ≡ payload_of other → one ≡ other

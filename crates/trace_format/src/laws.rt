@@ -1,0 +1,27 @@
+//! What the definitions of the contracts mean. Each function does nothing: its contract is a theorem.
+
+ghost use Rattle.trace_format.specs.Laws.{DefinitionIsRead, RefusalIsRead, DeclaredOrRefused, NeverBoth, OneDefinition, OneRefusal, RowIsGiven, RefusalIsGiven, PayloadIsRead, OneRow};
+
+/// Reading a text gives a definition exactly where the text's words declare it, and a place exactly where the text is refused there: at the
+/// leftmost word that is wrong or can't stand there, or at the end. Each text declares one definition or is refused at one place.
+pub fn declarations_are_as_written()
+    ensures definition { DefinitionIsRead }
+    ensures refused { RefusalIsRead }
+    ensures either { DeclaredOrRefused }
+    ensures not_both { NeverBoth }
+    ensures one_definition { OneDefinition }
+    ensures one_refusal { OneRefusal }
+{}
+
+/// Pairs give a row, as one function, exactly where they are that row of the event as a map from names, and are refused at a name exactly
+/// where the first wrong pair has it or, with none wrong, the first missing field.
+pub fn rows_are_as_given()
+    ensures row { RowIsGiven }
+    ensures refused { RefusalIsGiven }
+{}
+
+/// Bytes are read as a row exactly where they are the payload of that row of the event, and no two rows of an event have one payload.
+pub fn payloads_are_their_rows()
+    ensures row { PayloadIsRead }
+    ensures unique { OneRow }
+{}
