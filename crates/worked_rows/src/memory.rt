@@ -141,9 +141,7 @@ fn a_refused_read_changes_nothing(rt: HostRuntime) {
 
 #[test]
 fn a_refused_trace_changes_nothing(rt: HostRuntime) {
-    let text =
-        "# tracer: nop\n#\n# entries-in-buffer/entries-written: 3/3   #P:1\n#\n7 [000] 1: tick: n=1\n7 [000] 2: tick: n=2\n7 [000] 3: tick: n=3\n";
-    let _ = read_survives(&rt, "trace", None, text);
+    let _ = read_survives(&rt, "trace", None, THREE);
 }
 
 #[test]
@@ -158,35 +156,153 @@ fn a_refused_list_of_declarations_changes_nothing(rt: HostRuntime) {
     let _ = read_survives(&rt, EVENTS, None, "tick u64 n\n");
 }
 
-/// Whether the declarations are these. Where a read was refused for want of memory, nothing is told.
-fn are_declared(rt: &impl Abort, desk: &mut Desk, want: &str)
+/// Whether a file shows this. Where a read was refused for want of memory, nothing is told.
+fn shows(rt: &impl Abort, desk: &mut Desk, path: &str, want: &str)
     requires { desk.old.next < 2 ^ 32 }
     ensures { desk.new.next ≤ desk.old.next + 1 }
 {
-    let reply = desk.read(EVENTS, None);
+    let reply = desk.read(path, None);
     if !matches!(reply, Err(Refusal::Memory)) {
-        assert_eq!(rt; shown(&reply), Some(want.as_bytes()));
+        assert_eq!(rt; shown(&reply), Some(want.as_bytes()), "{path}");
     }
 }
+
+#[test]
+fn a_refused_read_of_a_filter_changes_nothing(rt: HostRuntime) {
+    let _ = read_survives(&rt, TICK_FILTER, None, "none\n");
+}
+
+#[test]
+fn a_refused_read_of_all_switches_changes_nothing(rt: HostRuntime) {
+    let _ = read_survives(&rt, ENABLE_OF_ALL, None, "1\n");
+}
+
+const MOVE: &str = "move char who[8]; s64 d";
 
 /// Declares an event at a desk of its own. Where that was refused for want of memory, the events are as they were before, and the same
 /// declaration is then done.
 fn declaration_survives(rt: &(impl Abort + AllocGlobal)) -> Result<(), Refusal> {
     let mut desk = prepared_desk(rt.alloc())?;
-    let declaration = "move char who[8]; s64 d";
-    let mut reply = desk.write(EVENTS, true, declaration);
+    let mut reply = desk.write(EVENTS, true, MOVE);
     if matches!(reply, Err(Refusal::Memory)) {
-        are_declared(rt, &mut desk, "tick u64 n\n");
+        shows(rt, &mut desk, EVENTS, "tick u64 n\n");
         let format = desk.read("events/synthetic/move/format", None);
         assert!(rt; matches!(format, Err(Refusal::NoSuchEvent)));
-        reply = desk.write(EVENTS, true, declaration);
+        reply = desk.write(EVENTS, true, MOVE);
     }
     assert!(rt; matches!(reply, Ok(Reply::Done)));
-    are_declared(rt, &mut desk, "tick u64 n\nmove char who[8]; s64 d\n");
+    shows(rt, &mut desk, EVENTS, "tick u64 n\nmove char who[8]; s64 d\n");
     Ok(())
 }
 
 #[test]
 fn a_refused_declaration_changes_nothing(rt: HostRuntime) {
     let _ = declaration_survives(&rt);
+}
+
+const TICK_FILTER: &str = "events/synthetic/tick/filter";
+
+const MOVE_FILTER: &str = "events/synthetic/move/filter";
+
+const FILTER_OF_ALL: &str = "events/synthetic/filter";
+
+/// Whether the filters of two events show this.
+fn filters_are(rt: &impl Abort, desk: &mut Desk, of_tick: &str, of_move: &str)
+    requires { desk.old.next + 1 < 2 ^ 32 }
+    ensures { desk.new.next ≤ desk.old.next + 2 }
+{
+    shows(rt, desk, TICK_FILTER, of_tick);
+    shows(rt, desk, MOVE_FILTER, of_move);
+}
+
+/// Writes to a file of filters at a desk with two events, one of which has a filter. Where that was refused for want of memory, the filters
+/// are as they were before, and the same write is then done.
+fn filter_survives(
+    rt: &(impl Abort + AllocGlobal),
+    path: &str,
+    text: &str,
+    of_tick: &str,
+    of_move: &str,
+) -> Result<(), Refusal> {
+    let mut desk = prepared_desk(rt.alloc())?;
+    desk.write(EVENTS, true, MOVE)?;
+    desk.write(TICK_FILTER, false, "n > 1")?;
+    let mut reply = desk.write(path, false, text);
+    if matches!(reply, Err(Refusal::Memory)) {
+        filters_are(rt, &mut desk, "n > 1\n", "none\n");
+        reply = desk.write(path, false, text);
+    }
+    assert!(rt; matches!(reply, Ok(Reply::Done)));
+    filters_are(rt, &mut desk, of_tick, of_move);
+    Ok(())
+}
+
+#[test]
+fn a_refused_filter_keeps_the_old_one(rt: HostRuntime) {
+    let _ = filter_survives(&rt, TICK_FILTER, " n == 2 ", "n == 2\n", "none\n");
+}
+
+#[test]
+fn a_refused_filter_of_all_keeps_the_old_ones(rt: HostRuntime) {
+    let text = "common_pid == 7 || common_cpu > 0";
+    let line = "common_pid == 7 || common_cpu > 0\n";
+    let _ = filter_survives(&rt, FILTER_OF_ALL, text, line, line);
+}
+
+#[test]
+fn a_filter_of_all_that_one_event_can_take_leaves_the_other(rt: HostRuntime) {
+    let _ = filter_survives(&rt, FILTER_OF_ALL, "d < 0", "n > 1\n", "d < 0\n");
+}
+
+#[test]
+fn a_refused_clearing_keeps_the_old_ones(rt: HostRuntime) {
+    let _ = filter_survives(&rt, FILTER_OF_ALL, "0", "none\n", "none\n");
+}
+
+const ENABLE_OF_ALL: &str = "events/enable";
+
+/// Switches all events off at a desk where one of two is on. Where that was refused for want of memory, the switches are as they were
+/// before, and the same write is then done.
+fn switch_survives(rt: &(impl Abort + AllocGlobal)) -> Result<(), Refusal> {
+    let mut desk = prepared_desk(rt.alloc())?;
+    desk.write(EVENTS, true, MOVE)?;
+    let mut reply = desk.write(ENABLE_OF_ALL, false, "0");
+    if matches!(reply, Err(Refusal::Memory)) {
+        shows(rt, &mut desk, ENABLE_OF_ALL, "X\n");
+        reply = desk.write(ENABLE_OF_ALL, false, "0");
+    }
+    assert!(rt; matches!(reply, Ok(Reply::Done)));
+    shows(rt, &mut desk, ENABLE_OF_ALL, "0\n");
+    Ok(())
+}
+
+#[test]
+fn a_refused_switch_of_all_changes_nothing(rt: HostRuntime) {
+    let _ = switch_survives(&rt);
+}
+
+const THREE: &str =
+    "# tracer: nop\n#\n# entries-in-buffer/entries-written: 3/3   #P:1\n#\n7 [000] 1: tick: n=1\n7 [000] 2: tick: n=2\n7 [000] 3: tick: n=3\n";
+
+const FOUR: &str =
+    "# tracer: nop\n#\n# entries-in-buffer/entries-written: 4/4   #P:1\n#\n7 [000] 1: tick: n=1\n7 [000] 2: tick: n=2\n7 [000] 3: tick: n=3\n7 [000] 4: tick: n=5\n";
+
+/// Emits behind a filter that passes. Where that was refused for want of memory, neither the ring nor the clock has moved, and the same
+/// emission is then done.
+fn emission_survives(rt: &(impl Abort + AllocGlobal)) -> Result<(), Refusal> {
+    let mut desk = prepared_desk(rt.alloc())?;
+    desk.write(TICK_FILTER, false, "n > 1")?;
+    let mut reply = desk.emit("5");
+    if matches!(reply, Err(Refusal::Memory)) {
+        shows(rt, &mut desk, "trace", THREE);
+        reply = desk.emit("5");
+    }
+    assert!(rt; matches!(reply, Ok(Reply::Done)));
+    shows(rt, &mut desk, "trace", FOUR);
+    Ok(())
+}
+
+#[test]
+fn a_refused_emission_changes_nothing(rt: HostRuntime) {
+    let _ = emission_survives(&rt);
 }
