@@ -10,7 +10,7 @@ use Rattle.page_ring.specs.Events as ring
 use Rattle.page_ring.specs.Shown as shown
 use Rattle.trace_book.specs.Requests.{Request}
 use Rattle.trace_book.specs.Settings.{NumberedEvent, event_named, declares, declared_events, switches, is_enabled, sets_filter, filter_of, sets_overwrite, overwrites, ticks, now_of}
-use Rattle.trace_book.specs.Switches.{switched_all}
+use Rattle.trace_book.specs.Switches.{with_switch}
 use Rattle.trace_book.specs.Rings.{consumed, put_of, clears, ring_events}
 use Rattle.trace_book.specs.States.{StandsFor, IsFit, kept_filter, filters_after, filters_with, IsChangeOf, IsStep, declared_by, switched_by, addressed_by, ticks_by, clears_by, puts_by, takes_by, ring_after, flags_after}
 use Rattle.trace_book.specs.declared.command.Config.{Config}
@@ -33,11 +33,11 @@ map-same f h agree [] = refl
 map-same f h agree (x ∷ xs) = let e = agree x in let es = map-same f h agree xs in cc
 
 -- what the switches are after one of them was written, event by event
-switched_all-map : (name : List ℕ) (flag : Bool) (old : Definition → Bool) (events : List Definition)
-    → switched_all name flag events (map old events) ≡ map (λ event. unwrap_or (cond (bytes_eq event.name name) (Some flag) None) (old event)) events
-switched_all-map name flag old [] = refl
-switched_all-map name flag old (event ∷ events) =
-    let rest = switched_all-map name flag old events in
+with_switch-map : (name : List ℕ) (flag : Bool) (old : Definition → Bool) (events : List Definition)
+    → with_switch name flag events (map old events) ≡ map (λ event. unwrap_or (cond (bytes_eq event.name name) (Some flag) None) (old event)) events
+with_switch-map name flag old [] = refl
+with_switch-map name flag old (event ∷ events) =
+    let rest = with_switch-map name flag old events in
     let first : cond (bytes_eq event.name name) flag (old event) ≡ unwrap_or (cond (bytes_eq event.name name) (Some flag) None) (old event) = grind arith in
     cc
 
@@ -88,7 +88,7 @@ flags_after-map g past request (Switch name flag) is unknown are =
     rw (is.declares, append-nil) (map-same (λ (e : Definition). is_enabled e.name (request ∷ past))
     (λ (e : Definition). unwrap_or (cond (bytes_eq e.name name) (Some flag) None) (is_enabled e.name past))
     (λ (e : Definition). is_enabled-after e.name past request _ (is.switches e.name)) (declared_events past)
-    ∙ sym (switched_all-map name flag (λ (e : Definition). is_enabled e.name past) (declared_events past)))
+    ∙ sym (with_switch-map name flag (λ (e : Definition). is_enabled e.name past) (declared_events past)))
 flags_after-map g past request (SwitchAll flag) is unknown are =
     let events = declared_events past in
     let on : (j : ℕ) → j < length events → is_enabled (get_or events j no_event).name (request ∷ past) ≡ flag =

@@ -6,14 +6,14 @@ use Rattle.std.specs.Str.{bytes_eq}
 use Rattle.trace_filter.specs.Filters.{Parsed}
 use Rattle.trace_book.specs.States.{changed_filter, changed_filters}
 use Rattle.trace_book.specs.declared.state.FilterChange.{FilterChange}
-use Rattle.trace_book.specs.Switches.{switched_all}
+use Rattle.trace_book.specs.Switches.{with_switch}
 use Rattle.trace_format.specs.Definitions.{Definition}
 
 pub switch_step : (name : List ℕ) (flag : Bool) (events : List Definition) (enabled all : List Bool) (i : ℕ) (event : Definition) (new : Bool)
     → i < length events → length events ≡ length enabled → event ≡ get_or events i event
     → new ≡ cond (bytes_eq event.name name) flag (get_or enabled i false)
-    → take i enabled ++ switched_all name flag (drop i events) (drop i enabled) ≡ all
-    → take (i + 1) (set enabled i new) ++ switched_all name flag (drop (i + 1) events) (drop (i + 1) (set enabled i new)) ≡ all
+    → take i enabled ++ with_switch name flag (drop i events) (drop i enabled) ≡ all
+    → take (i + 1) (set enabled i new) ++ with_switch name flag (drop (i + 1) events) (drop (i + 1) (set enabled i new)) ≡ all
 switch_step name flag events enabled all i event new within same is gives so_far =
     let inside : i < length enabled = omega arith in
     let event_first : drop i events ≡ event ∷ drop (i + 1) events = rw add-one (drop-cons events i event within ∙ ap (λ (e : Definition). e ∷ drop (suc i) events) (sym is)) in

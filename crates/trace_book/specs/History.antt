@@ -81,7 +81,8 @@ abbrev pub named_filter_answer : List ℕ → Option NumberedEvent → Result Re
 named_filter_answer text None = Err NoSuchEvent
 named_filter_answer text (Some k) = filter_answer text k.event
 
--- a filter of all events: one that some event can take, else refused as the first event refuses it; none without an event
+-- a filter of all events: done where it clears or some event can take it, else refused as the first event refuses it; without an event
+-- always refused
 unfoldable pub filter_of_all_answer : List ℕ → List Definition → Result Reply Refusal
 filter_of_all_answer text [] = Err NoSuchEvent
 filter_of_all_answer text (event ∷ events) =
@@ -130,7 +131,7 @@ option_text flag = if flag then codes "overwrite\n" else codes "nooverwrite\n"
 unfoldable pub declarations_text : List Request → List ℕ
 declarations_text past = flat_map declaration_text (declared_events past)
 
--- whether no event is enabled, and whether some event is not
+-- the text of all switches, from whether none is on and whether some is off
 unfoldable pub mixture_text : Bool → Bool → List ℕ
 mixture_text true false = codes "?\n"
 mixture_text true true = codes "0\n"
@@ -140,7 +141,7 @@ mixture_text false true = codes "X\n"
 abbrev pub switches_text : List Bool → List ℕ
 switches_text flags = mixture_text (list_all not flags) (list_any not flags)
 
--- an event's filter without the blanks at its ends
+-- the text of an event's filter, without the blanks at its ends, or `none`
 unfoldable pub filter_text : Option (List ℕ) → List ℕ
 filter_text None = codes "none\n"
 filter_text (Some text) = filters.trimmed text ++ codes "\n"

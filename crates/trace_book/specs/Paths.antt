@@ -10,7 +10,8 @@ use Rattle.trace_book.specs.Decimals.{decimal_number, has_leading_zero}
 abbrev pub parts : List ℕ → List (List ℕ)
 parts path = slice_split (λ b. b == 47) path
 
--- a file; an event's by its name, a CPU's by its number; those of all events, of which there is one system alone, by no name
+-- a file. One of an event has the event's name, one of a CPU its number. There is one system of events, so the switch of all events is one
+-- file with two paths.
 pub data File : Type 0 where
   Trace : File
   CpuTrace : ℕ → File

@@ -53,7 +53,7 @@ flag_of n = if n == 0 then Some false else (if n == 1 then Some true else None)
 unfoldable pub written_flag : List ℕ → Option Bool
 written_flag text = option_and_then flag_of (written_number text)
 
--- how a request after this past switches an event: a write to the switch of all switches the events that are declared by then
+-- how a request after this past switches an event: by a write to its own switch or, where it is declared by then, to that of all events
 abbrev pub switches : List ℕ → List Request → Request → Option Bool
 switches event past (WriteFile (Some (EventEnable name)) append text) = if bytes_eq event name then written_flag text else None
 switches event past (WriteFile (Some EventsEnable) append text) = if is_some (event_named event past) then written_flag text else None

@@ -16,7 +16,7 @@ use Rattle.trace_format.specs.Definitions.{Definition}
 use Rattle.trace_book.specs.Requests.{Request}
 use Rattle.trace_book.specs.Settings.{NumberedEvent, event_named, declares, declared_events, switches, is_enabled, clears_filter, can_take, written_filter, sets_filter, filter_of, sets_overwrite, overwrites, ticks, now_of}
 use Rattle.trace_book.specs.Rings.{filter_holds, record_bytes, up_to_limit, consumed, put_of, clears, ring_events}
-use Rattle.trace_book.specs.Switches.{switched_all}
+use Rattle.trace_book.specs.Switches.{with_switch}
 use Rattle.trace_book.specs.History.{answer_with_room, filter_answer}
 use Rattle.trace_book.specs.TraceFiles.{pipe_text}
 use Rattle.trace_book.specs.declared.command.Config.{Config}
@@ -113,7 +113,7 @@ ring_after change overwrite events =
 -- the switches after a change
 abbrev pub flags_after : Change → List Definition → List Bool → List Bool
 flags_after (Declare event) events flags = flags ++ false ∷ []
-flags_after (Switch name flag) events flags = switched_all name flag events flags
+flags_after (Switch name flag) events flags = with_switch name flag events flags
 flags_after (SwitchAll flag) events flags = replicate (length flags) flag
 flags_after _ events flags = flags
 

@@ -4,8 +4,8 @@ use Rattle.std.specs.Str.{bytes_eq}
 use Rattle.trace_format.specs.Definitions.{Definition}
 
 -- the switch of the event of this name set, the others as they are
-abbrev pub switched_all : List ℕ → Bool → List Definition → List Bool → List Bool
-switched_all name flag [] switches = switches
-switched_all name flag (event ∷ events) [] = []
-switched_all name flag (event ∷ events) (switch ∷ switches) =
-    (if bytes_eq event.name name then flag else switch) ∷ switched_all name flag events switches
+abbrev pub with_switch : List ℕ → Bool → List Definition → List Bool → List Bool
+with_switch name flag [] switches = switches
+with_switch name flag (event ∷ events) [] = []
+with_switch name flag (event ∷ events) (switch ∷ switches) =
+    (if bytes_eq event.name name then flag else switch) ∷ with_switch name flag events switches

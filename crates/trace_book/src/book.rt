@@ -65,6 +65,7 @@ impl Book {
 
     /// Does a command, or refuses it. The answer is the one that the history gives: a command that is done is the next entry of the
     /// history, with this ticket and this caller's number; one that is refused changes nothing.
+    /// `Memory` may come in place of any answer, where an allocation was refused.
     pub fn ask(&mut self, ticket: u64, by: u32, command: Command) -> Result<Reply, Refusal>
         requires { All (λ entry. entry.ticket < ticket) self.old.entries }
         ensures reply { OrMemory result (answer self.old.config (past_of self.old.entries) (request_of command)) }

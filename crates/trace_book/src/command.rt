@@ -44,9 +44,9 @@ pub enum Command {
         pid: i32,
         pairs: Pairs,
     },
-    /// Makes the instance of this path.
+    /// Makes the instance of this path. For now this is refused.
     Mkdir(Text),
-    /// Removes the instance of this path.
+    /// Removes the instance of this path. For now this is refused.
     Rmdir(Text),
     /// Writes the text to a file, by `>` or, to append, by `>>`.
     Write {

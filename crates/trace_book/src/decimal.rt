@@ -89,7 +89,7 @@ pub(crate) fn has_leading_zero(digits: &[u8]) -> bool
     digits.len() > 1 && digits[0] == b'0'
 }
 
-/// The number that is written to a file: decimal, with blanks at both ends.
+/// The number that is written to a file: decimal, perhaps with blanks at both ends.
 pub(crate) fn written_number(text: &[u8]) -> Option<u64>
     ensures { result ≡ decimals.written_number text.now }
 {

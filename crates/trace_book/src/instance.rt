@@ -9,7 +9,7 @@ ghost use Rattle.page_ring.specs.Shown.{Seen, StandsFor, offered};
 ghost use Rattle.trace_book.specs.Instances.{InstanceSeen};
 ghost use Rattle.std.specs.List.{list_all, list_any};
 ghost use Rattle.trace_book.specs.States.{kept_holds, changed_filters};
-ghost use Rattle.trace_book.specs.Switches.{switched_all};
+ghost use Rattle.trace_book.specs.Switches.{with_switch};
 
 use crate::state::{FilterChange, event_at};
 use page_ring::{KeptRecords, Ring, RingStats};
@@ -142,9 +142,9 @@ impl Instance {
     pub(crate) fn switch(&mut self, events: &Catalog, name: &[u8], flag: bool)
         requires few { length events.now ≤ 64 }
         requires long { length events.now ≡ length self.old.enabled }
-        ensures { self.new ≡ record self.old { enabled = switched_all name.now flag events.now self.old.enabled } }
+        ensures { self.new ≡ record self.old { enabled = with_switch name.now flag events.now self.old.enabled } }
     {
-        switch_all(&mut self.enabled, events, name, flag);
+        switch_named(&mut self.enabled, events, name, flag);
     }
 
     /// Makes room for a record of this length. It changes nothing that can be seen.
@@ -260,10 +260,10 @@ fn change_all(filters: &mut [Option<Filter>], changes: Vec<FilterChange>)
 }
 
 // Sets the flag of the event of this name.
-fn switch_all(enabled: &mut [bool], events: &Catalog, name: &[u8], flag: bool)
+fn switch_named(enabled: &mut [bool], events: &Catalog, name: &[u8], flag: bool)
     requires few { length events.now ≤ 64 }
     requires long { length events.now ≡ length enabled.old }
-    ensures { enabled.new ≡ switched_all name.now flag events.now enabled.old }
+    ensures { enabled.new ≡ with_switch name.now flag events.now enabled.old }
 {
     for i in 0..enabled.len() {
         let was = enabled[i];

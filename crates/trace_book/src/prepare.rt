@@ -495,7 +495,7 @@ fn filter_changes(alloc: Global, events: &Catalog, text: &[u8]) -> Result<Taken,
     Ok(Taken { changes, some })
 }
 
-// The reply to a filter of all events: where no event takes it, the first event says why.
+// The reply to a filter of all events. Where no event gets one, the first event says why, or that the text clears.
 fn filter_of_all(alloc: Global, events: &Catalog, text: &[u8], some: bool) -> Result<Reply, Refusal>
     requires few { length events.now ≤ 64 }
     requires some { some ≡ list_any (λ event. is_set (change_of text.now event)) events.now }

@@ -24,7 +24,7 @@ pub enum Refusal {
     /// the configuration is out of range.
     #[error("bad value")]
     BadValue,
-    /// No event of this name was declared.
+    /// No event of this name was declared; or none at all, where a filter is written for all.
     #[error("no such event")]
     NoSuchEvent,
     /// An event of this name was declared before.

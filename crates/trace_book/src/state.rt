@@ -41,7 +41,7 @@ pub(crate) enum Change {
     Clear,
     /// So many records are consumed.
     Take(u64),
-    /// The clock ticks, and the record, if there is one, is written: the event is enabled and its filter holds.
+    /// The clock ticks, and the record is written, if there is one: there is where the event is enabled and its filter holds.
     Emit(Option<Vec<u8>>),
 }
 

@@ -10,7 +10,7 @@ use Rattle.trace_filter.specs.declared.fault.FilterFault.{FilterFault}
 use Rattle.trace_filter.specs.declared.fault.FilterFault.TheVariants.{FilterSyntax, NoSuchField, WrongOperator}
 use Rattle.trace_filter.specs.Tokens.{Literal, Word, Quoted, Token, Compare, Name, Value, Spot}
 
--- a field has numbers or texts
+-- whether a field of the type has texts
 abbrev pub is_text_kind : Kind → Bool
 is_text_kind (kind.Number t) = false
 is_text_kind (kind.Char n) = true
@@ -45,7 +45,7 @@ takes_at false comparison.Above = true
 takes_at false comparison.CommonBit = true
 takes_at false comparison.Like = false
 
--- any value is a text; only a bare word is a NUMBER
+-- a text field takes any value, a number only a bare word that is a NUMBER
 abbrev pub fits_at : Bool → Literal → Bool
 fits_at true literal = true
 fits_at false (Word bytes) = is_some (number_of bytes)

@@ -39,7 +39,7 @@ IsTooMany text = (1024 < length (trimmed text)) ⊎ (IsShort text × ComesTo tex
 abbrev pub IsWrong : List ℕ → ℕ → Type 0
 IsWrong text at = IsShort text × ComesTo text (WrongAt at)
 
--- or it is in the grammar, and this is the first test that does not fit
+-- or it is short and in the grammar, and this is the fault of its first test that does not fit
 abbrev pub Misfits : Definition → List ℕ → FilterFault → Type 0
 Misfits definition text fault = IsShort text × ComesTo text Fine × (misfit_of definition text ≡ Some fault)
 

@@ -45,7 +45,7 @@ TrimmedPassesTheSame = (definition : Definition) → (text : List ℕ) → (emis
 abbrev pub TrimmedOnce : Type 0
 TrimmedOnce = (text : List ℕ) → trimmed (trimmed text) ≡ trimmed text
 
--- a filter of an event holds, as a function, of the emissions of a row of the event that a tree of its text holds of
+-- for a filter of an event and an emission of a row of it, the function is true exactly where some tree that the text spells holds
 abbrev pub HoldsAsItsTree : Type 0
 HoldsAsItsTree = (definition : Definition) → (text : List ℕ) → (row : Cells) → (emission : Emission) → IsFilter definition text → IsDefinition definition → IsRowOf definition row
     → emission.values ≡ row.values → IsTrue (holds_of (parsed_of definition text) emission) ↔ Passes definition text emission

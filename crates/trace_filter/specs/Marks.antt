@@ -1,5 +1,5 @@
 -- Globs as the program matches them: a row of marks, one for each front of the text, whether the parts so far match it. That the last mark
--- says whether the parts match the text is a law on `Filter::passes`.
+-- says whether the parts match the text follows from the law `filters_hold_as_their_trees`.
 use Rattle.std.specs.Prelude.{ℕ, zero, suc, Bool, true, false, ◌||◌, ◌&&◌, List, [], ◌∷◌, length, map}
 use Rattle.trace_filter.specs.Globs.{Class, is_in_class, Part, AnyBytes, OneByte}
 

@@ -1,5 +1,5 @@
--- Names as the program keeps them, by places, and tests as it reads them, token by token. That the first fault of the tokens is that of
--- the tests is a law on `Filter::parse`.
+-- Names as the program keeps them, by places, and tests as it reads them, token by token. What `Filter::parse` promises is told by `Fields`;
+-- that both find the same first fault is proved in proofs/Misfits.antt.
 use Rattle.std.specs.Prelude.{◌≡◌, ℕ, ◌+◌, Bool, true, false, if◌then◌else◌, bytes_eq, codes, List, [], ◌∷◌, ◌++◌, Option, None, Some}
 use Rattle.std.specs.Option.{option_to_list}
 use Rattle.trace_format.specs.declared.kind.Kind.{Kind}

@@ -1,4 +1,5 @@
--- A filter as the program keeps and evaluates it. That its value is the truth of the filter's tree is a law on `Filter::passes`.
+-- A filter as the program keeps and evaluates it. That its value is the truth of the filter's tree is the law
+-- `filters_hold_as_their_trees`.
 use Rattle.std.specs.Prelude.{pos, Bool, true, false, not, ◌&&◌, ◌||◌, nat_lt, if◌then◌else◌, List, [], ◌∷◌, ◌++◌, length, take, reverse, Option, None, Some, unwrap_or, slice_get}
 use Rattle.trace_format.specs.declared.event.Field.{Field}
 use Rattle.trace_format.specs.Cells.{Datum, Whole, Bytes, datum_of}
@@ -96,7 +97,8 @@ value_of emission Cpu = Some (Whole (pos emission.cpu))
 value_of emission (NumberField place) = slice_get emission.values place
 value_of emission (TextField place) = slice_get emission.values place
 
--- inside one `(`: whether an alternative before this one holds, whether all factors of this one do, and whether a `!` is due
+-- what was found inside the innermost open `(`, and inside those round it, innermost first. Of each: whether an alternative before this one
+-- holds, whether all operands of this one hold so far, and whether the next operand is inverted
 pub record State : Type 0 where
   pub frame : Frame
   pub outer : List Frame

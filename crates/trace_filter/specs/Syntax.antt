@@ -1,4 +1,4 @@
--- Filters read token by token: what a text comes to. That this is what `Grammar` says is a law on `Filter::parse`.
+-- Filters read token by token: what a text comes to. That this is what `Grammar` says is the law `filters_are_as_written`.
 use Rattle.std.specs.Prelude.{◌≡◌, ℕ, Bool, true, false, nat_lt, if◌then◌else◌, List, [], ◌∷◌, Option, None, Some, option_map}
 use Rattle.trace_filter.specs.declared.syntax.Due.{Due}
 use Rattle.trace_filter.specs.declared.syntax.Due.TheVariants as due

@@ -1,4 +1,4 @@
--- Tests as the program makes them. That they are what `Truth` says is a law on `Filter::passes`.
+-- Tests as the program makes them. That they are what `Truth` says follows from the law `filters_hold_as_their_trees`.
 use Rattle.std.specs.Prelude.{ℕ, ℤ, int_le, Bool, false, not, ◌&&◌, ◌==◌, nat_lt, bytes_eq, bit_and, List, length}
 use Rattle.std.specs.Ordering.{int_eq}
 use Rattle.trace_format.specs.Cells.{Datum, Whole, Bytes}

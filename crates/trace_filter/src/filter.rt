@@ -71,8 +71,8 @@ impl Filter {
     ghost use Rattle.trace_filter.specs.Values.{holds_of};
     ghost use Rattle.trace_filter.specs.Filters.{IsFilter, IsFilterOf, IsRefused, IsTold, Passes, IsOkUnlessMemory, IsAsTold, IsAnswered, answer_of};
 
-    /// The filter of an event that a text is: tests `name op value`, joined by `!`, `&&`, `||` and parentheses. The parser takes time
-    /// linear in the text.
+    /// The filter of an event that a text is: tests `name op value`, joined by `&&` and `||`, negated by `!`, grouped by parentheses. By its
+    /// form, reading takes time linear in the text.
     pub fn parse(alloc: Global, text: &[u8], def: &EventDef) -> Result<Filter, FilterFault>
         // What is read is a filter of the event.
         ensures read { IfOk result (IsFilterOf def.now text.now) }

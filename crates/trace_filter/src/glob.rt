@@ -7,7 +7,7 @@ ghost use Rattle.trace_filter.specs.Globs.{ranges_of, parts_of, parts_from, part
 ghost use Rattle.trace_filter.specs.Marks.{is_match, advance as spec_advance, advance_all, mark_at, spread as spec_spread, shift as spec_shift, first_row as spec_first_row};
 ghost use Rattle.trace_filter.specs.SeenGlobs.{class_of, glob_part_of, IsPartPiece};
 
-/// Texts that are matched have fewer bytes.
+/// A text that is matched has fewer bytes than this.
 pub(crate) const TEXT_END: usize = 256;
 
 /// The bytes that one place of a text may have: those that the members write, or all others.
@@ -177,7 +177,7 @@ fn advance(part: Part, row: &mut [bool], text: &[u8])
     }
 }
 
-/// The part that begins with a byte, where no class may close any more behind a `[` that did not: so no byte is looked at twice.
+/// The part that begins with a byte. Once a `[` was found without its `]`, no later one has one, and none is looked for.
 #[tactic(auto, unfolding(crate::specs::Globs::part_of))]
 fn next_part<'a>(bytes: &'a [u8], first: u8, rest: &'a [u8], may_close: bool) -> PartPiece<'a>
     requires cut { bytes.now ≡ first ∷ rest.now }

@@ -2,8 +2,8 @@
 
 ghost use Rattle.trace_filter.specs.Laws.{FilterIsAnswered, RefusalIsAnswered, FilterOrRefused, NeverBoth, OneRefusal, TrimmedHasTheTokens, TrimmedIsTheFilter, TrimmedPassesTheSame, TrimmedOnce, HoldsAsItsTree};
 
-/// A text is a filter of an event exactly where it is in the grammar, short, shallow and fits the event's fields; it is refused for a
-/// fault exactly where the grammar, or the first test that doesn't fit, has that fault. Each text is one or the other, for one fault.
+/// The function `answer_of` gives a filter exactly where the text is one, and a fault exactly where the text is refused for it. Each text is
+/// one or the other, and refused for one fault alone.
 pub fn filters_are_as_written()
     ensures filter { FilterIsAnswered }
     ensures refused { RefusalIsAnswered }

@@ -39,9 +39,9 @@ pub(crate) enum Verdict {
 #[derive(Debug, Drop)]
 pub(crate) struct Reader {
     due: Due,
-    /// The `!` inside the innermost `(` that are open.
+    /// How many `!` are open inside the innermost open `(`.
     bangs: usize,
-    /// For each open `(`, innermost last, the `!` before it.
+    /// For each open `(`, innermost last, how many `!` are open before it.
     outer: Vec<usize>,
 }
 

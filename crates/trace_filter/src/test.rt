@@ -98,7 +98,7 @@ impl Subject {
     }
 }
 
-/// The low bits of a number's two's complement.
+/// The 64 low bits of a number's two's complement.
 fn pattern(number: i128) -> u64
     ensures { result ≡ pattern_of number }
 {

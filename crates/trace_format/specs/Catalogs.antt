@@ -16,7 +16,8 @@ abbrev pub event_of : List Definition → ℕ → Option Definition
 event_of events zero = None
 event_of events (suc place) = slice_get events place
 
--- the number that one more event gets, or why it is refused: its name is there; over 16 fields, or 64 events are there; its record is over a page
+-- the number that one more event gets, or why it is refused: its name is there; over 16 fields, or 64 events are there; its record is larger
+-- than a page
 abbrev pub id_for : List Definition → Definition → ℕ → Result ℕ CatalogFault
 id_for events definition page_bytes = if is_some (id_of events definition.name) then Err EventExists
     else if nat_lt 16 (length definition.fields) then Err TooMany

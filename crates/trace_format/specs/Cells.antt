@@ -66,7 +66,7 @@ abbrev pub little_endian : ℕ → ℕ → List ℕ
 little_endian zero n = []
 little_endian (suc size) n = n % 256 ∷ little_endian size (n / 256)
 
--- the two's complement of so many bytes
+-- a number's pattern in so many bytes, in two's complement
 abbrev pub two's_complement : ℕ → ℤ → ℕ
 two's_complement size (pos n) = n
 two's_complement size (negsuc n) = 256 ^ size - suc n

@@ -47,7 +47,7 @@ pub record IsDefinition (definition : Definition) : Type 0 where
 
 -- ---- how they are spelled
 
--- behind the name of a text field: its bytes, in brackets (91, 93)
+-- behind the name of a text field: its length in bytes, in brackets (91, 93)
 abbrev pub length_suffix : Kind → List ℕ
 length_suffix (Number t) = []
 length_suffix (Char n) = 91 ∷ (decimal n ++ 93 ∷ [])

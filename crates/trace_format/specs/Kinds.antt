@@ -80,7 +80,7 @@ abbrev pub is_signed_kind : Kind → Bool
 is_signed_kind (Number t) = is_signed t
 is_signed_kind (Char n) = false
 
--- the type of a number that one word spells
+-- the number type that one word spells
 abbrev pub type_of : List ℕ → Option NumberType
 type_of word = if bytes_eq word (codes "u8") then Some U8
     else if bytes_eq word (codes "u16") then Some U16

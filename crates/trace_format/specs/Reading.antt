@@ -66,7 +66,7 @@ abbrev pub Takes : Option Standing → Bool → Standing → Type 0
 Takes next true standing = next ≡ Some standing
 Takes next false standing = next ≡ None
 
--- the end may stand behind a field, and behind a `;` that follows one
+-- where the end may stand, if there is a field by then: where a type or a `;` is due
 abbrev pub may_end : Due → Bool
 may_end due.Name = false
 may_end due.Type = true

@@ -13,10 +13,11 @@ use Rattle.trace_format.specs.Kinds.{least, greatest}
 use Rattle.trace_format.specs.Definitions.{Definition}
 use Rattle.trace_format.specs.Cells.{Datum, Whole, Bytes, Cells, kinds_of, is_printable}
 
--- the value that a text gives to a field of the type
+-- a number as a value, if it is in the range
 abbrev pub number_in : ℤ → ℤ → ℤ → Option Datum
 number_in low high n = if int_le low n && int_le n high then Some (Whole n) else None
 
+-- the value that a text gives to a field of the type
 unfoldable pub value_of : Kind → List ℕ → Option Datum
 value_of (Number t) text = option_and_then (number_in (least t) (greatest t)) (number_of text)
 value_of (Char n) text = if nat_lt (length text) n && list_all is_printable text then Some (Bytes text) else None
@@ -51,7 +52,7 @@ abbrev pub first_missing : List Field → List Pair → Option (List ℕ)
 first_missing [] pairs = None
 first_missing (field ∷ fields) pairs = if is_some (given pairs field) then first_missing fields pairs else Some field.name
 
--- the row that the pairs give, or the name of the field at which they are refused
+-- the row that the pairs give, or the name at which they are refused
 abbrev pub row_unless : Option (List ℕ) → Option (List ℕ) → Cells → Result Cells (List ℕ)
 row_unless (Some name) missing row = Err name
 row_unless None (Some name) row = Err name

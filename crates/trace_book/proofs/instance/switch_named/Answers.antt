@@ -1,6 +1,6 @@
 use Rattle.std.proofs.Common.{arith, rules, ◌∙◌, length-set}
 use Rattle.trace_book.proofs.Switching.{switch_step}
-use Rattle.trace_book.proofs.instance.switch_all.Goals as goal
+use Rattle.trace_book.proofs.instance.switch_named.Goals as goal
 
 pub loop-i-preserved : goal.loop-i-preserved
 loop-i-preserved c = (
