@@ -7,6 +7,7 @@ pub mod Parts
 pub mod Prepared
 pub mod Ready
 pub mod RecordBytes
+pub mod ShownRecords
 pub mod StandingFilters
 pub mod Steps
 pub mod Switching

@@ -1,9 +1,14 @@
 //! What the words of the answers mean in legal histories. Each function does nothing: its contract is a theorem.
 
-ghost use Rattle.trace_book.specs.Laws.{StandingFiltersAreFilters, FiltersHoldAsTheirTrees};
+ghost use Rattle.trace_book.specs.Laws.{StandingFiltersAreFilters, FiltersHoldAsTheirTrees, RecordsShowTheirRows};
 
 /// The filter that an event has in a legal history is one of the event, and it holds of an emission as the trees of its text do.
 pub fn filters_are_of_their_events()
     ensures standing { StandingFiltersAreFilters }
     ensures holding { FiltersHoldAsTheirTrees }
+{}
+
+/// The line of an emission's record shows the row that was emitted, then and later.
+pub fn records_show_their_rows()
+    ensures { RecordsShowTheirRows }
 {}
