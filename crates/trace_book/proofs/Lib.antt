@@ -4,6 +4,7 @@ pub mod Filtering
 pub mod Histories
 pub mod LegalEvents
 pub mod Parts
+pub mod PipeReads
 pub mod Prepared
 pub mod Ready
 pub mod RecordBytes

@@ -1,6 +1,7 @@
 -- What the words of the answers mean in legal histories. The newest entry stands first.
-use Rattle.std.specs.Prelude.{◌≡◌, ◌↔◌, ℕ, ◌+◌, ℤ, FitsSigned, IsTrue, List, ◌++◌, length, Some, Ok}
+use Rattle.std.specs.Prelude.{◌≡◌, ◌↔◌, ℕ, ◌+◌, ℤ, FitsSigned, IsTrue, List, ◌∷◌, ◌++◌, length, Option, Some, Ok}
 use Rattle.std.specs.Int.{w32}
+use Rattle.page_ring.specs.Account.{Reading, readings_of}
 use Rattle.trace_filter.specs.Filters.{IsFilter, Passes}
 use Rattle.trace_format.specs.Cells.{Cells, IsRowOf, payload_of}
 use Rattle.trace_format.specs.Rows.{row_of}
@@ -8,8 +9,11 @@ use Rattle.trace_format.specs.declared.pair.Pair.{Pair}
 use Rattle.trace_text.specs.RecordText.{record_line, row_line}
 use Rattle.trace_book.specs.Configs.{IsInRange}
 use Rattle.trace_book.specs.History.{requests_of, IsLegalNewestFirst}
-use Rattle.trace_book.specs.Rings.{filter_holds, emitted_record}
+use Rattle.trace_book.specs.Paths.{TracePipe, CpuTracePipe}
+use Rattle.trace_book.specs.Requests.{Request, ReadFile}
+use Rattle.trace_book.specs.Rings.{filter_holds, emitted_record, ring_events}
 use Rattle.trace_book.specs.Settings.{NumberedEvent, event_named, declared_events, filter_of, now_of}
+use Rattle.trace_book.specs.TraceFiles.{taken_readings}
 use Rattle.trace_book.specs.declared.command.Config.{Config}
 use Rattle.trace_book.specs.declared.command.Entry.{Entry}
 
@@ -37,3 +41,19 @@ RecordsShowTheirRows =
     → event_named name (requests_of entries) ≡ Some k → row_of k.event pairs ≡ Ok row → emitted_record (requests_of entries) name cpu pid pairs ≡ Some bytes
     → record_line (declared_events (requests_of (later ++ entries))) cpu bytes
     ≡ row_line cpu (record { ts = now_of (requests_of entries) + 1; pid = pid; event = k.id; payload = length (payload_of row) }) k.event row.values
+
+-- the records that a CPU's ring keeps, as consuming reads find them
+abbrev pub kept_readings : Config → ℕ → List Request → List Reading
+kept_readings g cpu past = readings_of g.pages g.page_bytes (ring_events g cpu past)
+
+-- a read of a CPU's pipe consumes the records that it shows and no others: what was kept before is what it shows and then what is kept
+abbrev pub PipeReadsConsumeWhatTheyShow : Type 0
+PipeReadsConsumeWhatTheyShow =
+    (g : Config) (past : List Request) (cpu : ℕ) (limit : Option ℕ)
+    → kept_readings g cpu past ≡ taken_readings limit (kept_readings g cpu past) ++ kept_readings g cpu (ReadFile (Some (CpuTracePipe cpu)) limit ∷ past)
+
+-- and so does a read of the pipe of all CPUs, which for now is that of CPU 0
+abbrev pub WholePipeReadsConsumeWhatTheyShow : Type 0
+WholePipeReadsConsumeWhatTheyShow =
+    (g : Config) (past : List Request) (limit : Option ℕ)
+    → kept_readings g 0 past ≡ taken_readings limit (kept_readings g 0 past) ++ kept_readings g 0 (ReadFile (Some TracePipe) limit ∷ past)

@@ -1,6 +1,6 @@
 //! What the words of the answers mean in legal histories. Each function does nothing: its contract is a theorem.
 
-ghost use Rattle.trace_book.specs.Laws.{StandingFiltersAreFilters, FiltersHoldAsTheirTrees, RecordsShowTheirRows};
+ghost use Rattle.trace_book.specs.Laws.{StandingFiltersAreFilters, FiltersHoldAsTheirTrees, RecordsShowTheirRows, PipeReadsConsumeWhatTheyShow, WholePipeReadsConsumeWhatTheyShow};
 
 /// The filter that an event has in a legal history is one of the event, and it holds of an emission as the trees of its text do.
 pub fn filters_are_of_their_events()
@@ -12,3 +12,11 @@ pub fn filters_are_of_their_events()
 pub fn records_show_their_rows()
     ensures { RecordsShowTheirRows }
 {}
+
+/// A pipe read consumes the records that it shows.
+pub fn pipe_reads_consume_what_they_show()
+    ensures cpu { PipeReadsConsumeWhatTheyShow }
+    ensures all { WholePipeReadsConsumeWhatTheyShow }
+{
+    page_ring::laws::least_is_read();
+}
