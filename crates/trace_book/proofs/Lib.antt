@@ -2,6 +2,7 @@ pub mod EventLists
 pub mod Events
 pub mod Filtering
 pub mod Histories
+pub mod KeptEmissions
 pub mod LegalEvents
 pub mod Parts
 pub mod PipeReads

@@ -1,5 +1,5 @@
 -- What the words of the answers mean in legal histories. The newest entry stands first.
-use Rattle.std.specs.Prelude.{◌≡◌, ◌↔◌, ℕ, ◌+◌, ℤ, FitsSigned, IsTrue, List, ◌∷◌, ◌++◌, length, Option, Some, Ok}
+use Rattle.std.specs.Prelude.{◌≡◌, ◌↔◌, ℕ, ◌+◌, ℤ, FitsSigned, IsTrue, true, List, ◌∷◌, ◌++◌, length, All, Option, Some, Ok}
 use Rattle.std.specs.Int.{w32}
 use Rattle.page_ring.specs.Account.{Reading, readings_of}
 use Rattle.trace_filter.specs.Filters.{IsFilter, Passes}
@@ -10,9 +10,9 @@ use Rattle.trace_text.specs.RecordText.{record_line, row_line}
 use Rattle.trace_book.specs.Configs.{IsInRange}
 use Rattle.trace_book.specs.History.{requests_of, IsLegalNewestFirst}
 use Rattle.trace_book.specs.Paths.{TracePipe, CpuTracePipe}
-use Rattle.trace_book.specs.Requests.{Request, ReadFile}
+use Rattle.trace_book.specs.Requests.{Request, Emission, ReadFile, request_of}
 use Rattle.trace_book.specs.Rings.{filter_holds, emitted_record, ring_events}
-use Rattle.trace_book.specs.Settings.{NumberedEvent, event_named, declared_events, filter_of, now_of}
+use Rattle.trace_book.specs.Settings.{NumberedEvent, event_named, declared_events, is_enabled, filter_of, now_of}
 use Rattle.trace_book.specs.TraceFiles.{taken_readings}
 use Rattle.trace_book.specs.declared.command.Config.{Config}
 use Rattle.trace_book.specs.declared.command.Entry.{Entry}
@@ -45,6 +45,32 @@ RecordsShowTheirRows =
 -- the records that a CPU's ring keeps, as consuming reads find them
 abbrev pub kept_readings : Config → ℕ → List Request → List Reading
 kept_readings g cpu past = readings_of g.pages g.page_bytes (ring_events g cpu past)
+
+-- a line shows an emission of the history: one on the CPU, of an event that was enabled, and its filter held. It shows the emission's row, with
+-- the number of its process, which is in 32 bits, and the time at which it came.
+pub record ShowsEmission (cpu : ℕ) (entries : List Entry) (line : List ℕ) : Type 0 where
+  pub later : List Entry
+  pub entry : Entry
+  pub before : List Entry
+  pub cut : entries ≡ later ++ entry ∷ before
+  pub name : List ℕ
+  pub pid : ℤ
+  pub pairs : List Pair
+  pub emission : request_of entry.command ≡ Emission name cpu pid pairs
+  pub k : NumberedEvent
+  pub named : event_named name (requests_of before) ≡ Some k
+  pub row : Cells
+  pub built : row_of k.event pairs ≡ Ok row
+  pub enabled : is_enabled name (requests_of before) ≡ true
+  pub passed : IsTrue (filter_holds k.event (filter_of name (requests_of before)) row cpu pid)
+  pub shown : FitsSigned w32 pid
+      → line ≡ row_line cpu (record { ts = now_of (requests_of before) + 1; pid = pid; event = k.id; payload = length (payload_of row) }) k.event row.values
+
+-- the line of each record that is kept shows an emission
+abbrev pub KeptRecordsShowEmissions : Type 0
+KeptRecordsShowEmissions =
+    (g : Config) (entries : List Entry) (cpu : ℕ) → IsInRange g → IsLegalNewestFirst g entries
+    → All (λ (r : Reading). ShowsEmission cpu entries (record_line (declared_events (requests_of entries)) cpu r.rec)) (kept_readings g cpu (requests_of entries))
 
 -- a read of a CPU's pipe consumes the records that it shows and no others: what was kept before is what it shows and then what is kept
 abbrev pub PipeReadsConsumeWhatTheyShow : Type 0
