@@ -14,3 +14,4 @@ pub mod States
 pub mod BookSeen
 pub mod Books
 pub mod Switches
+pub mod Laws

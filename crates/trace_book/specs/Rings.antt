@@ -27,7 +27,7 @@ record_bytes timestamp pid id row =
     ++ payload_of row ++ replicate (padding (length (payload_of row))) 0
 
 -- whether an event's filter holds of an emission. For a filter of the event and a row of it, `holds_of` is the truth of the trees that the
--- text spells, as a law of trace_filter says.
+-- text spells, as a law of trace_filter says; `FiltersHoldAsTheirTrees` says it of the filter that an event has in a legal history.
 unfoldable pub filter_holds : Definition → Option (List ℕ) → Cells → ℕ → ℤ → Bool
 filter_holds event None row cpu pid = true
 filter_holds event (Some text) row cpu pid = holds_of (parsed_of event text) (record { values = row.values; cpu = cpu; pid = pid })

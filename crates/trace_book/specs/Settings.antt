@@ -69,7 +69,8 @@ unfoldable pub clears_filter : List ℕ → Bool
 clears_filter text = bytes_eq (trimmed text) (codes "0")
 
 -- an event can take a filter where the text is one of the event. `answer_of` gives a filter exactly where the text is short and shallow enough,
--- is in the grammar and fits the event's fields: where it is one by `IsFilter`, as a law of trace_filter says.
+-- is in the grammar and fits the event's fields: where it is one by `IsFilter`, as a law of trace_filter says. So the filter that an event has
+-- in a legal history is one: `StandingFiltersAreFilters`.
 unfoldable pub can_take : List ℕ → Definition → Bool
 can_take text event = is_ok (answer_of event text)
 

@@ -5,6 +5,7 @@ mod book;
 mod command;
 mod decimal;
 mod instance;
+pub mod laws;
 mod pipe_text;
 mod place;
 mod prepare;

@@ -1,0 +1,29 @@
+//! What the words of the answers mean in legal histories. Each function does nothing: its contract is a theorem.
+
+ghost use Rattle.trace_book.specs.Laws.{StandingFiltersAreFilters, FiltersHoldAsTheirTrees, RecordsShowTheirRows, KeptRecordsShowEmissions, PipeReadsConsumeWhatTheyShow, WholePipeReadsConsumeWhatTheyShow};
+
+/// The filter that an event has in a legal history is one of the event, and it holds of an emission as the trees of its text do.
+pub fn filters_are_of_their_events()
+    ensures standing { StandingFiltersAreFilters }
+    ensures holding { FiltersHoldAsTheirTrees }
+{}
+
+/// The line of an emission's record shows the row that was emitted, then and later.
+pub fn records_show_their_rows()
+    ensures { RecordsShowTheirRows }
+{}
+
+/// Each record that is kept has the line of an emission of the history.
+pub fn kept_records_show_emissions()
+    ensures { KeptRecordsShowEmissions }
+{
+    page_ring::laws::kept_were_put();
+}
+
+/// A pipe read consumes the records that it shows.
+pub fn pipe_reads_consume_what_they_show()
+    ensures cpu { PipeReadsConsumeWhatTheyShow }
+    ensures all { WholePipeReadsConsumeWhatTheyShow }
+{
+    page_ring::laws::least_is_read();
+}
