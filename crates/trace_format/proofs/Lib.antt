@@ -8,6 +8,7 @@ pub mod MapLemmas
 pub mod NumberLemmas
 pub mod Options
 pub mod PairLemmas
+pub mod PartLemmas
 pub mod Patterns
 pub mod Payloads
 pub mod ReadingLemmas

@@ -6,7 +6,7 @@ use Rattle.std.proofs.lemmas.List.Sums.{prefix_len-le-length}
 use Rattle.trace_format.specs.Words.{is_blank, is_word_byte, more_of, spots_from, IsNextWord}
 
 -- to skip bytes is to drop them
-skipped : (n at : ℕ) (bs : List ℕ) → spots_from n at bs ≡ spots_from 0 (at + n) (drop n bs)
+pub skipped : (n at : ℕ) (bs : List ℕ) → spots_from n at bs ≡ spots_from 0 (at + n) (drop n bs)
 skipped zero at bs = ap (λ k. spots_from 0 k bs) (sym (add-zero at))
 skipped (suc n) at [] = refl
 skipped (suc n) at (b ∷ bs) =

@@ -1,13 +1,20 @@
--- What `definition_of`, `row_of` and `row_from` say, as laws without a program.
+-- What `spots_of`, `definition_of`, `row_of` and `row_from` say, as laws without a program.
 use Rattle.std.specs.Prelude.{◌≡◌, ◌⊎◌, ◌↔◌, ℕ, ◌<◌, ◌^◌, List, length, All, Some, Ok, Err}
 use Rattle.trace_format.specs.declared.pair.Pair.{Pair}
-use Rattle.trace_format.specs.Words.{spots_of, words_of}
+use Rattle.trace_format.specs.Words.{Spot, spots_of, words_of}
+use Rattle.trace_format.specs.WordParts.{IsWritten}
 use Rattle.trace_format.specs.Definitions.{Definition, IsDefinition, Declares, IsRefusedAt}
 use Rattle.trace_format.specs.Reading.{definition_of}
 use Rattle.trace_format.specs.Cells.{Cells, IsRowOf, payload_of}
 use Rattle.trace_format.specs.Rows.{row_of}
 use Rattle.trace_format.specs.Pairs.{Give, IsWrongPair, IsMissingField}
 use Rattle.trace_format.specs.Decoding.{row_from}
+
+-- ---- words
+
+-- a text is written of parts that stand for these words with their places exactly where they are those that `spots_of` finds
+abbrev pub WordsAreAsWritten : Type 0
+WordsAreAsWritten = (text : List ℕ) → (spots : List Spot) → IsWritten text spots ↔ (spots ≡ spots_of text)
 
 -- ---- declarations; a text in memory has fewer than 2 ^ 64 bytes
 

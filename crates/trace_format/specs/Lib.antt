@@ -2,6 +2,7 @@ pub mod Names
 pub mod Numbers
 pub mod Kinds
 pub mod Words
+pub mod WordParts
 pub mod Definitions
 pub mod Reading
 pub mod Cells

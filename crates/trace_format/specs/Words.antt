@@ -1,4 +1,5 @@
 -- The words of a declaration: the longest runs of bytes that are no blank and no `;`, and each `;` by itself.
+-- What a text is written of, with no scanner, is in WordParts.
 use Rattle.std.specs.Prelude.{◌≡◌, ◌<◌, ◌≤◌, drop, ℕ, zero, suc, ◌+◌, Bool, not, ◌||◌, ◌==◌, if◌then◌else◌, List, [], ◌∷◌, length, map, take}
 use Rattle.std.specs.List.{prefix_len}
 

@@ -1,6 +1,12 @@
 //! What the definitions of the contracts mean. Each function does nothing: its contract is a theorem.
 
-ghost use Rattle.trace_format.specs.Laws.{DefinitionIsRead, RefusalIsRead, DeclaredOrRefused, NeverBoth, OneDefinition, OneRefusal, RowIsGiven, RefusalIsGiven, PayloadIsRead, OneRow};
+ghost use Rattle.trace_format.specs.Laws.{WordsAreAsWritten, DefinitionIsRead, RefusalIsRead, DeclaredOrRefused, NeverBoth, OneDefinition, OneRefusal, RowIsGiven, RefusalIsGiven, PayloadIsRead, OneRow};
+
+/// The words and `;` of a text with their places are those of the parts that it is written of: blanks, `;` and words, where no two words
+/// stand side by side and each place is the length of all that is written before it. So each text has them in one way.
+pub fn words_are_as_written()
+    ensures { WordsAreAsWritten }
+{}
 
 /// Reading a text gives a definition exactly where the text's words declare it, and a place exactly where the text is refused there: at the
 /// leftmost word that is wrong or can't stand there, or at the end. Each text declares one definition or is refused at one place.
