@@ -4,7 +4,8 @@ use Rattle.std.specs.List.{prefix_len}
 use Rattle.trace_format.specs.Cells.{Cells, IsRowOf}
 use Rattle.trace_format.specs.Definitions.{Definition, IsDefinition}
 use Rattle.trace_filter.specs.declared.fault.FilterFault.{FilterFault}
-use Rattle.trace_filter.specs.Tokens.{is_blank, without_end, trimmed, spots_of, shifted_by}
+use Rattle.trace_filter.specs.Tokens.{Token, is_blank, without_end, trimmed, spots_of, shifted_by}
+use Rattle.trace_filter.specs.Grammar.{Expr, Spells, depth_of, depth}
 use Rattle.trace_filter.specs.Truth.{Emission}
 use Rattle.trace_filter.specs.Filters.{IsFilter, IsRefused, Passes, parsed_of, answer_of}
 use Rattle.trace_filter.specs.Values.{holds_of}
@@ -49,3 +50,7 @@ TrimmedOnce = (text : List ℕ) → trimmed (trimmed text) ≡ trimmed text
 abbrev pub HoldsAsItsTree : Type 0
 HoldsAsItsTree = (definition : Definition) → (text : List ℕ) → (row : Cells) → (emission : Emission) → IsFilter definition text → IsDefinition definition → IsRowOf definition row
     → emission.values ≡ row.values → IsTrue (holds_of (parsed_of definition text) emission) ↔ Passes definition text emission
+
+-- the most that are open at one place of the tokens is the depth of each tree that they spell
+abbrev pub DepthIsOfTheTree : Type 0
+DepthIsOfTheTree = (tokens : List Token) → (tree : Expr) → Spells tokens tree → depth_of tokens ≡ depth tree

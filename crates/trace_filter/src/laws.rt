@@ -1,6 +1,6 @@
 //! What the definitions of the contracts mean. Each function does nothing: its contract is a theorem.
 
-ghost use Rattle.trace_filter.specs.Laws.{FilterIsAnswered, RefusalIsAnswered, FilterOrRefused, NeverBoth, OneRefusal, TrimmedHasTheTokens, TrimmedIsTheFilter, TrimmedPassesTheSame, TrimmedOnce, HoldsAsItsTree};
+ghost use Rattle.trace_filter.specs.Laws.{FilterIsAnswered, RefusalIsAnswered, FilterOrRefused, NeverBoth, OneRefusal, TrimmedHasTheTokens, TrimmedIsTheFilter, TrimmedPassesTheSame, TrimmedOnce, HoldsAsItsTree, DepthIsOfTheTree};
 
 /// A text is a filter of an event exactly where it is in the grammar, short, shallow and fits the event's fields; it is refused for a
 /// fault exactly where the grammar, or the first test that doesn't fit, has that fault. Each text is one or the other, for one fault.
@@ -23,4 +23,9 @@ pub fn trimming_keeps_filters()
 /// Whether a filter holds of an emission, as one function, is the truth of the trees that its text spells.
 pub fn filters_hold_as_their_trees()
     ensures { HoldsAsItsTree }
+{}
+
+/// How deep a text is nested, by what is open at each of its tokens, is the depth of the tree that its tokens spell.
+pub fn depth_is_of_the_tree()
+    ensures { DepthIsOfTheTree }
 {}
