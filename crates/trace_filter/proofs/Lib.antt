@@ -17,3 +17,4 @@ pub mod TrimmedFilters
 pub mod FilterLemmas
 pub mod ClassLemmas
 pub mod TreeDepths
+pub mod TreeFits

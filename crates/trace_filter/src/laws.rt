@@ -1,6 +1,6 @@
 //! What the definitions of the contracts mean. Each function does nothing: its contract is a theorem.
 
-ghost use Rattle.trace_filter.specs.Laws.{FilterIsAnswered, RefusalIsAnswered, FilterOrRefused, NeverBoth, OneRefusal, TrimmedHasTheTokens, TrimmedIsTheFilter, TrimmedPassesTheSame, TrimmedOnce, HoldsAsItsTree, DepthIsOfTheTree};
+ghost use Rattle.trace_filter.specs.Laws.{FilterIsAnswered, RefusalIsAnswered, FilterOrRefused, NeverBoth, OneRefusal, TrimmedHasTheTokens, TrimmedIsTheFilter, TrimmedPassesTheSame, TrimmedOnce, HoldsAsItsTree, DepthIsOfTheTree, FitsAsItsTree, MisfitIsTheFirst};
 
 /// A text is a filter of an event exactly where it is in the grammar, short, shallow and fits the event's fields; it is refused for a
 /// fault exactly where the grammar, or the first test that doesn't fit, has that fault. Each text is one or the other, for one fault.
@@ -28,4 +28,12 @@ pub fn filters_hold_as_their_trees()
 /// How deep a text is nested, by what is open at each of its tokens, is the depth of the tree that its tokens spell.
 pub fn depth_is_of_the_tree()
     ensures { DepthIsOfTheTree }
+{}
+
+/// A text in the grammar fits an event exactly where each test of its tree names a field of the event, with an operator that the field
+/// takes and a value that fits it. Where one doesn't, the fault told is that of the first such test from the left, at its name, its
+/// operator or its value.
+pub fn filters_fit_as_their_trees()
+    ensures fits { FitsAsItsTree }
+    ensures first { MisfitIsTheFirst }
 {}
