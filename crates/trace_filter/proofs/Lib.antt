@@ -16,3 +16,5 @@ pub mod Misfits
 pub mod TrimmedFilters
 pub mod FilterLemmas
 pub mod ClassLemmas
+pub mod TreeDepths
+pub mod TreeFits

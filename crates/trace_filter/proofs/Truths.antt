@@ -74,7 +74,7 @@ abbrev pub AllFit : List Field → Subject → List Token → Type 0
 AllFit fields subject [] = Unit {0}
 AllFit fields subject (token ∷ tokens) = (fault_at fields subject token 0 ≡ None) × AllFit fields (subject_behind fields subject token) tokens
 
-unless_true : (b : Bool) (f : FilterFault) → unless b f ≡ None → b ≡ true
+pub unless_true : (b : Bool) (f : FilterFault) → unless b f ≡ None → b ≡ true
 unless_true true f h = refl
 unless_true false f h = absurd (cc)
 

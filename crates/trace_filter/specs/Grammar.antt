@@ -111,6 +111,21 @@ deepest opened (token ∷ tokens) = max (open_count opened) (deepest (behind ope
 abbrev pub depth_of : List Token → ℕ
 depth_of tokens = deepest nothing_open tokens
 
+-- the depth of a tree: how many `!` and `(` are around the test that has the most
+abbrev mutual
+  pub depth : Expr → ℕ
+  depth (AllOf c) = conj_depth c
+  depth (Or e c) = max (depth e) (conj_depth c)
+
+  pub conj_depth : Conj → ℕ
+  conj_depth (Only u) = unary_depth u
+  conj_depth (And c u) = max (conj_depth c) (unary_depth u)
+
+  pub unary_depth : Unary → ℕ
+  unary_depth (Not u) = unary_depth u + 1
+  unary_depth (Group e) = depth e + 1
+  unary_depth (Test name comparison literal) = 0
+
 -- ---- what a text comes to
 
 -- the tokens before the one at the place begin a filter, and with it they begin none

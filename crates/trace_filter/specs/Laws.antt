@@ -1,12 +1,14 @@
 -- What `Filters` says, as laws without a program.
-use Rattle.std.specs.Prelude.{◌≡◌, ◌⊎◌, ◌↔◌, ℕ, List, map, IsTrue, Ok, Err}
+use Rattle.std.specs.Prelude.{◌≡◌, ◌⊎◌, ◌↔◌, ℕ, List, map, IsTrue, None, Some, Ok, Err}
 use Rattle.std.specs.List.{prefix_len}
 use Rattle.trace_format.specs.Cells.{Cells, IsRowOf}
 use Rattle.trace_format.specs.Definitions.{Definition, IsDefinition}
 use Rattle.trace_filter.specs.declared.fault.FilterFault.{FilterFault}
-use Rattle.trace_filter.specs.Tokens.{is_blank, without_end, trimmed, spots_of, shifted_by}
+use Rattle.trace_filter.specs.Tokens.{Token, is_blank, without_end, trimmed, spots_of, tokens_of, shifted_by}
+use Rattle.trace_filter.specs.Grammar.{Expr, Spells, depth_of, depth}
+use Rattle.trace_filter.specs.Fits.{tests_of, EachTestFits, test_places, IsFirstMisfit}
 use Rattle.trace_filter.specs.Truth.{Emission}
-use Rattle.trace_filter.specs.Filters.{IsFilter, IsRefused, Passes, parsed_of, answer_of}
+use Rattle.trace_filter.specs.Filters.{misfit_of, IsFilter, IsRefused, Passes, parsed_of, answer_of}
 use Rattle.trace_filter.specs.Values.{holds_of}
 
 -- the function of the text gives a filter exactly where the text is one by the grammar and the fields
@@ -49,3 +51,16 @@ TrimmedOnce = (text : List ℕ) → trimmed (trimmed text) ≡ trimmed text
 abbrev pub HoldsAsItsTree : Type 0
 HoldsAsItsTree = (definition : Definition) → (text : List ℕ) → (row : Cells) → (emission : Emission) → IsFilter definition text → IsDefinition definition → IsRowOf definition row
     → emission.values ≡ row.values → IsTrue (holds_of (parsed_of definition text) emission) ↔ Passes definition text emission
+
+-- the most that are open at one place of the tokens is the depth of each tree that they spell
+abbrev pub DepthIsOfTheTree : Type 0
+DepthIsOfTheTree = (tokens : List Token) → (tree : Expr) → Spells tokens tree → depth_of tokens ≡ depth tree
+
+-- the tokens of a text have no misfit exactly where each test of a tree that they spell fits the event's fields
+abbrev pub FitsAsItsTree : Type 0
+FitsAsItsTree = (definition : Definition) → (text : List ℕ) → (tree : Expr) → Spells (tokens_of (spots_of text)) tree → (misfit_of definition text ≡ None) ↔ EachTestFits definition.fields tree
+
+-- and their misfit is the fault of the first test of the tree that does not fit
+abbrev pub MisfitIsTheFirst : Type 0
+MisfitIsTheFirst = (definition : Definition) → (text : List ℕ) → (tree : Expr) → (fault : FilterFault) → Spells (tokens_of (spots_of text)) tree
+    → (misfit_of definition text ≡ Some fault) ↔ IsFirstMisfit definition.fields (tests_of tree) (test_places (spots_of text)) fault

@@ -6,6 +6,7 @@ pub mod Globs
 pub mod Marks
 pub mod SeenGlobs
 pub mod Fields
+pub mod Fits
 pub mod Places
 pub mod Truth
 pub mod Tests

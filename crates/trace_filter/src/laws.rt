@@ -1,6 +1,6 @@
 //! What the definitions of the contracts mean. Each function does nothing: its contract is a theorem.
 
-ghost use Rattle.trace_filter.specs.Laws.{FilterIsAnswered, RefusalIsAnswered, FilterOrRefused, NeverBoth, OneRefusal, TrimmedHasTheTokens, TrimmedIsTheFilter, TrimmedPassesTheSame, TrimmedOnce, HoldsAsItsTree};
+ghost use Rattle.trace_filter.specs.Laws.{FilterIsAnswered, RefusalIsAnswered, FilterOrRefused, NeverBoth, OneRefusal, TrimmedHasTheTokens, TrimmedIsTheFilter, TrimmedPassesTheSame, TrimmedOnce, HoldsAsItsTree, DepthIsOfTheTree, FitsAsItsTree, MisfitIsTheFirst};
 
 /// The function `answer_of` gives a filter exactly where the text is one, and a fault exactly where the text is refused for it. Each text is
 /// one or the other, and refused for one fault alone.
@@ -23,4 +23,17 @@ pub fn trimming_keeps_filters()
 /// Whether a filter holds of an emission, as one function, is the truth of the trees that its text spells.
 pub fn filters_hold_as_their_trees()
     ensures { HoldsAsItsTree }
+{}
+
+/// How deep a text is nested, by what is open at each of its tokens, is the depth of the tree that its tokens spell.
+pub fn depth_is_of_the_tree()
+    ensures { DepthIsOfTheTree }
+{}
+
+/// A text in the grammar fits an event exactly where each test of its tree names a field of the event, with an operator that the field
+/// takes and a value that fits it. Where one doesn't, the fault told is that of the first such test from the left, at its name, its
+/// operator or its value.
+pub fn filters_fit_as_their_trees()
+    ensures fits { FitsAsItsTree }
+    ensures first { MisfitIsTheFirst }
 {}

@@ -1,0 +1,106 @@
+-- Which trees fit the fields of an event, and the first test of a tree that does not.
+use Rattle.std.specs.Prelude.{◌≡◌, ℕ, Bool, true, false, IsTrue, List, [], ◌∷◌, ◌++◌, length, map, filter, All, slice_get, None, Some}
+use Rattle.trace_format.specs.declared.event.Field.{Field}
+use Rattle.trace_filter.specs.declared.token.Comparison.{Comparison}
+use Rattle.trace_filter.specs.declared.fault.FilterFault.{FilterFault}
+use Rattle.trace_filter.specs.declared.fault.FilterFault.TheVariants.{TooMany, FilterSyntax, NoSuchField, WrongOperator, Memory}
+use Rattle.trace_filter.specs.Tokens.{Literal, Token, Name, Value, is_comparison, Spot}
+use Rattle.trace_filter.specs.Grammar.{Expr, AllOf, Or, Conj, Only, And, Unary, Not, Group, Test}
+use Rattle.trace_filter.specs.Fields.{name_has_text, takes_at, fits_at}
+
+-- a test: a field's name, an operator and a value
+pub record OneTest : Type 0 where
+  pub name : List ℕ
+  pub comparison : Comparison
+  pub literal : Literal
+
+-- the tests of a tree, from left to right
+abbrev mutual
+  pub tests_of : Expr → List OneTest
+  tests_of (AllOf c) = conj_tests c
+  tests_of (Or e c) = tests_of e ++ conj_tests c
+
+  pub conj_tests : Conj → List OneTest
+  conj_tests (Only u) = unary_tests u
+  conj_tests (And c u) = conj_tests c ++ unary_tests u
+
+  pub unary_tests : Unary → List OneTest
+  unary_tests (Not u) = unary_tests u
+  unary_tests (Group e) = tests_of e
+  unary_tests (Test name comparison literal) = record { name = name; comparison = comparison; literal = literal } ∷ []
+
+-- ---- what fits
+
+-- the name is a field's, or `common_pid` or `common_cpu`, and what it names takes the operator and the value
+pub record TestFits (fields : List Field) (test : OneTest) : Type 0 where
+  pub has_text : Bool
+  pub named : name_has_text fields test.name ≡ Some has_text
+  pub takes : IsTrue (takes_at has_text test.comparison)
+  pub fits : IsTrue (fits_at has_text test.literal)
+
+abbrev pub EachTestFits : List Field → Expr → Type 0
+EachTestFits fields tree = All (TestFits fields) (tests_of tree)
+
+-- ---- what is wrong with a test
+
+-- what the name means does not take the operator
+pub record IsWronglyCompared (fields : List Field) (test : OneTest) : Type 0 where
+  pub has_text : Bool
+  pub named : name_has_text fields test.name ≡ Some has_text
+  pub refused : takes_at has_text test.comparison ≡ false
+
+-- it takes the operator, and the value does not fit it
+pub record IsWronglyValued (fields : List Field) (test : OneTest) : Type 0 where
+  pub has_text : Bool
+  pub named : name_has_text fields test.name ≡ Some has_text
+  pub takes : IsTrue (takes_at has_text test.comparison)
+  pub refused : fits_at has_text test.literal ≡ false
+
+-- the test has the fault: its name is no field's, or else its operator or its value is wrong
+abbrev pub HasFault : List Field → OneTest → FilterFault → Type 0
+HasFault fields test TooMany = ⊥
+HasFault fields test (FilterSyntax at) = IsWronglyValued fields test
+HasFault fields test (NoSuchField at) = name_has_text fields test.name ≡ None
+HasFault fields test (WrongOperator at) = IsWronglyCompared fields test
+HasFault fields test Memory = ⊥
+
+-- ---- where it is wrong
+
+abbrev pub is_name_token : Token → Bool
+is_name_token (Name bytes) = true
+is_name_token _ = false
+
+abbrev pub is_value_token : Token → Bool
+is_value_token (Value literal) = true
+is_value_token _ = false
+
+-- the places of the tokens of one kind, in order
+abbrev pub places_of : (Token → Bool) → List Spot → List ℕ
+places_of is spots = map (λ spot. spot.at) (filter (λ spot. is spot.token) spots)
+
+-- where the names, the operators and the values of a text are; each test has one of each, so the n-th of each are those of the n-th test
+pub record TestPlaces : Type 0 where
+  pub names : List ℕ
+  pub operators : List ℕ
+  pub values : List ℕ
+
+abbrev pub test_places : List Spot → TestPlaces
+test_places spots = record { names = places_of is_name_token spots; operators = places_of is_comparison spots; values = places_of is_value_token spots }
+
+-- the fault is told at the name, the operator or the value of the test that has so many before it
+abbrev pub IsAt : TestPlaces → ℕ → FilterFault → Type 0
+IsAt places before TooMany = ⊥
+IsAt places before (FilterSyntax at) = slice_get places.values before ≡ Some at
+IsAt places before (NoSuchField at) = slice_get places.names before ≡ Some at
+IsAt places before (WrongOperator at) = slice_get places.operators before ≡ Some at
+IsAt places before Memory = ⊥
+
+-- the tests before one fit, and this one has the fault
+pub record IsFirstMisfit (fields : List Field) (tests : List OneTest) (places : TestPlaces) (fault : FilterFault) : Type 0 where
+  pub front : List OneTest
+  pub test : OneTest
+  pub back : List OneTest
+  pub cut : tests ≡ front ++ test ∷ back
+  pub fit : All (TestFits fields) front
+  pub wrong : HasFault fields test fault
+  pub place : IsAt places (length front) fault
