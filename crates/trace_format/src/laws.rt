@@ -1,6 +1,6 @@
 //! What the definitions of the contracts mean. Each function does nothing: its contract is a theorem.
 
-ghost use Rattle.trace_format.specs.Laws.{DefinitionIsRead, RefusalIsRead, DeclaredOrRefused, NeverBoth, OneDefinition, OneRefusal, RowIsGiven, RefusalIsGiven, PayloadIsRead, OneRow};
+ghost use Rattle.trace_format.specs.Laws.{DefinitionIsRead, RefusalIsRead, DeclaredOrRefused, NeverBoth, OneDefinition, OneRefusal, RowIsGiven, RefusalIsGiven, PayloadIsRead, OneRow, PayloadHasItsSize};
 
 /// Reading a text gives a definition exactly where the text's words declare it, and a place exactly where the text is refused there: at the
 /// leftmost word that is wrong or can't stand there, or at the end. Each text declares one definition or is refused at one place.
@@ -24,4 +24,9 @@ pub fn rows_are_as_given()
 pub fn payloads_are_their_rows()
     ensures row { PayloadIsRead }
     ensures unique { OneRow }
+{}
+
+/// The payload of a row of an event has as many bytes as the sizes of the event's fields come to.
+pub fn payloads_have_their_size()
+    ensures { PayloadHasItsSize }
 {}
