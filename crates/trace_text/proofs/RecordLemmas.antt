@@ -15,7 +15,7 @@ use Rattle.trace_format.proofs.SizeLemmas.{payload_has_its_size}
 use Rattle.trace_text.specs.RecordText.{line_of_row, line_of_event, line_of_head, payload_in, record_line}
 use Rattle.trace_text.specs.Laws.{RecordShowsItsRow, RecordHasItsSize}
 
-sixteen : (head : Head) → length (head_bytes head) ≡ 16
+pub sixteen : (head : Head) → length (head_bytes head) ≡ 16
 unfolding head_bytes
 sixteen head = omega arith
 
