@@ -14,6 +14,7 @@ pub mod Payloads
 pub mod ReadingLemmas
 pub mod RefusalLemmas
 pub mod RowLemmas
+pub mod SizeLemmas
 pub mod Standings
 pub mod TextFields
 pub mod Types

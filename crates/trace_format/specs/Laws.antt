@@ -5,7 +5,7 @@ use Rattle.trace_format.specs.Words.{Spot, spots_of, words_of}
 use Rattle.trace_format.specs.WordParts.{IsWritten}
 use Rattle.trace_format.specs.Definitions.{Definition, IsDefinition, Declares, IsRefusedAt}
 use Rattle.trace_format.specs.Reading.{definition_of}
-use Rattle.trace_format.specs.Cells.{Cells, IsRowOf, payload_of}
+use Rattle.trace_format.specs.Cells.{Cells, IsRowOf, payload_of, payload_size_of}
 use Rattle.trace_format.specs.Rows.{row_of}
 use Rattle.trace_format.specs.Pairs.{Give, IsWrongPair, IsMissingField}
 use Rattle.trace_format.specs.Decoding.{row_from}
@@ -62,3 +62,7 @@ PayloadIsRead = (definition : Definition) → (bytes : List ℕ) → All (λ byt
 -- two rows of an event with one payload are one row
 abbrev pub OneRow : Type 0
 OneRow = (definition : Definition) → (one other : Cells) → IsRowOf definition one → IsRowOf definition other → payload_of one ≡ payload_of other → one ≡ other
+
+-- a row's payload has as many bytes as its event's payloads take
+abbrev pub PayloadHasItsSize : Type 0
+PayloadHasItsSize = (definition : Definition) → (row : Cells) → IsRowOf definition row → length (payload_of row) ≡ payload_size_of definition

@@ -1,6 +1,6 @@
 //! What the definitions of the contracts mean. Each function does nothing: its contract is a theorem.
 
-ghost use Rattle.trace_format.specs.Laws.{WordsAreAsWritten, DefinitionIsRead, RefusalIsRead, DeclaredOrRefused, NeverBoth, OneDefinition, OneRefusal, RowIsGiven, RefusalIsGiven, PayloadIsRead, OneRow};
+ghost use Rattle.trace_format.specs.Laws.{WordsAreAsWritten, DefinitionIsRead, RefusalIsRead, DeclaredOrRefused, NeverBoth, OneDefinition, OneRefusal, RowIsGiven, RefusalIsGiven, PayloadIsRead, OneRow, PayloadHasItsSize};
 
 /// The words and `;` of a text with their places are those of the parts that it is written of: blanks, `;` and words, where no two words
 /// stand side by side and each place is the length of all that is written before it. So each text has them in one way.
@@ -30,4 +30,9 @@ pub fn rows_are_as_given()
 pub fn payloads_are_their_rows()
     ensures row { PayloadIsRead }
     ensures unique { OneRow }
+{}
+
+/// The payload of a row of an event has as many bytes as the sizes of the event's fields come to.
+pub fn payloads_have_their_size()
+    ensures { PayloadHasItsSize }
 {}

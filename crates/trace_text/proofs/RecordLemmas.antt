@@ -1,20 +1,21 @@
--- The bytes of records and their lines.
-use Rattle.std.proofs.Common.{◌≡◌, ℕ, ◌<◌, ◌≤◌, ◌^◌, ltb, false, List, ◌++◌, Some, FitsSigned, refl, sym, ap, ◌∙◌, length, take, drop, append_assoc, arith}
+-- The bytes of records, how many they are, and their lines.
+use Rattle.std.proofs.Common.{◌≡◌, ℕ, ◌-◌, ◌+◌, ◌*◌, ◌/◌, ◌<◌, ◌≤◌, ◌^◌, ltb, false, List, ◌++◌, Some, FitsSigned, refl, sym, ap, ◌∙◌, length, take, drop, replicate, append_assoc, length-append, arith}
 use Rattle.std.specs.Int.{w32, to_le_bytes, from_le_bytes, cast_unsigned, cast_signed}
 use Rattle.std.proofs.lemmas.Nat.{from_le_bytes-to_le_bytes_2, from_le_bytes-to_le_bytes_4, from_le_bytes-to_le_bytes_8}
 use Rattle.std.proofs.lemmas.Bool.{le-ltb}
 use Rattle.std.proofs.lemmas.Int.{to_z-of_z}
-use Rattle.std.proofs.lemmas.List.{take_at, drop_at}
+use Rattle.std.proofs.lemmas.List.{take_at, drop_at, length-replicate}
 use Rattle.std.proofs.Math.Facts.{Fits-of_z}
 use Rattle.page_ring.specs.declared.heads.Head.{Head}
 use Rattle.page_ring.specs.Record.{head_of, head_bytes}
 use Rattle.trace_format.specs.Cells.{payload_of}
 use Rattle.trace_format.specs.Decoding.{row_from}
 use Rattle.trace_format.proofs.Payloads.{row_from-payload}
+use Rattle.trace_format.proofs.SizeLemmas.{payload_has_its_size}
 use Rattle.trace_text.specs.RecordText.{line_of_row, line_of_event, line_of_head, payload_in, record_line}
-use Rattle.trace_text.specs.Laws.{RecordShowsItsRow}
+use Rattle.trace_text.specs.Laws.{RecordShowsItsRow, RecordHasItsSize}
 
-sixteen : (head : Head) → length (head_bytes head) ≡ 16
+pub sixteen : (head : Head) → length (head_bytes head) ≡ 16
 unfolding head_bytes
 sixteen head = omega arith
 
@@ -52,3 +53,16 @@ record_shows_its_row events cpu definition row head padding is_row is_head =
     ∙ ap (line_of_event cpu head (payload_in head bytes)) is_head.event
     ∙ ap (λ payload. line_of_row cpu head definition (row_from definition payload)) (payload_in-record head (payload_of row) padding is_head.payload)
     ∙ ap (line_of_row cpu head definition) (row_from-payload definition row is_row)
+
+pub record_has_its_size : RecordHasItsSize
+record_has_its_size definition row head is =
+    let size = length (payload_of row) in
+    let zeros = 8 * ((size + 7) / 8) - size in
+    omega (
+      arith,
+      length-append (head_bytes head ++ payload_of row) (replicate zeros 0),
+      length-append (head_bytes head) (payload_of row),
+      sixteen head,
+      length-replicate {A = ℕ} zeros 0,
+      payload_has_its_size definition row is,
+    )
