@@ -70,7 +70,7 @@ after pages page_bytes a (Put bytes overwrite) =
     if accepts pages page_bytes a bytes overwrite then with_accepted pages page_bytes a bytes else record a { dropped = a.dropped + 1 }
 after pages page_bytes a Take = with_first_taken a (kept page_bytes a)
 
--- the account of a list of events, the oldest first, of a ring that was empty before them
+-- the account of a list of events, the oldest first, of a ring that was new or cleared before them
 unfoldable pub account : ℕ → ℕ → List Event → Account
 account pages page_bytes events = fold (after pages page_bytes) nothing events
 
