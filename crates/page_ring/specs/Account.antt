@@ -31,7 +31,7 @@ reader_page a = fold (λ _ t. Some t.page) None a.taken
 abbrev pub next_number : Account → ℕ
 next_number a = fold (λ _ t. t.number + 1) 0 a.taken
 
--- accepted, not taken, not lost
+-- the accepted records that were neither taken nor lost
 abbrev pub kept : ℕ → Account → List Accepted
 kept page_bytes a = filter (λ r. not (is_taken a r) && not (a.lost r)) (cut page_bytes a.accepted)
 
@@ -70,7 +70,7 @@ after pages page_bytes a (Put bytes overwrite) =
     if accepts pages page_bytes a bytes overwrite then with_accepted pages page_bytes a bytes else record a { dropped = a.dropped + 1 }
 after pages page_bytes a Take = with_first_taken a (kept page_bytes a)
 
--- the account of all events since the ring was new or cleared, oldest first
+-- the account of a list of events, the oldest first, of a ring that was new or cleared before them
 unfoldable pub account : ℕ → ℕ → List Event → Account
 account pages page_bytes events = fold (after pages page_bytes) nothing events
 

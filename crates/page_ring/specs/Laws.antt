@@ -20,8 +20,8 @@ abbrev pub IsAccepted : ℕ → ℕ → List Event → List ℕ → Bool → Typ
 IsAccepted pages page_bytes events bytes overwrite =
     (account pages page_bytes (events ++ Put bytes overwrite ∷ [])).accepted ≡ (account pages page_bytes events).accepted ++ bytes ∷ []
 
--- record r is lost after the events: some first part of them ends in an accepted put of a record that lies a round of
--- pages or more behind r; r wasn't taken in that part, and didn't lie on its reader page
+-- record r is lost after the events: among them is a put that was accepted and whose record lies a round of pages or
+-- more behind r; in the events up to this one r wasn't taken, and after them it didn't lie on the reader page
 pub record IsLostIn (pages page_bytes : ℕ) (events : List Event) (r : Accepted) : Type 0 where
   pub before : List Event
   pub bytes : List ℕ
@@ -54,7 +54,7 @@ DroppedOnly =
     → account pages page_bytes (events ++ Put bytes overwrite ∷ []) ≡ (let a = account pages page_bytes events in record a { dropped = a.dropped + 1 })
 
 -- the cut of accepted records that fit a page: they keep their order and bytes, the first lies on page 0, and each further one on
--- the page of the one before it where all records of that page and it fit, else on the next page
+-- the page of the one before it while there is room for it behind the others, else on the next page
 pub record IsGreedy (page_bytes : ℕ) (accepted : List (List ℕ)) (records : List Accepted) : Type 0 where
   pub bytes : map (λ r. r.bytes) records ≡ accepted
   pub number : (i : ℕ) (r : Accepted) → slice_get records i ≡ Some r → r.number ≡ i

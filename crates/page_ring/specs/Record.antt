@@ -26,7 +26,7 @@ head_of bytes =
 abbrev pub record_size : ℕ → ℕ
 record_size payload = 16 + 8 * ((payload + 7) / 8)
 
--- a record: it begins with a head that gives its length
+-- a record: its length is the one that the head at its front tells
 unfoldable pub IsRecord : List ℕ → Type 0
 IsRecord bytes = IsSomeAnd (head_of bytes) (λ head. length bytes ≡ record_size head.payload)
 

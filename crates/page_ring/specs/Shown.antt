@@ -4,8 +4,8 @@ use Rattle.page_ring.specs.Events.{Event}
 use Rattle.page_ring.specs.Cut.{Accepted, cut, last_page, filled}
 use Rattle.page_ring.specs.Account.{Account, account, kept, next_number, reader_page}
 
--- the visible facts: the kept records; how many records were accepted, taken and dropped; the number after the
--- last one taken, and its page; the page of the last accepted one, and how many bytes lie on it
+-- the visible facts: the kept records; how many records were accepted, how many taken, how many dropped; the number
+-- after the last one taken, and its page; the page of the last accepted one, and how many bytes lie on it
 pub record Shown : Type 0 where
   pub kept : List Accepted
   pub accepted : ℕ

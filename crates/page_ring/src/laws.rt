@@ -23,7 +23,7 @@ pub fn accepted_without_loss()
     ensures dropped { DroppedOnly }
 {}
 
-/// Records fill a page while they fit, and the first that doesn't fit begins the next page.
+/// A page takes records as long as each finds room on it; one that finds none opens the page after it.
 pub fn cut_is_greedy()
     ensures { CutIsGreedy }
 {}

@@ -129,8 +129,8 @@ impl Ring {
         })
     }
 
-    /// Makes room for one record of up to `len` bytes, until the next `put`, `take` or `clear`. It
-    /// changes nothing that can be seen, also where memory is refused.
+    /// Makes room for one record of up to `len` bytes, until the next `clear`, `put` or `take`. All
+    /// that can be seen stays as it was, also where memory is refused.
     pub fn ready(&mut self, len: usize) -> Result<(), AllocError>
         ensures stands { (events : List event.Event) → StandsFor self.old events
             → StandsFor self.new events }
@@ -384,7 +384,7 @@ impl Ring {
         self.ready = 0;
     }
 
-    /// The statistics since the ring was new or cleared.
+    /// The statistics of all events since the ring was made or last cleared.
     pub fn stats(&self) -> RingStats
         ensures { (events : List event.Event) → StandsFor self.now events
             → result ≡ stats_of self.now.pages self.now.page_bytes events }

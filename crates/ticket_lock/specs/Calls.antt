@@ -86,7 +86,7 @@ pub record IsDrawn {E : Type 0} (v w : View E) (ticket : ℕ) : Type 0 where
   pub low : w.low ≡ v.low
   pub end : w.end ≡ v.end
   pub base : w.base ≡ v.base
-  -- the ticket is one below the new front, which has risen, and by just one where the pass has all names
+  -- the front rises, to one above the ticket; that of a pass with all names rises by just one
   pub front : w.front ≡ ticket + 1
   pub risen : v.front < w.front
   pub all_names : HasAllNames v → w.front ≡ v.front + 1
@@ -100,7 +100,7 @@ pub record Finds {E : Type 0} (ticket by : E → ℕ) (v : View E) (served : ℕ
   pub below : All (λ e. ticket e < served) found
   pub callers : All (λ e. by e < 65536) found
 
--- What a turn may leave: the entries found, or those and one more, with the turn's ticket and under the pass's first name.
+-- What a turn may leave: the entries that were found, alone or with one behind them that has the turn's ticket and the pass's first name.
 abbrev pub MayLeave : {E : Type 0} → (E → ℕ) → (E → ℕ) → View E → ℕ → List E → Type 0
 MayLeave {E} ticket by v served left =
     (left ≡ v.seen) ⊎ ((e : E) × (left ≡ v.seen ++ e ∷ []) × (ticket e ≡ served) × (by e ≡ v.low))

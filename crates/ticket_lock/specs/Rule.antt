@@ -1,5 +1,5 @@
 -- The rule of the lock: what holds between any two steps of its words NEXT and SERVING, of the slot with the value, and of what the passes know.
--- The history `log` is the list of entries of the value at home, or of the value that the holder found.
+-- The history `log` is what the value lists while it is home, and what the holder found in it while it is not.
 use Rattle.std.specs.Prelude.{◌≡◌, ℕ, ◌<◌, ◌≤◌, ◌^◌, ◌⊎◌, Option, Some, List, [], ◌∷◌, All, AllPairs}
 use mathlib.Core.Option as maybe
 use Rattle.atomic_table.specs.Table.{State}
@@ -75,7 +75,7 @@ pub record IsFronted {E : Type 0} (next : ℕ) (log : List E) (views : List (Vie
   pub newest : SomeSeat (λ v. IsLive v.stage × (v.front ≡ next)) views
   pub longest : SomeSeat (λ v. IsLive v.stage × (v.seen ≡ log)) views
 
--- The whole rule, over a table with two words, NEXT and SERVING, and one slot.
+-- The whole rule, over a table with one slot and the words NEXT and SERVING.
 pub record IsSound {T E : Type 0} (entries : T → List E) (base_of : T → List ℕ) (ticket by : E → ℕ) (base : List ℕ) (s : State (Option T) (View E)) : Type 0 where
   pub next : ℕ
   pub serving : ℕ

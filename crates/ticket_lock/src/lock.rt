@@ -107,8 +107,8 @@ impl<T: Logged> TicketLock<T> {
         }
     }
 
-    /// The lower and the upper half of a pass's names, each in a pass of its own that knows what the pass knew. The
-    /// upper half is longer by one where the number of names is odd. A pass with one name comes back.
+    /// Cuts a pass's names into two halves, the lower one first, each in a pass of its own that knows what the pass knew.
+    /// Of an odd number of names the upper half has one more. A pass with one name comes back.
     pub fn split(&self, pass: Pass<T>) -> Result<(Pass<T>, Pass<T>), Pass<T>>
         requires { IsOf self.now pass }
         ensures ok { IsOk result ↔ ((view_of pass).low + 1 < (view_of pass).end) }
@@ -236,8 +236,8 @@ impl<T: Logged> TicketLock<T> {
 
     /// Puts the value back and serves the next ticket. It waits for nobody.
     ///
-    /// The value has to have the base that was found, and the entries that were found, or those and one more, with
-    /// the turn's ticket and under the pass's first name.
+    /// The value has to have the base that was found, and the entries that were found; one may stand behind them, of the
+    /// turn's ticket and under the pass's first name.
     pub fn release(&self, held: Held<T>) -> Pass<T>
         requires of { IsTurnOf self.now held }
         requires base { T.base (held_value held) ≡ (held_view held).base }

@@ -23,7 +23,7 @@ pub struct View<E> {
     pub seen: LinkedList<E>,
     /// The base of the value.
     pub base: LinkedList<u64>,
-    /// The greatest value of NEXT that it knows.
+    /// Of the values of NEXT that it knows, the greatest.
     pub front: u64,
     pub stage: Stage,
     /// What the last join noted: the name at which its second half begins, and what the two halves had seen.

@@ -28,6 +28,6 @@ abbrev pub up_to : ℕ → Option ℕ → Option ℕ
 up_to most None = None
 up_to most (Some n) = if nat_le n most then Some n else None
 
--- the number written to a file: decimal, blanks at both ends cut, below 2^64
+-- the number written to a file: a decimal below 2^64, perhaps between blanks
 abbrev pub written_number : List ℕ → Option ℕ
 written_number text = up_to (2 ^ 64 - 1) (decimal_number (trimmed text))

@@ -64,13 +64,13 @@ abbrev pub is_enabled : List ℕ → List Request → Bool
 is_enabled event [] = false
 is_enabled event (request ∷ past) = unwrap_or (switches event past request) (is_enabled event past)
 
--- a filter's text that is the one byte 0 between blanks clears
+-- a `0`, perhaps between blanks, clears a filter
 unfoldable pub clears_filter : List ℕ → Bool
 clears_filter text = bytes_eq (trimmed text) (codes "0")
 
--- an event can take a filter where the text is one of the event. `answer_of` gives a filter exactly where the text is short and shallow enough,
--- is in the grammar and fits the event's fields: where it is one by `IsFilter`, as a law of trace_filter says. So the filter that an event has
--- in a legal history is one: `StandingFiltersAreFilters`.
+-- an event can take a filter where the text is one of the event. `answer_of` gives a filter for just the texts that are short and shallow
+-- enough, that the grammar has and that suit the event's fields: those that are one by `IsFilter`, as trace_filter's law
+-- `filters_are_as_written` says. So the filter that an event has in a legal history is one: `StandingFiltersAreFilters`.
 unfoldable pub can_take : List ℕ → Definition → Bool
 can_take text event = is_ok (answer_of event text)
 

@@ -64,7 +64,7 @@ impl Book {
     }
 
     /// Does a command, or refuses it. The answer is the one that the history gives: a command that is done is the next entry of the
-    /// history, with this ticket and this caller's number; one that is refused changes nothing.
+    /// history, under this ticket and the number of this caller; one that is refused changes nothing.
     /// `Memory` may come in place of any answer, where an allocation was refused.
     pub fn ask(&mut self, ticket: u64, by: u32, command: Command) -> Result<Reply, Refusal>
         requires { All (λ entry. entry.ticket < ticket) self.old.entries }

@@ -83,7 +83,7 @@ pub struct Config {
     pub cpus: u32,
     /// The pages of each CPU's ring, from 2 to 1,024.
     pub pages: u32,
-    /// The bytes of a page, a multiple of 8 from 64 to 4,080.
+    /// The bytes of a page, from 64 to 4,080 and a multiple of 8.
     pub page_bytes: u32,
     /// The most entries that the history may have, from 1 to 2^32.
     pub history_limit: u64,

@@ -147,7 +147,7 @@ impl Instance {
         switch_named(&mut self.enabled, events, name, flag);
     }
 
-    /// Makes room for a record of this length. It changes nothing that can be seen.
+    /// Makes room for a record of this length. All that can be seen stays as it was.
     pub(crate) fn ready(&mut self, len: usize) -> Result<(), AllocError>
         ensures ok { OnOk result (self.new ≡ record self.old { ring = record self.old.ring { ready = max self.old.ring.ready len } }) }
         ensures err { OnErr result (self.new ≡ self.old) }

@@ -8,7 +8,7 @@ use trace_filter::FilterFault;
 use trace_format::{CatalogFault, DefinitionFault, RowFault, Text};
 
 /// Why a command was refused. A refused command changes nothing and is not in the history.
-/// `at` counts bytes from 0 in the text as it was written.
+/// `at` is a place in the text as it was written: how many bytes stand before it.
 #[derive(Debug, Drop, Error)]
 pub enum Refusal {
     /// No file of the tracing tree has this path.
@@ -30,14 +30,14 @@ pub enum Refusal {
     /// An event of this name was declared before.
     #[error("event exists")]
     EventExists,
-    /// The text is no declaration of an event: what stands at this byte can't stand there, or the text ends too early, at its length.
+    /// The text is no declaration of an event: with what begins at this byte none goes on, or more was to come at the text's end.
     #[error("bad definition at {at}")]
     BadDefinition { at: usize },
     /// A record of the event would not fit a page.
     #[error("too big")]
     TooBig,
-    /// The text is no filter: what stands at this byte can't stand there, or is no number where one is needed, or the text ends too early, at its
-    /// length.
+    /// The text is no filter: with what begins at this byte none goes on, or it is no number though its field needs one, or more was to come at
+    /// the text's end.
     #[error("filter syntax at {at}")]
     FilterSyntax { at: usize },
     /// The event has no field of the name at this byte.
@@ -46,7 +46,7 @@ pub enum Refusal {
     /// The field does not take the operator at this byte.
     #[error("wrong operator at {at}")]
     WrongOperator { at: usize },
-    /// The text is no hist trigger: what stands at this byte can't stand there.
+    /// The text is no hist trigger: with what begins at this byte none goes on.
     #[error("hist syntax at {at}")]
     HistSyntax { at: usize },
     /// The size of a hist trigger is out of range.

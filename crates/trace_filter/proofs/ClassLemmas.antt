@@ -1,4 +1,4 @@
--- Behind a `[` whose class isn't closed, no class is.
+-- Behind a `[` without its `]`, no class is.
 use Rattle.std.proofs.Common.{◌≡◌, ℕ, zero, suc, ◌+◌, ◌≤◌, ◌==◌, nat_lt, Bool, true, false, not, ◌&&◌, if◌then◌else◌, List, [], ◌∷◌, length, take, drop, refl, sym, ap, ◌∙◌, subst, one-add, arith, drop-drop, eqb→eq}
 use Rattle.std.specs.List.{prefix_len}
 use Rattle.std.specs.Bool.{passes}

@@ -64,7 +64,7 @@ abbrev pub operator_fault : Bool → Token → ℕ → Option FilterFault
 operator_fault text (Compare by) at = unless (takes_at text by) (WrongOperator at)
 operator_fault text _ at = None
 
--- a value that is no NUMBER, where one is needed
+-- a value that does not fit: it is no NUMBER, and the field needs one
 abbrev pub value_fault : Bool → Token → ℕ → Option FilterFault
 value_fault text (Value literal) at = unless (fits_at text literal) (FilterSyntax at)
 value_fault text _ at = None

@@ -11,7 +11,7 @@ pub record Range : Type 0 where
 abbrev pub is_in_range : ℕ → Range → Bool
 is_in_range b range = nat_le range.lower b && nat_le b range.upper
 
--- the ranges that the bytes of a class write, from left to right: a byte, a `-` (45) and one more byte are a range, another byte is itself
+-- the ranges that the bytes of a class write, read from the left: two bytes with a `-` (45) between them are a range, another byte is itself
 abbrev pub ranges_of : List ℕ → List Range
 ranges_of [] = []
 ranges_of (a ∷ []) = record { lower = a; upper = a } ∷ []
@@ -47,7 +47,7 @@ pub record PartPiece : Type 0 where
 abbrev pub itself : ℕ → PartPiece
 itself b = record { part = OneByte (record { negated = false; members = b ∷ [] }); more = 0 }
 
--- a class with so many bytes between the `[` and its members, whose first may be a `]` (93); a `[` (91) whose class isn't closed is itself
+-- a class with so many bytes between the `[` and its members, whose first may be a `]` (93); a `[` (91) without its `]` is itself
 abbrev pub class_from : Bool → ℕ → List ℕ → PartPiece
 class_from negated before [] = itself 91
 class_from negated before (b ∷ bs) = if nat_lt (prefix_len (is_not 93) bs) (length bs)

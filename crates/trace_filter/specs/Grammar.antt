@@ -1,7 +1,6 @@
 -- The grammar of filters: trees, how they are spelled, and where other tokens are wrong.
---   expr  := and ( "||" and )*
---   and   := unary ( "&&" unary )*
---   unary := "!" unary | "(" expr ")" | name op value
+-- A filter is one conjunction or several, with `||` between each two; a conjunction is one unary or several, with `&&` between each two. A unary
+-- is a test (a name, a comparison and a value), a filter in parentheses, or a `!` with a unary behind it.
 use Rattle.std.specs.Prelude.{◌≡◌, ◌⊎◌, ℕ, ◌+◌, ◌<◌, ◌≤◌, Bool, true, false, ◌&&◌, ◌||◌, nat_lt, max, IsTrue, List, [], ◌∷◌, ◌++◌, length, sum}
 use Rattle.std.specs.List.{list_all}
 use Rattle.trace_format.specs.Names.{is_name}

@@ -11,7 +11,7 @@ use Rattle.trace_filter.specs.Truth.{Emission}
 use Rattle.trace_filter.specs.Filters.{misfit_of, IsFilter, IsRefused, Passes, parsed_of, answer_of}
 use Rattle.trace_filter.specs.Values.{holds_of}
 
--- the function of the text gives a filter exactly where the text is one by the grammar and the fields
+-- what the function of the text gives is a filter for just the texts that are one by the grammar and the fields
 abbrev pub FilterIsAnswered : Type 0
 FilterIsAnswered = (definition : Definition) → (text : List ℕ) → IsFilter definition text ↔ (answer_of definition text ≡ Ok (parsed_of definition text))
 

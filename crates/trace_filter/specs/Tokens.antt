@@ -56,7 +56,7 @@ quoted_piece quote bs = if nat_lt (prefix_len (is_not quote) bs) (length bs) the
 abbrev pub word_piece : ℕ → List ℕ → Piece
 word_piece b bs = record { token = Value (Word (b ∷ take (prefix_len is_word_byte bs) bs)); more = prefix_len is_word_byte bs }
 
--- a name: the longest run of letters, digits and `_`, if that is a name
+-- as many bytes of a name as stand together: a name, if they make one
 abbrev pub name_piece : ℕ → List ℕ → Piece
 name_piece b bs = record { token = if is_name (b ∷ take (prefix_len is_name_byte bs) bs) then Name (b ∷ take (prefix_len is_name_byte bs) bs) else Misfit; more = prefix_len is_name_byte bs }
 

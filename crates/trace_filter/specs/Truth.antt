@@ -14,7 +14,7 @@ abbrev pub pattern_of : ℤ → ℕ
 pattern_of (pos n) = n % 2 ^ 64
 pattern_of (negsuc n) = 2 ^ 64 - 1 - n % 2 ^ 64
 
--- numbers are compared by their mathematical values; `&` is true where the patterns have a common bit
+-- how two numbers compare, as whole numbers of any size; for `&`, whether their patterns share a bit
 abbrev pub NumbersCompare : Comparison → ℤ → ℤ → Type 0
 NumbersCompare comparison.Equal a b = a ≡ b
 NumbersCompare comparison.NotEqual a b = a ≡ b → ⊥
@@ -25,7 +25,7 @@ NumbersCompare comparison.Above a b = a ≤ℤ b → ⊥
 NumbersCompare comparison.CommonBit a b = bit_and (pattern_of a) (pattern_of b) ≡ 0 → ⊥
 NumbersCompare comparison.Like a b = ⊥
 
--- texts are equal where their bytes are; `~` matches the whole text by a glob
+-- how two texts compare: byte for byte; for `~`, the second as a pattern of all of the first
 abbrev pub TextsCompare : Comparison → List ℕ → List ℕ → Type 0
 TextsCompare comparison.Equal a b = a ≡ b
 TextsCompare comparison.NotEqual a b = a ≡ b → ⊥

@@ -12,7 +12,7 @@ pub enum FilterFault {
     /// The text has over 1,024 bytes without the blanks at both ends, or over 16 `!` and `(` are open at one place.
     #[error("the filter is too long or nested too deep")]
     TooMany,
-    /// The first token that can't stand there, the end of a text that ends too early, or a value that is no number.
+    /// The first token with which no filter goes on, the end of a text where more was to come, or a value that is no number.
     #[error("syntax error at byte {at}")]
     FilterSyntax { at: usize },
     /// The event has no field of this name.

@@ -191,7 +191,7 @@ fn next_part<'a>(bytes: &'a [u8], first: u8, rest: &'a [u8], may_close: bool) ->
     }
 }
 
-/// Whether a part is a `[` whose class isn't closed.
+/// Whether a part is a `[` without its `]`.
 fn is_unclosed(first: u8, more: usize) -> bool
     ensures { result ≡ (first == 91 && more == 0) }
 {
@@ -214,8 +214,8 @@ fn match_parts(pattern: &[u8], row: &mut [bool], text: &[u8]) -> bool
     row[text.len()]
 }
 
-/// Whether a text matches a pattern: `*` any bytes, `?` any one, `[..]` one of a class, any other byte itself. It takes as many steps
-/// as the pattern has bytes for each place of the text.
+/// Whether a text matches a pattern, in which a `*` stands for any bytes, a `?` for any one, a `[..]` for one of its class, and each further
+/// byte for itself. It takes as many steps as the pattern has bytes for each place of the text.
 pub(crate) fn matches(pattern: &[u8], text: &[u8]) -> bool
     requires { length text.now < 256 }
     ensures { result ≡ is_match (parts_of pattern.now) text.now }

@@ -2,8 +2,8 @@
 
 ghost use Rattle.trace_filter.specs.Laws.{FilterIsAnswered, RefusalIsAnswered, FilterOrRefused, NeverBoth, OneRefusal, TrimmedHasTheTokens, TrimmedIsTheFilter, TrimmedPassesTheSame, TrimmedOnce, HoldsAsItsTree, DepthIsOfTheTree, FitsAsItsTree, MisfitIsTheFirst};
 
-/// The function `answer_of` gives a filter exactly where the text is one, and a fault exactly where the text is refused for it. Each text is
-/// one or the other, and refused for one fault alone.
+/// What the function `answer_of` gives is a filter for just the texts that are one, and a fault for just those that are refused for it. Each
+/// text is one or the other, and refused for one fault alone.
 pub fn filters_are_as_written()
     ensures filter { FilterIsAnswered }
     ensures refused { RefusalIsAnswered }

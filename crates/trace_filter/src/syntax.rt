@@ -31,7 +31,7 @@ pub(crate) enum Verdict {
     Fine,
     /// Over 16 `!` and `(` are open at one place.
     TooDeep,
-    /// The token at this byte can't stand there, or the text ends too early at this byte.
+    /// At this byte begins the first token with which no filter goes on, or the text ends here, where more was to come.
     WrongAt(usize),
 }
 

@@ -41,7 +41,7 @@ pub(crate) enum Token<'a> {
     Compare(Comparison),
     Name(&'a [u8]),
     Value(Literal<'a>),
-    /// What no filter has: a lone `=` or `|`, an open quote, a run of letters and digits that is no name.
+    /// What no filter has: a `=` or a `|` by itself, an open quote, a run of letters and digits that is no name.
     Misfit,
 }
 
@@ -121,7 +121,7 @@ fn word_len(text: &[u8]) -> usize
     text.iter().take_while(|byte| is_word_byte(**byte)).count()
 }
 
-/// How many letters, digits and `_` a text begins with.
+/// How many bytes at a text's front may stand in a name.
 fn name_len(text: &[u8]) -> usize
     ensures value { result ≡ prefix_len spec_name_byte text.now }
     ensures bound { result ≤ length text.now }
@@ -186,7 +186,7 @@ fn name_piece<'a>(bytes: &'a [u8], first: u8, rest: &'a [u8]) -> Piece<'a>
     }
 }
 
-/// A run of letters, digits and `_` as a token.
+/// A run of bytes that may stand in a name, as a token.
 fn name_token(run: &[u8]) -> Token<'_>
     ensures { token_of result ≡ (if spec_is_name run.now then Name run.now else Misfit) }
 {

@@ -1,4 +1,4 @@
--- The declared events, in the order in which they were added. The first has the number 1.
+-- The declared events, each behind those that were added before it. The first has the number 1.
 use Rattle.std.specs.Prelude.{◌≡◌, ◌≤◌, Vec, ℕ, zero, suc, ◌+◌, nat_le, nat_lt, if◌then◌else◌, bytes_eq, List, [], ◌∷◌, ◌++◌, length, map, Option, None, is_some, option_map, position, slice_get, Result, Ok, Err}
 use Rattle.std.specs.List.{AllByRecursion}
 use Rattle.std.specs.declared.alloc.Global.{Global}

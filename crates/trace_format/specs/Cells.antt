@@ -96,6 +96,6 @@ size_of_all (kind ∷ kinds) = size_of kind + size_of_all kinds
 abbrev pub payload_size_of : Definition → ℕ
 payload_size_of definition = size_of_all (kinds_of definition)
 
--- and its record: a head of 16 bytes and the payload, rounded up to a multiple of 8
+-- and its record: a head of 16 bytes, the payload, and as few bytes more as make it a multiple of 8
 abbrev pub record_size_of : Definition → ℕ
 record_size_of definition = (16 + payload_size_of definition + 7) / 8 * 8

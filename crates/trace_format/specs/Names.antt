@@ -11,7 +11,7 @@ is_letter b = is_ascii_alphabetic b || b == 95
 abbrev pub is_name_byte : ℕ → Bool
 is_name_byte b = is_letter b || is_ascii_digit b
 
--- a letter or `_`, then letters, digits or `_`; at most 32 bytes in all
+-- a name: at most 32 such bytes, one at least, the first of them no digit
 abbrev pub is_name : List ℕ → Bool
 is_name [] = false
 is_name (b ∷ bs) = (nat_le (length (b ∷ bs)) 32 && is_letter b) && list_all is_name_byte bs

@@ -23,7 +23,7 @@ magnitude_of (b ∷ bs) = if b == 48 then after_zero bs else digits_of 10 (b ∷
 abbrev pub below : ℕ → Option ℕ → Option ℕ
 below limit value = option_and_then (λ n. if nat_lt n limit then Some n else None) value
 
--- the number that a text writes: a numeral, perhaps behind a `-` (45); from -2^63 to 2^64 - 1
+-- the number that a text writes: a numeral, perhaps behind a `-` (45); it is below 2^64 and not below -2^63
 abbrev pub number_of : List ℕ → Option ℤ
 number_of [] = None
 number_of (b ∷ bs) = if b == 45 then option_map (λ n. neg_ℤ (pos n)) (below (2 ^ 63 + 1) (magnitude_of bs)) else option_map (λ n. pos n) (below (2 ^ 64) (magnitude_of (b ∷ bs)))

@@ -15,7 +15,7 @@ const MOST_FIELDS: usize = 16;
 /// A catalog has at most so many events.
 const MOST_EVENTS: usize = 64;
 
-/// The declared events, in the order in which they were added.
+/// The declared events, each behind those that were added before it.
 #[derive(Drop)]
 pub struct Catalog {
     alloc: Global,

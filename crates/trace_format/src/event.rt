@@ -39,11 +39,11 @@ impl EventDef {
     ghost use Rattle.trace_format.specs.Words.{spots_of, words_of};
     ghost use Rattle.trace_format.specs.Reading.{definition_of, IsRead, IsRefusal};
 
-    /// The event that a text declares, after "Synthetic events" (histogram.rst): `name type field; type field; ..`. Blanks separate
-    /// words, those round a `;` are free, a last `;` may stand or lack.
+    /// The event that a text declares, after "Synthetic events" (histogram.rst): its name, then for each field a type and a name, with a
+    /// `;` between two fields. Blanks part the words; round a `;` they may stand or lack, and so may a `;` behind the last field.
     ///
-    /// A text that declares none is refused as `BadDefinition`, at the first byte of the leftmost word or `;` that is wrong or can't
-    /// stand there, or at the text's length where it ends too early. `Memory` comes where an allocation is refused.
+    /// Otherwise it is `BadDefinition`, at the place of the first word or `;` with which no declaration goes on, or at the text's end,
+    /// where more was to come. `Memory` comes where an allocation is refused.
     pub fn parse(alloc: Global, text: &[u8]) -> Result<EventDef, DefinitionFault>
         // What is read is declared so.
         ensures declared { IfOk result (Declares (words_of (spots_of text.now))) }

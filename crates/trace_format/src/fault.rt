@@ -12,7 +12,7 @@ use thiserror::Error;
 /// Why a text declares no event.
 #[derive(Debug, Drop, Error)]
 pub enum DefinitionFault {
-    /// The word or `;` at this byte is the leftmost that is wrong or can't stand there, or the text ends too early at this byte.
+    /// At this byte begins the first word or `;` with which no declaration goes on, or the text ends here, where more was to come.
     #[error("bad definition at byte {at}")]
     BadDefinition { at: usize },
     #[error("out of memory")]

@@ -9,7 +9,7 @@ pub fn words_are_as_written()
 {}
 
 /// Reading a text gives a definition exactly where the text's words declare it, and a place exactly where the text is refused there: at the
-/// leftmost word that is wrong or can't stand there, or at the end. Each text declares one definition or is refused at one place.
+/// first word with which no declaration goes on, or at the end. Each text declares one definition or is refused at one place.
 pub fn declarations_are_as_written()
     ensures definition { DefinitionIsRead }
     ensures refused { RefusalIsRead }

@@ -25,7 +25,8 @@ fn are_name_bytes(text: &[u8]) -> bool
     text.iter().all(|byte| is_name_byte(*byte))
 }
 
-/// Whether the text is a name: a letter or `_`, then letters, digits or `_`; 1 to 32 bytes.
+/// Whether a text may name an event or a field: it has at most 32 bytes, all digits, letters or `_`, and does not begin with a digit. The
+/// empty text may not.
 pub fn is_name(text: &[u8]) -> bool
     ensures { result ≡ spec_name text.now }
 {

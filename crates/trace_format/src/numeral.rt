@@ -55,8 +55,8 @@ fn negative_magnitude(text: &[u8]) -> Option<u64>
     }
 }
 
-/// The number that a text writes: an optional `-`, then decimal digits without a leading 0 (or `0` alone), or `0x` and hexadecimal
-/// digits of either case, or `0` and octal digits. None where the text is anything else, or the number is not from -2^63 to 2^64 - 1.
+/// The number that a text writes, if it is one: digits with or without a `-` before them. They are hexadecimal behind `0x`, octal behind
+/// another `0` (which may stand alone), and else decimal. Below -2^63 and from 2^64 on there is none.
 pub fn number(text: &[u8]) -> Option<i128>
     ensures { result ≡ number_of text.now }
 {

@@ -21,7 +21,7 @@ pub fn payload_size(def: &EventDef) -> usize
     size
 }
 
-/// How many bytes a record of an event takes: a head of 16 bytes and the payload, rounded up to a multiple of 8.
+/// How many bytes a record of an event takes: a head of 16 bytes, the payload, and as few more as make it a multiple of 8.
 pub fn record_size(def: &EventDef) -> usize
     requires { length def.now.fields ≤ 16 }
     ensures size { result ≡ record_size_of def.now }

@@ -42,7 +42,7 @@ pairs_of [] = Some []
 pairs_of (Redirect append ∷ tokens) = None
 pairs_of (Word word ∷ tokens) = option_and_then (λ pair. option_map (λ pairs. pair ∷ pairs) (pairs_of tokens)) (pair_of word)
 
--- `emit CPU PID EVENT f=v ..`, with one pair or more
+-- `emit CPU PID EVENT FIELD=VALUE ..`, with one pair or more
 unfoldable pub emission_of : List Token → Result Command ScriptFault
 emission_of (Word cpu ∷ Word pid ∷ Word event ∷ pair ∷ more) =
     or_fault WrongWords (pairs_of (pair ∷ more)) >>= λ pairs. or_fault BadNumber (number_up_to (2 ^ 32 - 1) cpu) >>= λ cpu. or_fault BadNumber (process_id pid)
@@ -60,7 +60,7 @@ write_behind words [] = Err WrongWords
 write_behind words (Word word ∷ tokens) = write_behind (words ++ word ∷ []) tokens
 write_behind words (Redirect append ∷ tokens) = redirected_to append (join_with_byte 32 words) tokens
 
--- `echo WORDS > PATH`, `echo WORDS >> PATH`: the words joined by one space, perhaps none
+-- an `echo`: words or none, a redirection and a path; what is written is the words with a space between each two
 unfoldable pub write_of : List Token → Result Command ScriptFault
 write_of tokens = write_behind [] tokens
 
@@ -101,7 +101,7 @@ command_of _ = Err UnknownCommand
 abbrev pub is_line_byte : ℕ → Bool
 is_line_byte b = b == 9 || (nat_le 32 b && nat_le b 126)
 
--- a line that is empty, blank, or begins with `#` after blanks
+-- a line with no byte but blanks, or whose first other byte is a `#`
 abbrev pub says_nothing : List ℕ → Bool
 says_nothing [] = true
 says_nothing (b ∷ bs) = if is_blank b then says_nothing bs else b == 35

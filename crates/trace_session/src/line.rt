@@ -26,7 +26,7 @@ pub enum Line {
     Ask(Command),
 }
 
-/// Where the first `=` of a word stands.
+/// Where a word has its first `=`.
 fn first_equals(word: &[u8]) -> Option<usize>
     ensures { result ≡ position (λ b. b == 61) word.now }
 {
@@ -61,7 +61,7 @@ fn pairs(alloc: Global, tokens: &[Token]) -> Result<Pairs, LineError>
     Ok(Pairs::from(pairs))
 }
 
-/// `emit CPU PID EVENT f=v ..`
+/// `emit CPU PID EVENT FIELD=VALUE ..`
 #[tactic(auto, unfolding(crate::specs::Lines::emission_of))]
 fn emission(alloc: Global, tokens: &[Token]) -> Result<Command, LineError>
     ensures { Gives (λ command. command) result (emission_of tokens.now) }
@@ -115,7 +115,7 @@ fn redirected(alloc: Global, append: bool, text: Text, rest: &[Token]) -> Result
     }
 }
 
-/// `echo WORDS > PATH`, `echo WORDS >> PATH`: the words joined by one space.
+/// An `echo`, with `>` or `>>` before its path: what is written is the words with a space between each two.
 #[tactic(auto, unfolding(crate::specs::Lines::write_of))]
 fn write(alloc: Global, tokens: &[Token]) -> Result<Command, LineError>
     ensures { Gives (λ command. command) result (write_of tokens.now) }
@@ -197,7 +197,7 @@ fn command(alloc: Global, tokens: &[Token]) -> Result<Command, LineError>
     }
 }
 
-/// Whether a line is empty, blank, or begins with `#` after blanks.
+/// Whether a line has no byte but blanks, or a `#` as its first other byte.
 fn says_nothing(line: &[u8]) -> bool
     ensures { result ≡ says_nothing line.now }
 {

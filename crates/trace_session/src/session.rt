@@ -302,7 +302,7 @@ fn attempt<R: Source, W: Sink>(
 /// A session on one thread: reads a script to its end, does its lines in turn over a new book, and writes what each gives.
 ///
 /// At the statuses `Done`, `Refused` and `Fault` the bytes and the status are those of the script's session. At `Memory` whole
-/// replies of it were written, and at `Device`, after a read or a write that failed or a script of over 16,777,216 bytes, a front.
+/// replies of it were written, and at `Device`, after a script of over 16,777,216 bytes or a read or a write that failed, a front.
 pub fn run_session<R: Source, W: Sink>(
     alloc: Global,
     config: Config,

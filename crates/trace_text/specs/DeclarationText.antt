@@ -1,5 +1,5 @@
 -- An event's line in `synthetic_events`, after "Synthetic events" of histogram.rst. That a blank and no tab stands behind the name, that a
--- text is written `char f[N]`, and that there is no `;` behind the last field, is this project's own choice.
+-- text is written `char f[N]`, and that there is no `;` behind the last field, was chosen by this project.
 use Rattle.std.specs.Prelude.{ℕ, List, [], ◌∷◌, ◌++◌, codes}
 use Rattle.trace_format.specs.declared.event.Field.{Field}
 use Rattle.trace_format.specs.Definitions.{Definition}

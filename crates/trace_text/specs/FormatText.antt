@@ -1,5 +1,5 @@
 -- The text of a `format` file, after "Event formats" of events.rst. That a record's only common field shown is the pid, that the fields
--- begin at 16 with no padding between them, and that a text shows its length and is not signed, is this project's own choice.
+-- begin at 16 with no padding between them, and that a text shows its length and is not signed, was chosen by this project.
 use Rattle.std.specs.Prelude.{ℕ, ◌+◌, Bool, true, if◌then◌else◌, List, [], ◌∷◌, ◌++◌, codes}
 use Rattle.std.specs.Fmt.{decimal}
 use Rattle.trace_format.specs.declared.event.Field.{Field}

@@ -1,5 +1,5 @@
--- The line of a record in the `trace` and `trace_pipe` files (ftrace.rst, "The File System", "Output format"); its layout is this project's
--- own choice.
+-- The line of a record in the `trace` and `trace_pipe` files (ftrace.rst, "The File System", "Output format"); its layout was chosen by
+-- this project.
 use Rattle.std.specs.Prelude.{ℕ, ◌+◌, ◌/◌, ◌%◌, List, [], ◌∷◌, ◌++◌, take, drop, Option, Some, None, codes}
 use Rattle.std.specs.Fmt.{decimal, signed_decimal}
 use Rattle.page_ring.specs.Record.{head_of}

@@ -1,5 +1,5 @@
 -- The text of a `stats` file: the eight lines of ftrace.rst, "The File System", under `per_cpu/cpu0/stats`, the numbers in decimal. That
--- `bytes` is the sum of the kept records' sizes, and that the clock is a counter, is this project's own choice.
+-- `bytes` adds up the sizes of the kept records, and that the clock is a counter, was chosen by this project.
 use Rattle.std.specs.Prelude.{ℕ, List, [], ◌∷◌, ◌++◌, codes}
 use Rattle.std.specs.Fmt.{decimal}
 use Rattle.page_ring.specs.declared.rings.RingStats.{RingStats}
@@ -8,7 +8,7 @@ use Rattle.page_ring.specs.declared.rings.RingStats.{RingStats}
 unfoldable pub stats_line : List ℕ → ℕ → List ℕ
 stats_line label n = label ++ (decimal n ++ 10 ∷ [])
 
--- what a ring holds and has lost; `commit overrun` is 0, since no writer interrupts another
+-- what a ring holds and has lost; `commit overrun` always reads 0, since no writer interrupts another
 unfoldable pub stats_text : RingStats → ℕ → List ℕ
 stats_text stats now =
     stats_line (codes "entries: ") stats.entries

@@ -1,5 +1,5 @@
 -- What stands round the records' lines in the `trace` and `trace_pipe` files (ftrace.rst, "The File System", "Output format"); that the head
--- comes without its drawn lines is this project's own choice.
+-- comes without its drawn lines was chosen by this project.
 use Rattle.std.specs.Prelude.{ℕ, ◌==◌, if◌then◌else◌, List, [], ◌++◌, codes}
 use Rattle.std.specs.Fmt.{decimal}
 

@@ -16,7 +16,7 @@ fn push_line(out: &mut String, label: &str, n: u64) -> Result<(), AllocError>
 }
 
 /// Appends the text of `per_cpu/cpuN/stats` ("The File System" of ftrace.rst): the statistics of a CPU's ring and the clock, a line each.
-/// `bytes` is the sum of the kept records' sizes in bytes; `oldest` and `now` are ticks of the clock, which counts emissions.
+/// `bytes` adds up the sizes of the kept records; `oldest` and `now` are ticks of the clock, which counts emissions.
 ///
 /// It is refused only where an allocation is, and `out` is then as it was.
 #[tactic(auto, unfolding(crate::specs::StatsText::stats_text))]
