@@ -5,6 +5,7 @@ pub mod Verdicts
 pub mod SpotLemmas
 pub mod Sums
 pub mod GlobLemmas
+pub mod GlobGrammarLaws
 pub mod RowLemmas
 pub mod Depths
 pub mod NamedValues

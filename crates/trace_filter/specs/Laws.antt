@@ -5,6 +5,8 @@ use Rattle.trace_format.specs.Cells.{Cells, IsRowOf}
 use Rattle.trace_format.specs.Definitions.{Definition, IsDefinition}
 use Rattle.trace_filter.specs.declared.fault.FilterFault.{FilterFault}
 use Rattle.trace_filter.specs.Tokens.{is_blank, without_end, trimmed, spots_of, shifted_by}
+use Rattle.trace_filter.specs.Globs.{Part, parts_of}
+use Rattle.trace_filter.specs.GlobGrammar.{IsWrittenGlob}
 use Rattle.trace_filter.specs.Truth.{Emission}
 use Rattle.trace_filter.specs.Filters.{IsFilter, IsRefused, Passes, parsed_of, answer_of}
 use Rattle.trace_filter.specs.Values.{holds_of}
@@ -28,6 +30,10 @@ NeverBoth = (definition : Definition) → (text : List ℕ) → (fault : FilterF
 -- and none is refused for two faults
 abbrev pub OneRefusal : Type 0
 OneRefusal = (definition : Definition) → (text : List ℕ) → (one other : FilterFault) → IsRefused definition text one → IsRefused definition text other → one ≡ other
+
+-- the parts of a pattern are those that its grammar gives
+abbrev pub GlobsAreAsWritten : Type 0
+GlobsAreAsWritten = (pattern : List ℕ) → (parts : List Part) → IsWrittenGlob pattern parts ↔ (parts ≡ parts_of pattern)
 
 -- a text without the blanks at both ends has the tokens of the text as written, each earlier by the blanks that the text begins with
 abbrev pub TrimmedHasTheTokens : Type 0

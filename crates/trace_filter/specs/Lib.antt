@@ -3,6 +3,7 @@ pub mod Grammar
 pub mod Syntax
 pub mod Seen
 pub mod Globs
+pub mod GlobGrammar
 pub mod Marks
 pub mod SeenGlobs
 pub mod Fields
