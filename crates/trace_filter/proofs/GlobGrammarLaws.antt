@@ -1,18 +1,12 @@
 -- The parts that are found in a pattern byte by byte are those that its grammar gives.
-use Rattle.std.proofs.Common.{◌≡◌, ◌≢◌, ℕ, zero, suc, ◌+◌, ◌≤◌, ◌<◌, ◌==◌, nat_lt, Bool, true, false, not, if◌then◌else◌, List, [], ◌∷◌, ◌++◌, length, map, take, drop, refl, sym, ap, ◌∙◌, ◌⊎◌, inl, inr, ◌↔◌, subst, one-add, arith, append_assoc, length-append}
+use Rattle.std.proofs.Common.{◌≡◌, ◌≢◌, ℕ, zero, suc, ◌+◌, ◌≤◌, ◌<◌, ◌==◌, nat_lt, Bool, true, false, if◌then◌else◌, List, [], ◌∷◌, ◌++◌, length, map, take, drop, refl, sym, ap, ◌∙◌, ◌⊎◌, inl, inr, ◌↔◌, subst, arith, append_assoc, length-append}
 use Rattle.std.specs.List.{prefix_len, flat_map, AllByRecursion}
-use Rattle.std.proofs.lemmas.Bool.{cond-true, cond-false, eq-eqb, eqb-true, lt-ltb}
-use Rattle.std.proofs.lemmas.Bool.Decides.{nat_tests}
+use Rattle.std.proofs.lemmas.Bool.{cond-true, cond-false, eqb-true, lt-ltb}
 use Rattle.std.proofs.Math.Seq.{take-append_seam, drop-append_seam}
 use Rattle.trace_filter.specs.Tokens.{is_not}
+use Rattle.trace_filter.proofs.Ends.{differs, other, EndsAt, ends, end_len}
 use Rattle.trace_filter.specs.Globs.{Part, OneByte, PartPiece, itself, class_from, class_piece, part_of, parts_from, parts_of}
 use Rattle.trace_filter.specs.GlobGrammar.{GlobPiece, Star, Question, Bracketed, Plain, IsClass, class_text, BeginsClass, IsPieceBefore, piece_text, piece_part, IsPattern, IsWrittenGlob}
-
-differs : (a b : ℕ) → (a == b) ≡ false → a ≢ b
-differs a b d same = let t : (a == b) ≡ true = eq-eqb a b same in absurd (cc)
-
-other : (a b : ℕ) → a ≢ b → (a == b) ≡ false
-other a b h = grind (arith, nat_tests)
 
 -- to skip bytes is to drop them
 skipped : (n : ℕ) (bs : List ℕ) → parts_from n bs ≡ parts_from 0 (drop n bs)
@@ -28,17 +22,12 @@ class_part negated first others = OneByte (record { negated = negated; members =
 abbrev sized : Part → ℕ → PartPiece
 sized part more = record { part = part; more = more }
 
--- the members of a class end at the first `]` behind the first of them
-members_end : (others rest : List ℕ) → AllByRecursion (λ b. b ≢ 93) others → prefix_len (is_not 93) (others ++ 93 ∷ rest) ≡ length others
-members_end [] rest h = refl
-members_end (b ∷ others) rest h = cond-true (not (b == 93)) _ _ (ap not (other b 93 h.0)) ∙ ap (λ n. 1 + n) (members_end others rest h.1) ∙ one-add (length others)
-
 from_read : (negated : Bool) (before first : ℕ) (others rest : List ℕ) → AllByRecursion (λ b. b ≢ 93) others
     → class_from negated before (first ∷ others ++ 93 ∷ rest) ≡ sized (class_part negated first others) (before + (length others + 2))
 from_read negated before first others rest h =
     let bytes : List ℕ = others ++ 93 ∷ rest in
     let less : length others < length bytes = omega (arith, length-append others (93 ∷ rest)) in
-    ap (λ n. if nat_lt n (length bytes) then sized (class_part negated first (take n bytes)) (before + (n + 2)) else itself 91) (members_end others rest h)
+    ap (λ n. if nat_lt n (length bytes) then sized (class_part negated first (take n bytes)) (before + (n + 2)) else itself 91) (end_len 93 others rest h)
     ∙ (cond-true (nat_lt (length others) (length bytes)) _ _ (lt-ltb (length others) (length bytes) less)
     ∙ ap (λ members. sized (class_part negated first members) (before + (length others + 2))) (take-append_seam others (93 ∷ rest)))
 
@@ -52,25 +41,9 @@ class_read false first others rest h =
     cond-false (first == 33) _ _ (other first 33 h.0)
     ∙ (ap (λ bs. class_from false 0 (first ∷ bs)) (append_assoc others (93 ∷ []) rest) ∙ (from_read false 0 first others rest h.1 ∙ ap (sized (class_part false first others)) size))
 
--- bytes up to a `]`, or none of them is one
-abbrev Ends : List ℕ → Type 0
-Ends bs = ((others : List ℕ) × (rest : List ℕ) × AllByRecursion (λ b. b ≢ 93) others × (others ++ 93 ∷ rest ≡ bs)) ⊎ (nat_lt (prefix_len (is_not 93) bs) (length bs) ≡ false)
-
-ends : (bs : List ℕ) → Ends bs
-ends [] = inr refl
-ends (b ∷ bs) = by (b == 93) refl (ends bs)
-  where
-    by : (t : Bool) → (b == 93) ≡ t → Ends bs → Ends (b ∷ bs)
-    by true e h = inl ([], bs, tt, ap (λ x. x ∷ bs) (sym (eqb-true b 93 e)))
-    by false e (inl h) = inl (b ∷ h.0, h.1, (differs b 93 e, h.2), ap (λ xs. b ∷ xs) h.3)
-    by false e (inr h) =
-        let size : prefix_len (is_not 93) (b ∷ bs) ≡ suc (prefix_len (is_not 93) bs) = cond-true (not (b == 93)) _ _ (ap not e) ∙ one-add (prefix_len (is_not 93) bs) in
-        let more : nat_lt (suc (prefix_len (is_not 93) bs)) (suc (length bs)) ≡ false = grind (arith, nat_tests) in
-        inr (ap (λ n. nat_lt n (suc (length bs))) size ∙ more)
-
 from_ends : (negated : Bool) (before first : ℕ) (bs : List ℕ)
-    → ((others : List ℕ) × (rest : List ℕ) × AllByRecursion (λ b. b ≢ 93) others × (others ++ 93 ∷ rest ≡ bs)) ⊎ (class_from negated before (first ∷ bs) ≡ itself 91)
-from_ends negated before first bs = elim (ends bs) [ inl h ↦ inl h | inr h ↦ inr (cond-false (nat_lt (prefix_len (is_not 93) bs) (length bs)) _ _ h) ]
+    → EndsAt 93 bs ⊎ (class_from negated before (first ∷ bs) ≡ itself 91)
+from_ends negated before first bs = elim (ends 93 bs) [ inl h ↦ inl h | inr h ↦ inr (cond-false (nat_lt (prefix_len (is_not 93) bs) (length bs)) _ _ h) ]
 
 -- a class begins, or a `[` before the bytes stands for itself
 class_or_not : (bytes : List ℕ) → BeginsClass bytes ⊎ (class_piece bytes ≡ itself 91)
