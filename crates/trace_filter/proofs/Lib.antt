@@ -5,6 +5,9 @@ pub mod Verdicts
 pub mod SpotLemmas
 pub mod Sums
 pub mod GlobLemmas
+pub mod Ends
+pub mod GlobGrammarLaws
+pub mod TokenGrammarLaws
 pub mod RowLemmas
 pub mod Depths
 pub mod NamedValues

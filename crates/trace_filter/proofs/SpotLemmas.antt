@@ -7,7 +7,7 @@ use Rattle.trace_filter.specs.Tokens.{is_blank, piece_of, is_comparison, Token, 
 use Rattle.trace_filter.specs.Seen.{token_of, IsPiece, IsNextToken}
 
 -- to skip bytes is to drop them
-skipped : (value_due : Bool) (n at : ℕ) (bs : List ℕ) → spots_from value_due n at bs ≡ spots_from value_due 0 (at + n) (drop n bs)
+pub skipped : (value_due : Bool) (n at : ℕ) (bs : List ℕ) → spots_from value_due n at bs ≡ spots_from value_due 0 (at + n) (drop n bs)
 skipped value_due zero at bs = ap (λ k. spots_from value_due 0 k bs) (sym (add-zero at))
 skipped value_due (suc n) at [] = refl
 skipped value_due (suc n) at (b ∷ bs) =

@@ -4,9 +4,12 @@ use Rattle.std.specs.List.{prefix_len}
 use Rattle.trace_format.specs.Cells.{Cells, IsRowOf}
 use Rattle.trace_format.specs.Definitions.{Definition, IsDefinition}
 use Rattle.trace_filter.specs.declared.fault.FilterFault.{FilterFault}
-use Rattle.trace_filter.specs.Tokens.{Token, is_blank, without_end, trimmed, spots_of, tokens_of, shifted_by}
+use Rattle.trace_filter.specs.Tokens.{Token, Spot, is_blank, without_end, trimmed, spots_of, tokens_of, shifted_by}
+use Rattle.trace_filter.specs.TokenGrammar.{IsWrittenText}
 use Rattle.trace_filter.specs.Grammar.{Expr, Spells, depth_of, depth}
 use Rattle.trace_filter.specs.Fits.{tests_of, EachTestFits, test_places, IsFirstMisfit}
+use Rattle.trace_filter.specs.Globs.{Part, parts_of}
+use Rattle.trace_filter.specs.GlobGrammar.{IsWrittenGlob}
 use Rattle.trace_filter.specs.Truth.{Emission}
 use Rattle.trace_filter.specs.Filters.{misfit_of, IsFilter, IsRefused, Passes, parsed_of, answer_of}
 use Rattle.trace_filter.specs.Values.{holds_of}
@@ -30,6 +33,14 @@ NeverBoth = (definition : Definition) → (text : List ℕ) → (fault : FilterF
 -- and none is refused for two faults
 abbrev pub OneRefusal : Type 0
 OneRefusal = (definition : Definition) → (text : List ℕ) → (one other : FilterFault) → IsRefused definition text one → IsRefused definition text other → one ≡ other
+
+-- the tokens of a text with their places are those that its grammar gives
+abbrev pub TokensAreAsWritten : Type 0
+TokensAreAsWritten = (text : List ℕ) → (spots : List Spot) → IsWrittenText text spots ↔ (spots ≡ spots_of text)
+
+-- the parts of a pattern are those that its grammar gives
+abbrev pub GlobsAreAsWritten : Type 0
+GlobsAreAsWritten = (pattern : List ℕ) → (parts : List Part) → IsWrittenGlob pattern parts ↔ (parts ≡ parts_of pattern)
 
 -- a text without the blanks at both ends has the tokens of the text as written, each earlier by the blanks that the text begins with
 abbrev pub TrimmedHasTheTokens : Type 0

@@ -3,6 +3,8 @@ pub mod Grammar
 pub mod Syntax
 pub mod Seen
 pub mod Globs
+pub mod GlobGrammar
+pub mod TokenGrammar
 pub mod Marks
 pub mod SeenGlobs
 pub mod Fields

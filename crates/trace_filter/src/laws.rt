@@ -1,6 +1,6 @@
 //! What the definitions of the contracts mean. Each function does nothing: its contract is a theorem.
 
-ghost use Rattle.trace_filter.specs.Laws.{FilterIsAnswered, RefusalIsAnswered, FilterOrRefused, NeverBoth, OneRefusal, TrimmedHasTheTokens, TrimmedIsTheFilter, TrimmedPassesTheSame, TrimmedOnce, HoldsAsItsTree, DepthIsOfTheTree, FitsAsItsTree, MisfitIsTheFirst};
+ghost use Rattle.trace_filter.specs.Laws.{FilterIsAnswered, RefusalIsAnswered, FilterOrRefused, NeverBoth, OneRefusal, TokensAreAsWritten, GlobsAreAsWritten, TrimmedHasTheTokens, TrimmedIsTheFilter, TrimmedPassesTheSame, TrimmedOnce, HoldsAsItsTree, DepthIsOfTheTree, FitsAsItsTree, MisfitIsTheFirst};
 
 /// What the function `answer_of` gives is a filter for just the texts that are one, and a fault for just those that are refused for it. Each
 /// text is one or the other, and refused for one fault alone.
@@ -10,6 +10,18 @@ pub fn filters_are_as_written()
     ensures either { FilterOrRefused }
     ensures not_both { NeverBoth }
     ensures unique { OneRefusal }
+{}
+
+/// Each text can be written of blanks, tokens and bytes where nothing reads, and however it is, its tokens and their places are those that
+/// these mean.
+pub fn tokens_are_as_written()
+    ensures { TokensAreAsWritten }
+{}
+
+/// Each pattern can be written of `*`, `?`, classes and bytes that stand for themselves, and however it is, its parts are those that
+/// these mean.
+pub fn globs_are_as_written()
+    ensures { GlobsAreAsWritten }
 {}
 
 /// A text without the blanks at both ends has the tokens of the text as written, at shifted places, so it is the same filter.
