@@ -14,5 +14,4 @@ pub mod StandingFilters
 pub mod Steps
 pub mod Switching
 pub mod Taking
-pub mod Trimming
 pub mod Values

@@ -2,7 +2,7 @@
 use Rattle.std.specs.Prelude.{ℕ, ◌+◌, ◌-◌, ◌*◌, ◌^◌, Bool, true, false, ◌&&◌, nat_lt, nat_le, ◌==◌, if◌then◌else◌, List, [], ◌∷◌, length, Option, Some, None}
 use Rattle.std.specs.List.{list_all}
 use Rattle.std.specs.Option.{option_and_then}
-use Rattle.trace_book.specs.Blanks.{trimmed}
+use Rattle.trace_format.specs.Blanks.{trimmed}
 
 -- a digit from 0 to 9
 abbrev pub is_digit : ℕ → Bool

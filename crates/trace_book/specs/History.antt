@@ -5,7 +5,7 @@ use Rattle.trace_book.specs.Paths.{File, Trace, CpuTrace, TracePipe, CpuTracePip
 use Rattle.std.specs.List.{list_all, list_any}
 use Rattle.trace_filter.specs.declared.fault.FilterFault.{FilterFault}
 use Rattle.trace_filter.specs.Filters.{Parsed, answer_of}
-use Rattle.trace_filter.specs.Tokens as filters
+use Rattle.trace_format.specs.Blanks.{trimmed}
 use Rattle.trace_format.specs.Catalogs.{id_for}
 use Rattle.trace_format.specs.Cells.{Cells}
 use Rattle.trace_format.specs.Definitions.{Definition}
@@ -144,7 +144,7 @@ switches_text flags = mixture_text (list_all not flags) (list_any not flags)
 -- the text of an event's filter, without the blanks at its ends, or `none`
 unfoldable pub filter_text : Option (List ℕ) → List ℕ
 filter_text None = codes "none\n"
-filter_text (Some text) = filters.trimmed text ++ codes "\n"
+filter_text (Some text) = trimmed text ++ codes "\n"
 
 -- the format of an event; its name is one that was declared
 abbrev pub format_of_event : Option NumberedEvent → List ℕ

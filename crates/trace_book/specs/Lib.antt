@@ -1,4 +1,3 @@
-pub mod Blanks
 pub mod Decimals
 pub mod Refusals
 pub mod Paths

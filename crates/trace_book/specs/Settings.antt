@@ -3,7 +3,7 @@ use Rattle.std.specs.Prelude.{ℕ, suc, ◌+◌, ◌==◌, Bool, true, false, if
 use Rattle.std.specs.Option.{option_map, option_and_then, option_to_list}
 use Rattle.std.specs.Result.{result_ok}
 use Rattle.std.specs.Str.{bytes_eq}
-use Rattle.trace_book.specs.Blanks.{trimmed}
+use Rattle.trace_format.specs.Blanks.{trimmed}
 use Rattle.trace_book.specs.Decimals.{written_number}
 use Rattle.trace_book.specs.Paths.{File, Trace, CpuTrace, TracePipe, CpuTracePipe, CpuStats, Overwrite, TraceOptions, SyntheticEvents, EventsEnable, EventsFilter, EventEnable, EventFilter, EventFormat}
 use Rattle.trace_filter.specs.Filters.{answer_of}

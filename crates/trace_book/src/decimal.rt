@@ -1,48 +1,10 @@
-//! Blanks and decimal numbers in texts.
+//! Decimal numbers in texts.
 
 ghost use Rattle.std.specs.Prelude.{◌≡◌};
 ghost use Rattle.std.specs.List.{list_all};
-ghost use Rattle.trace_book.specs.Blanks as blanks;
 ghost use Rattle.trace_book.specs.Decimals as decimals;
 
-/// Whether a byte is a space or a tab.
-pub(crate) fn is_blank(byte: u8) -> bool
-    ensures { result ≡ blanks.is_blank byte }
-{
-    byte == b' ' || byte == b'\t'
-}
-
-/// The text without the blanks at its ends.
-pub(crate) fn trimmed(text: &[u8]) -> &[u8]
-    ensures { result.now ≡ blanks.trimmed text.now }
-{
-    without_trailing(without_leading(text))
-}
-
-fn without_leading(text: &[u8]) -> &[u8]
-    ensures { result.now ≡ blanks.without_leading text.now }
-{
-    let mut rest = text;
-    while let [first, others @ ..] = rest {
-        if !is_blank(*first) {
-            break;
-        }
-        rest = others;
-    }
-    rest
-}
-
-fn without_trailing(text: &[u8]) -> &[u8]
-    ensures { result.now ≡ blanks.without_trailing text.now }
-{
-    let mut end = 0;
-    for (i, byte) in text.iter().enumerate() {
-        if !is_blank(*byte) {
-            end = i + 1;
-        }
-    }
-    &text[..end]
-}
+use trace_format::trim;
 
 /// Whether a byte is a digit from 0 to 9.
 pub(crate) fn is_digit(byte: u8) -> bool
@@ -93,5 +55,5 @@ pub(crate) fn has_leading_zero(digits: &[u8]) -> bool
 pub(crate) fn written_number(text: &[u8]) -> Option<u64>
     ensures { result ≡ decimals.written_number text.now }
 {
-    decimal(trimmed(text), u64::MAX)
+    decimal(trim(text), u64::MAX)
 }

@@ -21,7 +21,7 @@ ghost use Rattle.trace_book.specs.declared.refusal.Refusal.TheVariants as refusa
 ghost use Rattle.trace_book.specs.declared.state.Change.TheVariants as change;
 
 use crate::command::{Command, Config, Reply};
-use crate::decimal::{digits_value, trimmed, written_number};
+use crate::decimal::{digits_value, written_number};
 use crate::pipe_text::{push_records, push_taken};
 use crate::place::{Place, place_of};
 use crate::refusal::Refusal;
@@ -29,7 +29,7 @@ use crate::row::record;
 use crate::state::{Change, FilterChange, Prepared, State, event_at, find};
 use std::alloc::{AllocError, Global};
 use trace_filter::{Filter, FilterFault};
-use trace_format::{Catalog, EventDef, Pair, Row, Text, payload_size};
+use trace_format::{Catalog, EventDef, Pair, Row, Text, payload_size, trim};
 use trace_text::{declaration_text, format_text, stats_text, trace_head_text};
 
 impl State {
@@ -445,7 +445,7 @@ fn prepare_switch_all(flag: Option<bool>) -> Result<Prepared, Refusal>
 fn clears_filter(text: &[u8]) -> bool
     ensures { result ≡ settings.clears_filter text.now }
 {
-    trimmed(text) == b"0".as_slice()
+    trim(text) == b"0".as_slice()
 }
 
 // The filter of an event that a text writes, none where it clears.

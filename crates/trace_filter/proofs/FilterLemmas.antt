@@ -10,7 +10,8 @@ use Rattle.trace_filter.specs.declared.syntax.Verdict.{Verdict}
 use Rattle.trace_filter.specs.declared.syntax.Verdict.TheVariants.{Fine, TooDeep, WrongAt}
 use Rattle.trace_filter.specs.declared.test.Subject.TheVariants as subjects
 use Rattle.trace_filter.specs.declared.token.Comparison.TheVariants as comparisons
-use Rattle.trace_filter.specs.Tokens.{Token, Compare, Name, Value, Spot, trimmed, spots_of, tokens_of}
+use Rattle.trace_format.specs.Blanks.{trimmed}
+use Rattle.trace_filter.specs.Tokens.{Token, Compare, Name, Value, Spot, spots_of, tokens_of}
 use Rattle.trace_filter.specs.Grammar.{Expr, Spells, expr_tokens, depth_of}
 use Rattle.trace_filter.specs.Syntax.{start, reading}
 use Rattle.trace_filter.specs.Fields.{name_has_text, takes_at, fits_at, unless, or_later, operator_fault, value_fault, test_fault, fault_of_test, first_misfit}

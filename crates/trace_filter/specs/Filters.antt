@@ -6,7 +6,8 @@ use Rattle.trace_filter.specs.declared.fault.FilterFault.TheVariants.{TooMany, F
 use Rattle.trace_filter.specs.declared.syntax.Verdict.{Verdict}
 use Rattle.trace_filter.specs.declared.syntax.Verdict.TheVariants.{Fine, TooDeep, WrongAt}
 use Rattle.trace_filter.specs.declared.test.Subject.{Subject}
-use Rattle.trace_filter.specs.Tokens.{trimmed, spots_of, tokens_of}
+use Rattle.trace_format.specs.Blanks.{trimmed}
+use Rattle.trace_filter.specs.Tokens.{spots_of, tokens_of}
 use Rattle.trace_filter.specs.Grammar.{Expr, Spells, IsVerdict}
 use Rattle.trace_filter.specs.Syntax.{start, reading}
 use Rattle.trace_filter.specs.Fields.{first_misfit}

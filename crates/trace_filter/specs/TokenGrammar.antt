@@ -4,7 +4,8 @@ use Rattle.std.specs.List.{flat_map, AllByRecursion}
 use Rattle.trace_format.specs.Names.{is_name, is_name_byte}
 use Rattle.trace_filter.specs.declared.token.Comparison.{Comparison}
 use Rattle.trace_filter.specs.declared.token.Comparison.TheVariants as comparison
-use Rattle.trace_filter.specs.Tokens.{Word, Quoted, Token, Open, Close, Bang, Both, Either, Compare, Name, Value, Misfit, is_blank, is_quote, is_word_byte, begins_with, is_comparison, Spot, without_end}
+use Rattle.trace_format.specs.Blanks.{is_blank, without_end}
+use Rattle.trace_filter.specs.Tokens.{Word, Quoted, Token, Open, Close, Bang, Both, Either, Compare, Name, Value, Misfit, is_quote, is_word_byte, begins_with, is_comparison, Spot}
 
 -- a token that is always written alike
 pub data Sign : Type 0 where

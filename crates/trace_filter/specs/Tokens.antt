@@ -1,6 +1,7 @@
 -- The tokens of a filter: a function of its text alone.
 use Rattle.std.specs.Prelude.{ℕ, zero, suc, ◌+◌, ◌-◌, Bool, true, false, not, ◌||◌, ◌==◌, nat_lt, if◌then◌else◌, List, [], ◌∷◌, length, map, take, drop, reverse}
 use Rattle.std.specs.List.{prefix_len}
+use Rattle.trace_format.specs.Blanks.{is_blank, without_end}
 use Rattle.trace_format.specs.Names.{is_name, is_name_byte}
 use Rattle.trace_filter.specs.declared.token.Comparison.{Comparison}
 use Rattle.trace_filter.specs.declared.token.Comparison.TheVariants as comparison
@@ -21,10 +22,6 @@ pub data Token : Type 0 where
   Name : List ℕ → Token
   Value : Literal → Token
   Misfit : Token
-
--- a space or a tab
-abbrev pub is_blank : ℕ → Bool
-is_blank b = b == 32 || b == 9
 
 -- `"` or `'`
 abbrev pub is_quote : ℕ → Bool
@@ -112,13 +109,6 @@ shifted_by more spot = record { at = more + spot.at; token = spot.token }
 
 abbrev pub tokens_of : List Spot → List Token
 tokens_of spots = map (λ spot. spot.token) spots
-
--- a text without the blanks at its end, and without those at both ends
-abbrev pub without_end : List ℕ → List ℕ
-without_end text = take (length text - prefix_len is_blank (reverse text)) text
-
-abbrev pub trimmed : List ℕ → List ℕ
-trimmed text = drop (prefix_len is_blank (without_end text)) (without_end text)
 
 -- the tokens of a text with their places; blanks at its end are cut
 abbrev pub spots_of : List ℕ → List Spot

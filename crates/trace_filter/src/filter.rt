@@ -2,15 +2,13 @@
 
 ghost use Rattle.std.specs.Prelude.{◌≡◌, ◌↔◌, ◌≤◌, ◌-◌, List, ℕ, None, IfOk, IfErr, IsErr, IsTrue, length, reverse, take, drop, map};
 ghost use Rattle.std.specs.List.{prefix_len};
-ghost use Rattle.trace_filter.specs.Tokens.{is_blank as spec_blank, without_end};
 
 use crate::fault::FilterFault;
 use crate::steps::{Step, compile, evaluate};
 use crate::syntax::{Verdict, read_syntax};
-use crate::token::{blanks_len, is_blank};
 use std::alloc::{AllocError, Global};
 use std::marker::Model;
-use trace_format::{EventDef, Row};
+use trace_format::{EventDef, Row, trim, trim_end};
 
 /// A filter has at most so many bytes, without the blanks at both ends.
 const LONGEST: usize = 1024;
@@ -35,31 +33,6 @@ impl Model for Filter {
 
     // The steps are those of the text, with tests of these subjects.
     ghost invariant = { λ f. map move_of f.steps.items ≡ moves_about (subjects_tested (map move_of f.steps.items)) comparisons.Equal (tokens_of (spots_of f.text.items)) };
-}
-
-/// How many blanks a text ends with.
-fn end_blanks_len(text: &[u8]) -> usize
-    ensures value { result ≡ prefix_len spec_blank (reverse text.now) }
-    ensures bound { result ≤ length text.now }
-{
-    text.iter()
-        .rev()
-        .take_while(|byte| is_blank(**byte))
-        .count()
-}
-
-/// The text without the blanks at its end.
-fn cut_end(text: &[u8]) -> &[u8]
-    ensures { result.now ≡ without_end text.now }
-{
-    &text[..text.len() - end_blanks_len(text)]
-}
-
-/// The text without the blanks before it.
-fn cut_front(text: &[u8]) -> &[u8]
-    ensures { result.now ≡ drop (prefix_len spec_blank text.now) text.now }
-{
-    &text[blanks_len(text)..]
 }
 
 impl Filter {
@@ -93,8 +66,8 @@ impl Filter {
         ensures exact { IsAnswered result (answer_of def.now text.now) }
         ensures definition { IfOk result (λ _. IsDefinition def.now) }
     {
-        let body = cut_end(text);
-        let trimmed = cut_front(body);
+        let body = trim_end(text);
+        let trimmed = trim(text);
         if trimmed.len() > LONGEST {
             return Err(FilterFault::TooMany);
         }

@@ -3,10 +3,10 @@
 ghost use Rattle.std.specs.Prelude.{◌≡◌, ◌≤◌, ◌<◌, [], ◌∷◌, length, drop, nat_lt, if◌then◌else◌, IfNone, IfSome};
 ghost use Rattle.std.specs.List.{prefix_len};
 ghost use Rattle.trace_format.specs.Names.{is_name as spec_is_name, is_name_byte as spec_name_byte};
-ghost use Rattle.trace_filter.specs.Tokens.{Name, Misfit, is_blank as spec_blank, is_quote as spec_quote, is_word_byte as spec_word_byte, is_not, begins_with as spec_begins_with, quoted_piece as spec_quoted_piece, word_piece as spec_word_piece, name_piece as spec_name_piece, longest as spec_longest, symbol_piece as spec_symbol_piece, piece_of, is_comparison as spec_comparison, spots_from};
+ghost use Rattle.trace_filter.specs.Tokens.{Name, Misfit, is_quote as spec_quote, is_word_byte as spec_word_byte, is_not, begins_with as spec_begins_with, quoted_piece as spec_quoted_piece, word_piece as spec_word_piece, name_piece as spec_name_piece, longest as spec_longest, symbol_piece as spec_symbol_piece, piece_of, is_comparison as spec_comparison, spots_from};
 ghost use Rattle.trace_filter.specs.Seen.{token_of, IsPiece, IsNextToken};
 
-use trace_format::is_name;
+use trace_format::{blanks_len, is_blank, is_name};
 
 /// How a test compares a field's value with a written one.
 #[derive(Clone, Copy, Debug, PartialEq, Eq)]
@@ -71,12 +71,6 @@ pub(crate) struct Piece<'a> {
     more: usize,
 }
 
-pub(crate) fn is_blank(byte: u8) -> bool
-    ensures { result ≡ spec_blank byte }
-{
-    byte == b' ' || byte == b'\t'
-}
-
 fn is_quote(byte: u8) -> bool
     ensures { result ≡ spec_quote byte }
 {
@@ -103,14 +97,6 @@ fn rest_of(text: &[u8], from: usize) -> &[u8]
     ensures { result.now ≡ drop from text.now }
 {
     &text[from..]
-}
-
-/// How many blanks a text begins with.
-pub(crate) fn blanks_len(text: &[u8]) -> usize
-    ensures value { result ≡ prefix_len spec_blank text.now }
-    ensures bound { result ≤ length text.now }
-{
-    text.iter().take_while(|byte| is_blank(**byte)).count()
 }
 
 /// How many bytes of a bare word a text begins with.

@@ -1,3 +1,4 @@
+pub mod Blanks
 pub mod Names
 pub mod Numbers
 pub mod Kinds

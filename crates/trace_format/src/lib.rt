@@ -4,6 +4,7 @@
 //! for each field of an event; its payload is the bytes that a record keeps of it. Texts are bytes.
 #![tactic(auto)]
 
+mod blanks;
 mod catalog;
 mod event;
 mod fault;
@@ -23,6 +24,7 @@ mod text;
 mod value;
 mod words;
 
+pub use blanks::{blanks_len, is_blank, trim, trim_end};
 pub use catalog::Catalog;
 pub use event::{EventDef, Field};
 pub use fault::{CatalogFault, DefinitionFault, RowFault};

@@ -2,7 +2,9 @@
 
 ghost use Rattle.std.specs.Prelude.{◌≡◌, ◌≤◌, [], length, drop, IfNone, IfSome};
 ghost use Rattle.std.specs.List.{prefix_len};
-ghost use Rattle.trace_format.specs.Words.{is_blank as spec_blank, is_word_byte as spec_word_byte, more_of, spots_from, IsNextWord};
+ghost use Rattle.trace_format.specs.Words.{is_word_byte as spec_word_byte, more_of, spots_from, IsNextWord};
+
+use crate::blanks::{blanks_len, is_blank};
 
 /// A word or `;` of a text.
 #[derive(Clone, Copy, Debug)]
@@ -10,12 +12,6 @@ pub(crate) struct Word<'a> {
     /// The place of its first byte in the text.
     pub(crate) at: usize,
     pub(crate) bytes: &'a [u8],
-}
-
-fn is_blank(byte: u8) -> bool
-    ensures { result ≡ spec_blank byte }
-{
-    byte == b' ' || byte == b'\t'
 }
 
 fn is_word_byte(byte: u8) -> bool
@@ -30,14 +26,6 @@ fn rest_of(text: &[u8], from: usize) -> &[u8]
     ensures { result.now ≡ drop from text.now }
 {
     &text[from..]
-}
-
-/// How many blanks a text begins with.
-fn blanks_len(text: &[u8]) -> usize
-    ensures value { result ≡ prefix_len spec_blank text.now }
-    ensures bound { result ≤ length text.now }
-{
-    text.iter().take_while(|byte| is_blank(**byte)).count()
 }
 
 /// How many bytes of a word a text begins with.

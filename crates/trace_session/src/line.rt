@@ -10,9 +10,10 @@ ghost use Rattle.trace_session.specs.declared.fault.ScriptFault.TheVariants.{Wro
 
 use crate::fault::{LineError, ScriptFault};
 use crate::number::{cpu_number, number_up_to, process_id};
-use crate::token::{Token, is_blank, tokens};
+use crate::token::{Token, tokens};
 use std::alloc::{AllocError, Global};
 use trace_book::{Command, Pair, Pairs, Text};
+use trace_format::is_blank;
 
 /// The most bytes that a line may have.
 const MOST_BYTES: usize = 4096;

@@ -1,7 +1,6 @@
 //! The words and redirections of a line.
 
 ghost use Rattle.std.specs.Prelude.{◌≡◌, ◌+◌, ◌∷◌, [], ◌++◌, List, ℕ, IfOk, OnOk, Ok, Err, IsTrue, ◌↔◌, Some, None};
-ghost use Rattle.trace_book.specs.Blanks.{is_blank};
 ghost use Rattle.trace_session.specs.Tokens.{is_end, plain, place_of, behind, tokens_from, tokens_of};
 ghost use Rattle.trace_session.specs.Grammar.{IsWritten};
 ghost use Rattle.trace_session.specs.declared.token.Token.{Token};
@@ -12,6 +11,7 @@ use crate::fault::{LineError, ScriptFault};
 use std::alloc::{AllocError, Global};
 use std::mem;
 use trace_book::Text;
+use trace_format::is_blank;
 
 /// What a line is cut into.
 #[derive(Debug, Drop)]
@@ -33,13 +33,6 @@ pub(crate) enum Place {
     InWord,
     /// In a word, in a part within these quotes.
     InQuotes(u8),
-}
-
-/// A space or a tab.
-pub(crate) fn is_blank(byte: u8) -> bool
-    ensures { result ≡ is_blank byte }
-{
-    byte == b' ' || byte == b'\t'
 }
 
 /// A byte at which a word ends.
