@@ -3,12 +3,11 @@ use Rattle.std.specs.Prelude.{◌≡◌, ◌⊎◌, ◌↔◌, ℕ, List, map, I
 use Rattle.std.specs.List.{prefix_len}
 use Rattle.trace_format.specs.Cells.{Cells, IsRowOf}
 use Rattle.trace_format.specs.Definitions.{Definition, IsDefinition}
-use Rattle.trace_filter.specs.Tokens.{Spot}
-use Rattle.trace_filter.specs.TokenGrammar.{IsWrittenText}
+use Rattle.trace_filter.specs.declared.fault.FilterFault.{FilterFault}
+use Rattle.trace_filter.specs.Tokens.{Spot, is_blank, without_end, trimmed, spots_of, shifted_by}
 use Rattle.trace_filter.specs.Globs.{Part, parts_of}
 use Rattle.trace_filter.specs.GlobGrammar.{IsWrittenGlob}
-use Rattle.trace_filter.specs.declared.fault.FilterFault.{FilterFault}
-use Rattle.trace_filter.specs.Tokens.{is_blank, without_end, trimmed, spots_of, shifted_by}
+use Rattle.trace_filter.specs.TokenGrammar.{IsWrittenText}
 use Rattle.trace_filter.specs.Truth.{Emission}
 use Rattle.trace_filter.specs.Filters.{IsFilter, IsRefused, Passes, parsed_of, answer_of}
 use Rattle.trace_filter.specs.Values.{holds_of}
