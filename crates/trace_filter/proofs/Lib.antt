@@ -6,6 +6,7 @@ pub mod SpotLemmas
 pub mod Sums
 pub mod GlobLemmas
 pub mod Ends
+pub mod EndBlanks
 pub mod GlobGrammarLaws
 pub mod TokenGrammarLaws
 pub mod RowLemmas

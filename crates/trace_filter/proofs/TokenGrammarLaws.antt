@@ -6,31 +6,20 @@ use Rattle.std.proofs.lemmas.Bool.Decides.{nat_tests}
 use Rattle.std.proofs.Math.Seq.{take-append_seam, drop-append_seam}
 use Rattle.trace_format.specs.Names.{is_name, is_name_byte}
 use Rattle.trace_filter.specs.declared.token.Comparison.TheVariants as comparison
-use Rattle.trace_format.specs.Blanks.{is_blank, without_end}
+use Rattle.trace_format.specs.Blanks.{is_blank}
 use Rattle.trace_filter.specs.Tokens.{Word, Quoted, Token, Name, Value, Misfit, is_quote, is_word_byte, is_not, begins_with, Piece, quoted_piece, symbol_piece, piece_of, is_comparison, Spot, spots_from, spots_of}
 use Rattle.trace_filter.specs.TokenGrammar.{Sign, Opening, Closing, Negation, Conjunction, Disjunction, Comparing, sign_text, sign_token, IsLongest, first_is, IsRun, Lexeme, Gap, Signed, Run, Bare, Within, lexeme_text, IsLexemeBefore, Reads, TextPart, Legible, Stray, IsTextPart, part_text, part_tokens, due_behind, IsText, part_spots, IsWrittenText}
 use Rattle.trace_filter.proofs.Ends.{ends, end_len}
 use Rattle.trace_filter.proofs.SpotLemmas.{skipped}
-
-abbrev sized : Token → ℕ → Piece
-sized token more = record { token = token; more = more }
+use Rattle.trace_filter.proofs.EndBlanks.{sized, no_both, blank_unnamed, uncut}
 
 abbrev placed : ℕ → Token → Spot
 placed at token = record { at = at; token = token }
 
 -- ---- bytes
 
-no_both : (b : Bool) → b ≡ true → b ≡ false → ⊥
-no_both b e f = absurd (cc)
-
-blank_is : (b : ℕ) → is_blank b ≡ true → (b ≡ 32) ⊎ (b ≡ 9)
-blank_is b e = grind (arith, nat_tests)
-
 quote_is : (b : ℕ) → is_quote b ≡ true → (b ≡ 34) ⊎ (b ≡ 39)
 quote_is b e = grind (arith, nat_tests)
-
-blank_unnamed : (b : ℕ) → is_blank b ≡ true → is_name_byte b ≡ false
-blank_unnamed b e = ⊎_elim (λ h. ap is_name_byte h) (λ h. ap is_name_byte h) (blank_is b e)
 
 name_unblank : (b : ℕ) → is_name_byte b ≡ true → is_blank b ≡ false
 name_unblank b e = by (is_blank b) refl
@@ -373,8 +362,8 @@ spelled (suc limit) due (b ∷ bs) h =
 
 pub tokens_are_as_written : (text : List ℕ) (spots : List Spot) → IsWrittenText text spots ↔ (spots ≡ spots_of text)
 tokens_are_as_written text spots = (
-  (λ w. sym w.meaning ∙ (text_read false 0 w.parts w.lawful ∙ ap (spots_from false 0 0) w.written)),
+  (λ w. sym w.meaning ∙ (text_read false 0 w.parts w.lawful ∙ (ap (spots_from false 0 0) w.written ∙ uncut text))),
   (λ e.
-      let s = spelled (length (without_end text)) false (without_end text) (omega arith) in
-      record { parts = s.0; lawful = s.1; written = s.2; meaning = text_read false 0 s.0 s.1 ∙ (ap (spots_from false 0 0) s.2 ∙ sym e) }),
+      let s = spelled (length text) false text (omega arith) in
+      record { parts = s.0; lawful = s.1; written = s.2; meaning = text_read false 0 s.0 s.1 ∙ (ap (spots_from false 0 0) s.2 ∙ (uncut text ∙ sym e)) }),
 )

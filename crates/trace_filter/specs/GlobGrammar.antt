@@ -29,7 +29,8 @@ pub record BeginsClass (bytes : List ℕ) : Type 0 where
   pub lawful : IsClass negated first others
   pub text : class_text negated first others ++ rest ≡ bytes
 
--- a piece before these bytes: a byte that stands for itself is no `*` (42) and no `?` (63), and a `[` (91) does only where no class begins with it
+-- a piece before these bytes: a byte that stands for itself is no `*` (42) and no `?` (63), and it is a `[` (91) only where no class begins
+-- with that
 abbrev pub IsPieceBefore : List ℕ → GlobPiece → Type 0
 IsPieceBefore bytes Star = Unit {0}
 IsPieceBefore bytes Question = Unit {0}

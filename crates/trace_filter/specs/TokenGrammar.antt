@@ -4,7 +4,7 @@ use Rattle.std.specs.List.{flat_map, AllByRecursion}
 use Rattle.trace_format.specs.Names.{is_name, is_name_byte}
 use Rattle.trace_filter.specs.declared.token.Comparison.{Comparison}
 use Rattle.trace_filter.specs.declared.token.Comparison.TheVariants as comparison
-use Rattle.trace_format.specs.Blanks.{is_blank, without_end}
+use Rattle.trace_format.specs.Blanks.{is_blank}
 use Rattle.trace_filter.specs.Tokens.{Word, Quoted, Token, Open, Close, Bang, Both, Either, Compare, Name, Value, Misfit, is_quote, is_word_byte, begins_with, is_comparison, Spot}
 
 -- a token that is always written alike
@@ -139,9 +139,9 @@ abbrev pub part_spots : ℕ → List TextPart → List Spot
 part_spots at [] = []
 part_spots at (part ∷ parts) = map (λ token. record { at = at; token = token }) (part_tokens part) ++ part_spots (at + length (part_text part)) parts
 
--- a text without the blanks at its end can be written of parts that mean these tokens at these places
+-- a text can be written of parts that mean these tokens at these places
 pub record IsWrittenText (text : List ℕ) (spots : List Spot) : Type 0 where
   pub parts : List TextPart
   pub lawful : IsText false parts
-  pub written : flat_map part_text parts ≡ without_end text
+  pub written : flat_map part_text parts ≡ text
   pub meaning : part_spots 0 parts ≡ spots
