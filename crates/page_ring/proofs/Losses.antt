@@ -1,5 +1,5 @@
 -- What is lost, accepted and read, in the words of the laws.
-use Rattle.std.proofs.Common.{zero-add, ◌≡◌, ℕ, ◌+◌, ◌<◌, ◌≤◌, eqb, Bool, true, false, not, ◌&&◌, ◌||◌, cond, List, [], ◌∷◌, ◌++◌, length, drop, filter, fold, Option, Some, None, refl, sym, ap, ◌∙◌, subst, inl, inr, arith, length-append}
+use Rattle.std.proofs.Common.{zero-add, ◌≡◌, ℕ, zero, suc, ◌+◌, ◌<◌, ◌≤◌, eqb, Bool, true, false, not, ◌&&◌, ◌||◌, cond, List, [], ◌∷◌, ◌++◌, length, replicate, drop, filter, fold, Option, Some, None, refl, sym, ap, ◌∙◌, subst, inl, inr, arith, length-append, drop-drop}
 use Rattle.std.specs.List.{AllByRecursion, count_by}
 use Rattle.std.proofs.lemmas.Bool.{cases_Bool, false≢true, or_cases, or_left, or_right, and_parts, and_from, eqb-true, eq-eqb, leb-true, le-leb, not-true, ne_eqb}
 use Rattle.std.proofs.lemmas.List.{append_assoc, append-nil}
@@ -10,7 +10,7 @@ use Rattle.page_ring.specs.Cut.{Accepted, cut, with_record, next_page, last_page
 use Rattle.page_ring.specs.Account.{Account, account, nothing, after, kept, is_taken, is_overrun, is_reader_page, reader_page, next_number, accepts, with_accepted, with_first_taken, readings_of, readings_from, Reading}
 use Rattle.page_ring.specs.Shown.{StandsFor, shown_by}
 use Rattle.page_ring.specs.Sound.{IsRising}
-use Rattle.page_ring.specs.Laws.{is_put, OfferedIsPuts, IsAccepted, IsLostIn, LostBySomePut, AcceptedAlways, AcceptedWithoutLoss, DroppedOnly, LeastIsRead, LostIsBetween, ReadingsAreAhead, NothingToRead, puts_pass, KeptWerePut}
+use Rattle.page_ring.specs.Laws.{is_put, OfferedIsPuts, IsAccepted, IsLostIn, LostBySomePut, AcceptedAlways, AcceptedWithoutLoss, DroppedOnly, LeastIsRead, LostIsBetween, ReadingsAreAhead, TakesLeaveTheRest, NothingToRead, puts_pass, KeptWerePut}
 use Rattle.page_ring.proofs.PageFacts.{filter_none, all_filter, all_append, rising_filter, rising_push}
 use Rattle.page_ring.proofs.Bridge.{account-push, cut-push, is_cut, fold_keeps, last_page-push, kept_rising, kept_after_read, kept_olds}
 
@@ -245,6 +245,15 @@ readings_are_ahead pages page_bytes events = ahead (kept page_bytes (account pag
     ahead : (xs : List Accepted) → kept page_bytes (account pages page_bytes events) ≡ xs → readings_from (next_number (account pages page_bytes (events ++ Take ∷ []))) (kept page_bytes (account pages page_bytes (events ++ Take ∷ []))) ≡ drop 1 (readings_from (next_number (account pages page_bytes events)) (kept page_bytes (account pages page_bytes events)))
     ahead [] e = rw (read_step pages page_bytes events [] e, e) refl
     ahead (r ∷ rest) e = rw (read_step pages page_bytes events (r ∷ rest) e, kept_after_read page_bytes (account pages page_bytes events) r rest e, fold_push, e) refl
+
+pub takes_leave_the_rest : TakesLeaveTheRest
+takes_leave_the_rest pages page_bytes events zero = ap (readings_of pages page_bytes) (append-nil events)
+takes_leave_the_rest pages page_bytes events (suc n) =
+    ap (readings_of pages page_bytes) (sym (append_assoc events (Take ∷ []) (replicate n Take)))
+    ∙ takes_leave_the_rest pages page_bytes (events ++ Take ∷ []) n
+    ∙ ap (drop n) (readings_are_ahead pages page_bytes events)
+    ∙ drop-drop n 1 (readings_of pages page_bytes events)
+    ∙ (let next : 1 + n ≡ suc n = omega arith in ap (λ (k : ℕ). drop k (readings_of pages page_bytes events)) next)
 
 -- what is kept comes after what was taken
 pub record IsAhead (page_bytes : ℕ) (a : Account) : Type 0 where

@@ -1,5 +1,5 @@
 -- The definitions once more, in the words of the subject.
-use Rattle.std.specs.Prelude.{◌≡◌, ◌≢◌, ◌↔◌, ℕ, ◌+◌, ◌<◌, ◌≤◌, Bool, true, false, List, [], ◌∷◌, ◌++◌, length, drop, take, map, count_by, All, Some, IsSomeAnd, slice_get}
+use Rattle.std.specs.Prelude.{◌≡◌, ◌≢◌, ◌↔◌, ℕ, ◌+◌, ◌<◌, ◌≤◌, Bool, true, false, List, [], ◌∷◌, ◌++◌, length, drop, take, map, count_by, All, Some, IsSomeAnd, slice_get, replicate}
 use Rattle.page_ring.specs.declared.heads.Head.{Head}
 use Rattle.page_ring.specs.Record.{head_of, timestamp}
 use Rattle.page_ring.specs.Events.{Event, Put, Take}
@@ -94,6 +94,11 @@ LostIsBetween =
 abbrev pub ReadingsAreAhead : Type 0
 ReadingsAreAhead =
     (pages page_bytes : ℕ) (events : List Event) → readings_of pages page_bytes (events ++ Take ∷ []) ≡ drop 1 (readings_of pages page_bytes events)
+
+-- so many reads leave what is kept behind as many records
+abbrev pub TakesLeaveTheRest : Type 0
+TakesLeaveTheRest =
+    (pages page_bytes : ℕ) (events : List Event) (n : ℕ) → readings_of pages page_bytes (events ++ replicate n Take) ≡ drop n (readings_of pages page_bytes events)
 
 -- with nothing kept, a read changes nothing
 abbrev pub NothingToRead : Type 0

@@ -2,7 +2,7 @@
 //! function does nothing: its contract is a theorem.
 #![tactic(auto)]
 
-ghost use Rattle.page_ring.specs.Laws.{OfferedIsPuts, LostBySomePut, AcceptedAlways, AcceptedWithoutLoss, DroppedOnly, CutIsGreedy, LeastIsRead, LostIsBetween, ReadingsAreAhead, NothingToRead, TimestampIsHeads, KeptWerePut};
+ghost use Rattle.page_ring.specs.Laws.{OfferedIsPuts, LostBySomePut, AcceptedAlways, AcceptedWithoutLoss, DroppedOnly, CutIsGreedy, LeastIsRead, LostIsBetween, ReadingsAreAhead, TakesLeaveTheRest, NothingToRead, TimestampIsHeads, KeptWerePut};
 
 /// A ring was offered as many records as were put since it was new or cleared.
 pub fn offered_is_puts()
@@ -34,6 +34,7 @@ pub fn least_is_read()
     ensures least { LeastIsRead }
     ensures lost { LostIsBetween }
     ensures ahead { ReadingsAreAhead }
+    ensures rest { TakesLeaveTheRest }
     ensures nothing { NothingToRead }
 {}
 

@@ -1,50 +1,39 @@
 -- What is kept after pipe reads.
-use Rattle.std.proofs.Common.{◌≡◌, ℕ, zero, suc, ◌+◌, ◌==◌, if◌then◌else◌, List, [], ◌∷◌, ◌++◌, length, replicate, drop, Option, refl, sym, ap, ◌∙◌, arith, append-nil, append_assoc, take-append-drop, drop-drop}
+use Rattle.std.proofs.Common.{◌≡◌, ℕ, ◌==◌, if◌then◌else◌, List, [], ◌∷◌, ◌++◌, length, replicate, drop, Option, refl, sym, ap, ◌∙◌, arith, append-nil, take-append-drop}
 use Rattle.std.proofs.lemmas.Bool.Decides.{nat_tests}
 use Rattle.page_ring.specs.Account.{Reading, readings_of}
 use Rattle.page_ring.specs.Events.{Event, Take}
-use Rattle.page_ring.specs.Laws.{ReadingsAreAhead}
+use Rattle.page_ring.specs.Laws.{TakesLeaveTheRest}
 use Rattle.trace_book.specs.Laws.{kept_readings, PipeReadsConsumeWhatTheyShow, WholePipeReadsConsumeWhatTheyShow}
 use Rattle.trace_book.specs.Requests.{Request}
 use Rattle.trace_book.specs.Rings.{up_to_limit, ring_events}
 use Rattle.trace_book.specs.TraceFiles.{taken_readings}
 use Rattle.trace_book.specs.declared.command.Config.{Config}
 
--- what so many consuming reads leave
-takes-drop : ReadingsAreAhead → (pages page_bytes : ℕ) (events : List Event) (n : ℕ)
-    → readings_of pages page_bytes (events ++ replicate n Take) ≡ drop n (readings_of pages page_bytes events)
-takes-drop ahead pages page_bytes events zero = ap (readings_of pages page_bytes) (append-nil events)
-takes-drop ahead pages page_bytes events (suc n) =
-    ap (readings_of pages page_bytes) (sym (append_assoc events (Take ∷ []) (replicate n Take)))
-    ∙ takes-drop ahead pages page_bytes (events ++ Take ∷ []) n
-    ∙ ap (drop n) (ahead pages page_bytes events)
-    ∙ drop-drop n 1 (readings_of pages page_bytes events)
-    ∙ (let next : 1 + n ≡ suc n = omega arith in ap (λ (k : ℕ). drop k (readings_of pages page_bytes events)) next)
-
 -- a read puts nothing
 no_put : (events more : List Event) → events ++ [] ++ more ≡ events ++ more
 no_put events more = rw append-nil refl
 
 -- what was kept is what is shown and what is left
-shown-left : ReadingsAreAhead → (g : Config) (cpu : ℕ) (past : List Request) (limit : Option ℕ) (count : ℕ) (left : List Reading)
+shown-left : TakesLeaveTheRest → (g : Config) (cpu : ℕ) (past : List Request) (limit : Option ℕ) (count : ℕ) (left : List Reading)
     → count ≡ up_to_limit limit (length (kept_readings g cpu past))
     → left ≡ readings_of g.pages g.page_bytes (ring_events g cpu past ++ [] ++ replicate count Take)
     → kept_readings g cpu past ≡ taken_readings limit (kept_readings g cpu past) ++ left
-shown-left ahead g cpu past limit count left is kept =
+shown-left rest g cpu past limit count left is kept =
     let readings = kept_readings g cpu past in
-    let rest : left ≡ drop (up_to_limit limit (length readings)) readings =
+    let left_is : left ≡ drop (up_to_limit limit (length readings)) readings =
     kept ∙ ap (readings_of g.pages g.page_bytes) (no_put (ring_events g cpu past) (replicate count Take))
-    ∙ takes-drop ahead g.pages g.page_bytes (ring_events g cpu past) count ∙ ap (λ (n : ℕ). drop n readings) is in
-    rw rest (sym (take-append-drop (up_to_limit limit (length readings)) readings))
+    ∙ rest g.pages g.page_bytes (ring_events g cpu past) count ∙ ap (λ (n : ℕ). drop n readings) is in
+    rw left_is (sym (take-append-drop (up_to_limit limit (length readings)) readings))
 
 same_cpu : (cpu n : ℕ) → (if cpu == cpu then n else 0) ≡ n
 same_cpu cpu n = grind (arith, nat_tests)
 
-pub pipe_reads_consume_what_they_show : ReadingsAreAhead → PipeReadsConsumeWhatTheyShow
-pipe_reads_consume_what_they_show ahead g past cpu limit =
-    shown-left ahead g cpu past limit (if cpu == cpu then up_to_limit limit (length (kept_readings g cpu past)) else 0) _
+pub pipe_reads_consume_what_they_show : TakesLeaveTheRest → PipeReadsConsumeWhatTheyShow
+pipe_reads_consume_what_they_show rest g past cpu limit =
+    shown-left rest g cpu past limit (if cpu == cpu then up_to_limit limit (length (kept_readings g cpu past)) else 0) _
     (same_cpu cpu (up_to_limit limit (length (kept_readings g cpu past)))) refl
 
-pub whole_pipe_reads_consume_what_they_show : ReadingsAreAhead → WholePipeReadsConsumeWhatTheyShow
-whole_pipe_reads_consume_what_they_show ahead g past limit =
-    shown-left ahead g 0 past limit (up_to_limit limit (length (kept_readings g 0 past))) _ refl refl
+pub whole_pipe_reads_consume_what_they_show : TakesLeaveTheRest → WholePipeReadsConsumeWhatTheyShow
+whole_pipe_reads_consume_what_they_show rest g past limit =
+    shown-left rest g 0 past limit (up_to_limit limit (length (kept_readings g 0 past))) _ refl refl
