@@ -1,5 +1,5 @@
 -- The tokens of a filter: a function of its text alone.
-use Rattle.std.specs.Prelude.{ℕ, zero, suc, ◌+◌, ◌-◌, Bool, true, false, not, ◌||◌, ◌==◌, nat_lt, if◌then◌else◌, List, [], ◌∷◌, length, map, take, drop, reverse}
+use Rattle.std.specs.Prelude.{ℕ, zero, suc, ◌+◌, Bool, true, false, not, ◌||◌, ◌==◌, nat_lt, if◌then◌else◌, List, [], ◌∷◌, length, map, take}
 use Rattle.std.specs.List.{prefix_len}
 use Rattle.trace_format.specs.Blanks.{is_blank, without_end}
 use Rattle.trace_format.specs.Names.{is_name, is_name_byte}

@@ -1,10 +1,9 @@
-use Rattle.std.proofs.Common.{◌≡◌, ◌≤◌, None, false, length, map, drop, sym, ap, ◌∙◌, subst, arith}
+use Rattle.std.proofs.Common.{◌≡◌, ◌≤◌, None, false, length, map, sym, ap, ◌∙◌, subst, arith}
 use Rattle.std.proofs.lemmas.Result.{err_from_is_err_and}
-use Rattle.std.specs.List.{prefix_len}
 use Rattle.trace_filter.specs.declared.syntax.Verdict.TheVariants.{Fine}
 use Rattle.trace_filter.specs.declared.test.Subject.TheVariants as subjects
 use Rattle.trace_filter.specs.declared.token.Comparison.TheVariants as comparisons
-use Rattle.trace_format.specs.Blanks.{is_blank, trimmed}
+use Rattle.trace_format.specs.Blanks.{trimmed}
 use Rattle.trace_filter.specs.Tokens.{spots_of, spots_from, tokens_of}
 use Rattle.trace_filter.specs.Syntax.{start, reading}
 use Rattle.trace_filter.specs.Places.{first_fault, IsToldAs}
