@@ -1,11 +1,10 @@
 -- Lists over the declared events.
-use Rattle.std.proofs.Common.{◌≡◌, ℕ, zero, suc, ◌+◌, ◌<◌, Bool, List, [], ◌∷◌, ◌++◌, length, map, get_or, set, replicate, slice_get, Option, Some, None, refl, sym, ap, ◌∙◌, subst, arith, append-nil, append_assoc}
+use Rattle.std.proofs.Common.{◌≡◌, ℕ, zero, suc, ◌<◌, List, [], ◌∷◌, ◌++◌, length, map, get_or, set, replicate, Some, refl, sym, ap, ◌∙◌, subst, arith, append-nil, append_assoc}
 use Rattle.std.proofs.lemmas.Option.{slice_get-get_or}
-use Rattle.std.proofs.lemmas.Slice.Eq.{bytes_eq-Decides}
-use Rattle.trace_format.specs.Catalogs.{id_of, event_of, IsEvent, AreEvents}
+use Rattle.trace_format.specs.Catalogs.{id_of, IsEvent, AreEvents}
 use Rattle.trace_format.specs.Definitions.{Definition}
 use Rattle.trace_format.proofs.CatalogLemmas.{found_event}
-use Rattle.trace_book.specs.Settings.{NumberedEvent, event_named_in}
+use Rattle.trace_book.specs.Settings.{event_named_in}
 
 -- two functions that agree on each element
 pub map-agrees : {A B : Type 0} (f h : A → B) (xs : List A) (d : A) → ((j : ℕ) → j < length xs → f (get_or xs j d) ≡ h (get_or xs j d)) → map f xs ≡ map h xs

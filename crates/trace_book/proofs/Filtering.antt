@@ -1,32 +1,29 @@
 -- Filters that are written.
-use Rattle.std.proofs.Common.{◌≡◌, ◌≢◌, ◌⊎◌, ℕ, zero, suc, ◌+◌, ◌<◌, Bool, true, false, cond, List, [], ◌∷◌, ◌++◌, length, map, get_or, set, is_some, IsSome, Option, Some, None, Result, Ok, Err, refl, sym, ap, ◌∙◌, subst, inl, inr, arith, Vec, Global}
+use Rattle.std.proofs.Common.{◌≡◌, ◌≢◌, ◌⊎◌, ℕ, suc, ◌<◌, Bool, true, false, cond, List, [], ◌∷◌, length, map, get_or, is_some, Option, Some, None, Result, Ok, Err, refl, sym, ap, ◌∙◌, inl, inr, arith, Vec, Global}
 use Rattle.std.specs.List.{list_any}
 use Rattle.std.specs.Option.{option_map}
 use Rattle.std.specs.Str.{bytes_eq}
-use Rattle.std.proofs.lemmas.Bool.{false≢true}
 use Rattle.std.proofs.lemmas.List.{length-map}
 use Rattle.std.proofs.lemmas.Slice.Eq.{bytes_eq-Decides}
 use Rattle.trace_filter.specs.declared.fault.FilterFault.{FilterFault}
 use Rattle.trace_filter.specs.declared.fault.FilterFault.TheVariants as filter_fault
 use Rattle.trace_filter.specs.Filters.{Parsed, IsFilterOf, IsAnswered, parsed_of, answer_of}
-use Rattle.trace_format.specs.Catalogs.{AreEvents}
 use Rattle.trace_format.specs.Definitions.{Definition}
 use Rattle.trace_book.specs.History.{answer_with_room, filter_answer, filter_of_all_answer, filter_text, switch_answer}
 use Rattle.trace_book.specs.Paths.{EventFilter, EventsFilter, EventsEnable}
 use Rattle.trace_book.specs.Refusals.{refusal_of_filter, OrMemory}
 use Rattle.trace_book.specs.Requests.{Request, WriteFile, ReadFile}
-use Rattle.trace_book.specs.Settings.{NumberedEvent, event_named, declared_events, clears_filter, can_take, written_filter, sets_filter, filter_of, written_flag}
+use Rattle.trace_book.specs.Settings.{NumberedEvent, event_named, declared_events, clears_filter, can_take, sets_filter, filter_of, written_flag}
 use Rattle.trace_book.specs.States.{StandsFor, IsPlaceOf, IsPrepared, IsWrittenFilter, numbered, kept_filter, change_of, changed_filter, changed_filters, is_set, shown_filter, switching}
 use Rattle.trace_book.specs.declared.command.Config.{Config}
 use Rattle.trace_book.specs.declared.command.Reply.{Reply}
 use Rattle.trace_book.specs.declared.command.Reply.TheVariants as reply
 use Rattle.trace_book.specs.declared.refusal.Refusal.{Refusal}
 use Rattle.trace_book.specs.declared.refusal.Refusal.TheVariants as refusal
-use Rattle.trace_book.specs.declared.state.Change.TheVariants.{SetFilter, SetFilters, SwitchAll}
+use Rattle.trace_book.specs.declared.state.Change.TheVariants.{SetFilter, SetFilters}
 use Rattle.trace_book.specs.declared.state.FilterChange.{FilterChange}
 use Rattle.trace_book.specs.declared.state.FilterChange.TheVariants as change
 use Rattle.trace_book.specs.declared.state.Found.{Found}
-use Rattle.trace_book.specs.declared.state.Prepared.{Prepared}
 use Rattle.trace_book.specs.declared.state.State.{State}
 use Rattle.trace_book.proofs.EventLists.{map-agrees, map-set, named_at, one_place}
 

@@ -1,19 +1,19 @@
 -- Histories with one entry more.
-use Rattle.std.proofs.Common.{◌≡◌, ℕ, suc, ◌-◌, get_or, ◌+◌, ◌<◌, ◌≤◌, ◌^◌, Bool, true, false, cond, ltb, List, [], ◌∷◌, ◌++◌, length, map, reverse, All, IsOk, is_ok, Result, Ok, Err, refl, sym, ap, ◌∙◌, arith, rules, length-append}
+use Rattle.std.proofs.Common.{◌≡◌, suc, ◌-◌, ◌<◌, ◌≤◌, ◌^◌, true, false, ltb, List, [], ◌∷◌, ◌++◌, length, reverse, All, IsOk, Ok, Err, refl, ap, ◌∙◌, arith}
 use Rattle.std.proofs.lemmas.Bool.{lt-ltb}
 use Rattle.std.proofs.lemmas.Bool.Decides.{nat_tests}
 use Rattle.std.proofs.lemmas.List.{reverse-append, length-reverse, length-map, get_or-reverse}
 use Rattle.page_ring.specs.Shown as shown
 use Rattle.trace_book.specs.Configs.{IsInRange}
 use Rattle.trace_book.specs.Requests.{Request, request_of}
-use Rattle.trace_book.specs.History.{answer, answer_with_room, unless_full, requests_of, past_of, IsLegalNewestFirst, IsLegal}
+use Rattle.trace_book.specs.History.{answer, answer_with_room, requests_of, past_of, IsLegal}
 use Rattle.trace_book.specs.Refusals.{OrMemory}
 use Rattle.trace_book.specs.States.{StandsFor, IsPrepared, IsUsable}
 use Rattle.trace_book.specs.declared.command.Config.{Config}
 use Rattle.trace_book.specs.declared.command.Entry.{Entry}
 use Rattle.trace_book.specs.declared.command.Reply.{Reply}
 use Rattle.trace_book.specs.declared.refusal.Refusal.{Refusal}
-use Rattle.trace_book.specs.declared.refusal.Refusal.TheVariants.{HistoryFull, Memory}
+use Rattle.trace_book.specs.declared.refusal.Refusal.TheVariants.{HistoryFull}
 use Rattle.trace_book.specs.declared.state.State.{State}
 
 -- ---- the requests of entries

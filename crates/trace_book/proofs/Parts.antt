@@ -1,6 +1,5 @@
 -- The parts of a path.
-use Rattle.std.proofs.Common.{◌≡◌, ℕ, ◌+◌, ◌<◌, suc, List, [], ◌∷◌, ◌++◌, All, eqb, false, true, length, get_or, take, drop, refl, sym, ap, ◌∙◌, subst, Option, Some, None, Bor, arith, add-one}
-use Rattle.std.specs.List.{slice_split}
+use Rattle.std.proofs.Common.{◌≡◌, ℕ, ◌+◌, ◌<◌, List, [], ◌∷◌, ◌++◌, All, eqb, false, length, get_or, take, drop, refl, sym, ap, ◌∙◌, Option, Some, None, Bor, arith, add-one}
 use Rattle.std.proofs.Math.Seq.{drop-cons}
 use Rattle.std.proofs.lemmas.Grind.{common_steps}
 use Rattle.std.proofs.lemmas.List.Splits.{slice_split_at, slice_split_none, length-slice_split}

@@ -1,5 +1,5 @@
 -- What is kept after pipe reads.
-use Rattle.std.proofs.Common.{◌≡◌, ℕ, ◌==◌, if◌then◌else◌, List, [], ◌∷◌, ◌++◌, length, replicate, drop, Option, refl, sym, ap, ◌∙◌, arith, append-nil, take-append-drop}
+use Rattle.std.proofs.Common.{◌≡◌, ℕ, ◌==◌, if◌then◌else◌, List, [], ◌++◌, length, replicate, drop, Option, refl, sym, ap, ◌∙◌, arith, append-nil, take-append-drop}
 use Rattle.std.proofs.lemmas.Bool.Decides.{nat_tests}
 use Rattle.page_ring.specs.Account.{Reading, readings_of}
 use Rattle.page_ring.specs.Events.{Event, Take}

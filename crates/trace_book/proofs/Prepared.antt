@@ -1,11 +1,9 @@
 -- What is prepared for a request is what the definitions say of it.
-use Rattle.std.proofs.Common.{◌≡◌, ℕ, zero, suc, ℤ, ◌+◌, ◌<◌, ◌≤◌, ◌==◌, eqb, Bool, true, false, cond, ◌&&◌, List, [], ◌∷◌, ◌++◌, length, map, get_or, unwrap_or, is_some, IsSome, Option, Some, None, Result, Ok, Err, refl, sym, ap, ◌∙◌, arith, Bor, Vec}
-use Rattle.std.specs.Option.{option_map, option_to_list, option_and_then}
-use Rattle.std.specs.Str.{bytes_eq}
+use Rattle.std.proofs.Common.{◌≡◌, ℕ, zero, suc, ℤ, ◌+◌, ◌<◌, eqb, Bool, true, false, cond, List, [], ◌∷◌, length, map, get_or, unwrap_or, is_some, Option, Some, None, Result, Ok, Err, refl, sym, ap, ◌∙◌, arith, Vec}
+use Rattle.std.specs.Option.{option_map}
 use Rattle.std.specs.Global.{Global}
 use Rattle.std.proofs.lemmas.Bool.{lt-ltb}
 use Rattle.std.proofs.lemmas.Slice.Eq.{bytes_eq-Decides}
-use Rattle.page_ring.specs.Events as ring
 use Rattle.trace_book.specs.Paths.{File, EventEnable}
 use Rattle.trace_book.specs.Refusals.{OrMemory}
 use Rattle.trace_book.specs.Requests.{Request, Emission, WriteFile, ReadFile}
@@ -14,10 +12,10 @@ use Rattle.trace_format.specs.Cells.{Cells}
 use Rattle.trace_format.specs.Definitions.{Definition}
 use Rattle.trace_format.specs.Rows.{row_of}
 use Rattle.trace_format.specs.declared.pair.Pair.{Pair}
-use Rattle.trace_book.specs.Rings.{filter_holds, record_bytes, record_of_event, emitted_record, consumed, put_of, clears}
+use Rattle.trace_book.specs.Rings.{filter_holds, record_bytes, consumed, put_of, clears}
 use Rattle.trace_book.specs.Settings.{NumberedEvent, event_named, event_named_in, declared_events, declares, switches, is_enabled, sets_filter, filter_of, sets_overwrite, overwrites, written_flag, written_option, now_of}
-use Rattle.trace_book.specs.History.{emission_answer, switch_answer, option_answer, answer_with_room, flag_text, whole_text}
-use Rattle.trace_book.specs.States.{StandsFor, IsChangeOf, IsPrepared, IsReady, IsPlaceOf, kept_filter, kept_holds, numbered, with_nothing, bytes_in, written_record, kept_count, puts_by, overwriting}
+use Rattle.trace_book.specs.History.{emission_answer, switch_answer, option_answer, answer_with_room, flag_text}
+use Rattle.trace_book.specs.States.{StandsFor, IsChangeOf, IsPrepared, IsPlaceOf, kept_filter, kept_holds, numbered, with_nothing, bytes_in, written_record, kept_count, puts_by, overwriting}
 use Rattle.trace_book.proofs.EventLists.{map-agrees}
 use Rattle.trace_book.specs.declared.command.Config.{Config}
 use Rattle.trace_book.specs.declared.command.Reply.{Reply}
@@ -26,7 +24,7 @@ use Rattle.trace_book.specs.declared.refusal.Refusal.{Refusal}
 use Rattle.trace_book.specs.declared.refusal.Refusal.TheVariants as refusal
 use Rattle.trace_book.specs.declared.state.State.{State}
 use Rattle.trace_book.specs.declared.state.Found.{Found}
-use Rattle.trace_book.specs.declared.state.Change.TheVariants.{Nothing, Emit}
+use Rattle.trace_book.specs.declared.state.Change.TheVariants.{Emit}
 
 -- a read changes nothing
 pub prepared-nothing : (g : Config) (past : List Request) (file : Option File) (limit : Option ℕ) (state : State) (answered : Result Reply Refusal)

@@ -1,18 +1,16 @@
 -- A change keeps what the state stands for.
-use Rattle.std.proofs.Common.{◌≡◌, ℕ, ◌+◌, ◌<◌, ◌≤◌, Bool, true, false, cond, List, [], ◌∷◌, ◌++◌, length, map, get_or, IsSome, is_some, Option, Some, None, unwrap_or, refl, sym, ap, ◌∙◌, subst, arith, rules, add-one, append-nil, length-append}
+use Rattle.std.proofs.Common.{◌≡◌, ℕ, ◌<◌, ◌≤◌, Bool, true, false, cond, List, [], ◌∷◌, ◌++◌, length, map, get_or, IsSome, Option, Some, None, unwrap_or, refl, sym, ap, ◌∙◌, arith, append-nil, length-append}
 use Rattle.std.proofs.lemmas.Bool.{false≢true}
 use Rattle.std.proofs.lemmas.List.{map-append, length-map}
 use Rattle.std.specs.List.{AllByRecursion}
 use Rattle.std.specs.Option.{option_map, option_to_list}
 use Rattle.std.specs.Str.{bytes_eq}
 use Rattle.std.proofs.lemmas.Slice.Eq.{bytes_eq-Decides}
-use Rattle.page_ring.specs.Events as ring
-use Rattle.page_ring.specs.Shown as shown
 use Rattle.trace_book.specs.Requests.{Request}
-use Rattle.trace_book.specs.Settings.{NumberedEvent, event_named, declares, declared_events, switches, is_enabled, sets_filter, filter_of, sets_overwrite, overwrites, ticks, now_of}
+use Rattle.trace_book.specs.Settings.{event_named, declares, declared_events, switches, is_enabled, sets_filter, filter_of}
 use Rattle.trace_book.specs.Switches.{with_switch}
-use Rattle.trace_book.specs.Rings.{consumed, put_of, clears, ring_events}
-use Rattle.trace_book.specs.States.{StandsFor, IsFit, kept_filter, filters_after, filters_with, IsChangeOf, IsStep, declared_by, switched_by, addressed_by, ticks_by, clears_by, puts_by, takes_by, ring_after, flags_after}
+use Rattle.trace_book.specs.Rings.{ring_events}
+use Rattle.trace_book.specs.States.{StandsFor, IsFit, kept_filter, filters_after, filters_with, IsChangeOf, IsStep, declared_by, switched_by, addressed_by, ticks_by, flags_after}
 use Rattle.trace_book.specs.declared.command.Config.{Config}
 use Rattle.trace_format.specs.Definitions.{Definition}
 use Rattle.trace_filter.specs.Filters.{Parsed, parsed_of}

@@ -1,5 +1,5 @@
 -- One more record of those that a pipe read shows.
-use Rattle.std.proofs.Common.{◌≡◌, ℕ, ◌-◌, ◌<◌, zero, suc, List, [], ◌∷◌, ◌++◌, take, refl, sym, ap, ◌∙◌, arith, append_assoc}
+use Rattle.std.proofs.Common.{◌≡◌, ℕ, ◌-◌, ◌<◌, zero, suc, List, ◌∷◌, ◌++◌, take, arith, append_assoc}
 use Rattle.std.specs.List.{flat_map}
 use Rattle.page_ring.specs.Account.{Reading}
 

@@ -1,10 +1,8 @@
 -- What contracts see of a book.
-use Rattle.std.specs.Prelude.{◌≡◌, ℕ, ◌^◌, ◌≤◌, List, length}
+use Rattle.std.specs.Prelude.{◌^◌, ◌≤◌, length}
 use Rattle.trace_book.specs.Configs.{IsInRange}
 use Rattle.trace_book.specs.History.{past_of, IsLegal}
 use Rattle.trace_book.specs.States.{StandsFor}
-use Rattle.trace_book.specs.declared.command.Config.{Config}
-use Rattle.trace_book.specs.declared.command.Entry.{Entry}
 use Rattle.trace_book.specs.BookSeen.{BookSeen}
 use Rattle.trace_book.specs.declared.book.Book.TheInside.{Inside}
 

@@ -1,5 +1,5 @@
 -- Which numbers a book may be made with.
-use Rattle.std.specs.Prelude.{◌≡◌, ℕ, ◌%◌, ◌^◌, ◌≤◌}
+use Rattle.std.specs.Prelude.{◌≡◌, ◌%◌, ◌^◌, ◌≤◌}
 use Rattle.trace_book.specs.declared.command.Config.{Config}
 
 -- each number is in its range; for now there is one CPU

@@ -1,5 +1,5 @@
 -- The answer that the requests done so far give a request, and which histories are legal. The newest request stands first.
-use Rattle.std.specs.Prelude.{◌≡◌, ℕ, ◌<◌, nat_lt, Bool, true, false, not, ◌&&◌, is_some, IsOk, if◌then◌else◌, List, [], ◌∷◌, ◌++◌, length, map, flat_map, reverse, All, Option, Some, None, Result, Ok, Err, codes, ⊤}
+use Rattle.std.specs.Prelude.{ℕ, ◌<◌, nat_lt, Bool, true, false, not, ◌&&◌, is_some, IsOk, if◌then◌else◌, List, [], ◌∷◌, ◌++◌, length, map, flat_map, reverse, All, Option, Some, None, Result, Ok, Err, codes, ⊤}
 use Rattle.page_ring.specs.Account.{stats_of}
 use Rattle.trace_book.specs.Paths.{File, Trace, CpuTrace, TracePipe, CpuTracePipe, CpuStats, Overwrite, TraceOptions, SyntheticEvents, EventsEnable, EventsFilter, EventEnable, EventFilter, EventFormat}
 use Rattle.std.specs.List.{list_all, list_any}

@@ -13,7 +13,7 @@ use Rattle.trace_format.specs.Definitions.{Definition}
 use Rattle.trace_format.specs.Rows.{row_of}
 use Rattle.trace_format.specs.declared.pair.Pair.{Pair}
 use Rattle.trace_book.specs.Settings.{NumberedEvent, event_named, is_enabled, filter_of, overwrites, now_of}
-use Rattle.trace_book.specs.Requests.{Request, Emission, MakeInstance, RemoveInstance, WriteFile, ReadFile}
+use Rattle.trace_book.specs.Requests.{Request, Emission, WriteFile, ReadFile}
 use Rattle.trace_book.specs.declared.command.Config.{Config}
 
 -- how many zeros fill a payload of so many bytes up to a multiple of eight

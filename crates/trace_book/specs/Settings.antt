@@ -1,16 +1,16 @@
 -- What the requests that were done say of events, their switches and filters, overwriting and the clock. The newest request stands first.
-use Rattle.std.specs.Prelude.{ℕ, suc, ◌+◌, ◌==◌, Bool, true, false, if◌then◌else◌, List, [], ◌∷◌, ◌++◌, Option, Some, None, Result, Ok, Err, unwrap_or, is_ok, is_some, codes}
+use Rattle.std.specs.Prelude.{ℕ, ◌+◌, ◌==◌, Bool, true, false, if◌then◌else◌, List, [], ◌∷◌, ◌++◌, Option, Some, None, unwrap_or, is_ok, is_some, codes}
 use Rattle.std.specs.Option.{option_map, option_and_then, option_to_list}
 use Rattle.std.specs.Result.{result_ok}
 use Rattle.std.specs.Str.{bytes_eq}
 use Rattle.trace_format.specs.Blanks.{trimmed}
 use Rattle.trace_book.specs.Decimals.{written_number}
-use Rattle.trace_book.specs.Paths.{File, Trace, CpuTrace, TracePipe, CpuTracePipe, CpuStats, Overwrite, TraceOptions, SyntheticEvents, EventsEnable, EventsFilter, EventEnable, EventFilter, EventFormat}
+use Rattle.trace_book.specs.Paths.{Overwrite, TraceOptions, SyntheticEvents, EventsEnable, EventsFilter, EventEnable, EventFilter}
 use Rattle.trace_filter.specs.Filters.{answer_of}
 use Rattle.trace_format.specs.Catalogs.{id_of, event_of}
 use Rattle.trace_format.specs.Definitions.{Definition}
 use Rattle.trace_format.specs.Reading.{definition_of}
-use Rattle.trace_book.specs.Requests.{Request, Emission, MakeInstance, RemoveInstance, WriteFile, ReadFile}
+use Rattle.trace_book.specs.Requests.{Request, Emission, WriteFile}
 
 -- what the newest request that sets a setting says, or the default where none does
 abbrev pub setting : {A : Type 0} → (Request → Option A) → A → List Request → A

@@ -15,7 +15,7 @@ use Rattle.trace_format.specs.Cells.{Cells, record_size_of}
 use Rattle.trace_format.specs.Definitions.{Definition}
 use Rattle.trace_book.specs.Requests.{Request}
 use Rattle.trace_book.specs.Settings.{NumberedEvent, event_named, declares, declared_events, switches, is_enabled, clears_filter, can_take, written_filter, sets_filter, filter_of, sets_overwrite, overwrites, ticks, now_of}
-use Rattle.trace_book.specs.Rings.{filter_holds, record_bytes, up_to_limit, consumed, put_of, clears, ring_events}
+use Rattle.trace_book.specs.Rings.{record_bytes, up_to_limit, consumed, put_of, clears, ring_events}
 use Rattle.trace_book.specs.Switches.{with_switch}
 use Rattle.trace_book.specs.History.{answer_with_room, filter_answer}
 use Rattle.trace_book.specs.TraceFiles.{pipe_text}

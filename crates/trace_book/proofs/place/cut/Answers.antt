@@ -1,4 +1,4 @@
-use Rattle.std.proofs.Common.{arith, rules, eqb, false, ◌≡◌, take, refl}
+use Rattle.std.proofs.Common.{arith, eqb, false, ◌≡◌, take}
 use Rattle.std.proofs.lemmas.Bool.Decides.{nat_tests}
 use Rattle.std.proofs.lemmas.List.{take_rest, take_all}
 use Rattle.std.proofs.lemmas.List.Elements.{All-more}

@@ -1,4 +1,4 @@
-use Rattle.std.proofs.Common.{◌≡◌, ◌≢◌, false, true, sym, ◌∙◌, rules}
+use Rattle.std.proofs.Common.{◌≡◌, ◌≢◌, false, sym, ◌∙◌, rules}
 use Rattle.trace_filter.specs.declared.fault.FilterFault.TheVariants as filter_fault
 use Rattle.trace_book.specs.Settings.{clears_filter}
 use Rattle.trace_book.proofs.Filtering.{change-takes, change-keeps}

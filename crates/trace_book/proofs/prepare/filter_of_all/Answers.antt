@@ -1,4 +1,4 @@
-use Rattle.std.proofs.Common.{◌≡◌, ◌<◌, length, Err, Ok, true, false, sym, ◌∙◌, arith, rules}
+use Rattle.std.proofs.Common.{◌≡◌, ◌<◌, length, Err, sym, ◌∙◌, rules}
 use Rattle.trace_book.proofs.Filtering.{no-event-refused, taken-by-some, first-takes, first-refuses}
 use Rattle.trace_book.proofs.prepare.filter_of_all.Goals as goal
 

@@ -1,4 +1,4 @@
-use Rattle.std.proofs.Common.{◌≡◌, false, true, Ok, Err, sym, ◌∙◌, rules}
+use Rattle.std.proofs.Common.{◌≡◌, false, Err, sym, ◌∙◌, rules}
 use Rattle.trace_book.specs.Refusals.{refusal_of_filter}
 use Rattle.trace_book.specs.Settings.{clears_filter}
 use Rattle.trace_book.proofs.Filtering.{filter-clears, filter-reads, filter-refuses}

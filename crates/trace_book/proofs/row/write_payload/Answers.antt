@@ -1,4 +1,4 @@
-use Rattle.std.proofs.Common.{◌≡◌, ◌+◌, ◌-◌, ◌++◌, take, drop, sym, ap, ◌∙◌, arith, rules, append_assoc, drop-drop}
+use Rattle.std.proofs.Common.{◌≡◌, ◌+◌, ◌-◌, ◌++◌, take, drop, sym, ap, ◌∙◌, arith, append_assoc, drop-drop}
 use Rattle.trace_format.specs.Cells.{payload_of}
 use Rattle.trace_book.proofs.row.write_payload.Goals as goal
 

@@ -1,4 +1,4 @@
-use Rattle.std.proofs.Common.{◌≡◌, ◌++◌, drop, ap, ◌∙◌, List, ℕ}
+use Rattle.std.proofs.Common.{◌++◌, drop, ap, ◌∙◌, List, ℕ}
 use Rattle.page_ring.specs.Record.{head_bytes}
 use Rattle.trace_format.specs.Cells.{payload_of}
 use Rattle.trace_book.proofs.RecordBytes.{filled}

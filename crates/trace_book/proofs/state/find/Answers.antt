@@ -1,4 +1,4 @@
-use Rattle.std.proofs.Common.{◌≡◌, Some, sym, ◌∙◌, refl}
+use Rattle.std.proofs.Common.{◌≡◌, Some, sym, ◌∙◌}
 use Rattle.trace_format.specs.Catalogs.{id_of, event_of}
 use Rattle.trace_book.proofs.Events.{place_of_id}
 use Rattle.trace_book.proofs.state.find.Goals as goal

@@ -1,4 +1,3 @@
-use Rattle.std.proofs.Common.{◌≡◌, sym, ◌∙◌, rules}
 use Rattle.trace_book.proofs.Prepared.{named-found}
 use Rattle.trace_book.proofs.Filtering.{set-filter}
 use Rattle.trace_book.proofs.state.State.prepare_filter.Goals as goal

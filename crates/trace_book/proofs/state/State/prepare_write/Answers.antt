@@ -1,4 +1,4 @@
-use Rattle.std.proofs.Common.{List, ℕ, refl, sym}
+use Rattle.std.proofs.Common.{refl, sym}
 use Rattle.trace_book.specs.Paths.{Overwrite, TraceOptions}
 use Rattle.trace_book.proofs.Filtering.{set-switches}
 use Rattle.trace_book.proofs.Prepared.{prepared-option, answers-switch, answers-option}

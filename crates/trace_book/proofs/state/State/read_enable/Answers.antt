@@ -1,6 +1,4 @@
-use Rattle.std.proofs.Common.{◌≡◌, ◌<◌, length, get_or, Some, is_some, false, true, arith, rules, sym, ◌∙◌, ap}
-use Rattle.std.specs.Option.{option_map}
-use Rattle.trace_book.specs.Settings.{event_named, is_enabled}
+use Rattle.std.proofs.Common.{rules, ◌∙◌}
 use Rattle.trace_book.specs.States.{numbered}
 use Rattle.trace_book.proofs.Prepared.{named-found, enabled-found, reads-enable}
 use Rattle.trace_book.proofs.state.State.read_enable.Goals as goal
