@@ -66,8 +66,7 @@ abbrev pub CutIsGreedy : Type 0
 CutIsGreedy =
     (page_bytes : ℕ) (accepted : List (List ℕ)) → All (λ bytes. length bytes ≤ page_bytes) accepted → IsGreedy page_bytes accepted (cut page_bytes accepted)
 
--- a consuming read takes the kept record with the least number, and tells that number less the one consumed before it,
--- less one; where none was consumed before, the number itself
+-- a consuming read takes the kept record with the least number, and leaves the others kept
 pub record ReadsLeast (pages page_bytes : ℕ) (events : List Event) (r : Accepted) (rest : List Accepted) : Type 0 where
   pub least : All (λ s. r.number < s.number) rest
   pub taken : (account pages page_bytes (events ++ Take ∷ [])).taken ≡ (account pages page_bytes events).taken ++ r ∷ []
@@ -106,7 +105,7 @@ NothingToRead =
     (pages page_bytes : ℕ) (events : List Event)
     → kept page_bytes (account pages page_bytes events) ≡ [] → account pages page_bytes (events ++ Take ∷ []) ≡ account pages page_bytes events
 
--- a head is read where it was written, and says when the record was
+-- the time of a record is the one that the head at its front tells
 abbrev pub TimestampIsHeads : Type 0
 TimestampIsHeads = (bytes : List ℕ) (head : Head) → head_of bytes ≡ Some head → timestamp bytes ≡ head.ts
 

@@ -1,4 +1,4 @@
-//! What the definitions of the contracts mean, in the words of ring-buffer-design.rst. Each
+//! What the definitions of the contracts mean, in the words of the subject (ring-buffer-design.rst). Each
 //! function does nothing: its contract is a theorem.
 #![tactic(auto)]
 
@@ -23,13 +23,13 @@ pub fn accepted_without_loss()
     ensures dropped { DroppedOnly }
 {}
 
-/// A page takes records as long as each finds room on it; one that finds none opens the page after it.
+/// Of records that each fit a page: a page takes them as long as each finds room on it; one that finds none opens the page after it.
 pub fn cut_is_greedy()
     ensures { CutIsGreedy }
 {}
 
-/// A consuming read takes the least kept record and tells how many were lost before it; a list of
-/// the kept records is what such reads find one after another.
+/// A consuming read takes the kept record with the least number and tells how many were lost before it; a
+/// list of the kept records is what such reads find one after another, and so many reads leave the rest of it.
 pub fn least_is_read()
     ensures least { LeastIsRead }
     ensures lost { LostIsBetween }

@@ -7,7 +7,7 @@ use Rattle.trace_filter.specs.Filters.{Parsed, IsFilter, IsRefused, answer_of}
 use Rattle.trace_filter.proofs.FilterLemmas.{filter_or_refused, refusal_is_answered, holds_as_its_tree}
 use Rattle.trace_format.specs.Definitions.{Definition}
 use Rattle.trace_book.specs.History.{answer_with_room, filter_answer, taken_answer, requests_of, IsLegalNewestFirst}
-use Rattle.trace_book.specs.Laws.{StandingFiltersAreFilters, FiltersHoldAsTheirTrees}
+use Rattle.trace_book.specs.Laws.{FiltersAreOfTheirEvents, FiltersHoldAsTheirTrees}
 use Rattle.trace_book.specs.Paths.{EventFilter, EventsFilter}
 use Rattle.trace_book.specs.Requests.{Request, WriteFile, request_of}
 use Rattle.trace_book.specs.Rings.{filter_holds}
@@ -127,7 +127,7 @@ taken-legal g (entry ∷ entries) name legal =
 
 -- ---- the laws
 
-pub standing_filters_are_filters : StandingFiltersAreFilters
+pub standing_filters_are_filters : FiltersAreOfTheirEvents
 standing_filters_are_filters g entries name k text legal there stands =
     takes-is_filter text k.event ((taken-legal g entries name legal).taken k text there stands)
 

@@ -18,8 +18,8 @@ use Rattle.trace_book.specs.declared.command.Config.{Config}
 use Rattle.trace_book.specs.declared.command.Entry.{Entry}
 
 -- the filter that an event has is one of the event, by the grammar and the event's fields
-abbrev pub StandingFiltersAreFilters : Type 0
-StandingFiltersAreFilters =
+abbrev pub FiltersAreOfTheirEvents : Type 0
+FiltersAreOfTheirEvents =
     (g : Config) (entries : List Entry) (name : List ℕ) (k : NumberedEvent) (text : List ℕ)
     → IsLegalNewestFirst g entries → event_named name (requests_of entries) ≡ Some k → filter_of name (requests_of entries) ≡ Some text
     → IsFilter k.event text
@@ -46,8 +46,9 @@ RecordsShowTheirRows =
 abbrev pub kept_readings : Config → ℕ → List Request → List Reading
 kept_readings g cpu past = readings_of g.pages g.page_bytes (ring_events g cpu past)
 
--- a line shows an emission of the history: one on the CPU, of an event that was enabled, and its filter held. It shows the emission's row, with
--- the number of its process, which is in 32 bits, and the time at which it came.
+-- a line shows an emission of the history: one on the CPU, of an event that was enabled, and its filter held. Where the process's
+-- number is in 32 bits, as that of every command of the program is, the line is that of the emission's row, with this number and the time at
+-- which the emission came.
 pub record ShowsEmission (cpu : ℕ) (entries : List Entry) (line : List ℕ) : Type 0 where
   pub later : List Entry
   pub entry : Entry
@@ -72,7 +73,8 @@ KeptRecordsShowEmissions =
     (g : Config) (entries : List Entry) (cpu : ℕ) → IsInRange g → IsLegalNewestFirst g entries
     → All (λ (r : Reading). ShowsEmission cpu entries (record_line (declared_events (requests_of entries)) cpu r.rec)) (kept_readings g cpu (requests_of entries))
 
--- a read of a CPU's pipe consumes the records that it shows and no others: what was kept before is what it shows and then what is kept
+-- a read of a CPU's pipe consumes the records that it shows and no others: what was kept before is what it shows (`pipe_text` is the lines of
+-- `taken_readings`) and then what is kept
 abbrev pub PipeReadsConsumeWhatTheyShow : Type 0
 PipeReadsConsumeWhatTheyShow =
     (g : Config) (past : List Request) (cpu : ℕ) (limit : Option ℕ)

@@ -70,7 +70,7 @@ clears_filter text = bytes_eq (trimmed text) (codes "0")
 
 -- an event can take a filter where the text is one of the event. `answer_of` gives a filter for just the texts that are short and shallow
 -- enough, that the grammar has and that suit the event's fields: those that are one by `IsFilter`, as trace_filter's law
--- `filters_are_as_written` says. So the filter that an event has in a legal history is one: `StandingFiltersAreFilters`.
+-- `filters_are_as_written` says. So the filter that an event has in a legal history is one: `FiltersAreOfTheirEvents`.
 unfoldable pub can_take : List ℕ → Definition → Bool
 can_take text event = is_ok (answer_of event text)
 

@@ -1,19 +1,22 @@
-//! What the words of the answers mean in legal histories. Each function does nothing: its contract is a theorem.
+//! What the words of the answers mean in legal histories. Entries stand newest first here: those of a book reversed. Each function does
+//! nothing: its contract is a theorem.
 
-ghost use Rattle.trace_book.specs.Laws.{StandingFiltersAreFilters, FiltersHoldAsTheirTrees, RecordsShowTheirRows, KeptRecordsShowEmissions, PipeReadsConsumeWhatTheyShow, WholePipeReadsConsumeWhatTheyShow};
+ghost use Rattle.trace_book.specs.Laws.{FiltersAreOfTheirEvents, FiltersHoldAsTheirTrees, RecordsShowTheirRows, KeptRecordsShowEmissions, PipeReadsConsumeWhatTheyShow, WholePipeReadsConsumeWhatTheyShow};
 
 /// The filter that an event has in a legal history is one of the event, and it holds of an emission as the trees of its text do.
 pub fn filters_are_of_their_events()
-    ensures standing { StandingFiltersAreFilters }
+    ensures standing { FiltersAreOfTheirEvents }
     ensures holding { FiltersHoldAsTheirTrees }
 {}
 
-/// The line of an emission's record shows the row that was emitted, then and later.
+/// With a configuration in range, and for process numbers in 32 bits: the line of an emission's record shows the row that was emitted, then and
+/// later.
 pub fn records_show_their_rows()
     ensures { RecordsShowTheirRows }
 {}
 
-/// Each record that is kept has the line of an emission of the history.
+/// With a configuration in range: each record that is kept has the line of an emission of the history, whose event was enabled and whose filter
+/// held.
 pub fn kept_records_show_emissions()
     ensures { KeptRecordsShowEmissions }
 {

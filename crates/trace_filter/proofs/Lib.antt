@@ -22,3 +22,4 @@ pub mod FilterLemmas
 pub mod ClassLemmas
 pub mod TreeDepths
 pub mod TreeFits
+pub mod TreeFilters

@@ -8,7 +8,7 @@ use Rattle.trace_format.specs.Names.{is_name, is_name_byte}
 use Rattle.trace_filter.specs.declared.token.Comparison.TheVariants as comparison
 use Rattle.trace_format.specs.Blanks.{is_blank}
 use Rattle.trace_filter.specs.Tokens.{Word, Quoted, Token, Name, Value, Misfit, is_quote, is_word_byte, is_not, begins_with, Piece, quoted_piece, symbol_piece, piece_of, is_comparison, Spot, spots_from, spots_of}
-use Rattle.trace_filter.specs.TokenGrammar.{Sign, Opening, Closing, Negation, Conjunction, Disjunction, Comparing, sign_text, sign_token, IsLongest, first_is, IsRun, Lexeme, Gap, Signed, Run, Bare, Within, lexeme_text, IsLexemeBefore, Reads, TextPart, Legible, Stray, IsTextPart, part_text, part_tokens, due_behind, IsText, part_spots, IsWrittenText}
+use Rattle.trace_filter.specs.TokenGrammar.{Sign, Opening, Closing, Negation, Conjunction, Disjunction, Comparing, sign_text, sign_token, IsLongest, first_is, IsRun, Lexeme, Gap, Signed, Run, Bare, Within, lexeme_text, IsLexemeBefore, BeginsLexeme, TextPart, Legible, Stray, IsTextPart, part_text, part_tokens, due_behind, IsText, part_spots, IsWrittenText}
 use Rattle.trace_filter.proofs.Ends.{ends, end_len}
 use Rattle.trace_filter.proofs.SpotLemmas.{skipped}
 use Rattle.trace_filter.proofs.EndBlanks.{sized, no_both, blank_unnamed, uncut}
@@ -224,7 +224,7 @@ record IsStray (due : Bool) (b : ℕ) (bs : List ℕ) : Type 0 where
   piece : piece_of due b bs ≡ sized Misfit 0
 
 module _ (b : ℕ) (bs : List ℕ) (unblank : is_blank b ≡ false) where
-  value_or_stray : (q w : Bool) → is_quote b ≡ q → is_word_byte b ≡ w → Reads true (b ∷ bs) ⊎ IsStray true b bs
+  value_or_stray : (q w : Bool) → is_quote b ≡ q → is_word_byte b ≡ w → BeginsLexeme true (b ∷ bs) ⊎ IsStray true b bs
   unfolding piece_of
   value_or_stray true w e f =
       elim (ends b bs) [
@@ -251,7 +251,7 @@ module _ (b : ℕ) (bs : List ℕ) (unblank : is_blank b ≡ false) where
         })
       ]
 
-  name_or_stray : (n : Bool) → is_name_byte b ≡ n → Reads false (b ∷ bs) ⊎ IsStray false b bs
+  name_or_stray : (n : Bool) → is_name_byte b ≡ n → BeginsLexeme false (b ∷ bs) ⊎ IsStray false b bs
   unfolding piece_of
   name_or_stray true e =
       let r = run_of is_name_byte bs in
@@ -262,10 +262,10 @@ module _ (b : ℕ) (bs : List ℕ) (unblank : is_blank b ≡ false) where
         | no_sign h ↦ inr (record { unblank = unblank; unnamed = (λ _. e); piece = cond-false (is_name_byte b) _ _ e ∙ h })
       ]
 
-reads_or_stray : (due : Bool) (b : ℕ) (bs : List ℕ) → Reads due (b ∷ bs) ⊎ IsStray due b bs
+reads_or_stray : (due : Bool) (b : ℕ) (bs : List ℕ) → BeginsLexeme due (b ∷ bs) ⊎ IsStray due b bs
 reads_or_stray due b bs = by (is_blank b) refl due
   where
-    by : (t : Bool) → is_blank b ≡ t → (due : Bool) → Reads due (b ∷ bs) ⊎ IsStray due b bs
+    by : (t : Bool) → is_blank b ≡ t → (due : Bool) → BeginsLexeme due (b ∷ bs) ⊎ IsStray due b bs
     by true e due = inl (record { lexeme = Gap b; rest = bs; lawful = e; text = refl })
     by false e true = value_or_stray b bs e (is_quote b) (is_word_byte b) refl refl
     by false e false = name_or_stray b bs e (is_name_byte b) refl
@@ -279,7 +279,7 @@ sign_is_no_misfit Conjunction e = cc
 sign_is_no_misfit Disjunction e = cc
 sign_is_no_misfit (Comparing comparison) e = cc
 
-stray_reads_not : (due : Bool) (b : ℕ) (bs : List ℕ) → IsStray due b bs → Reads due (b ∷ bs) → ⊥
+stray_reads_not : (due : Bool) (b : ℕ) (bs : List ℕ) → IsStray due b bs → BeginsLexeme due (b ∷ bs) → ⊥
 stray_reads_not due b bs s r = none due s r.lexeme r.lawful r.text
   where
     misfit : (due : Bool) (text : List ℕ) (token : Token) → IsStray due b bs → Leads due text r.rest token → text ++ r.rest ≡ b ∷ bs → token ≡ Misfit

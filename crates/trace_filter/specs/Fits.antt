@@ -56,7 +56,7 @@ pub record IsWronglyValued (fields : List Field) (test : OneTest) : Type 0 where
   pub takes : IsTrue (takes_at has_text test.comparison)
   pub refused : fits_at has_text test.literal ≡ false
 
--- the test has the fault: its name is no field's, or else its operator or its value is wrong
+-- the test has the fault: its name means nothing in the event, or else its operator or its value is wrong
 abbrev pub HasFault : List Field → OneTest → FilterFault → Type 0
 HasFault fields test TooMany = ⊥
 HasFault fields test (FilterSyntax at) = IsWronglyValued fields test
@@ -78,7 +78,8 @@ is_value_token _ = false
 abbrev pub places_of : (Token → Bool) → List Spot → List ℕ
 places_of is spots = map (λ spot. spot.at) (filter (λ spot. is spot.token) spots)
 
--- where the names, the operators and the values of a text are; each test has one of each, so the n-th of each are those of the n-th test
+-- where the names, the operators and the values of a text are; in a text that spells a tree each test has one of each, so the n-th of each
+-- are those of the n-th test
 pub record TestPlaces : Type 0 where
   pub names : List ℕ
   pub operators : List ℕ

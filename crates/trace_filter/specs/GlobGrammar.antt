@@ -3,14 +3,14 @@ use Rattle.std.specs.Prelude.{◌≡◌, ◌≢◌, ℕ, Bool, true, false, List
 use Rattle.std.specs.List.{flat_map, AllByRecursion}
 use Rattle.trace_filter.specs.Globs.{Part, AnyBytes, OneByte}
 
--- a piece of a pattern: `*`, `?`, a class of one member or more, or a byte that stands for itself
+-- a piece of a pattern: `*`, `?`, a class with one byte or more between its brackets, or a byte that stands for itself
 pub data GlobPiece : Type 0 where
   Star : GlobPiece
   Question : GlobPiece
   Bracketed : (negated : Bool) (first : ℕ) (others : List ℕ) → GlobPiece
   Plain : (byte : ℕ) → GlobPiece
 
--- the first member of a class is any byte, but a `!` (33) only in a negated one; the others are no `]` (93)
+-- the first byte of a class is any, but a `!` (33) only in a negated one; none of the others is a `]` (93)
 abbrev pub IsClass : Bool → ℕ → List ℕ → Type 0
 IsClass true first others = AllByRecursion (λ b. b ≢ 93) others
 IsClass false first others = (first ≢ 33) × AllByRecursion (λ b. b ≢ 93) others

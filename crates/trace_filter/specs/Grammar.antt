@@ -127,7 +127,7 @@ abbrev mutual
 
 -- ---- what a text comes to
 
--- the tokens before the one at the place begin a filter, and with it they begin none
+-- the tokens before the one at the place begin a filter and are nested 16 deep at most; with it they begin none
 pub record IsMisplaced (spots : List Spot) (place : ℕ) : Type 0 where
   pub front : List Spot
   pub wrong : Spot
@@ -138,7 +138,7 @@ pub record IsMisplaced (spots : List Spot) (place : ℕ) : Type 0 where
   pub wrong_there : Begins (tokens_of front ++ wrong.token ∷ []) → ⊥
   pub shallow : depth_of (tokens_of front) ≤ 16
 
--- the tokens begin a filter and are none
+-- the tokens begin a filter, are none, and are nested 16 deep at most
 pub record EndsEarly (spots : List Spot) : Type 0 where
   pub begins : Begins (tokens_of spots)
   pub unfinished : IsWhole (tokens_of spots) → ⊥
@@ -152,6 +152,7 @@ pub record IsTooDeep (spots : List Spot) : Type 0 where
   pub begins : Begins (tokens_of front)
   pub deep : 16 < depth_of (tokens_of front)
 
+-- the tokens are a filter and are nested 16 deep at most
 pub record IsFine (spots : List Spot) : Type 0 where
   pub whole : IsWhole (tokens_of spots)
   pub shallow : depth_of (tokens_of spots) ≤ 16

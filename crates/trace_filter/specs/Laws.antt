@@ -1,5 +1,5 @@
 -- What `Filters` says, as laws without a program.
-use Rattle.std.specs.Prelude.{◌≡◌, ◌⊎◌, ◌↔◌, ℕ, List, map, IsTrue, None, Some, Ok, Err}
+use Rattle.std.specs.Prelude.{◌≡◌, ◌⊎◌, ◌↔◌, ◌≤◌, ℕ, List, map, IsTrue, None, Some, Ok, Err}
 use Rattle.std.specs.List.{prefix_len}
 use Rattle.trace_format.specs.Cells.{Cells, IsRowOf}
 use Rattle.trace_format.specs.Definitions.{Definition, IsDefinition}
@@ -12,7 +12,7 @@ use Rattle.trace_filter.specs.Fits.{tests_of, EachTestFits, test_places, IsFirst
 use Rattle.trace_filter.specs.Globs.{Part, parts_of}
 use Rattle.trace_filter.specs.GlobGrammar.{IsWrittenGlob}
 use Rattle.trace_filter.specs.Truth.{Emission}
-use Rattle.trace_filter.specs.Filters.{misfit_of, IsFilter, IsRefused, Passes, parsed_of, answer_of}
+use Rattle.trace_filter.specs.Filters.{IsShort, misfit_of, IsFilter, IsRefused, Passes, parsed_of, answer_of}
 use Rattle.trace_filter.specs.Values.{holds_of}
 
 -- what the function of the text gives is a filter for just the texts that are one by the grammar and the fields
@@ -35,11 +35,22 @@ NeverBoth = (definition : Definition) → (text : List ℕ) → (fault : FilterF
 abbrev pub OneRefusal : Type 0
 OneRefusal = (definition : Definition) → (text : List ℕ) → (one other : FilterFault) → IsRefused definition text one → IsRefused definition text other → one ≡ other
 
--- the tokens of a text with their places are those that its grammar gives
+-- the tokens of a text spell a tree that is at most 16 deep and whose tests each fit the event
+pub record SpellsFittingTree (definition : Definition) (text : List ℕ) : Type 0 where
+  pub tree : Expr
+  pub spelled : Spells (tokens_of (spots_of text)) tree
+  pub shallow : depth tree ≤ 16
+  pub fits : EachTestFits definition.fields tree
+
+-- a text is a filter of an event exactly where it is short and spells such a tree
+abbrev pub FilterIsItsTree : Type 0
+FilterIsItsTree = (definition : Definition) → (text : List ℕ) → IsFilter definition text ↔ (IsShort text × SpellsFittingTree definition text)
+
+-- a text can be written of parts that mean these tokens at these places exactly where they are those that `spots_of` finds
 abbrev pub TokensAreAsWritten : Type 0
 TokensAreAsWritten = (text : List ℕ) → (spots : List Spot) → IsWrittenText text spots ↔ (spots ≡ spots_of text)
 
--- the parts of a pattern are those that its grammar gives
+-- a pattern can be written of pieces that mean these parts exactly where they are those that `parts_of` finds
 abbrev pub GlobsAreAsWritten : Type 0
 GlobsAreAsWritten = (pattern : List ℕ) → (parts : List Part) → IsWrittenGlob pattern parts ↔ (parts ≡ parts_of pattern)
 
@@ -56,8 +67,8 @@ abbrev pub TrimmedPassesTheSame : Type 0
 TrimmedPassesTheSame = (definition : Definition) → (text : List ℕ) → (emission : Emission) → Passes definition text emission ↔ Passes definition (trimmed text) emission
 
 -- and nothing is left to trim of it
-abbrev pub TrimmedOnce : Type 0
-TrimmedOnce = (text : List ℕ) → trimmed (trimmed text) ≡ trimmed text
+abbrev pub NothingIsLeftToTrim : Type 0
+NothingIsLeftToTrim = (text : List ℕ) → trimmed (trimmed text) ≡ trimmed text
 
 -- for a filter of an event and an emission of a row of it, the function is true exactly where some tree that the text spells holds
 abbrev pub HoldsAsItsTree : Type 0
@@ -68,7 +79,7 @@ HoldsAsItsTree = (definition : Definition) → (text : List ℕ) → (row : Cell
 abbrev pub DepthIsOfTheTree : Type 0
 DepthIsOfTheTree = (tokens : List Token) → (tree : Expr) → Spells tokens tree → depth_of tokens ≡ depth tree
 
--- the tokens of a text have no misfit exactly where each test of a tree that they spell fits the event's fields
+-- no test of a text has a fault exactly where each test of a tree that its tokens spell fits the event
 abbrev pub FitsAsItsTree : Type 0
 FitsAsItsTree = (definition : Definition) → (text : List ℕ) → (tree : Expr) → Spells (tokens_of (spots_of text)) tree → (misfit_of definition text ≡ None) ↔ EachTestFits definition.fields tree
 

@@ -61,7 +61,7 @@ first_is kind (b ∷ bs) = kind b
 abbrev pub IsRun : (ℕ → Bool) → List ℕ → List ℕ → Type 0
 IsRun kind run bytes = AllByRecursion (λ b. kind b ≡ true) run × (first_is kind bytes ≡ false)
 
--- what reads: a blank, a sign, a run of letters, digits and `_`, a bare word, or bytes between two quotes
+-- a lexeme: a blank, a sign, a run of letters, digits and `_`, a bare word, or bytes between two quotes
 pub data Lexeme : Type 0 where
   Gap : (blank : ℕ) → Lexeme
   Signed : (sign : Sign) → Lexeme
@@ -77,7 +77,7 @@ lexeme_text (Run first more) = first ∷ more
 lexeme_text (Bare first more) = first ∷ more
 lexeme_text (Within quote inside) = quote ∷ inside ++ quote ∷ []
 
--- what it means: a run is a name, or fits nothing
+-- what it means: a run that is no name is a misfit
 abbrev pub lexeme_tokens : Lexeme → List Token
 lexeme_tokens (Gap blank) = []
 lexeme_tokens (Signed sign) = sign_token sign ∷ []
@@ -98,21 +98,21 @@ IsLexemeBefore false bytes (Bare first more) = ⊥
 IsLexemeBefore true bytes (Within quote inside) = (is_quote quote ≡ true) × AllByRecursion (λ b. b ≢ quote) inside
 IsLexemeBefore false bytes (Within quote inside) = ⊥
 
--- something reads at the beginning of these bytes
-pub record Reads (due : Bool) (bytes : List ℕ) : Type 0 where
+-- a lexeme stands at the beginning of these bytes
+pub record BeginsLexeme (due : Bool) (bytes : List ℕ) : Type 0 where
   pub lexeme : Lexeme
   pub rest : List ℕ
   pub lawful : IsLexemeBefore due rest lexeme
   pub text : lexeme_text lexeme ++ rest ≡ bytes
 
--- a part of a text: what reads, or a byte where nothing does
+-- a part of a text: a lexeme, or a byte where none begins
 pub data TextPart : Type 0 where
   Legible : (lexeme : Lexeme) → TextPart
   Stray : (byte : ℕ) → TextPart
 
 abbrev pub IsTextPart : Bool → List ℕ → TextPart → Type 0
 IsTextPart due bytes (Legible lexeme) = IsLexemeBefore due bytes lexeme
-IsTextPart due bytes (Stray byte) = Reads due (byte ∷ bytes) → ⊥
+IsTextPart due bytes (Stray byte) = BeginsLexeme due (byte ∷ bytes) → ⊥
 
 -- how a part is written
 abbrev pub part_text : TextPart → List ℕ

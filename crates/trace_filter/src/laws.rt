@@ -1,18 +1,20 @@
 //! What the definitions of the contracts mean. Each function does nothing: its contract is a theorem.
 
-ghost use Rattle.trace_filter.specs.Laws.{FilterIsAnswered, RefusalIsAnswered, FilterOrRefused, NeverBoth, OneRefusal, TokensAreAsWritten, GlobsAreAsWritten, TrimmedHasTheTokens, TrimmedIsTheFilter, TrimmedPassesTheSame, TrimmedOnce, HoldsAsItsTree, DepthIsOfTheTree, FitsAsItsTree, MisfitIsTheFirst};
+ghost use Rattle.trace_filter.specs.Laws.{FilterIsAnswered, RefusalIsAnswered, FilterOrRefused, NeverBoth, OneRefusal, FilterIsItsTree, TokensAreAsWritten, GlobsAreAsWritten, TrimmedHasTheTokens, TrimmedIsTheFilter, TrimmedPassesTheSame, NothingIsLeftToTrim, HoldsAsItsTree, DepthIsOfTheTree, FitsAsItsTree, MisfitIsTheFirst};
 
 /// What the function `answer_of` gives is a filter for just the texts that are one, and a fault for just those that are refused for it. Each
-/// text is one or the other, and refused for one fault alone.
+/// text is one or the other, not both, and is refused for one fault at most. A text is a filter exactly where it is short and its tokens spell a
+/// tree that is not too deep, each of whose tests fits the event.
 pub fn filters_are_as_written()
     ensures filter { FilterIsAnswered }
     ensures refused { RefusalIsAnswered }
     ensures either { FilterOrRefused }
     ensures not_both { NeverBoth }
     ensures unique { OneRefusal }
+    ensures tree { FilterIsItsTree }
 {}
 
-/// Each text can be written of blanks, tokens and bytes where nothing reads, and however it is, its tokens and their places are those that
+/// Each text can be written of blanks, tokens and bytes where no token begins, and however it is, its tokens and their places are those that
 /// these mean.
 pub fn tokens_are_as_written()
     ensures { TokensAreAsWritten }
@@ -29,10 +31,11 @@ pub fn trimming_keeps_filters()
     ensures tokens { TrimmedHasTheTokens }
     ensures filter { TrimmedIsTheFilter }
     ensures passes { TrimmedPassesTheSame }
-    ensures once { TrimmedOnce }
+    ensures once { NothingIsLeftToTrim }
 {}
 
-/// Whether a filter holds of an emission, as one function, is the truth of the trees that its text spells.
+/// For a filter of an event and an emission of a row of that event, the one function is true exactly where some tree that the text spells
+/// holds.
 pub fn filters_hold_as_their_trees()
     ensures { HoldsAsItsTree }
 {}
@@ -42,8 +45,8 @@ pub fn depth_is_of_the_tree()
     ensures { DepthIsOfTheTree }
 {}
 
-/// A text in the grammar fits an event exactly where each test of its tree names a field of the event, with an operator that the field
-/// takes and a value that fits it. Where one doesn't, the fault told is that of the first such test from the left, at its name, its
+/// A text in the grammar fits an event exactly where each test of its tree names a field of the event, or `common_pid` or `common_cpu`, with
+/// an operator that this takes and a value that fits it. Where one doesn't, the fault told is that of the first such test from the left, at its name, its
 /// operator or its value.
 pub fn filters_fit_as_their_trees()
     ensures fits { FitsAsItsTree }

@@ -42,7 +42,7 @@ OneDefinition = (text : List ℕ) → (one other : Definition) → Declares (wor
 abbrev pub OneRefusal : Type 0
 OneRefusal = (text : List ℕ) → (one other : ℕ) → IsRefusedAt text one → IsRefusedAt text other → one ≡ other
 
--- ---- rows
+-- ---- rows; an event is a definition (`IsDefinition`), as each that was parsed is
 
 -- pairs give a row, as a function, exactly where it is a row of the event that they give as a map from names
 abbrev pub RowIsGiven : Type 0

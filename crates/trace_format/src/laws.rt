@@ -3,13 +3,14 @@
 ghost use Rattle.trace_format.specs.Laws.{WordsAreAsWritten, DefinitionIsRead, RefusalIsRead, DeclaredOrRefused, NeverBoth, OneDefinition, OneRefusal, RowIsGiven, RefusalIsGiven, PayloadIsRead, OneRow, PayloadHasItsSize};
 
 /// The words and `;` of a text with their places are those of the parts that it is written of: blanks, `;` and words, where no two words
-/// stand side by side and each place is the length of all that is written before it. So each text has them in one way.
+/// stand side by side and each place is the length of all that is written before it. So each text has one list of words and places.
 pub fn words_are_as_written()
     ensures { WordsAreAsWritten }
 {}
 
-/// Reading a text gives a definition exactly where the text's words declare it, and a place exactly where the text is refused there: at the
-/// first word with which no declaration goes on, or at the end. Each text declares one definition or is refused at one place.
+/// For texts of fewer than 2^64 bytes, as all in memory are: reading a text gives a definition exactly where the text's words declare it, and a
+/// place exactly where the text is refused there: at the first word with which no declaration goes on, or at the end. Each text declares one
+/// definition or is refused at one place.
 pub fn declarations_are_as_written()
     ensures definition { DefinitionIsRead }
     ensures refused { RefusalIsRead }
@@ -19,14 +20,14 @@ pub fn declarations_are_as_written()
     ensures one_refusal { OneRefusal }
 {}
 
-/// Pairs give a row, as one function, exactly where they are that row of the event as a map from names, and are refused at a name exactly
-/// where the first wrong pair has it or, with none wrong, the first missing field.
+/// What `row_of` gives is a row exactly where the pairs, as a map from names, are that row of the event; and a name exactly where the first
+/// wrong pair has it or, with none wrong, the first missing field.
 pub fn rows_are_as_given()
     ensures row { RowIsGiven }
     ensures refused { RefusalIsGiven }
 {}
 
-/// Bytes are read as a row exactly where they are the payload of that row of the event, and no two rows of an event have one payload.
+/// Bytes (numbers below 256) are read as a row exactly where they are the payload of that row of the event, and no two rows of an event have one payload.
 pub fn payloads_are_their_rows()
     ensures row { PayloadIsRead }
     ensures unique { OneRow }

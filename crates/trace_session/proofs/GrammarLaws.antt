@@ -1,13 +1,12 @@
 -- The tokens that are found in a line byte by byte are those that its grammar gives.
-use Rattle.std.proofs.Common.{◌≡◌, ◌≢◌, ℕ, Bool, true, false, cond, ◌||◌, ◌==◌, eqb, if◌then◌else◌, List, [], ◌∷◌, ◌++◌, Option, Some, None, refl, ap, sym, subst, ◌∙◌, ◌⊎◌, ⊎_elim, arith, append_assoc}
+use Rattle.std.proofs.Common.{◌≡◌, ◌≢◌, ℕ, Bool, true, false, ◌||◌, ◌==◌, if◌then◌else◌, List, [], ◌∷◌, ◌++◌, Option, Some, None, refl, ap, sym, subst, ◌∙◌, ◌⊎◌, ⊎_elim, arith, append_assoc}
 use Rattle.std.proofs.lemmas.List.{append-nil}
 use Rattle.std.proofs.lemmas.Bool.{eq-eqb, eqb-true}
 use Rattle.std.proofs.lemmas.Bool.Decides.{nat_tests}
 use Rattle.std.specs.List.{flat_map, AllByRecursion}
-use Rattle.std.specs.Option.{option_map}
 use Rattle.trace_format.specs.Blanks.{is_blank}
 use Rattle.trace_session.specs.Tokens.{is_quote, is_end, place_of, plain, behind, tokens_from, tokens_of}
-use Rattle.trace_session.specs.Grammar.{Piece, Plain, Quoted, IsPiece, piece_text, piece_value, Part, Gap, Redirection, Written, IsPart, part_text, part_tokens, MayPrecede, IsLine, IsWritten}
+use Rattle.trace_session.specs.Grammar.{Piece, Plain, Quoted, IsPiece, piece_text, piece_value, Part, Gap, Redirection, Written, part_text, part_tokens, MayPrecede, IsLine, IsWritten}
 use Rattle.trace_session.specs.declared.token.Token.{Token}
 use Rattle.trace_session.specs.declared.token.Token.TheVariants.{Word, Redirect}
 use Rattle.trace_session.specs.declared.token.Place.{Place}

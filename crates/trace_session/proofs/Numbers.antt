@@ -3,7 +3,7 @@ use Rattle.std.proofs.Common.{◌≡◌, ℕ, ◌+◌, ◌-◌, ◌*◌, ◌<◌
 use Rattle.std.proofs.lemmas.Option.{cond_some}
 use Rattle.std.proofs.lemmas.Bool.Decides.{nat_tests}
 use Rattle.std.specs.List.{list_all}
-use Rattle.trace_book.specs.Decimals.{is_digit, value_after, up_to, decimal_number}
+use Rattle.trace_book.specs.Decimals.{is_digit, value_after, up_to}
 use Rattle.trace_session.specs.Lines.{number_up_to}
 
 -- the number that digits write behind those of n, where it is at most this much

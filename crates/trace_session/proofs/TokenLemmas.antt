@@ -1,5 +1,5 @@
 -- Tokens found one behind the other.
-use Rattle.std.proofs.Common.{◌≡◌, List, [], ◌∷◌, ◌++◌, Option, Some, None, refl, ap, append_assoc}
+use Rattle.std.proofs.Common.{◌≡◌, List, ◌++◌, Option, Some, None, refl, ap, append_assoc}
 use Rattle.trace_session.specs.Tokens.{behind}
 use Rattle.trace_session.specs.declared.token.Token.{Token}
 

@@ -1,5 +1,5 @@
 -- Where a session stands between two lines, and how it goes on and ends.
-use Rattle.std.proofs.Common.{◌≡◌, ℕ, suc, ◌+◌, ◌<◌, Bool, true, false, cond, ◌||◌, ◌≢◌, if◌then◌else◌, List, [], ◌∷◌, ◌++◌, length, take, Option, Some, None, refl, ap, sym, subst, ◌∙◌, arith, append_assoc, length-append}
+use Rattle.std.proofs.Common.{◌≡◌, ℕ, suc, ◌+◌, Bool, true, false, cond, ◌||◌, ◌≢◌, if◌then◌else◌, List, [], ◌∷◌, ◌++◌, length, take, Option, Some, None, refl, ap, sym, subst, ◌∙◌, arith, append_assoc}
 use Rattle.std.proofs.lemmas.List.{append-nil, take_at, length_push}
 use Rattle.std.proofs.lemmas.List.Folds.{list_any-append}
 use Rattle.std.specs.List.{concat, list_any}
@@ -7,7 +7,7 @@ use Rattle.std.specs.Io.KnownBytes.{Appends}
 use Rattle.trace_book.specs.Requests.{Request}
 use Rattle.trace_book.specs.declared.command.Config.{Config}
 use Rattle.trace_session.specs.Devices.{AppendsFront, AppendsWhole}
-use Rattle.trace_session.specs.Sessions.{Turn, lines_of, lines_left, turn_of, is_fault, is_refusal, outcomes_of, text_of, texts_from, status_of, session, IsWhole}
+use Rattle.trace_session.specs.Sessions.{lines_of, lines_left, turn_of, is_fault, is_refusal, outcomes_of, text_of, texts_from, status_of, session, IsWhole}
 use Rattle.trace_session.specs.declared.render.Outcome.{Outcome}
 use Rattle.trace_session.specs.declared.status.Status.{Status}
 use Rattle.trace_session.specs.declared.status.Status.TheVariants as statuses

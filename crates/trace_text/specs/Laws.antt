@@ -11,7 +11,7 @@ use Rattle.trace_format.specs.Catalogs.{event_of}
 use Rattle.trace_text.specs.FormatText.{field_line, field_lines, format_text}
 use Rattle.trace_text.specs.RecordText.{record_line, row_line}
 
--- the head of a record of a row of this event, its numbers each in the range of its type
+-- a head that names this event among the declared ones and tells the length of the row's payload, each of its numbers in the range of its type
 pub record IsHeadOf (events : List Definition) (definition : Definition) (row : Cells) (head : Head) : Type 0 where
   pub event : event_of events head.event ≡ Some definition
   pub payload : head.payload ≡ length (payload_of row)

@@ -1,4 +1,4 @@
-//! What the definitions of the contracts mean, in the words of the rows. Each function does nothing: its contract is a theorem.
+//! What the definitions of the contracts mean for records and their rows. Each function does nothing: its contract is a theorem.
 
 ghost use Rattle.trace_text.specs.Laws.{RecordShowsItsRow, RecordHasItsSize, LineHasOffset, ValueLiesAtOffset, ValueHasItsSize};
 
@@ -12,7 +12,7 @@ pub fn record_has_its_size()
     ensures { RecordHasItsSize }
 {}
 
-/// The line of a field in an event's format tells where the field lies: in each record of a row of the event, with what fills it up, the bytes
+/// The line of a field in an event's format (not that of `common_pid`, which lies in the head) tells where the field lies: in each record of a row of the event, with what fills it up, the bytes
 /// from the line's offset on, as many as its size says, are those of the field's value.
 pub fn format_tells_where_fields_lie()
     ensures line { LineHasOffset }

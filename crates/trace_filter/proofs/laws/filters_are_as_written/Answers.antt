@@ -1,4 +1,5 @@
 use Rattle.trace_filter.proofs.FilterLemmas.{filter_is_answered, refusal_is_answered, filter_or_refused, never_both, one_refusal}
+use Rattle.trace_filter.proofs.TreeFilters.{filter_is_its_tree}
 use Rattle.trace_filter.proofs.laws.filters_are_as_written.Goals as goal
 
 pub returns-clause-filter : goal.returns-clause-filter
@@ -15,3 +16,6 @@ returns-clause-not_both c = λ definition text fault. never_both definition text
 
 pub returns-clause-unique : goal.returns-clause-unique
 returns-clause-unique c = λ definition text one other. one_refusal definition text one other
+
+pub returns-clause-tree : goal.returns-clause-tree
+returns-clause-tree c = λ definition text. filter_is_its_tree definition text

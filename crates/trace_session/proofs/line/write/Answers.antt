@@ -1,6 +1,5 @@
-use Rattle.std.proofs.Common.{◌≡◌, ℕ, ◌==◌, if◌then◌else◌, ◌+◌, List, [], ◌∷◌, ◌++◌, length, get_or, drop, ap, sym, ◌∙◌, arith}
+use Rattle.std.proofs.Common.{◌+◌, [], ◌∷◌, ◌++◌, drop, ap, sym, ◌∙◌, arith}
 use Rattle.std.proofs.lemmas.List.{at_drop_more, length_push}
-use Rattle.std.specs.List.{join_with_byte}
 use Rattle.trace_session.specs.Lines.{write_behind}
 use Rattle.trace_session.specs.declared.token.Token.{Token}
 use Rattle.trace_session.proofs.LineLemmas.{join-push}

@@ -1,4 +1,4 @@
-use Rattle.std.proofs.Common.{◌≡◌, ◌<◌, ◌-◌, ◌*◌, ◌+◌, drop, get_or, length, sym, ◌∙◌, arith, rules}
+use Rattle.std.proofs.Common.{◌-◌, ◌*◌, ◌+◌, drop, get_or, sym, ◌∙◌, arith, rules}
 use Rattle.std.proofs.lemmas.List.{at_drop_more, at_drop_all}
 use Rattle.trace_book.specs.Decimals.{is_digit}
 use Rattle.trace_session.proofs.Numbers.{rest_up_to, taken, digit_taken, digit_refused, whole_number, up_to_within}

@@ -1,10 +1,9 @@
-use Rattle.std.proofs.Common.{ℕ, ◌+◌, List, Option, Some, None, ap, sym, subst, ◌∙◌, All, arith, length, refl}
+use Rattle.std.proofs.Common.{◌∙◌, arith, refl}
 use Rattle.std.proofs.lemmas.Result.{err_from_is_err_and}
 use Rattle.std.specs.Option.{option_copied}
-use Rattle.trace_book.specs.History.{past_of, requests_of}
-use Rattle.trace_book.specs.declared.command.Config.{Config}
+use Rattle.trace_book.specs.History.{past_of}
 use Rattle.trace_session.proofs.SessionLemmas.{past_of_none}
-use Rattle.trace_session.proofs.Turns.{Stands, begins, keeps, at_fault, at_memory, at_device, at_end}
+use Rattle.trace_session.proofs.Turns.{begins, keeps, at_fault, at_memory, at_device, at_end}
 use Rattle.trace_session.proofs.session.do_lines.Goals as goal
 
 pub loop-rest-init : goal.loop-rest-init

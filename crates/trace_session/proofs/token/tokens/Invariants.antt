@@ -1,4 +1,4 @@
-use Rattle.std.proofs.Common.{◌≡◌, [], drop}
+use Rattle.std.proofs.Common.{◌≡◌, drop}
 use Rattle.trace_session.specs.Tokens.{behind, tokens_from, tokens_of}
 use Rattle.trace_session.proofs.token.tokens.Given as goal
 
