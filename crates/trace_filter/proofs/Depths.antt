@@ -1,7 +1,7 @@
 -- One more token opens one more at most.
 use Rattle.std.proofs.Common.{◌≡◌, ℕ, ◌+◌, ◌≤◌, Bool, true, false, List, [], ◌∷◌, length, ap, arith}
 use Rattle.std.specs.List.{sum}
-use Rattle.trace_filter.specs.Tokens.{Token, Open, Close, Bang, Both, Either, Compare, Name, Value, Misfit}
+use Rattle.trace_filter.specs.Tokens.{Token, Open, Close, Bang, Both, Either, Compare, Name, Value, Illegible}
 use Rattle.trace_filter.specs.Grammar.{behind, open_count}
 use Rattle.trace_filter.specs.Syntax.{Standing, step, Takes}
 use Rattle.trace_filter.proofs.Sums.{sum-cons}
@@ -17,7 +17,7 @@ behind_count bangs outer Either = omega arith
 behind_count bangs outer (Compare by) = omega arith
 behind_count bangs outer (Name name) = omega arith
 behind_count bangs outer (Value literal) = omega arith
-behind_count bangs outer Misfit = omega arith
+behind_count bangs outer Illegible = omega arith
 
 pub one_deeper : (standing next : Standing) (token : Token) (fits : Bool) → Takes (step standing token) fits next → fits ≡ true → open_count standing.opened ≤ 16 → open_count next.opened ≤ 17
 one_deeper standing next token true takes e few =

@@ -10,7 +10,7 @@ use Rattle.std.proofs.Math.Seq.{take-append_seam}
 use Rattle.trace_format.proofs.Lists.{AllByRecursion-push}
 use Rattle.trace_format.specs.Names.{is_name, is_name_byte}
 use Rattle.trace_format.specs.Blanks.{is_blank, without_end}
-use Rattle.trace_filter.specs.Tokens.{Word, Quoted, Token, Name, Value, Misfit, is_quote, is_word_byte, is_not, begins_with, Piece, quoted_piece, word_piece, name_piece, longest, symbol_piece, piece_of, is_comparison, Spot, spots_from}
+use Rattle.trace_filter.specs.Tokens.{Word, Quoted, Token, Name, Value, Illegible, is_quote, is_word_byte, is_not, begins_with, Piece, quoted_piece, word_piece, name_piece, longest, symbol_piece, piece_of, is_comparison, Spot, spots_from}
 use Rattle.trace_filter.proofs.Ends.{other}
 
 abbrev pub sized : Token → ℕ → Piece
@@ -62,8 +62,8 @@ blanks_pass quote q (e ∷ ends) h =
 module _ (bs ends : List ℕ) (h : AllBlank ends) where
   name_before : (b : ℕ) → name_piece b (bs ++ ends) ≡ name_piece b bs
   name_before b =
-      ap (λ n. sized (if is_name (b ∷ take n (bs ++ ends)) then Name (b ∷ take n (bs ++ ends)) else Misfit) n) (prefix_before is_name_byte blank_unnamed bs ends h)
-      ∙ ap (λ (run : List ℕ). sized (if is_name (b ∷ run) then Name (b ∷ run) else Misfit) (prefix_len is_name_byte bs)) (take-append-le (prefix_len is_name_byte bs) bs ends (prefix_len-le-length is_name_byte bs))
+      ap (λ n. sized (if is_name (b ∷ take n (bs ++ ends)) then Name (b ∷ take n (bs ++ ends)) else Illegible) n) (prefix_before is_name_byte blank_unnamed bs ends h)
+      ∙ ap (λ (run : List ℕ). sized (if is_name (b ∷ run) then Name (b ∷ run) else Illegible) (prefix_len is_name_byte bs)) (take-append-le (prefix_len is_name_byte bs) bs ends (prefix_len-le-length is_name_byte bs))
 
   word_before : (b : ℕ) → word_piece b (bs ++ ends) ≡ word_piece b bs
   word_before b =
@@ -80,7 +80,7 @@ module _ (bs ends : List ℕ) (h : AllBlank ends) where
           let same : prefix_len (is_not quote) (bs ++ ends) ≡ n =
           prefix_len-append (is_not quote) bs ends ∙ cond-false (n == length bs) _ _ (other n (length bs) (λ f. absurd (omega (arith, less, f)))) in
           let enough : n < length (bs ++ ends) = omega (arith, less, length-append bs ends) in
-          ap (λ k. if nat_lt k (length (bs ++ ends)) then sized (Value (Quoted (take k (bs ++ ends)))) (k + 1) else sized Misfit 0) same
+          ap (λ k. if nat_lt k (length (bs ++ ends)) then sized (Value (Quoted (take k (bs ++ ends)))) (k + 1) else sized Illegible 0) same
           ∙ (cond-true (nat_lt n (length (bs ++ ends))) _ _ (lt-ltb n (length (bs ++ ends)) enough)
           ∙ (ap (λ front. sized (Value (Quoted front)) (n + 1)) (take-append-le n bs ends (prefix_len-le-length (is_not quote) bs)) ∙ sym (cond-true (nat_lt n (length bs)) _ _ e)))
       by false e =

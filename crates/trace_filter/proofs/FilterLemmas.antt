@@ -14,7 +14,7 @@ use Rattle.trace_format.specs.Blanks.{trimmed}
 use Rattle.trace_filter.specs.Tokens.{Token, Compare, Name, Value, Spot, spots_of, tokens_of}
 use Rattle.trace_filter.specs.Grammar.{Expr, Spells, expr_tokens, depth_of}
 use Rattle.trace_filter.specs.Syntax.{start, reading}
-use Rattle.trace_filter.specs.Fields.{name_has_text, takes_at, fits_at, unless, or_later, operator_fault, value_fault, test_fault, fault_of_test, first_misfit}
+use Rattle.trace_filter.specs.Fields.{is_text_named, takes_at, fits_at, unless, or_later, operator_fault, value_fault, test_fault, fault_of_test, first_misfit}
 use Rattle.trace_filter.specs.Places.{subjects_in, first_fault, IsToldAs}
 use Rattle.trace_filter.specs.Truth.{Emission, Holds}
 use Rattle.trace_filter.specs.Steps.{Move, moves_from, moves_about, subjects_tested, evaluated, at_start}
@@ -64,7 +64,7 @@ never_told fault none fields (spot ∷ spots) h = by (fault_of_test fields spot.
         by (operator_fault text op.token op.at) (value_fault text value.token value.at) (wrong_operator text op.token op.at) (wrong_value text value.token value.at) h
 
     here : (token : Token) (at : ℕ) (rest : List Spot) → fault_of_test fields token at rest ≡ Some fault → ⊥
-    here (Name name) at (op ∷ value ∷ rest) h = wrong_test (name_has_text fields name) at op value h
+    here (Name name) at (op ∷ value ∷ rest) h = wrong_test (is_text_named fields name) at op value h
     here _ at rest h = cc
 
 no_too_many : NoTestFault TooMany

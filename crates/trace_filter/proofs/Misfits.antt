@@ -7,8 +7,8 @@ use Rattle.trace_filter.specs.declared.token.Comparison.{Comparison}
 use Rattle.trace_filter.specs.declared.fault.FilterFault.TheVariants.{FilterSyntax, NoSuchField, WrongOperator}
 use Rattle.trace_filter.specs.declared.test.Subject.{Subject}
 use Rattle.trace_filter.specs.declared.test.Subject.TheVariants.{Pid, Cpu}
-use Rattle.trace_filter.specs.Tokens.{Literal, Token, Open, Close, Bang, Both, Either, Compare, Name, Value, Misfit, Spot, tokens_of}
-use Rattle.trace_filter.specs.Fields.{is_text_kind, field_has_text, name_has_text, takes_at, fits_at, unless, or_later, test_fault, first_misfit}
+use Rattle.trace_filter.specs.Tokens.{Literal, Token, Open, Close, Bang, Both, Either, Compare, Name, Value, Illegible, Spot, tokens_of}
+use Rattle.trace_filter.specs.Fields.{is_text_kind, field_has_text, is_text_named, takes_at, fits_at, unless, or_later, test_fault, first_misfit}
 use Rattle.trace_filter.specs.Places.{is_text, subject_at, subject_from, subject_named, unless_named, named_or, first_fault}
 use Rattle.trace_filter.proofs.TestedMoves.{InTests}
 
@@ -23,9 +23,9 @@ module _ (name : List ℕ) where
       by true (kind.Char n) later = refl
       by false k later = later
 
-  name_has_text-subject : (fields : List Field) → name_has_text fields name ≡ option_map is_text (subject_named fields name)
+  is_text_named-subject : (fields : List Field) → is_text_named fields name ≡ option_map is_text (subject_named fields name)
   unfolding subject_named
-  name_has_text-subject fields = by (bytes_eq name (codes "common_pid")) (bytes_eq name (codes "common_cpu")) (field_has_text-subject 0 fields)
+  is_text_named-subject fields = by (bytes_eq name (codes "common_pid")) (bytes_eq name (codes "common_cpu")) (field_has_text-subject 0 fields)
     where
       by : (p q : Bool) → field_has_text fields name ≡ option_map is_text (subject_from 0 fields name)
           → (if p then Some false else if q then Some false else field_has_text fields name) ≡ option_map is_text (if p then Some Pid else if q then Some Cpu else subject_from 0 fields name)
@@ -44,7 +44,7 @@ module _ (fields : List Field) where
       ≡ first_misfit fields (record { at = at; token = Name name } ∷ record { at = by_at; token = Compare by } ∷ record { at = value_at; token = Value literal } ∷ rest)
   one_test name at by by_at literal value_at rest subject h agree =
       named (subject_named fields name)
-      ∙ ap (λ text. or_later (test_fault text at (record { at = by_at; token = Compare by }) (record { at = value_at; token = Value literal })) (first_misfit fields rest)) (sym (name_has_text-subject name fields))
+      ∙ ap (λ text. or_later (test_fault text at (record { at = by_at; token = Compare by }) (record { at = value_at; token = Value literal })) (first_misfit fields rest)) (sym (is_text_named-subject name fields))
     where
       fits : (s : Subject) (takes fit : Bool)
           → or_later (unless takes (WrongOperator by_at)) (or_later (unless fit (FilterSyntax value_at)) (first_fault fields s rest))
@@ -70,7 +70,7 @@ module _ (fields : List Field) where
   last_token (Compare by) at subject h = absurd h
   last_token (Name name) at subject h = absurd h
   last_token (Value literal) at subject h = absurd h
-  last_token Misfit at subject h = absurd h
+  last_token Illegible at subject h = absurd h
 
   two_tokens : (token : Token) (at : ℕ) (next : Token) (next_at : ℕ) → Agree (record { at = next_at; token = next } ∷ []) → Agree (record { at = at; token = token } ∷ record { at = next_at; token = next } ∷ [])
   two_tokens Open at next next_at later subject h = later subject h
@@ -82,7 +82,7 @@ module _ (fields : List Field) where
   two_tokens (Name name) at (Compare by) next_at later subject h = absurd h
   two_tokens (Name name) at _ next_at later subject h = absurd h
   two_tokens (Value literal) at next next_at later subject h = absurd h
-  two_tokens Misfit at next next_at later subject h = absurd h
+  two_tokens Illegible at next next_at later subject h = absurd h
 
   more_tokens : (token : Token) (at : ℕ) (next : Token) (next_at : ℕ) (third : Token) (third_at : ℕ) (rest : List Spot) → Agree (record { at = next_at; token = next } ∷ record { at = third_at; token = third } ∷ rest) → Agree rest
       → Agree (record { at = at; token = token } ∷ record { at = next_at; token = next } ∷ record { at = third_at; token = third } ∷ rest)
@@ -95,7 +95,7 @@ module _ (fields : List Field) where
   more_tokens (Name name) at (Compare by) next_at (Value literal) third_at rest later latest subject h = one_test name at by next_at literal third_at rest subject h latest
   more_tokens (Name name) at _ next_at _ third_at rest later latest subject h = absurd h
   more_tokens (Value literal) at next next_at third third_at rest later latest subject h = absurd h
-  more_tokens Misfit at next next_at third third_at rest later latest subject h = absurd h
+  more_tokens Illegible at next next_at third third_at rest later latest subject h = absurd h
 
   pub fault_is_misfit : (spots : List Spot) → Agree spots
   fault_is_misfit [] subject h = refl

@@ -5,7 +5,7 @@ use Rattle.trace_format.specs.declared.event.Field.{Field}
 use Rattle.trace_filter.specs.declared.token.Comparison.{Comparison}
 use Rattle.trace_filter.specs.declared.test.Subject.{Subject}
 use Rattle.trace_filter.specs.declared.fault.FilterFault.TheVariants.{NoSuchField}
-use Rattle.trace_filter.specs.Tokens.{Token, Open, Close, Bang, Both, Either, Compare, Name, Value, Misfit}
+use Rattle.trace_filter.specs.Tokens.{Token, Open, Close, Bang, Both, Either, Compare, Name, Value, Illegible}
 use Rattle.trace_filter.specs.Grammar.{Expr, AllOf, Or, Conj, Only, And, Unary, Not, Group, Test, expr_tokens, conj_tokens, unary_tokens}
 use Rattle.trace_filter.specs.Places.{is_text, subject_named, subjects_in, named_or}
 use Rattle.trace_filter.specs.Steps.{Opens, Closes, Inverts, AndThen, OrElse, Checks, datum_at, moves_from, moves_about, subjects_tested}
@@ -23,7 +23,7 @@ InTests (Compare by ∷ tokens) = ⊥
 InTests (Name name ∷ Compare by ∷ Value literal ∷ tokens) = InTests tokens
 InTests (Name name ∷ tokens) = ⊥
 InTests (Value literal ∷ tokens) = ⊥
-InTests (Misfit ∷ tokens) = ⊥
+InTests (Illegible ∷ tokens) = ⊥
 
 mutual
   expr_in_tests : (e : Expr) (rest : List Token) → InTests rest → InTests (expr_tokens e ++ rest)
@@ -59,7 +59,7 @@ module _ (fields : List Field) where
       ∙ ap (λ o. option_to_list o ++ subjects_in fields tokens) (sym found.is)
   tested_is subject by (Name name ∷ tokens) h fit = absurd h
   tested_is subject by (Value literal ∷ tokens) h fit = absurd h
-  tested_is subject by (Misfit ∷ tokens) h fit = absurd h
+  tested_is subject by (Illegible ∷ tokens) h fit = absurd h
 
   -- and are told by the tokens and what is tested
   pub about_is : (subject : Subject) (by : Comparison) (tokens : List Token) → moves_from fields subject by tokens ≡ moves_about (subjects_tested (moves_from fields subject by tokens)) by tokens
@@ -72,4 +72,4 @@ module _ (fields : List Field) where
   about_is subject by (Compare c ∷ tokens) = about_is subject c tokens
   about_is subject by (Name name ∷ tokens) = about_is (named_or (subject_named fields name) subject) by tokens
   about_is subject by (Value literal ∷ tokens) = ap (λ moves. Checks subject by (datum_at (is_text subject) literal) ∷ moves) (about_is subject by tokens)
-  about_is subject by (Misfit ∷ tokens) = about_is subject by tokens
+  about_is subject by (Illegible ∷ tokens) = about_is subject by tokens

@@ -7,7 +7,7 @@ use Rattle.std.proofs.Math.Seq.{take-append_seam, drop-append_seam}
 use Rattle.trace_format.specs.Names.{is_name, is_name_byte}
 use Rattle.trace_filter.specs.declared.token.Comparison.TheVariants as comparison
 use Rattle.trace_format.specs.Blanks.{is_blank}
-use Rattle.trace_filter.specs.Tokens.{Word, Quoted, Token, Name, Value, Misfit, is_quote, is_word_byte, is_not, begins_with, Piece, quoted_piece, symbol_piece, piece_of, is_comparison, Spot, spots_from, spots_of}
+use Rattle.trace_filter.specs.Tokens.{Word, Quoted, Token, Name, Value, Illegible, is_quote, is_word_byte, is_not, begins_with, Piece, quoted_piece, symbol_piece, piece_of, is_comparison, Spot, spots_from, spots_of}
 use Rattle.trace_filter.specs.TokenGrammar.{Sign, Opening, Closing, Negation, Conjunction, Disjunction, Comparing, sign_text, sign_token, IsLongest, first_is, IsRun, Lexeme, Gap, Signed, Run, Bare, Within, lexeme_text, IsLexemeBefore, BeginsLexeme, TextPart, Legible, Stray, IsTextPart, part_text, part_tokens, due_behind, IsText, part_spots, IsWrittenText}
 use Rattle.trace_filter.proofs.Ends.{ends, end_len}
 use Rattle.trace_filter.proofs.SpotLemmas.{skipped}
@@ -132,7 +132,7 @@ sign_leads false sign rest h =
 -- a sign begins, or its piece fits nothing
 data Found (b : ℕ) (bs : List ℕ) (piece : Piece) : Type 0 where
   a_sign : (sign : Sign) (rest : List ℕ) → IsLongest sign rest → sign_text sign ++ rest ≡ b ∷ bs → Found b bs piece
-  no_sign : piece ≡ sized Misfit 0 → Found b bs piece
+  no_sign : piece ≡ sized Illegible 0 → Found b bs piece
 
 module _ (b : ℕ) (bs : List ℕ) where
   test : (p : Bool) (then_piece else_piece : Piece) → (p ≡ true → Found b bs then_piece) → (p ≡ false → Found b bs else_piece) → Found b bs (if p then then_piece else else_piece)
@@ -166,7 +166,7 @@ module _ (b : ℕ) (bs : List ℕ) where
 
 -- ---- names and values
 
-run_leads : (first : ℕ) (more rest : List ℕ) → IsRun is_name_byte (first ∷ more) rest → Leads false (first ∷ more) rest (if is_name (first ∷ more) then Name (first ∷ more) else Misfit)
+run_leads : (first : ℕ) (more rest : List ℕ) → IsRun is_name_byte (first ∷ more) rest → Leads false (first ∷ more) rest (if is_name (first ∷ more) then Name (first ∷ more) else Illegible)
 unfolding piece_of
 run_leads first more rest h =
     record {
@@ -175,8 +175,8 @@ run_leads first more rest h =
       unblank = name_unblank first h.0.0;
       begins = refl;
       piece = cond-true (is_name_byte first) _ _ h.0.0
-          ∙ (ap (λ n. sized (if is_name (first ∷ take n (more ++ rest)) then Name (first ∷ take n (more ++ rest)) else Misfit) n) (run_len is_name_byte more rest (h.0.1, h.1))
-          ∙ ap (λ (bs : List ℕ). sized (if is_name (first ∷ bs) then Name (first ∷ bs) else Misfit) (length more)) (take-append_seam more rest));
+          ∙ (ap (λ n. sized (if is_name (first ∷ take n (more ++ rest)) then Name (first ∷ take n (more ++ rest)) else Illegible) n) (run_len is_name_byte more rest (h.0.1, h.1))
+          ∙ ap (λ (bs : List ℕ). sized (if is_name (first ∷ bs) then Name (first ∷ bs) else Illegible) (length more)) (take-append_seam more rest));
     }
 
 bare_leads : (first : ℕ) (more rest : List ℕ) → IsRun is_word_byte (first ∷ more) rest → Leads true (first ∷ more) rest (Value (Word (first ∷ more)))
@@ -198,7 +198,7 @@ quoted_is : (quote : ℕ) (inside rest : List ℕ) → AllByRecursion (λ b. b �
 quoted_is quote inside rest h =
     let bytes : List ℕ = inside ++ quote ∷ rest in
     let less : length inside < length bytes = omega (arith, length-append inside (quote ∷ rest)) in
-    ap (λ n. if nat_lt n (length bytes) then sized (Value (Quoted (take n bytes))) (n + 1) else sized Misfit 0) (end_len quote inside rest h)
+    ap (λ n. if nat_lt n (length bytes) then sized (Value (Quoted (take n bytes))) (n + 1) else sized Illegible 0) (end_len quote inside rest h)
     ∙ (cond-true (nat_lt (length inside) (length bytes)) _ _ (lt-ltb (length inside) (length bytes) less)
     ∙ ap (λ bs. sized (Value (Quoted bs)) (length inside + 1)) (take-append_seam inside (quote ∷ rest)))
 
@@ -221,7 +221,7 @@ within_leads quote inside rest q h =
 record IsStray (due : Bool) (b : ℕ) (bs : List ℕ) : Type 0 where
   unblank : is_blank b ≡ false
   unnamed : due ≡ false → is_name_byte b ≡ false
-  piece : piece_of due b bs ≡ sized Misfit 0
+  piece : piece_of due b bs ≡ sized Illegible 0
 
 module _ (b : ℕ) (bs : List ℕ) (unblank : is_blank b ≡ false) where
   value_or_stray : (q w : Bool) → is_quote b ≡ q → is_word_byte b ≡ w → BeginsLexeme true (b ∷ bs) ⊎ IsStray true b bs
@@ -271,7 +271,7 @@ reads_or_stray due b bs = by (is_blank b) refl due
     by false e false = name_or_stray b bs e (is_name_byte b) refl
 
 -- not both
-sign_is_no_misfit : (sign : Sign) → sign_token sign ≡ Misfit → ⊥
+sign_is_no_misfit : (sign : Sign) → sign_token sign ≡ Illegible → ⊥
 sign_is_no_misfit Opening e = cc
 sign_is_no_misfit Closing e = cc
 sign_is_no_misfit Negation e = cc
@@ -282,7 +282,7 @@ sign_is_no_misfit (Comparing comparison) e = cc
 stray_reads_not : (due : Bool) (b : ℕ) (bs : List ℕ) → IsStray due b bs → BeginsLexeme due (b ∷ bs) → ⊥
 stray_reads_not due b bs s r = none due s r.lexeme r.lawful r.text
   where
-    misfit : (due : Bool) (text : List ℕ) (token : Token) → IsStray due b bs → Leads due text r.rest token → text ++ r.rest ≡ b ∷ bs → token ≡ Misfit
+    misfit : (due : Bool) (text : List ℕ) (token : Token) → IsStray due b bs → Leads due text r.rest token → text ++ r.rest ≡ b ∷ bs → token ≡ Illegible
     misfit due text token s l e = sym (led_token due b bs text r.rest token l e) ∙ ap (λ (p : Piece). p.token) s.piece
 
     none : (due : Bool) → IsStray due b bs → (lexeme : Lexeme) → IsLexemeBefore due r.rest lexeme → lexeme_text lexeme ++ r.rest ≡ b ∷ bs → ⊥
@@ -304,7 +304,7 @@ part_read : (due : Bool) (at : ℕ) (part : TextPart) (rest : List ℕ) → IsTe
 part_read due at (Legible (Gap blank)) rest h = cond-true (is_blank blank) _ _ h
 part_read due at (Legible (Signed sign)) rest h = led_read due at (sign_text sign) rest (sign_token sign) (sign_leads due sign rest h)
 part_read true at (Legible (Run first more)) rest h = absurd h
-part_read false at (Legible (Run first more)) rest h = led_read false at (first ∷ more) rest (if is_name (first ∷ more) then Name (first ∷ more) else Misfit) (run_leads first more rest h)
+part_read false at (Legible (Run first more)) rest h = led_read false at (first ∷ more) rest (if is_name (first ∷ more) then Name (first ∷ more) else Illegible) (run_leads first more rest h)
 part_read true at (Legible (Bare first more)) rest h = led_read true at (first ∷ more) rest (Value (Word (first ∷ more))) (bare_leads first more rest h)
 part_read false at (Legible (Bare first more)) rest h = absurd h
 part_read true at (Legible (Within quote inside)) rest h = led_read true at (quote ∷ inside ++ quote ∷ []) rest (Value (Quoted inside)) (within_leads quote inside rest h.0 h.1)
@@ -312,7 +312,7 @@ part_read false at (Legible (Within quote inside)) rest h = absurd h
 part_read due at (Stray b) rest h =
     elim (reads_or_stray due b rest) [
       | inl r ↦ absurd (h r)
-      | inr s ↦ led_read due at (b ∷ []) rest Misfit (record { first = b; front = []; unblank = s.unblank; begins = refl; piece = s.piece })
+      | inr s ↦ led_read due at (b ∷ []) rest Illegible (record { first = b; front = []; unblank = s.unblank; begins = refl; piece = s.piece })
     ]
 
 text_read : (due : Bool) (at : ℕ) (parts : List TextPart) → IsText due parts → part_spots at parts ≡ spots_from due 0 at (flat_map part_text parts)

@@ -10,8 +10,7 @@ use Rattle.trace_filter.proofs.TreeFits.{fits_as_its_tree}
 module _ (definition : Definition) (text : List ℕ) where
   to_tree : IsFilter definition text → IsShort text × SpellsFittingTree definition text
   to_tree filter =
-      let whole = filter.syntax.whole in
-      (
+      let whole = filter.syntax.whole in (
         filter.short,
         record {
           tree = whole.tree;

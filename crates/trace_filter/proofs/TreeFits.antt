@@ -6,9 +6,9 @@ use Rattle.trace_format.specs.declared.event.Field.{Field}
 use Rattle.trace_filter.specs.declared.token.Comparison.{Comparison}
 use Rattle.trace_filter.specs.declared.fault.FilterFault.{FilterFault}
 use Rattle.trace_filter.specs.declared.fault.FilterFault.TheVariants.{TooMany, FilterSyntax, NoSuchField, WrongOperator, Memory}
-use Rattle.trace_filter.specs.Tokens.{Literal, Token, Open, Close, Bang, Both, Either, Compare, Name, Value, Misfit, Spot, tokens_of}
+use Rattle.trace_filter.specs.Tokens.{Literal, Token, Open, Close, Bang, Both, Either, Compare, Name, Value, Illegible, Spot, tokens_of}
 use Rattle.trace_filter.specs.Grammar.{Expr, AllOf, Or, Conj, Only, And, Unary, Not, Group, Test, expr_tokens, conj_tokens, unary_tokens, Spells}
-use Rattle.trace_filter.specs.Fields.{name_has_text, takes_at, fits_at, unless, or_later, test_fault, first_misfit}
+use Rattle.trace_filter.specs.Fields.{is_text_named, takes_at, fits_at, unless, or_later, test_fault, first_misfit}
 use Rattle.trace_filter.specs.Fits.{OneTest, tests_of, conj_tests, unary_tests, TestFits, EachTestFits, HasFault, TestPlaces, test_places, IsAt, IsFirstMisfit}
 use Rattle.trace_filter.proofs.Options.{some_is}
 use Rattle.trace_filter.proofs.Truths.{unless_true}
@@ -67,7 +67,7 @@ module _ (fields : List Field) where
   fault_by p has_text = test_fault has_text p.at (record { at = p.operator_at; token = Compare p.test.comparison }) (record { at = p.value_at; token = Value p.test.literal })
 
   abbrev fault_of : Placed → Option FilterFault
-  fault_of p = fault_by p (name_has_text fields p.test.name)
+  fault_of p = fault_by p (is_text_named fields p.test.name)
 
   abbrev first_of : List Placed → Option FilterFault
   first_of [] = None
@@ -107,7 +107,7 @@ module _ (fields : List Field) where
   last_token (Compare by) at later h = absurd h
   last_token (Name name) at later h = absurd h
   last_token (Value literal) at later h = absurd h
-  last_token Misfit at later h = absurd h
+  last_token Illegible at later h = absurd h
 
   two_tokens : (token : Token) (at : ℕ) (next : Token) (next_at : ℕ) → PlacedIfInTests (record { at = next_at; token = next } ∷ []) → PlacedIfInTests (record { at = at; token = token } ∷ record { at = next_at; token = next } ∷ [])
   two_tokens Open at next next_at later h = later h
@@ -119,7 +119,7 @@ module _ (fields : List Field) where
   two_tokens (Name name) at (Compare by) next_at later h = absurd h
   two_tokens (Name name) at _ next_at later h = absurd h
   two_tokens (Value literal) at next next_at later h = absurd h
-  two_tokens Misfit at next next_at later h = absurd h
+  two_tokens Illegible at next next_at later h = absurd h
 
   more_tokens : (token : Token) (at : ℕ) (next : Token) (next_at : ℕ) (third : Token) (third_at : ℕ) (rest : List Spot) → PlacedIfInTests (record { at = next_at; token = next } ∷ record { at = third_at; token = third } ∷ rest) → PlacedIfInTests rest
       → PlacedIfInTests (record { at = at; token = token } ∷ record { at = next_at; token = next } ∷ record { at = third_at; token = third } ∷ rest)
@@ -132,7 +132,7 @@ module _ (fields : List Field) where
   more_tokens (Name name) at (Compare by) next_at (Value literal) third_at rest later latest h = one_test name at by next_at literal third_at rest (latest h)
   more_tokens (Name name) at _ next_at _ third_at rest later latest h = absurd h
   more_tokens (Value literal) at next next_at third third_at rest later latest h = absurd h
-  more_tokens Misfit at next next_at third third_at rest later latest h = absurd h
+  more_tokens Illegible at next next_at third third_at rest later latest h = absurd h
 
   in_places : (spots : List Spot) → PlacedIfInTests spots
   in_places [] h = record { placed = []; tests_are = refl; places_are = refl; fault_is = refl }
@@ -156,9 +156,9 @@ module _ (fields : List Field) where
       ∙ (λ i. or_later (unless (fit.takes i) (WrongOperator p.operator_at)) (unless (fit.fits i) (FilterSyntax p.value_at)))
 
   none_fits : (p : Placed) → fault_of p ≡ None → TestFits fields p.test
-  none_fits p h = by (name_has_text fields p.test.name) refl h
+  none_fits p h = by (is_text_named fields p.test.name) refl h
     where
-      by : (o : Option Bool) → name_has_text fields p.test.name ≡ o → fault_by p o ≡ None → TestFits fields p.test
+      by : (o : Option Bool) → is_text_named fields p.test.name ≡ o → fault_by p o ≡ None → TestFits fields p.test
       by None e h = absurd (cc)
       by (Some text) e h =
           let parts = both_none (unless (takes_at text p.test.comparison) (WrongOperator p.operator_at)) (unless (fits_at text p.test.literal) (FilterSyntax p.value_at)) h in
@@ -173,15 +173,15 @@ module _ (fields : List Field) where
   WrongFirst p placed fault = HasFault fields p.test fault × IsAt (places_at (p ∷ placed)) 0 fault
 
   fault_wrong : (p : Placed) (placed : List Placed) (fault : FilterFault) → fault_of p ≡ Some fault → WrongFirst p placed fault
-  fault_wrong p placed fault h = by (name_has_text fields p.test.name) refl h
+  fault_wrong p placed fault h = by (is_text_named fields p.test.name) refl h
     where
-      by_test : (text takes fits : Bool) → name_has_text fields p.test.name ≡ Some text → takes_at text p.test.comparison ≡ takes → fits_at text p.test.literal ≡ fits
+      by_test : (text takes fits : Bool) → is_text_named fields p.test.name ≡ Some text → takes_at text p.test.comparison ≡ takes → fits_at text p.test.literal ≡ fits
           → or_later (unless takes (WrongOperator p.operator_at)) (unless fits (FilterSyntax p.value_at)) ≡ Some fault → WrongFirst p placed fault
       by_test text true true e t f h = absurd (cc)
       by_test text true false e t f h = subst (WrongFirst p placed) (some_is h) (record { has_text = text; named = e; takes = t; refused = f }, refl)
       by_test text false fits e t f h = subst (WrongFirst p placed) (some_is h) (record { has_text = text; named = e; refused = t }, refl)
 
-      by : (o : Option Bool) → name_has_text fields p.test.name ≡ o → fault_by p o ≡ Some fault → WrongFirst p placed fault
+      by : (o : Option Bool) → is_text_named fields p.test.name ≡ o → fault_by p o ≡ Some fault → WrongFirst p placed fault
       by None e h = subst (WrongFirst p placed) (some_is h) (e, refl)
       by (Some text) e h = by_test text (takes_at text p.test.comparison) (fits_at text p.test.literal) e refl refl h
 

@@ -8,7 +8,7 @@ use Rattle.trace_filter.specs.declared.fault.FilterFault.TheVariants.{TooMany, F
 use Rattle.trace_format.specs.Blanks.{is_blank, without_end, trimmed}
 use Rattle.trace_filter.specs.Tokens.{Token, Compare, Name, Value, Spot, spots_of, tokens_of, shifted_by}
 use Rattle.trace_filter.specs.Grammar.{IsFine, IsWhole, depth_of}
-use Rattle.trace_filter.specs.Fields.{name_has_text, takes_at, fits_at, unless, or_later, operator_fault, value_fault, test_fault, fault_of_test, first_misfit}
+use Rattle.trace_filter.specs.Fields.{is_text_named, takes_at, fits_at, unless, or_later, operator_fault, value_fault, test_fault, fault_of_test, first_misfit}
 use Rattle.trace_filter.specs.Truth.{Emission}
 use Rattle.trace_filter.specs.Filters.{IsFilter, Passes, misfit_of}
 use Rattle.trace_filter.proofs.TrimLemmas.{trimmed_spots, trimmed_tokens, trimmed_twice}
@@ -54,7 +54,7 @@ module _ (more : ℕ) (fields : List Field) where
   begun : (token : Token) (at : ℕ) (rest : List Spot) → Later (fault_of_test fields token (more + at) (map (shifted_by more) rest)) (fault_of_test fields token at rest)
   begun (Name name) at [] = refl
   begun (Name name) at (op ∷ []) = refl
-  begun (Name name) at (op ∷ literal ∷ rest) = test (name_has_text fields name) at op literal
+  begun (Name name) at (op ∷ literal ∷ rest) = test (is_text_named fields name) at op literal
   begun _ at rest = refl
 
   misfit_later : (spots : List Spot) → Later (first_misfit fields (map (shifted_by more) spots)) (first_misfit fields spots)

@@ -7,7 +7,7 @@ use Rattle.trace_filter.specs.declared.test.Subject.{Subject}
 use Rattle.trace_filter.specs.declared.frames.Frame.{Frame}
 use Rattle.trace_filter.specs.declared.fault.FilterFault.{FilterFault}
 use Rattle.trace_filter.specs.declared.fault.FilterFault.TheVariants.{FilterSyntax, NoSuchField, WrongOperator}
-use Rattle.trace_filter.specs.Tokens.{Literal, Token, Open, Close, Bang, Both, Either, Compare, Name, Value, Misfit, Spot, tokens_of}
+use Rattle.trace_filter.specs.Tokens.{Literal, Token, Open, Close, Bang, Both, Either, Compare, Name, Value, Illegible, Spot, tokens_of}
 use Rattle.trace_filter.specs.Grammar.{Expr, AllOf, Or, Conj, Only, And, Unary, Not, Group, Test, expr_tokens, conj_tokens, unary_tokens, deepest}
 use Rattle.trace_filter.specs.Fields.{takes_at, fits_at, unless, or_later}
 use Rattle.trace_filter.specs.Places.{is_text, unless_named, fault_at, subject_named, named_or, subject_behind, first_fault}
@@ -66,7 +66,7 @@ module _ (fields : List Field) where
   shallow_moves subject by bangs outer (Compare c ∷ tokens) h = shallow_moves subject c bangs outer tokens (omega arith)
   shallow_moves subject by bangs outer (Name name ∷ tokens) h = shallow_moves (named_or (subject_named fields name) subject) by bangs outer tokens (omega arith)
   shallow_moves subject by bangs outer (Value literal ∷ tokens) h = shallow_moves subject by 0 outer tokens (omega arith)
-  shallow_moves subject by bangs outer (Misfit ∷ tokens) h = shallow_moves subject by bangs outer tokens (omega arith)
+  shallow_moves subject by bangs outer (Illegible ∷ tokens) h = shallow_moves subject by bangs outer tokens (omega arith)
 
 -- ---- tokens with no fault
 
@@ -92,7 +92,7 @@ no_fault fields subject Close at place h = refl
 no_fault fields subject Bang at place h = refl
 no_fault fields subject Both at place h = refl
 no_fault fields subject Either at place h = refl
-no_fault fields subject Misfit at place h = refl
+no_fault fields subject Illegible at place h = refl
 no_fault fields subject (Compare by) at place h = ap (λ b. unless b (WrongOperator place)) (unless_true (takes_at (is_text subject) by) (WrongOperator at) h)
 no_fault fields subject (Value literal) at place h = ap (λ b. unless b (FilterSyntax place)) (unless_true (fits_at (is_text subject) literal) (FilterSyntax at) h)
 no_fault fields subject (Name name) at place h = ap (λ o. unless_named o (NoSuchField place)) (unless_some (subject_named fields name) (NoSuchField at) h).is

@@ -21,8 +21,8 @@ field_has_text [] name = None
 field_has_text (field ∷ fields) name = if bytes_eq field.name name then Some (is_text_kind field.kind) else field_has_text fields name
 
 -- the same of any name: every event has the numbers `common_pid` and `common_cpu`
-abbrev pub name_has_text : List Field → List ℕ → Option Bool
-name_has_text fields name = if bytes_eq name (codes "common_pid") then Some false
+abbrev pub is_text_named : List Field → List ℕ → Option Bool
+is_text_named fields name = if bytes_eq name (codes "common_pid") then Some false
     else if bytes_eq name (codes "common_cpu") then Some false
     else field_has_text fields name
 
@@ -76,7 +76,7 @@ test_fault (Some text) at operator value = or_later (operator_fault text operato
 
 -- the same of the test that begins with a token, if one does: a name, an operator and a value
 abbrev pub fault_of_test : List Field → Token → ℕ → List Spot → Option FilterFault
-fault_of_test fields (Name name) at (operator ∷ value ∷ spots) = test_fault (name_has_text fields name) at operator value
+fault_of_test fields (Name name) at (operator ∷ value ∷ spots) = test_fault (is_text_named fields name) at operator value
 fault_of_test fields _ at spots = None
 
 -- what is wrong with the first test, from left to right, that does not fit its field

@@ -6,7 +6,7 @@ use Rattle.trace_filter.specs.declared.fault.FilterFault.{FilterFault}
 use Rattle.trace_filter.specs.declared.fault.FilterFault.TheVariants.{TooMany, FilterSyntax, NoSuchField, WrongOperator, Memory}
 use Rattle.trace_filter.specs.Tokens.{Literal, Token, Name, Value, is_comparison, Spot}
 use Rattle.trace_filter.specs.Grammar.{Expr, AllOf, Or, Conj, Only, And, Unary, Not, Group, Test}
-use Rattle.trace_filter.specs.Fields.{name_has_text, takes_at, fits_at}
+use Rattle.trace_filter.specs.Fields.{is_text_named, takes_at, fits_at}
 
 -- a test: a field's name, an operator and a value
 pub record OneTest : Type 0 where
@@ -34,7 +34,7 @@ abbrev mutual
 -- the name is a field's, or `common_pid` or `common_cpu`, and what it names takes the operator and the value
 pub record TestFits (fields : List Field) (test : OneTest) : Type 0 where
   pub has_text : Bool
-  pub named : name_has_text fields test.name ≡ Some has_text
+  pub named : is_text_named fields test.name ≡ Some has_text
   pub takes : IsTrue (takes_at has_text test.comparison)
   pub fits : IsTrue (fits_at has_text test.literal)
 
@@ -46,13 +46,13 @@ EachTestFits fields tree = All (TestFits fields) (tests_of tree)
 -- what the name means does not take the operator
 pub record IsWronglyCompared (fields : List Field) (test : OneTest) : Type 0 where
   pub has_text : Bool
-  pub named : name_has_text fields test.name ≡ Some has_text
+  pub named : is_text_named fields test.name ≡ Some has_text
   pub refused : takes_at has_text test.comparison ≡ false
 
 -- it takes the operator, and the value does not fit it
 pub record IsWronglyValued (fields : List Field) (test : OneTest) : Type 0 where
   pub has_text : Bool
-  pub named : name_has_text fields test.name ≡ Some has_text
+  pub named : is_text_named fields test.name ≡ Some has_text
   pub takes : IsTrue (takes_at has_text test.comparison)
   pub refused : fits_at has_text test.literal ≡ false
 
@@ -60,7 +60,7 @@ pub record IsWronglyValued (fields : List Field) (test : OneTest) : Type 0 where
 abbrev pub HasFault : List Field → OneTest → FilterFault → Type 0
 HasFault fields test TooMany = ⊥
 HasFault fields test (FilterSyntax at) = IsWronglyValued fields test
-HasFault fields test (NoSuchField at) = name_has_text fields test.name ≡ None
+HasFault fields test (NoSuchField at) = is_text_named fields test.name ≡ None
 HasFault fields test (WrongOperator at) = IsWronglyCompared fields test
 HasFault fields test Memory = ⊥
 

@@ -7,7 +7,7 @@ use Rattle.trace_format.specs.Names.{is_name}
 use Rattle.trace_filter.specs.declared.token.Comparison.{Comparison}
 use Rattle.trace_filter.specs.declared.syntax.Verdict.{Verdict}
 use Rattle.trace_filter.specs.declared.syntax.Verdict.TheVariants.{Fine, TooDeep, WrongAt}
-use Rattle.trace_filter.specs.Tokens.{Literal, Word, Quoted, Token, Open, Close, Bang, Both, Either, Compare, Name, Value, Misfit, is_word_byte, is_not, Spot, tokens_of}
+use Rattle.trace_filter.specs.Tokens.{Literal, Word, Quoted, Token, Open, Close, Bang, Both, Either, Compare, Name, Value, Illegible, is_word_byte, is_not, Spot, tokens_of}
 
 mutual
   -- some conjunctions with `||` between them
@@ -53,7 +53,7 @@ is_written (Compare comparison) = true
 is_written (Name bytes) = is_name bytes
 is_written (Value (Word bytes)) = is_word bytes
 is_written (Value (Quoted bytes)) = list_all (is_not 34) bytes || list_all (is_not 39) bytes
-is_written Misfit = false
+is_written Illegible = false
 
 -- the tokens spell the filter
 abbrev pub Spells : List Token → Expr → Type 0
@@ -93,7 +93,7 @@ behind opened Either = opened
 behind opened (Compare comparison) = opened
 behind opened (Name bytes) = opened
 behind opened (Value literal) = record { bangs = 0; outer = opened.outer }
-behind opened Misfit = opened
+behind opened Illegible = opened
 
 -- how many `!` and `(` are open
 abbrev pub open_count : Opened → ℕ

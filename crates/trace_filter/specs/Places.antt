@@ -9,7 +9,7 @@ use Rattle.trace_filter.specs.declared.fault.FilterFault.{FilterFault}
 use Rattle.trace_filter.specs.declared.fault.FilterFault.TheVariants.{TooMany, FilterSyntax, NoSuchField, WrongOperator, Memory}
 use Rattle.trace_filter.specs.declared.test.Subject.{Subject}
 use Rattle.trace_filter.specs.declared.test.Subject.TheVariants.{Pid, Cpu, NumberField, TextField}
-use Rattle.trace_filter.specs.Tokens.{Token, Open, Close, Bang, Both, Either, Compare, Name, Value, Misfit, Spot}
+use Rattle.trace_filter.specs.Tokens.{Token, Open, Close, Bang, Both, Either, Compare, Name, Value, Illegible, Spot}
 use Rattle.trace_filter.specs.Fields.{takes_at, fits_at, unless, or_later}
 
 -- the field at a place
@@ -39,7 +39,7 @@ subjects_in fields (Either ∷ tokens) = subjects_in fields tokens
 subjects_in fields (Compare by ∷ tokens) = subjects_in fields tokens
 subjects_in fields (Name name ∷ tokens) = option_to_list (subject_named fields name) ++ subjects_in fields tokens
 subjects_in fields (Value literal ∷ tokens) = subjects_in fields tokens
-subjects_in fields (Misfit ∷ tokens) = subjects_in fields tokens
+subjects_in fields (Illegible ∷ tokens) = subjects_in fields tokens
 
 abbrev pub is_text : Subject → Bool
 is_text Pid = false
@@ -61,7 +61,7 @@ fault_at fields subject Either at = None
 fault_at fields subject (Compare by) at = unless (takes_at (is_text subject) by) (WrongOperator at)
 fault_at fields subject (Name name) at = unless_named (subject_named fields name) (NoSuchField at)
 fault_at fields subject (Value literal) at = unless (fits_at (is_text subject) literal) (FilterSyntax at)
-fault_at fields subject Misfit at = None
+fault_at fields subject Illegible at = None
 
 abbrev pub named_or : Option Subject → Subject → Subject
 named_or None subject = subject
@@ -77,7 +77,7 @@ subject_behind fields subject Either = subject
 subject_behind fields subject (Compare by) = subject
 subject_behind fields subject (Name name) = named_or (subject_named fields name) subject
 subject_behind fields subject (Value literal) = subject
-subject_behind fields subject Misfit = subject
+subject_behind fields subject Illegible = subject
 
 -- the first of these faults, from left to right
 abbrev pub first_fault : List Field → Subject → List Spot → Option FilterFault

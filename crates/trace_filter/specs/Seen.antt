@@ -6,7 +6,7 @@ use Rattle.trace_filter.specs.declared.token.Token as token
 use Rattle.trace_filter.specs.declared.token.Token.TheVariants as tokens
 use Rattle.trace_filter.specs.declared.token.Piece as pieces
 use Rattle.trace_filter.specs.declared.token.Spot as spots
-use Rattle.trace_filter.specs.Tokens.{Literal, Word, Quoted, Token, Open, Close, Bang, Both, Either, Compare, Name, Value, Misfit, Piece, is_comparison, spots_from}
+use Rattle.trace_filter.specs.Tokens.{Literal, Word, Quoted, Token, Open, Close, Bang, Both, Either, Compare, Name, Value, Illegible, Piece, is_comparison, spots_from}
 
 abbrev pub literal_of : literal.Literal → Literal
 literal_of (literals.Word bytes) = Word bytes.now
@@ -21,7 +21,7 @@ token_of tokens.Either = Either
 token_of (tokens.Compare comparison) = Compare comparison
 token_of (tokens.Name bytes) = Name bytes.now
 token_of (tokens.Value literal) = Value (literal_of literal)
-token_of tokens.Misfit = Misfit
+token_of tokens.Illegible = Illegible
 
 -- the program's piece is the piece, and ends within the bytes
 pub record IsPiece (piece : Piece) (found : pieces.Piece) (rest : List ℕ) : Type 0 where

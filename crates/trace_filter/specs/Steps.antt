@@ -10,7 +10,7 @@ use Rattle.trace_filter.specs.declared.steps.Step as step
 use Rattle.trace_filter.specs.declared.steps.Step.TheVariants as steps
 use Rattle.trace_filter.specs.declared.frames.Frame.{Frame}
 use Rattle.trace_filter.specs.declared.frames.Frames.{Frames}
-use Rattle.trace_filter.specs.Tokens.{Literal, Token, Open, Close, Bang, Both, Either, Compare, Name, Value, Misfit}
+use Rattle.trace_filter.specs.Tokens.{Literal, Token, Open, Close, Bang, Both, Either, Compare, Name, Value, Illegible}
 use Rattle.trace_filter.specs.Places.{is_text, subject_behind}
 use Rattle.trace_filter.specs.Truth.{Emission, literal_number, literal_bytes}
 use Rattle.trace_filter.specs.Tests.{datum_test}
@@ -47,7 +47,7 @@ moves_of subject by Either = OrElse ∷ []
 moves_of subject by (Compare c) = []
 moves_of subject by (Name name) = []
 moves_of subject by (Value literal) = Checks subject by (datum_at (is_text subject) literal) ∷ []
-moves_of subject by Misfit = []
+moves_of subject by Illegible = []
 
 abbrev pub comparison_behind : Comparison → Token → Comparison
 comparison_behind by Open = by
@@ -58,7 +58,7 @@ comparison_behind by Either = by
 comparison_behind by (Compare c) = c
 comparison_behind by (Name name) = by
 comparison_behind by (Value literal) = by
-comparison_behind by Misfit = by
+comparison_behind by Illegible = by
 
 abbrev pub moves_from : List Field → Subject → Comparison → List Token → List Move
 moves_from fields subject by [] = []
@@ -76,7 +76,7 @@ moves_about subjects by (Compare c ∷ tokens) = moves_about subjects c tokens
 moves_about subjects by (Name name ∷ tokens) = moves_about subjects by tokens
 moves_about [] by (Value literal ∷ tokens) = moves_about [] by tokens
 moves_about (subject ∷ subjects) by (Value literal ∷ tokens) = Checks subject by (datum_at (is_text subject) literal) ∷ moves_about subjects by tokens
-moves_about subjects by (Misfit ∷ tokens) = moves_about subjects by tokens
+moves_about subjects by (Illegible ∷ tokens) = moves_about subjects by tokens
 
 -- what steps test, in order
 abbrev pub subjects_tested : List Move → List Subject

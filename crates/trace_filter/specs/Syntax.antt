@@ -2,7 +2,7 @@
 use Rattle.std.specs.Prelude.{◌≡◌, ℕ, Bool, true, false, nat_lt, if◌then◌else◌, List, [], ◌∷◌, Option, None, Some, option_map}
 use Rattle.trace_filter.specs.declared.syntax.Due.{Due}
 use Rattle.trace_filter.specs.declared.syntax.Due.TheVariants as due
-use Rattle.trace_filter.specs.Tokens.{Token, Open, Close, Bang, Both, Either, Compare, Name, Value, Misfit, Spot}
+use Rattle.trace_filter.specs.Tokens.{Token, Open, Close, Bang, Both, Either, Compare, Name, Value, Illegible, Spot}
 use Rattle.trace_filter.specs.declared.syntax.Verdict.{Verdict}
 use Rattle.trace_filter.specs.declared.syntax.Verdict.TheVariants.{Fine, TooDeep, WrongAt}
 use Rattle.trace_filter.specs.Grammar.{Opened, behind, open_count, nothing_open}
@@ -26,7 +26,7 @@ next_due due.Operand outer Both = None
 next_due due.Operand outer Either = None
 next_due due.Operand outer (Compare comparison) = None
 next_due due.Operand outer (Value literal) = None
-next_due due.Operand outer Misfit = None
+next_due due.Operand outer Illegible = None
 next_due due.Operator outer (Compare comparison) = Some due.Value
 next_due due.Operator outer Open = None
 next_due due.Operator outer Close = None
@@ -35,7 +35,7 @@ next_due due.Operator outer Both = None
 next_due due.Operator outer Either = None
 next_due due.Operator outer (Name bytes) = None
 next_due due.Operator outer (Value literal) = None
-next_due due.Operator outer Misfit = None
+next_due due.Operator outer Illegible = None
 next_due due.Value outer (Value literal) = Some due.Joint
 next_due due.Value outer Open = None
 next_due due.Value outer Close = None
@@ -44,7 +44,7 @@ next_due due.Value outer Both = None
 next_due due.Value outer Either = None
 next_due due.Value outer (Compare comparison) = None
 next_due due.Value outer (Name bytes) = None
-next_due due.Value outer Misfit = None
+next_due due.Value outer Illegible = None
 next_due due.Joint outer Both = Some due.Operand
 next_due due.Joint outer Either = Some due.Operand
 next_due due.Joint outer Close = if is_inside outer then Some due.Joint else None
@@ -53,7 +53,7 @@ next_due due.Joint outer Bang = None
 next_due due.Joint outer (Compare comparison) = None
 next_due due.Joint outer (Name bytes) = None
 next_due due.Joint outer (Value literal) = None
-next_due due.Joint outer Misfit = None
+next_due due.Joint outer Illegible = None
 
 abbrev pub moved : Opened → Token → Due → Standing
 moved opened token next = record { due = next; opened = behind opened token }

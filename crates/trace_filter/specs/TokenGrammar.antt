@@ -5,7 +5,7 @@ use Rattle.trace_format.specs.Names.{is_name, is_name_byte}
 use Rattle.trace_filter.specs.declared.token.Comparison.{Comparison}
 use Rattle.trace_filter.specs.declared.token.Comparison.TheVariants as comparison
 use Rattle.trace_format.specs.Blanks.{is_blank}
-use Rattle.trace_filter.specs.Tokens.{Word, Quoted, Token, Open, Close, Bang, Both, Either, Compare, Name, Value, Misfit, is_quote, is_word_byte, begins_with, is_comparison, Spot}
+use Rattle.trace_filter.specs.Tokens.{Word, Quoted, Token, Open, Close, Bang, Both, Either, Compare, Name, Value, Illegible, is_quote, is_word_byte, begins_with, is_comparison, Spot}
 
 -- a token that is always written alike
 pub data Sign : Type 0 where
@@ -77,11 +77,11 @@ lexeme_text (Run first more) = first ∷ more
 lexeme_text (Bare first more) = first ∷ more
 lexeme_text (Within quote inside) = quote ∷ inside ++ quote ∷ []
 
--- what it means: a run that is no name is a misfit
+-- what it means: a run that is no name is illegible
 abbrev pub lexeme_tokens : Lexeme → List Token
 lexeme_tokens (Gap blank) = []
 lexeme_tokens (Signed sign) = sign_token sign ∷ []
-lexeme_tokens (Run first more) = (if is_name (first ∷ more) then Name (first ∷ more) else Misfit) ∷ []
+lexeme_tokens (Run first more) = (if is_name (first ∷ more) then Name (first ∷ more) else Illegible) ∷ []
 lexeme_tokens (Bare first more) = Value (Word (first ∷ more)) ∷ []
 lexeme_tokens (Within quote inside) = Value (Quoted inside) ∷ []
 
@@ -122,7 +122,7 @@ part_text (Stray byte) = byte ∷ []
 -- what a part means
 abbrev pub part_tokens : TextPart → List Token
 part_tokens (Legible lexeme) = lexeme_tokens lexeme
-part_tokens (Stray byte) = Misfit ∷ []
+part_tokens (Stray byte) = Illegible ∷ []
 
 -- a value is due behind a comparison, and behind blanks where it was before them
 abbrev pub due_behind : Bool → List Token → Bool

@@ -11,7 +11,7 @@ pub data Literal : Type 0 where
   Word : List ℕ → Literal
   Quoted : List ℕ → Literal
 
--- `(`, `)`, `!`, `&&`, `||`, a comparison, a name, a value; Misfit is what no grammar takes
+-- `(`, `)`, `!`, `&&`, `||`, a comparison, a name, a value; Illegible is what no grammar takes
 pub data Token : Type 0 where
   Open : Token
   Close : Token
@@ -21,7 +21,7 @@ pub data Token : Type 0 where
   Compare : Comparison → Token
   Name : List ℕ → Token
   Value : Literal → Token
-  Misfit : Token
+  Illegible : Token
 
 -- `"` or `'`
 abbrev pub is_quote : ℕ → Bool
@@ -47,7 +47,7 @@ pub record Piece : Type 0 where
 
 -- what begins with a quote: the bytes up to the next one like it, if there is one
 abbrev pub quoted_piece : ℕ → List ℕ → Piece
-quoted_piece quote bs = if nat_lt (prefix_len (is_not quote) bs) (length bs) then record { token = Value (Quoted (take (prefix_len (is_not quote) bs) bs)); more = prefix_len (is_not quote) bs + 1 } else record { token = Misfit; more = 0 }
+quoted_piece quote bs = if nat_lt (prefix_len (is_not quote) bs) (length bs) then record { token = Value (Quoted (take (prefix_len (is_not quote) bs) bs)); more = prefix_len (is_not quote) bs + 1 } else record { token = Illegible; more = 0 }
 
 -- a bare word: the longest run of its bytes
 abbrev pub word_piece : ℕ → List ℕ → Piece
@@ -55,7 +55,7 @@ word_piece b bs = record { token = Value (Word (b ∷ take (prefix_len is_word_b
 
 -- as many bytes of a name as stand together: a name, if they make one
 abbrev pub name_piece : ℕ → List ℕ → Piece
-name_piece b bs = record { token = if is_name (b ∷ take (prefix_len is_name_byte bs) bs) then Name (b ∷ take (prefix_len is_name_byte bs) bs) else Misfit; more = prefix_len is_name_byte bs }
+name_piece b bs = record { token = if is_name (b ∷ take (prefix_len is_name_byte bs) bs) then Name (b ∷ take (prefix_len is_name_byte bs) bs) else Illegible; more = prefix_len is_name_byte bs }
 
 -- one of two tokens: the longer, where the byte follows
 abbrev pub longest : ℕ → List ℕ → Token → Token → Piece
@@ -68,11 +68,11 @@ symbol_piece b bs = if b == 40 then record { token = Open; more = 0 }
     else if b == 33 then longest 61 bs (Compare comparison.NotEqual) Bang
     else if b == 38 then longest 38 bs Both (Compare comparison.CommonBit)
     else if b == 60 then longest 61 bs (Compare comparison.AtMost) (Compare comparison.Below)
-    else if b == 61 then longest 61 bs (Compare comparison.Equal) Misfit
+    else if b == 61 then longest 61 bs (Compare comparison.Equal) Illegible
     else if b == 62 then longest 61 bs (Compare comparison.AtLeast) (Compare comparison.Above)
-    else if b == 124 then longest 124 bs Either Misfit
+    else if b == 124 then longest 124 bs Either Illegible
     else if b == 126 then record { token = Compare comparison.Like; more = 0 }
-    else record { token = Misfit; more = 0 }
+    else record { token = Illegible; more = 0 }
 
 -- the token that begins with the byte b before bs; a value is read only where one is due
 unfoldable pub piece_of : Bool → ℕ → List ℕ → Piece
@@ -89,7 +89,7 @@ is_comparison Either = false
 is_comparison (Compare c) = true
 is_comparison (Name bs) = false
 is_comparison (Value v) = false
-is_comparison Misfit = false
+is_comparison Illegible = false
 
 -- a token with the place of its first byte in the text
 pub record Spot : Type 0 where

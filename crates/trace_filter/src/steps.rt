@@ -146,7 +146,7 @@ impl Compiler {
                     value,
                 })
             }
-            Token::Misfit => return Ok(()),
+            Token::Illegible => return Ok(()),
         };
         self.steps.push(step)?;
         Ok(())

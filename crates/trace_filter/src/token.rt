@@ -3,7 +3,7 @@
 ghost use Rattle.std.specs.Prelude.{◌≡◌, ◌≤◌, ◌<◌, [], ◌∷◌, length, drop, nat_lt, if◌then◌else◌, IfNone, IfSome};
 ghost use Rattle.std.specs.List.{prefix_len};
 ghost use Rattle.trace_format.specs.Names.{is_name as spec_is_name, is_name_byte as spec_name_byte};
-ghost use Rattle.trace_filter.specs.Tokens.{Name, Misfit, is_quote as spec_quote, is_word_byte as spec_word_byte, is_not, begins_with as spec_begins_with, quoted_piece as spec_quoted_piece, word_piece as spec_word_piece, name_piece as spec_name_piece, longest as spec_longest, symbol_piece as spec_symbol_piece, piece_of, is_comparison as spec_comparison, spots_from};
+ghost use Rattle.trace_filter.specs.Tokens.{Name, Illegible, is_quote as spec_quote, is_word_byte as spec_word_byte, is_not, begins_with as spec_begins_with, quoted_piece as spec_quoted_piece, word_piece as spec_word_piece, name_piece as spec_name_piece, longest as spec_longest, symbol_piece as spec_symbol_piece, piece_of, is_comparison as spec_comparison, spots_from};
 ghost use Rattle.trace_filter.specs.Seen.{token_of, IsPiece, IsNextToken};
 
 use trace_format::{blanks_len, is_blank, is_name};
@@ -42,7 +42,7 @@ pub(crate) enum Token<'a> {
     Name(&'a [u8]),
     Value(Literal<'a>),
     /// What no filter has: a `=` or a `|` by itself, an open quote, a run of letters and digits that is no name.
-    Misfit,
+    Illegible,
 }
 
 impl Token<'_> {
@@ -144,7 +144,7 @@ fn quoted_piece(quote: u8, rest: &[u8]) -> Piece<'_>
         }
     } else {
         Piece {
-            token: Token::Misfit,
+            token: Token::Illegible,
             more: 0,
         }
     }
@@ -174,12 +174,12 @@ fn name_piece<'a>(bytes: &'a [u8], first: u8, rest: &'a [u8]) -> Piece<'a>
 
 /// A run of bytes that may stand in a name, as a token.
 fn name_token(run: &[u8]) -> Token<'_>
-    ensures { token_of result ≡ (if spec_is_name run.now then Name run.now else Misfit) }
+    ensures { token_of result ≡ (if spec_is_name run.now then Name run.now else Illegible) }
 {
     if is_name(run) {
         Token::Name(run)
     } else {
-        Token::Misfit
+        Token::Illegible
     }
 }
 
@@ -216,16 +216,16 @@ fn symbol_piece(first: u8, rest: &[u8]) -> Piece<'static>
             compare(Comparison::AtMost),
             compare(Comparison::Below),
         ),
-        b'=' => longest(b'=', rest, compare(Comparison::Equal), Token::Misfit),
+        b'=' => longest(b'=', rest, compare(Comparison::Equal), Token::Illegible),
         b'>' => longest(
             b'=',
             rest,
             compare(Comparison::AtLeast),
             compare(Comparison::Above),
         ),
-        b'|' => longest(b'|', rest, Token::Either, Token::Misfit),
+        b'|' => longest(b'|', rest, Token::Either, Token::Illegible),
         b'~' => single(compare(Comparison::Like)),
-        _ => single(Token::Misfit),
+        _ => single(Token::Illegible),
     }
 }
 

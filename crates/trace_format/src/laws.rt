@@ -28,7 +28,7 @@ pub fn rows_are_as_given()
 {}
 
 /// Bytes (numbers below 256) are read as a row exactly where they are the payload of that row of the event, and no two rows of an event have one payload.
-pub fn payloads_are_their_rows()
+pub fn payloads_are_read_as_their_rows()
     ensures row { PayloadIsRead }
     ensures unique { OneRow }
 {}

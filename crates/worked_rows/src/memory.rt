@@ -191,7 +191,12 @@ fn declaration_survives(rt: &(impl Abort + AllocGlobal)) -> Result<(), Refusal> 
         reply = desk.write(EVENTS, true, MOVE);
     }
     assert!(rt; matches!(reply, Ok(Reply::Done)));
-    shows(rt, &mut desk, EVENTS, "tick u64 n\nmove char who[8]; s64 d\n");
+    shows(
+        rt,
+        &mut desk,
+        EVENTS,
+        "tick u64 n\nmove char who[8]; s64 d\n",
+    );
     Ok(())
 }
 

@@ -1,10 +1,10 @@
 use Rattle.std.proofs.Common.{◌≤◌, ◌+◌, ◌∷◌, List, ℕ, length, take, one-add, if◌then◌else◌, ap, subst, ◌∙◌}
 use Rattle.trace_format.specs.Names.{is_name}
-use Rattle.trace_filter.specs.Tokens.{Token, Name, Misfit}
+use Rattle.trace_filter.specs.Tokens.{Token, Name, Illegible}
 use Rattle.trace_filter.proofs.token.name_piece.Goals as goal
 
 abbrev name_or_misfit : List ℕ → Token
-name_or_misfit bytes = if is_name bytes then Name bytes else Misfit
+name_or_misfit bytes = if is_name bytes then Name bytes else Illegible
 
 pub returns : goal.returns
 returns c = record {
