@@ -23,3 +23,4 @@ pub mod ClassLemmas
 pub mod TreeDepths
 pub mod TreeFits
 pub mod TreeFilters
+pub mod TreeReading

@@ -48,7 +48,7 @@ bangs_of levels = map (λ level. level.bangs) levels
 
 -- ---- trees put together
 
-abbrev expr_of : Option Expr → Conj → Expr
+abbrev pub expr_of : Option Expr → Conj → Expr
 expr_of None c = AllOf c
 expr_of (Some e) c = Or e c
 
@@ -56,7 +56,7 @@ expr_of-tokens : (e : Option Expr) (c : Conj) → expr_tokens (expr_of e c) ≡ 
 expr_of-tokens None c = refl
 expr_of-tokens (Some e) c = sym (append_assoc (expr_tokens e) (Either ∷ []) (conj_tokens c))
 
-abbrev conj_of : Option Conj → Unary → Conj
+abbrev pub conj_of : Option Conj → Unary → Conj
 conj_of None u = Only u
 conj_of (Some c) u = And c u
 
@@ -64,7 +64,7 @@ conj_of-tokens : (c : Option Conj) (u : Unary) → conj_tokens (conj_of c u) ≡
 conj_of-tokens None u = refl
 conj_of-tokens (Some c) u = sym (append_assoc (conj_tokens c) (Both ∷ []) (unary_tokens u))
 
-abbrev not_of : ℕ → Unary → Unary
+abbrev pub not_of : ℕ → Unary → Unary
 not_of zero u = u
 not_of (suc n) u = Not (not_of n u)
 
@@ -76,7 +76,7 @@ regroup : {A : Type 0} (a b c d e : List A) → a ++ (b ++ (c ++ d)) ++ e ≡ a 
 regroup a b c d e = simp append_assoc
 
 -- one more operand in a level
-abbrev closed_conj : Level → Unary → Conj
+abbrev pub closed_conj : Level → Unary → Conj
 closed_conj level u = conj_of level.factors (not_of level.bangs u)
 
 closed_tokens : (front : List Token) (level : Level) (u : Unary) → front ++ level_tokens level ++ unary_tokens u ≡ front ++ (before_conj level.alternatives ++ conj_tokens (closed_conj level u))

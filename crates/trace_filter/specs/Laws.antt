@@ -79,6 +79,10 @@ HoldsAsItsTree = (definition : Definition) → (text : List ℕ) → (row : Cell
 abbrev pub DepthIsOfTheTree : Type 0
 DepthIsOfTheTree = (tokens : List Token) → (tree : Expr) → Spells tokens tree → depth_of tokens ≡ depth tree
 
+-- tokens spell one tree at most
+abbrev pub OneTree : Type 0
+OneTree = (tokens : List Token) → (one other : Expr) → Spells tokens one → Spells tokens other → one ≡ other
+
 -- no test of a text has a fault exactly where each test of a tree that its tokens spell fits the event
 abbrev pub FitsAsItsTree : Type 0
 FitsAsItsTree = (definition : Definition) → (text : List ℕ) → (tree : Expr) → Spells (tokens_of (spots_of text)) tree → (misfit_of definition text ≡ None) ↔ EachTestFits definition.fields tree

@@ -1,6 +1,6 @@
 //! What the definitions of the contracts mean. Each function does nothing: its contract is a theorem.
 
-ghost use Rattle.trace_filter.specs.Laws.{FilterIsAnswered, RefusalIsAnswered, FilterOrRefused, NeverBoth, OneRefusal, FilterIsItsTree, TokensAreAsWritten, GlobsAreAsWritten, TrimmedHasTheTokens, TrimmedIsTheFilter, TrimmedPassesTheSame, NothingIsLeftToTrim, HoldsAsItsTree, DepthIsOfTheTree, FitsAsItsTree, MisfitIsTheFirst};
+ghost use Rattle.trace_filter.specs.Laws.{FilterIsAnswered, RefusalIsAnswered, FilterOrRefused, NeverBoth, OneRefusal, FilterIsItsTree, TokensAreAsWritten, GlobsAreAsWritten, TrimmedHasTheTokens, TrimmedIsTheFilter, TrimmedPassesTheSame, NothingIsLeftToTrim, HoldsAsItsTree, DepthIsOfTheTree, OneTree, FitsAsItsTree, MisfitIsTheFirst};
 
 /// What the function `answer_of` gives is a filter for just the texts that are one, and a fault for just those that are refused for it. Each
 /// text is one or the other, not both, and is refused for one fault at most. A text is a filter exactly where it is short and its tokens spell a
@@ -43,6 +43,11 @@ pub fn filters_hold_as_their_trees()
 /// How deep a text is nested, by what is open at each of its tokens, is the depth of the tree that its tokens spell.
 pub fn depth_is_of_the_tree()
     ensures { DepthIsOfTheTree }
+{}
+
+/// Tokens spell one tree at most: no two trees of the grammar are spelled alike.
+pub fn trees_are_unique()
+    ensures { OneTree }
 {}
 
 /// A text in the grammar fits an event exactly where each test of its tree names a field of the event, or `common_pid` or `common_cpu`, with
