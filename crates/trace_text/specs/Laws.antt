@@ -1,14 +1,16 @@
 -- What a record's line is, in the words of the row that was recorded, how many bytes a record has, and where a format says that they lie.
-use Rattle.std.specs.Prelude.{◌≡◌, ℕ, ◌+◌, ◌-◌, ◌*◌, ◌/◌, ◌<◌, ◌^◌, FitsSigned, List, [], ◌∷◌, ◌++◌, length, map, take, drop, replicate, Some}
+use Rattle.std.specs.Prelude.{◌≡◌, ℕ, ◌+◌, ◌-◌, ◌*◌, ◌/◌, ◌<◌, ◌^◌, FitsSigned, List, [], ◌∷◌, ◌++◌, length, map, take, drop, replicate, codes, Some}
 use Rattle.std.specs.Int.{w32}
 use Rattle.page_ring.specs.Record.{head_bytes}
 use Rattle.page_ring.specs.declared.heads.Head.{Head}
 use Rattle.trace_format.specs.Definitions.{Definition}
 use Rattle.trace_format.specs.declared.event.Field.{Field}
+use Rattle.trace_format.specs.declared.kind.NumberType.TheVariants.{S32}
+use Rattle.trace_format.specs.declared.kind.Kind.TheVariants.{Number}
 use Rattle.trace_format.specs.Kinds.{size_of}
-use Rattle.trace_format.specs.Cells.{Cells, Datum, IsRowOf, field_bytes, size_of_all, payload_of, record_size_of}
+use Rattle.trace_format.specs.Cells.{Cells, Datum, Whole, IsRowOf, field_bytes, size_of_all, payload_of, record_size_of}
 use Rattle.trace_format.specs.Catalogs.{event_of}
-use Rattle.trace_text.specs.FormatText.{field_line, field_lines, format_text}
+use Rattle.trace_text.specs.FormatText.{field_line, field_lines, common_pid_line, format_text}
 use Rattle.trace_text.specs.RecordText.{record_line, row_line}
 
 -- a head that names this event among the declared ones and tells the length of the row's payload, each of its numbers in the range of its type
@@ -71,3 +73,17 @@ ValueHasItsSize =
     (definition : Definition) (row : Cells) (front : List Field) (field : Field) (value : Datum)
     → IsRowOf definition row → IsValueBehind definition row front field value
     → length (field_bytes field.kind value) ≡ size_of field.kind
+
+-- ---- where the process lies
+
+-- the head's number of the process, as a field
+abbrev pub common_pid : Field
+common_pid = record { name = codes "common_pid"; kind = Number S32 }
+
+-- the line that each format has of it is that of a field at the offset 8
+abbrev pub ProcessHasLine : Type 0
+ProcessHasLine = common_pid_line ≡ field_line 8 common_pid
+
+-- behind a head, whatever stands there, as many bytes from this offset on as the field takes are those of the head's process
+abbrev pub ProcessLiesAtOffset : Type 0
+ProcessLiesAtOffset = (head : Head) (rest : List ℕ) → take (size_of common_pid.kind) (drop 8 (head_bytes head ++ rest)) ≡ field_bytes common_pid.kind (Whole head.pid)

@@ -1,6 +1,6 @@
 //! What the definitions of the contracts mean for records and their rows. Each function does nothing: its contract is a theorem.
 
-ghost use Rattle.trace_text.specs.Laws.{RecordShowsItsRow, RecordHasItsSize, LineHasOffset, ValueLiesAtOffset, ValueHasItsSize};
+ghost use Rattle.trace_text.specs.Laws.{RecordShowsItsRow, RecordHasItsSize, LineHasOffset, ValueLiesAtOffset, ValueHasItsSize, ProcessHasLine, ProcessLiesAtOffset};
 
 /// The record of a row, with what fills it up, has the line of that row.
 pub fn record_shows_its_row()
@@ -18,4 +18,11 @@ pub fn format_tells_where_fields_lie()
     ensures line { LineHasOffset }
     ensures bytes { ValueLiesAtOffset }
     ensures size { ValueHasItsSize }
+{}
+
+/// The line of `common_pid` in a format tells where the process lies: it is the line of a signed number of 32 bits, and in each record the bytes
+/// from the line's offset on, as many as its size says, are those of the process in the record's head.
+pub fn format_tells_where_the_process_lies()
+    ensures line { ProcessHasLine }
+    ensures bytes { ProcessLiesAtOffset }
 {}
