@@ -1,7 +1,8 @@
 -- Reads and writes one behind the other.
-use Rattle.std.proofs.Common.{◌≡◌, ℕ, ◌-◌, ◌<◌, List, [], ◌++◌, length, take, drop, Option, Some, None, IfSome, refl, ap, sym, ◌∙◌, arith, append_assoc, length-append}
+use Rattle.std.proofs.Common.{◌≡◌, ℕ, ◌-◌, ◌<◌, ◌≤◌, List, [], ◌++◌, length, take, drop, Option, Some, None, IfSome, refl, ap, sym, ◌∙◌, arith, append_assoc, length-append}
 use Rattle.std.proofs.lemmas.List.{append-nil, take-append-drop, take_rest}
 use Rattle.std.specs.Io.KnownBytes.{Appends, Consumes, IsAtEnd}
+use Rattle.trace_session.specs.Devices.{ConsumesAtMost}
 
 pub Consumes_append : (a b c : Option (List ℕ)) (xs ys : List ℕ) → Consumes a b xs → Consumes b c ys → Consumes a c (xs ++ ys)
 Consumes_append None b c xs ys p q = tt
@@ -38,3 +39,8 @@ pub more_of_front : (text front rest : List ℕ) (n : ℕ) → text ≡ front ++
 more_of_front text front rest n e =
     e ∙ (ap (λ (xs : List ℕ). front ++ xs) (sym (take-append-drop n rest))
     ∙ (sym (append_assoc front (take n rest) (drop n rest)) ∙ ap (λ (xs : List ℕ). front ++ take n rest ++ xs) (sym (take_rest rest n))))
+
+-- what was consumed before, and as much more as is left
+pub ConsumesAtMost_append : (a b c : Option (List ℕ)) (xs : List ℕ) (most : ℕ) → Consumes a b xs → length xs ≤ most → ConsumesAtMost (most - length xs) b c
+    → ConsumesAtMost most a c
+ConsumesAtMost_append a b c xs most p h q = (xs ++ q.0, simp length-append (omega (arith, h, q.1)), Consumes_append a b c xs q.0 p q.2)

@@ -1,6 +1,6 @@
 //! What a session reads from and writes to. Contracts see the bytes, where a device tells them, and how many calls failed.
 
-ghost use Rattle.std.specs.Prelude.{◌≡◌, ℕ, List, Option};
+ghost use Rattle.std.specs.Prelude.{◌≡◌, ℕ, List, Option, length};
 ghost use Rattle.std.specs.Io.{ReadsAtMost, WritesAtMost};
 ghost use Rattle.std.specs.Io.KnownBytes.{ReadConsumes, WriteAppends};
 ghost use Rattle.trace_session.specs.Devices.{failures_after_read, failures_after_write};
@@ -28,14 +28,14 @@ pub trait Sink {
     /// The bytes that it holds, where they are known.
     ghost contents: { Self → Option (List ℕ) };
 
-    /// How many calls failed or took no byte.
+    /// How many calls failed, or took none of the bytes that they were offered.
     ghost failures: { Self → ℕ };
 
     /// Takes some bytes from the front of `buf`, and gives their number.
     fn write(&mut self, buf: &[u8]) -> io::Result<usize>
         ensures bound { WritesAtMost result buf.now }
         ensures bytes { WriteAppends (contents self.old) (contents self.new) result buf.now }
-        ensures failures { failures self.new ≡ failures_after_write (failures self.old) result };
+        ensures failures { failures self.new ≡ failures_after_write (length buf.now) (failures self.old) result };
 }
 
 /// A reader of std, and how many of its calls failed.
@@ -72,7 +72,7 @@ impl<R: Read> Source for Input<R> {
     }
 }
 
-/// A writer of std, and how many of its calls failed or took no byte.
+/// A writer of std, and how many of its calls failed or took none of the bytes that they were offered.
 #[derive(Drop)]
 pub struct Output<W> {
     pub device: W,
@@ -99,7 +99,11 @@ impl<W: Write> Sink for Output<W> {
 
     fn write(&mut self, buf: &[u8]) -> io::Result<usize> {
         let result = self.device.write(buf);
-        if !matches!(result, Ok(1..)) {
+        let is_failure = match result {
+            Ok(count) => count == 0 && !buf.is_empty(),
+            Err(_) => true,
+        };
+        if is_failure {
             self.failures = self.failures.saturating_add(1);
         }
         result

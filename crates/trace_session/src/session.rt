@@ -6,7 +6,7 @@ ghost use Rattle.std.specs.Option.{option_copied};
 ghost use Rattle.std.specs.Io.KnownBytes.{Appends, Consumes, IsAtEnd, Keeps};
 ghost use Rattle.trace_book.specs.Configs.{IsInRange};
 ghost use Rattle.trace_book.specs.History.{past_of};
-ghost use Rattle.trace_session.specs.Devices.{AppendsFront, AppendsWhole};
+ghost use Rattle.trace_session.specs.Devices.{AppendsFront, AppendsWhole, ConsumesAtMost, HasRisen};
 ghost use Rattle.trace_session.specs.Sessions.{lines_of, lines_left, bytes_left, turn_of, text_of, session, is_asked, status_of, IsWhole};
 
 use crate::device::{Sink, Source};
@@ -44,20 +44,27 @@ impl From<AllocError> for Stop {
     }
 }
 
-/// Appends what one read gives, and gives the number of its bytes.
+/// Appends what one read gives to a script that is not too long, and gives the number of its bytes. A script that would become too long
+/// is left as it was.
 fn read_more<R: Source>(
     reader: &mut R,
     chunk: &mut [u8],
     script: &mut Vec<u8>,
 ) -> Result<usize, Stop>
-    requires { 0 < length chunk.old }
+    requires room { 0 < length chunk.old }
+    requires short { length script.old.items ≤ MOST_SCRIPT_BYTES }
     ensures bytes { IfOk result (λ count. Consumes (R.remaining reader.old) (R.remaining reader.new) (take count chunk.new)
         × (script.new.items ≡ script.old.items ++ take count chunk.new) × (count ≤ length chunk.new)) }
     ensures end { IfOk result (λ count. count ≡ 0 → IsAtEnd (R.remaining reader.new)) }
+    ensures length { OnOk result (length script.new.items ≤ MOST_SCRIPT_BYTES) }
     ensures failures { OnOk result (R.failures reader.new ≡ R.failures reader.old) }
-    ensures device { IsErrOf result Stop.Device → 0 < R.failures reader.new }
+    ensures memory { IsErrOf result Stop.Memory → (R.failures reader.new ≡ R.failures reader.old)
+        × ConsumesAtMost (MOST_SCRIPT_BYTES - length script.old.items) (R.remaining reader.old) (R.remaining reader.new) }
+    ensures device { IsErrOf result Stop.Device → HasRisen (R.failures reader.old) (R.failures reader.new)
+        ⊎ IfSome (R.remaining reader.old) (λ bytes. MOST_SCRIPT_BYTES - length script.old.items < length bytes) }
 {
     match reader.read(chunk) {
+        Ok(count) if count > MOST_SCRIPT_BYTES - script.len() => Err(Stop::Device),
         Ok(count) => {
             script.extend_from_slice(&chunk[..count])?;
             Ok(count)
@@ -71,10 +78,13 @@ fn read_more<R: Source>(
 fn read_script<R: Source>(alloc: Global, reader: &mut R) -> Result<Vec<u8>, Stop>
     ensures script { IfOk result (λ script. IfSome (R.remaining reader.old) (λ bytes. script.items ≡ bytes)) }
     ensures end { OnOk result (IsAtEnd (R.remaining reader.new)) }
+    ensures consumed { IfOk result (λ script. Consumes (R.remaining reader.old) (R.remaining reader.new) script.items) }
     ensures length { IfOk result (λ script. length script.items ≤ MOST_SCRIPT_BYTES) }
     ensures failures { OnOk result (R.failures reader.new ≡ R.failures reader.old) }
-    ensures device { IsErrOf result Stop.Device
-        → (0 < R.failures reader.new) ⊎ IfSome (R.remaining reader.old) (λ bytes. MOST_SCRIPT_BYTES < length bytes) }
+    ensures memory { IsErrOf result Stop.Memory → (R.failures reader.new ≡ R.failures reader.old)
+        × ConsumesAtMost MOST_SCRIPT_BYTES (R.remaining reader.old) (R.remaining reader.new) }
+    ensures device { IsErrOf result Stop.Device → HasRisen (R.failures reader.old) (R.failures reader.new)
+        ⊎ IfSome (R.remaining reader.old) (λ bytes. MOST_SCRIPT_BYTES < length bytes) }
 {
     let mut script = Vec::new(alloc);
     let mut chunk = [0; CHUNK_BYTES];
@@ -82,20 +92,19 @@ fn read_script<R: Source>(alloc: Global, reader: &mut R) -> Result<Vec<u8>, Stop
         if read_more(reader, &mut chunk, &mut script)? == 0 {
             return Ok(script);
         }
-        if script.len() > MOST_SCRIPT_BYTES {
-            return Err(Stop::Device);
-        }
     }
-    Err(Stop::Device)
+    unreachable!()
 }
 
 /// Writes some bytes from the front of a text that isn't empty, and gives their number.
 fn write_some<W: Sink>(writer: &mut W, text: &[u8]) -> Result<usize, Stop>
+    requires { 0 < length text.now }
     ensures bytes { IfOk result (λ count. (0 < count) × (count ≤ length text.now)
         × Appends (W.contents writer.old) (W.contents writer.new) (take count text.now)) }
     ensures failures { OnOk result (W.failures writer.new ≡ W.failures writer.old) }
     ensures err { IsErrOf result Stop.Memory → ⊥ }
-    ensures failed { OnErr result ((0 < W.failures writer.new) × Appends (W.contents writer.old) (W.contents writer.new) []) }
+    ensures failed { OnErr result (HasRisen (W.failures writer.old) (W.failures writer.new)
+        × Appends (W.contents writer.old) (W.contents writer.new) []) }
 {
     match writer.write(text) {
         Ok(count) if count > 0 => Ok(count),
@@ -109,7 +118,7 @@ fn write_all<W: Sink>(writer: &mut W, text: &[u8]) -> Result<(), Stop>
     ensures bytes { OnOk result (Appends (W.contents writer.old) (W.contents writer.new) text.now) }
     ensures failures { OnOk result (W.failures writer.new ≡ W.failures writer.old) }
     ensures err { IsErrOf result Stop.Memory → ⊥ }
-    ensures failed { OnErr result ((0 < W.failures writer.new)
+    ensures failed { OnErr result (HasRisen (W.failures writer.old) (W.failures writer.new)
         × AppendsFront (W.contents writer.old) (W.contents writer.new) text.now) }
 {
     let mut rest = text;
@@ -214,7 +223,9 @@ fn turn<W: Sink>(
         (text_of number (turn_of book.old.config (past_of book.old.entries) line.now).outcome)) }
     ensures failures { OnOk result (W.failures writer.new ≡ W.failures writer.old) }
     ensures memory { IsErrOf result Stop.Memory → Appends (W.contents writer.old) (W.contents writer.new) [] }
-    ensures device { IsErrOf result Stop.Device → (0 < W.failures writer.new) × AppendsFront (W.contents writer.old) (W.contents writer.new)
+    ensures unfailed { IsErrOf result Stop.Memory → W.failures writer.new ≡ W.failures writer.old }
+    ensures device { IsErrOf result Stop.Device → HasRisen (W.failures writer.old) (W.failures writer.new)
+        × AppendsFront (W.contents writer.old) (W.contents writer.new)
         (text_of number (turn_of book.old.config (past_of book.old.entries) line.now).outcome) }
 {
     let outcome = outcome(alloc, book, next_ticket, line)?;
@@ -248,7 +259,8 @@ fn do_lines<W: Sink>(
     ensures whole { IfOk result IsWhole }
     ensures failures { OnOk result (W.failures writer.new ≡ W.failures writer.old) }
     ensures memory { IsErrOf result Stop.Memory → AppendsWhole (W.contents writer.old) (W.contents writer.new) (session book.config script.now).texts }
-    ensures device { IsErrOf result Stop.Device → (0 < W.failures writer.new)
+    ensures unfailed { IsErrOf result Stop.Memory → W.failures writer.new ≡ W.failures writer.old }
+    ensures device { IsErrOf result Stop.Device → HasRisen (W.failures writer.old) (W.failures writer.new)
         × AppendsFront (W.contents writer.old) (W.contents writer.new) (concat (session book.config script.now).texts) }
 {
     let mut rest = Some(script);
@@ -280,18 +292,24 @@ fn attempt<R: Source, W: Sink>(
         Appends (W.contents writer.old) (W.contents writer.new) (concat (session config script).texts))) }
     ensures whole { IfOk result IsWhole }
     ensures end { OnOk result (IsAtEnd (R.remaining reader.new)) }
+    ensures short { OnOk result (IfSome (R.remaining reader.old) (λ script. length script ≤ MOST_SCRIPT_BYTES)) }
     ensures reads { OnOk result (R.failures reader.new ≡ R.failures reader.old) }
     ensures writes { OnOk result (W.failures writer.new ≡ W.failures writer.old) }
     ensures memory { IsErrOf result Stop.Memory → IfSome (R.remaining reader.old) (λ script.
         AppendsWhole (W.contents writer.old) (W.contents writer.new) (session config script).texts) }
+    ensures unread { IsErrOf result Stop.Memory → R.failures reader.new ≡ R.failures reader.old }
+    ensures unfailed { IsErrOf result Stop.Memory → W.failures writer.new ≡ W.failures writer.old }
+    ensures consumed { IsErrOf result Stop.Memory
+        → ConsumesAtMost MOST_SCRIPT_BYTES (R.remaining reader.old) (R.remaining reader.new) }
     ensures device { IsErrOf result Stop.Device → IfSome (R.remaining reader.old) (λ script.
         AppendsFront (W.contents writer.old) (W.contents writer.new) (concat (session config script).texts)) }
-    ensures unwritten { IsErrOf result Stop.Device → W.failures writer.new ≡ 0
-        → Appends (W.contents writer.old) (W.contents writer.new) [] }
-    ensures only { IsErrOf result Stop.Device → (0 < R.failures reader.new) ⊎ (0 < W.failures writer.new)
+    ensures unwritten { IsErrOf result Stop.Device → HasRisen (W.failures writer.old) (W.failures writer.new)
+        ⊎ Appends (W.contents writer.old) (W.contents writer.new) [] }
+    ensures only { IsErrOf result Stop.Device → HasRisen (R.failures reader.old) (R.failures reader.new)
+        ⊎ HasRisen (W.failures writer.old) (W.failures writer.new)
         ⊎ IfSome (R.remaining reader.old) (λ script. MOST_SCRIPT_BYTES < length script) }
 {
-    // The configuration is in range, so a book is refused for want of memory alone.
+    // The configuration is in range, so a book is refused only where memory is.
     let Ok(book) = Book::new(alloc, config) else {
         return Err(Stop::Memory);
     };
@@ -301,8 +319,9 @@ fn attempt<R: Source, W: Sink>(
 
 /// A session on one thread: reads a script to its end, does its lines in turn over a new book, and writes what each gives.
 ///
-/// At the statuses `Done`, `Refused` and `Fault` the bytes and the status are those of the script's session. At `Memory` whole
-/// replies of it were written, and at `Device`, after a script of over 16,777,216 bytes or a read or a write that failed, a front.
+/// At the statuses `Done`, `Refused` and `Fault` the bytes and the status are those of the script's session. At `Memory` no call of a
+/// device failed, and the first replies of the session were written, each of them whole. At `Device` a read or a write failed or the script
+/// has over 16,777,216 bytes, and a prefix of the session was written: nothing, unless a write failed.
 pub fn run_session<R: Source, W: Sink>(
     alloc: Global,
     config: Config,
@@ -311,22 +330,30 @@ pub fn run_session<R: Source, W: Sink>(
 ) -> Status
     requires { IsInRange config }
 
-    // Without want of memory and without failures: the session of the bytes read.
+    // With memory and without failures: the session of the bytes read.
     ensures status { IsWhole result → IfSome (R.remaining reader.old) (λ script. result ≡ (session config script).status) }
     ensures bytes { IsWhole result → IfSome (R.remaining reader.old) (λ script.
         Appends (W.contents writer.old) (W.contents writer.new) (concat (session config script).texts)) }
     ensures end { IsWhole result → IsAtEnd (R.remaining reader.new) }
+    ensures short { IsWhole result → IfSome (R.remaining reader.old) (λ script. length script ≤ MOST_SCRIPT_BYTES) }
     ensures failures { IsWhole result
         → (R.failures reader.new ≡ R.failures reader.old) × (W.failures writer.new ≡ W.failures writer.old) }
 
-    // Otherwise.
+    // Out of memory: no device failed, and the script was not seen to be too long.
     ensures memory { result ≡ Status.Memory → IfSome (R.remaining reader.old) (λ script.
         AppendsWhole (W.contents writer.old) (W.contents writer.new) (session config script).texts) }
+    ensures unfailed { result ≡ Status.Memory
+        → (R.failures reader.new ≡ R.failures reader.old) × (W.failures writer.new ≡ W.failures writer.old) }
+    ensures consumed { result ≡ Status.Memory
+        → ConsumesAtMost MOST_SCRIPT_BYTES (R.remaining reader.old) (R.remaining reader.new) }
+
+    // A failure, or a script that is too long.
     ensures device { result ≡ Status.Device → IfSome (R.remaining reader.old) (λ script.
         AppendsFront (W.contents writer.old) (W.contents writer.new) (concat (session config script).texts)) }
-    ensures unwritten { result ≡ Status.Device → W.failures writer.new ≡ 0
-        → Appends (W.contents writer.old) (W.contents writer.new) [] }
-    ensures only { result ≡ Status.Device → (0 < R.failures reader.new) ⊎ (0 < W.failures writer.new)
+    ensures unwritten { result ≡ Status.Device → HasRisen (W.failures writer.old) (W.failures writer.new)
+        ⊎ Appends (W.contents writer.old) (W.contents writer.new) [] }
+    ensures only { result ≡ Status.Device → HasRisen (R.failures reader.old) (R.failures reader.new)
+        ⊎ HasRisen (W.failures writer.old) (W.failures writer.new)
         ⊎ IfSome (R.remaining reader.old) (λ script. MOST_SCRIPT_BYTES < length script) }
 {
     match attempt(alloc, config, reader, writer) {

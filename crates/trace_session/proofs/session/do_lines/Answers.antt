@@ -31,7 +31,7 @@ returns-in_err-line_status-clause-device g c h =
     let p = err_from_is_err_and c.from_residual.result c.from_residual.ensures.1 in
     let book = c.loop-rest.book in
     let failed = c.in_err-line_status.ensures.device (cc (h, p.1, p.2)) in (
-      failed.0,
+      rw c.loop-rest.invariant.unfailed at failed.0,
       at_device c.args.book.config c.args.script.now (contents c.args.writer.now) (contents c.loop-rest.writer) (contents c.turn.new.writer) (past_of book.entries) c.in-Some.text.now
           c.first_line.result.0.now (option_copied c.first_line.result.1) c.loop-rest.number c.loop-rest.status (rw c.in-Some.is at c.loop-rest.invariant.stands)
           c.first_line.ensures.lines (rw c.loop-rest.invariant.config at failed.1),
