@@ -52,7 +52,7 @@ fn pair(alloc: Global, word: &[u8]) -> Result<Pair, LineError>
 fn pairs(alloc: Global, tokens: &[Token]) -> Result<Pairs, LineError>
     ensures { Gives (λ pairs. pairs) result (or_fault WrongWords (pairs_of tokens.now)) }
 {
-    let mut pairs = Vec::new(alloc);
+    let mut pairs = Vec::with_capacity(alloc, tokens.len())?;
     for token in tokens {
         match token {
             Token::Word(word) => pairs.push(pair(alloc, word.as_bytes())?)?,

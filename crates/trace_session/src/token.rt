@@ -13,6 +13,9 @@ use std::mem;
 use trace_book::Text;
 use trace_format::is_blank;
 
+/// Room for the tokens of a usual line, so that their list seldom grows.
+const USUAL_TOKENS: usize = 8;
+
 /// What a line is cut into.
 #[derive(Debug, Drop)]
 pub(crate) enum Token {
@@ -64,17 +67,17 @@ struct Lexer {
 }
 
 impl Lexer {
-    fn new(alloc: Global) -> Lexer
-        ensures tokens { result.tokens.items ≡ [] }
-        ensures word { result.word.items ≡ [] }
-        ensures place { result.place ≡ Place.Between }
+    fn new(alloc: Global) -> Result<Lexer, AllocError>
+        ensures tokens { IfOk result (λ lexer. lexer.tokens.items ≡ []) }
+        ensures word { IfOk result (λ lexer. lexer.word.items ≡ []) }
+        ensures place { IfOk result (λ lexer. lexer.place ≡ Place.Between) }
     {
-        Lexer {
+        Ok(Lexer {
             alloc,
-            tokens: Vec::new(alloc),
+            tokens: Vec::with_capacity(alloc, USUAL_TOKENS)?,
             word: Vec::new(alloc),
             place: Place::Between,
-        }
+        })
     }
 
     /// Ends the word that is open.
@@ -155,7 +158,7 @@ impl Lexer {
 pub(crate) fn tokens(alloc: Global, line: &[u8]) -> Result<Vec<Token>, LineError>
     ensures { Gives (λ tokens. tokens.items) result (or_fault UnclosedQuote (tokens_of line.now)) }
 {
-    let mut lexer = Lexer::new(alloc);
+    let mut lexer = Lexer::new(alloc)?;
     for byte in line {
         lexer.step(*byte)?;
     }
