@@ -8,3 +8,4 @@ mod Stands
 mod Readings
 mod Greedy
 mod Losses
+mod Counts

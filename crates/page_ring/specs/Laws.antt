@@ -1,10 +1,12 @@
 -- The definitions once more, in the words of the subject.
-use Rattle.std.specs.Prelude.{◌≡◌, ◌≢◌, ◌↔◌, ℕ, ◌+◌, ◌<◌, ◌≤◌, Bool, true, false, List, [], ◌∷◌, ◌++◌, length, drop, take, map, count_by, All, Some, IsSomeAnd, slice_get, replicate}
+use Rattle.std.specs.Prelude.{◌≡◌, ◌≢◌, ◌↔◌, ℕ, ◌+◌, ◌<◌, ◌≤◌, Bool, true, false, not, ◌&&◌, List, [], ◌∷◌, ◌++◌, length, drop, take, map, filter, count_by, sum_by, All, Option, Some, IsSomeAnd, slice_get, replicate}
+use Rattle.std.specs.List.{range_with_len}
 use Rattle.page_ring.specs.declared.heads.Head.{Head}
+use Rattle.page_ring.specs.declared.rings.RingStats.{RingStats}
 use Rattle.page_ring.specs.Record.{head_of, timestamp}
 use Rattle.page_ring.specs.Events.{Event, Put, Take}
 use Rattle.page_ring.specs.Cut.{Accepted, cut, filled, last_page}
-use Rattle.page_ring.specs.Account.{Account, account, kept, is_taken, reader_page, readings_of, first, Reading}
+use Rattle.page_ring.specs.Account.{Account, account, accepts, kept, is_taken, reader_page, readings_of, stats_of, first, Reading}
 use Rattle.page_ring.specs.Shown.{Seen, StandsFor, offered}
 
 abbrev pub is_put : Event → Bool
@@ -119,3 +121,33 @@ abbrev pub KeptWerePut : Type 0
 KeptWerePut =
     (pages page_bytes : ℕ) (events : List Event) (test : List ℕ → Bool)
     → All (λ e. puts_pass test e ≡ true) events → All (λ k. test k.rec ≡ true) (readings_of pages page_bytes events)
+
+-- a record that was neither taken nor lost
+abbrev pub is_kept : Account → Accepted → Bool
+is_kept a r = not (is_taken a r) && not (a.lost r)
+
+-- of the accepted records, the statistics count those that are kept, those that are lost and those that were taken, and
+-- none was both taken and lost
+pub record CountsRecords (a : Account) (records : List Accepted) (stats : RingStats) : Type 0 where
+  pub entries : stats.entries ≡ count_by (is_kept a) records
+  pub bytes : stats.bytes ≡ sum_by (λ r. length r.bytes) (filter (is_kept a) records)
+  pub overrun : stats.overrun ≡ count_by a.lost records
+  pub read : stats.read ≡ count_by (is_taken a) records
+  pub apart : All (λ r. (is_taken a r && a.lost r) ≡ false) records
+
+abbrev pub CountsAreOfRecords : Type 0
+CountsAreOfRecords =
+    (pages page_bytes : ℕ) (events : List Event)
+    → let a = account pages page_bytes events in CountsRecords a (cut page_bytes a.accepted) (stats_of pages page_bytes events)
+
+-- the event is a put that is refused after the events before it
+abbrev pub is_refused : ℕ → ℕ → List Event → Option Event → Bool
+is_refused pages page_bytes before (Some (Put bytes overwrite)) = not (accepts pages page_bytes (account pages page_bytes before) bytes overwrite)
+is_refused pages page_bytes before _ = false
+
+-- dropped counts the places in the list of events where a put is refused
+abbrev pub DroppedAreRefused : Type 0
+DroppedAreRefused =
+    (pages page_bytes : ℕ) (events : List Event)
+    → (stats_of pages page_bytes events).dropped
+    ≡ count_by (λ i. is_refused pages page_bytes (take i events) (slice_get events i)) (range_with_len 0 (length events))

@@ -2,7 +2,7 @@
 //! function does nothing: its contract is a theorem.
 #![tactic(auto)]
 
-ghost use Rattle.page_ring.specs.Laws.{OfferedIsPuts, LostBySomePut, AcceptedAlways, AcceptedWithoutLoss, DroppedOnly, CutIsGreedy, LeastIsRead, LostIsBetween, ReadingsAreAhead, TakesLeaveTheRest, NothingToRead, TimestampIsHeads, KeptWerePut};
+ghost use Rattle.page_ring.specs.Laws.{OfferedIsPuts, LostBySomePut, AcceptedAlways, AcceptedWithoutLoss, DroppedOnly, CutIsGreedy, LeastIsRead, LostIsBetween, ReadingsAreAhead, TakesLeaveTheRest, NothingToRead, TimestampIsHeads, KeptWerePut, CountsAreOfRecords, DroppedAreRefused};
 
 /// A ring was offered as many records as were put since it was new or cleared.
 pub fn offered_is_puts()
@@ -46,4 +46,12 @@ pub fn timestamp_is_heads()
 /// What holds of each record that was put holds of each record that is kept.
 pub fn kept_were_put()
     ensures { KeptWerePut }
+{}
+
+/// The statistics count records: of the accepted ones those that are kept, those that are lost and
+/// those that were taken, and each accepted record is just one of these. `dropped` counts the puts
+/// that were refused.
+pub fn counts_are_of_records()
+    ensures records { CountsAreOfRecords }
+    ensures dropped { DroppedAreRefused }
 {}

@@ -1,6 +1,7 @@
-//! Worked rows on a ring of two pages of sixty-four bytes.
-ghost use Rattle.std.specs.Prelude.{◌≡◌, ℕ, ◌+◌, ◌-◌, ◌<◌, ◌≤◌, ◌^◌, length};
-ghost use Rattle.page_ring.specs.Record.{IsRecord};
+//! Worked rows on a ring of two pages of sixty-four bytes, and what no clause can say: that rings
+//! and records of each size are taken while there is memory.
+ghost use Rattle.std.specs.Prelude.{◌≡◌, ℕ, ◌+◌, ◌*◌, ◌/◌, ◌-◌, ◌<◌, ◌≤◌, ◌^◌, length};
+ghost use Rattle.page_ring.specs.Record.{IsRecord, record_size};
 ghost use Rattle.page_ring.specs.Shown.{offered};
 ghost use Rattle.page_ring.specs.Rows.{FiveEmissions, SevenEmissions, StatsAfterOverrun, ReadsAfterOverrun, StatsAfterReads, WriterGoesOn, WriterGoesOnWithoutOverwriting, BigIsDropped, SmallerIsKept, BigLosesPage};
 
@@ -56,9 +57,9 @@ fn write(ring: &mut Ring, rec: &[u8], overwrite: bool) -> Result<Put, AllocError
 // Writes the ticks of these times.
 fn write_ticks(ring: &mut Ring, from: u64, to: u64, overwrite: bool) -> Result<(), AllocError>
     requires order { from ≤ to }
-    requires page_bytes { ring.old.page_bytes ≡ 64 }
+    requires fits { 24 ≤ ring.old.page_bytes }
     requires few { offered ring.old + (to - from) < 2 ^ 32 }
-    ensures page_bytes { ring.new.page_bytes ≡ 64 }
+    ensures page_bytes { ring.new.page_bytes ≡ ring.old.page_bytes }
     ensures offered { offered ring.new ≤ offered ring.old + (to - from) }
 {
     for ts in from..to {
@@ -170,6 +171,88 @@ fn bytes_of_a_record(rt: HostRuntime) {
         &rec[..16],
         [5, 0, 0, 0, 0, 0, 0, 0, 7, 0, 0, 0, 1, 0, 8, 0].as_slice()
     );
+}
+
+// Each number of pages with each size of pages.
+#[test]
+fn rings_of_each_size(rt: HostRuntime) -> Result<(), Fail> {
+    for pages in 2..1025 {
+        for words in 8..511 {
+            let ring = Ring::new(rt.alloc(), pages, 8 * words)?;
+            assert_eq!(rt; ring.peek_ts(), None);
+        }
+    }
+    Ok(())
+}
+
+// Writes a record with a payload of so many bytes, written at this time.
+fn write_payload(
+    ring: &mut Ring,
+    buffer: &mut [u8],
+    payload: u16,
+    ts: u64,
+) -> Result<Put, AllocError>
+    requires payload { payload ≤ 4064 }
+    requires buffer { length buffer.old ≡ 4080 }
+    requires fits { ring.old.page_bytes ≡ 4080 }
+    requires few { offered ring.old < 2 ^ 32 }
+    ensures buffer { length buffer.new ≡ 4080 }
+    ensures page_bytes { ring.new.page_bytes ≡ 4080 }
+    ensures offered { offered ring.new ≤ offered ring.old + 1 }
+{
+    let size = 16 + 8 * ((payload as usize + 7) / 8);
+    let rec = &mut buffer[..size];
+    let head = Head {
+        ts,
+        pid: 7,
+        event: 3,
+        payload,
+    };
+    write_head(head, rec);
+    write(ring, rec, true)
+}
+
+// A record of each payload, up to the longest one.
+#[test]
+fn records_of_each_size(rt: HostRuntime) -> Result<(), Fail> {
+    let mut buffer = vec![in rt.alloc(); 0; 4080]?;
+    for payload in 0..4065 {
+        let mut ring = Ring::new(rt.alloc(), 1024, 4080)?;
+        assert_eq!(rt;
+            write_payload(&mut ring, &mut buffer, payload, 9)?,
+            Put::Kept
+        );
+        assert_eq!(rt; ring.peek_ts(), Some(9));
+    }
+    Ok(())
+}
+
+// 1,024 pages of 4,080 bytes: 1,024 of the longest records fill them, and one more costs one.
+#[test]
+fn most_pages(rt: HostRuntime) -> Result<(), Fail> {
+    let mut buffer = vec![in rt.alloc(); 0; 4080]?;
+    let mut ring = Ring::new(rt.alloc(), 1024, 4080)?;
+    for ts in 1..1025 {
+        assert_eq!(rt; write_payload(&mut ring, &mut buffer, 4064, ts)?, Put::Kept);
+    }
+    assert_eq!(rt; ring.stats(), stats(1024, 0, 4_177_920, 1, 0, 0));
+    assert_eq!(rt;
+        write_payload(&mut ring, &mut buffer, 4064, 1025)?,
+        Put::KeptLosing(1)
+    );
+    assert_eq!(rt; ring.stats(), stats(1024, 1, 4_177_920, 2, 0, 0));
+    Ok(())
+}
+
+// The same pages of 170 records of 24 bytes each: 174,080 fill them, and one more costs 170.
+#[test]
+fn most_records(rt: HostRuntime) -> Result<(), Fail> {
+    let mut ring = Ring::new(rt.alloc(), 1024, 4080)?;
+    write_ticks(&mut ring, 1, 174_081, true)?;
+    assert_eq!(rt; ring.stats(), stats(174_080, 0, 4_177_920, 1, 0, 0));
+    write_ticks(&mut ring, 174_081, 174_082, true)?;
+    assert_eq!(rt; ring.stats(), stats(173_911, 170, 4_173_864, 171, 0, 0));
+    Ok(())
 }
 
 fn stats(
