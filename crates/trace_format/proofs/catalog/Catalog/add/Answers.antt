@@ -8,7 +8,7 @@ invariant_of-self-2 c =
     put_catalog (record {
       is = c.self.invariant;
       view = c.self.view_is;
-      next = id_for_next c.args.self.now c.args.def c.args.page_bytes c.in_ok-id.id (sym c.next_id.ensures ∙ c.in_ok-id.was);
+      next = id_for_next c.args.self.now c.args.def _ c.in_ok-id.id (sym c.next_id.ensures ∙ c.in_ok-id.was);
       named = c.in_ok-name.ensures.items ∙ c.name.ensures;
       put = c.in_ok-insert.ensures.entries;
     }) (subst IsDefinition c.def.view_is c.def.invariant)
@@ -18,7 +18,7 @@ returns-clause-ok c =
     put_events (record {
       is = c.self.invariant;
       view = c.self.view_is;
-      next = id_for_next c.args.self.now c.args.def c.args.page_bytes c.in_ok-id.id (sym c.next_id.ensures ∙ c.in_ok-id.was);
+      next = id_for_next c.args.self.now c.args.def _ c.in_ok-id.id (sym c.next_id.ensures ∙ c.in_ok-id.was);
       named = c.in_ok-name.ensures.items ∙ c.name.ensures;
       put = c.in_ok-insert.ensures.entries;
     })
