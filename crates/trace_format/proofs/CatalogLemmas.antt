@@ -6,6 +6,7 @@ use Rattle.std.proofs.lemmas.Bool.{cond-true, cond-false, cases_lt, true≢false
 use Rattle.std.proofs.lemmas.Bool.Decides.{nat_tests}
 use Rattle.std.proofs.lemmas.Slice.Eq.{bytes_eq-Decides}
 use Rattle.std.specs.Map.{lookup}
+use Rattle.indexmap.specs.IndexMap.{insert_entry}
 use Rattle.indexmap.proofs.MapLemmas.{some_index}
 use Rattle.trace_format.specs.Definitions.{Definition, IsDefinition}
 use Rattle.trace_format.specs.declared.fault.CatalogFault.{CatalogFault}
@@ -101,6 +102,42 @@ id_for_next events definition page_bytes id h =
       few = let no = wide.0 in grind (arith, nat_tests);
       room = let no = full.0 in grind (arith, nat_tests);
     }
+
+-- an entry whose key is new goes last
+insert_last : (entries : List Entry) (key : Vec ℕ Global) (event : Definition) → lookup (λ (k : Vec ℕ Global). bytes_eq key.items k.items) entries ≡ None
+    → insert_entry (λ (a b : Vec ℕ Global). bytes_eq a.items b.items) entries key event ≡ entries ++ (key, event) ∷ []
+insert_last [] key event none = refl
+insert_last (entry ∷ entries) key event none = by (bytes_eq key.items entry.0.items) none (insert_last entries key event)
+  where
+    by : (here : Bool) → cond here (Some entry.1) (lookup (λ (k : Vec ℕ Global). bytes_eq key.items k.items) entries) ≡ None
+        → (lookup (λ (k : Vec ℕ Global). bytes_eq key.items k.items) entries ≡ None → insert_entry (λ (a b : Vec ℕ Global). bytes_eq a.items b.items) entries key event ≡ entries ++ (key, event) ∷ [])
+        → (if here then (entry.0, event) ∷ entries else entry ∷ insert_entry (λ (a b : Vec ℕ Global). bytes_eq a.items b.items) entries key event) ≡ entry ∷ (entries ++ (key, event) ∷ [])
+    by true h others = absurd (cc)
+    by false h others = ap (λ (es : List Entry). entry ∷ es) (others h)
+
+-- a table before and after an event that got a number was put into it under its name
+pub record IsPut (before after : List Entry) (events : List Definition) (key : Vec ℕ Global) (event : Definition) : Type 0 where
+  pub is : IsCatalog before
+  pub view : events_of before ≡ events
+  pub next : IsNext events event
+  pub named : key.items ≡ event.name
+  pub put : after ≡ insert_entry (λ (a b : Vec ℕ Global). bytes_eq a.items b.items) before key event
+
+module _ {before after : List Entry} {events : List Definition} {key : Vec ℕ Global} {event : Definition} (p : IsPut before after events key event) where
+  next_in : IsNext (events_of before) event
+  next_in = subst (λ (es : List Definition). IsNext es event) (sym p.view) p.next
+
+  put_last : after ≡ before ++ (key, event) ∷ []
+  put_last = p.put ∙ insert_last before key event (no_key before key event.name p.is.named p.named next_in.new)
+
+  -- it is a catalog's table, with the event behind the others
+  pub put_catalog : IsDefinition event → IsCatalog after
+  put_catalog defined =
+      subst (λ (es : List Entry). IsCatalog es) (sym put_last)
+      (one_more before key event p.is (subst (λ n. n < 64) (length-map before (λ (e : Entry). e.1)) next_in.room) p.named (new_event (events_of before) event defined next_in.few next_in.new))
+
+  pub put_events : events_of after ≡ events ++ event ∷ []
+  put_events = ap (λ (es : List Entry). events_of es) put_last ∙ events-push before key event ∙ ap (λ (es : List Definition). es ++ event ∷ []) p.view
 
 -- ---- places of names
 

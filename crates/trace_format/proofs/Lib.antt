@@ -1,3 +1,4 @@
+pub mod BlankLemmas
 pub mod BuildLemmas
 pub mod CatalogLemmas
 pub mod FieldNames

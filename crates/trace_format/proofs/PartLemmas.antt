@@ -1,13 +1,14 @@
 -- The words that are found in a text byte by byte are those of the parts that it is written of.
-use Rattle.std.proofs.Common.{◌≡◌, ◌↔◌, ℕ, Bool, ◌+◌, ◌<◌, ◌||◌, ◌==◌, not, true, false, List, [], ◌∷◌, ◌++◌, length, take, drop, flat_map, refl, sym, ap, ◌∙◌, subst, one-add, arith}
+use Rattle.std.proofs.Common.{◌≡◌, ◌↔◌, ℕ, Bool, ◌+◌, ◌<◌, ◌||◌, ◌==◌, not, true, false, List, [], ◌∷◌, ◌++◌, length, take, drop, flat_map, refl, sym, ap, ◌∙◌, subst, arith}
 use Rattle.std.proofs.Math.Seq.{take-append_seam, drop-append_seam}
 use Rattle.std.proofs.lemmas.Bool.{cond-true, cond-false, eqb-true}
 use Rattle.std.proofs.lemmas.List.{length-append}
 use Rattle.std.proofs.lemmas.List.Elements.{All-nil, All-cons, All-head, All-tail}
-use Rattle.std.specs.List.{prefix_len, AllPass}
+use Rattle.std.specs.List.{AllPass}
 use Rattle.trace_format.specs.Blanks.{is_blank}
 use Rattle.trace_format.specs.Words.{Spot, is_word_byte, semicolon, more_of, spots_from, spots_of}
 use Rattle.trace_format.specs.WordParts.{Part, Blank, Semicolon, Word, MayPrecede, AreParts, part_text, parts_spots, IsWritten}
+use Rattle.trace_format.proofs.Lists.{BeginsNot, run_ends}
 use Rattle.trace_format.proofs.WordLemmas.{skipped}
 
 -- ---- what is written is found
@@ -16,24 +17,12 @@ use Rattle.trace_format.proofs.WordLemmas.{skipped}
 abbrev IsWordByte : ℕ → Type 0
 IsWordByte b = is_word_byte b ≡ true
 
--- no word goes on with these bytes
-abbrev BeginsNoWord : List ℕ → Type 0
-BeginsNoWord [] = Unit {0}
-BeginsNoWord (b ∷ bs) = is_word_byte b ≡ false
-
 -- what may stand behind a word begins no word
-behind_word : (bytes : List ℕ) (parts : List Part) → AreParts parts → MayPrecede (Word bytes) parts → BeginsNoWord (flat_map part_text parts)
+behind_word : (bytes : List ℕ) (parts : List Part) → AreParts parts → MayPrecede (Word bytes) parts → BeginsNot is_word_byte (flat_map part_text parts)
 behind_word bytes [] are may = tt
 behind_word bytes (Blank byte ∷ parts) are may = ap (λ t. not (t || (byte == 59))) are.0
 behind_word bytes (Semicolon ∷ parts) are may = refl
 behind_word bytes (Word others ∷ parts) are may = absurd may
-
--- a run of bytes of a word ends with them
-run_ends : (bytes rest : List ℕ) → AllPass is_word_byte bytes → BeginsNoWord rest → prefix_len is_word_byte (bytes ++ rest) ≡ length bytes
-run_ends [] [] all none = refl
-run_ends [] (b ∷ rest) all none = cond-false (is_word_byte b) _ 0 none
-run_ends (b ∷ bytes) rest all none =
-    cond-true (is_word_byte b) _ 0 (All-head IsWordByte b bytes all) ∙ ap (λ n. 1 + n) (run_ends bytes rest (All-tail IsWordByte b bytes all) none) ∙ one-add (length bytes)
 
 -- a byte of a word is no blank and no `;`
 word_byte : (b : ℕ) → is_word_byte b ≡ true → (is_blank b ≡ false) × ((b == 59) ≡ false)
@@ -45,12 +34,12 @@ word_byte b h = by (is_blank b) (b == 59) h
     by false false h = (refl, refl)
 
 -- a word at the front of a text is its first
-word_found : (before bytes rest : List ℕ) → 0 < length bytes → AllPass is_word_byte bytes → BeginsNoWord rest
+word_found : (before bytes rest : List ℕ) → 0 < length bytes → AllPass is_word_byte bytes → BeginsNot is_word_byte rest
     → spots_from 0 (length before) (bytes ++ rest) ≡ record { at = length before; word = bytes } ∷ spots_from 0 (length (before ++ bytes)) rest
 word_found before [] rest some all none = absurd (omega (arith, some))
 word_found before (b ∷ bytes) rest some all none =
     let passes : is_word_byte b ≡ true = All-head IsWordByte b bytes all in
-    let more : more_of b (bytes ++ rest) ≡ length bytes = cond-false _ _ _ (word_byte b passes).1 ∙ run_ends bytes rest (All-tail IsWordByte b bytes all) none in
+    let more : more_of b (bytes ++ rest) ≡ length bytes = cond-false _ _ _ (word_byte b passes).1 ∙ run_ends is_word_byte bytes rest (All-tail IsWordByte b bytes all) none in
     let at = length before in
     let place : at + 1 + length bytes ≡ length (before ++ b ∷ bytes) = omega (arith, length-append before (b ∷ bytes)) in
     let word : take (more_of b (bytes ++ rest)) (bytes ++ rest) ≡ bytes = ap (λ n. take n (bytes ++ rest)) more ∙ take-append_seam bytes rest in

@@ -246,3 +246,66 @@ fn numbers(rt: HostRuntime) -> Result<(), Fail> {
     }
     Ok(())
 }
+
+/// A declaration of an event with the largest record: 16 texts of 64 bytes. All names have 32 bytes; so many blanks follow the event's.
+fn largest_declaration(alloc: Global, number: u16, blanks: usize) -> Result<String, Fail> {
+    let blanks = " ".repeat(alloc, blanks)?;
+    let mut text = format!(in alloc; "event_with_the_largest_row_{number:05}{blanks}")?;
+    for field in 0..16u16 {
+        write!(text, " char field_of_the_largest_event_{field:05}[64];")?;
+    }
+    Ok(text)
+}
+
+#[test]
+fn long_declarations(rt: HostRuntime) -> Result<(), Fail> {
+    for (blanks, len) in [(0, 720), (1_329, 2_049), (3_376, 4_096)] {
+        let text = largest_declaration(rt.alloc(), 1, blanks)?;
+        assert_eq!(rt; text.len(), len);
+        let def = EventDef::parse(rt.alloc(), text.as_bytes())?;
+        assert_eq!(rt; def.fields().len(), 16);
+    }
+    Ok(())
+}
+
+/// Adds 64 events with the largest record to a catalog of pages of so many bytes.
+fn fill_catalog(rt: &impl Abort, alloc: Global, page_bytes: usize) -> Result<(), Fail> {
+    let mut catalog = Catalog::new(alloc);
+    for number in 1..65u16 {
+        let text = largest_declaration(alloc, number, 0)?;
+        let def = EventDef::parse(alloc, text.as_bytes())?;
+        let id = catalog.add(def, page_bytes)?;
+        assert_eq!(rt; id, number);
+    }
+    Ok(())
+}
+
+#[test]
+fn catalogs_of_large_pages(rt: HostRuntime) -> Result<(), Fail> {
+    for page_bytes in [1_040, 4_080, usize::MAX] {
+        fill_catalog(&rt, rt.alloc(), page_bytes)?;
+    }
+    Ok(())
+}
+
+#[test]
+fn largest_row(rt: HostRuntime) -> Result<(), Fail> {
+    let declaration = largest_declaration(rt.alloc(), 1, 0)?;
+    let value = "~".repeat(rt.alloc(), 63)?;
+    let mut pairs = format!(in rt.alloc(); "field_of_the_largest_event_00000={value}")?;
+    for field in 1..16u16 {
+        write!(pairs, ",field_of_the_largest_event_{field:05}={value}")?;
+    }
+    let found = payload(&rt, rt.alloc(), declaration.as_str(), pairs.as_str())?;
+    let field = format!(in rt.alloc(); "{}00", "7e".repeat(rt.alloc(), 63)?)?;
+    assert_eq!(rt; found, field.repeat(rt.alloc(), 16)?);
+    Ok(())
+}
+
+#[test]
+fn long_number(rt: HostRuntime) -> Result<(), Fail> {
+    let pairs = format!(in rt.alloc(); "f=0x{}ff", "0".repeat(rt.alloc(), 4_092)?)?;
+    let found = payload(&rt, rt.alloc(), "e u16 f", pairs.as_str())?;
+    assert_eq!(rt; found.as_str(), "ff00");
+    Ok(())
+}
