@@ -8,6 +8,7 @@ pub mod GlobLemmas
 pub mod Ends
 pub mod EndBlanks
 pub mod GlobGrammarLaws
+pub mod ClassGrammarLaws
 pub mod TokenGrammarLaws
 pub mod RowLemmas
 pub mod Depths

@@ -9,8 +9,9 @@ use Rattle.trace_filter.specs.Tokens.{Token, Spot, spots_of, tokens_of, shifted_
 use Rattle.trace_filter.specs.TokenGrammar.{IsWrittenText}
 use Rattle.trace_filter.specs.Grammar.{Expr, Spells, depth_of, depth}
 use Rattle.trace_filter.specs.Fits.{tests_of, EachTestFits, test_places, IsFirstMisfit}
-use Rattle.trace_filter.specs.Globs.{Part, parts_of}
+use Rattle.trace_filter.specs.Globs.{Class, is_in_class, Part, parts_of}
 use Rattle.trace_filter.specs.GlobGrammar.{IsWrittenGlob}
+use Rattle.trace_filter.specs.ClassGrammar.{Member, AreWrittenOf, ClassHolds}
 use Rattle.trace_filter.specs.Truth.{Emission}
 use Rattle.trace_filter.specs.Filters.{IsShort, misfit_of, IsFilter, IsRefused, Passes, parsed_of, answer_of}
 use Rattle.trace_filter.specs.Values.{holds_of}
@@ -53,6 +54,18 @@ TokensAreAsWritten = (text : List ℕ) → (spots : List Spot) → IsWrittenText
 -- a pattern can be written of pieces that mean these parts exactly where they are those that `parts_of` finds
 abbrev pub GlobsAreAsWritten : Type 0
 GlobsAreAsWritten = (pattern : List ℕ) → (parts : List Part) → IsWrittenGlob pattern parts ↔ (parts ≡ parts_of pattern)
+
+-- any bytes can be written of the members of a class
+abbrev pub ClassIsWritten : Type 0
+ClassIsWritten = (bytes : List ℕ) → (members : List Member) × AreWrittenOf bytes members
+
+-- and of one list of them only
+abbrev pub OneListOfMembers : Type 0
+OneListOfMembers = (bytes : List ℕ) → (one other : List Member) → AreWrittenOf bytes one → AreWrittenOf bytes other → one ≡ other
+
+-- a byte is in a class exactly where one of the members of which the class is written has it, and in a negated class where none has
+abbrev pub ClassHoldsAsWritten : Type 0
+ClassHoldsAsWritten = (class : Class) → (b : ℕ) → IsTrue (is_in_class class b) ↔ ClassHolds class b
 
 -- a text without the blanks at both ends has the tokens of the text as written, each earlier by the blanks that the text begins with
 abbrev pub TrimmedHasTheTokens : Type 0

@@ -4,6 +4,7 @@ pub mod Syntax
 pub mod Seen
 pub mod Globs
 pub mod GlobGrammar
+pub mod ClassGrammar
 pub mod TokenGrammar
 pub mod Marks
 pub mod SeenGlobs

@@ -1,6 +1,6 @@
 //! What the definitions of the contracts mean. Each function does nothing: its contract is a theorem.
 
-ghost use Rattle.trace_filter.specs.Laws.{FilterIsAnswered, RefusalIsAnswered, FilterOrRefused, NeverBoth, OneRefusal, FilterIsItsTree, TokensAreAsWritten, GlobsAreAsWritten, TrimmedHasTheTokens, TrimmedIsTheFilter, TrimmedPassesTheSame, NothingIsLeftToTrim, HoldsAsItsTree, DepthIsOfTheTree, OneTree, FitsAsItsTree, MisfitIsTheFirst};
+ghost use Rattle.trace_filter.specs.Laws.{FilterIsAnswered, RefusalIsAnswered, FilterOrRefused, NeverBoth, OneRefusal, FilterIsItsTree, TokensAreAsWritten, GlobsAreAsWritten, ClassIsWritten, OneListOfMembers, ClassHoldsAsWritten, TrimmedHasTheTokens, TrimmedIsTheFilter, TrimmedPassesTheSame, NothingIsLeftToTrim, HoldsAsItsTree, DepthIsOfTheTree, OneTree, FitsAsItsTree, MisfitIsTheFirst};
 
 /// What the function `answer_of` gives is a filter for just the texts that are one, and a fault for just those that are refused for it. Each
 /// text is one or the other, not both, and is refused for one fault at most. A text is a filter exactly where it is short and its tokens spell a
@@ -24,6 +24,14 @@ pub fn tokens_are_as_written()
 /// these mean.
 pub fn globs_are_as_written()
     ensures { GlobsAreAsWritten }
+{}
+
+/// The bytes between the brackets of a class can be written of single bytes and ranges in one way, and only in one. The class holds the bytes
+/// that these have, and a negated one all others.
+pub fn classes_are_as_written()
+    ensures written { ClassIsWritten }
+    ensures unique { OneListOfMembers }
+    ensures holds { ClassHoldsAsWritten }
 {}
 
 /// A text without the blanks at both ends has the tokens of the text as written, at shifted places, so it is the same filter.

@@ -160,3 +160,47 @@ fn parentheses(rt: HostRuntime) -> Result<(), Fail> {
     assert_eq!(rt; found.as_str(), "TooMany");
     Ok(())
 }
+
+/// A filter in so many `(`, with so many times two tests before its last one, and so many blanks at the end of what is in the `(`. It passes
+/// a row whose `n` is 1 or 7.
+fn nested(alloc: Global, depth: usize, pairs: usize, blanks: usize) -> Result<String, Fail> {
+    let mut text = String::new(alloc);
+    for _ in 0..depth {
+        text.push('(')?;
+    }
+    for _ in 0..pairs {
+        text.push_str("n==1&&n>0||")?;
+    }
+    text.push_str("n==7")?;
+    for _ in 0..blanks {
+        text.push(' ')?;
+    }
+    for _ in 0..depth {
+        text.push(')')?;
+    }
+    Ok(text)
+}
+
+/// How a filter is nested, how many times two tests it has, its blanks and its bytes: one of 41 steps, one in the middle, and the longest that
+/// is also the deepest.
+const NESTED: [(usize, usize, usize, usize); 3] = [
+    (0, 10, 0, 114),
+    (4, 40, 1, 453),
+    (16, 89, 9, 1024),
+];
+
+#[test]
+fn many_tests(rt: HostRuntime) -> Result<(), Fail> {
+    let def = EventDef::parse(rt.alloc(), b"tick u64 n")?;
+    for (depth, pairs, blanks, size) in NESTED {
+        let text = nested(rt.alloc(), depth, pairs, blanks)?;
+        assert!(rt; applies_to(rt.alloc(), text.as_bytes(), &def)?);
+        let filter = Filter::parse(rt.alloc(), text.as_bytes(), &def)?;
+        assert_eq!(rt; filter.text().len(), size);
+        for (pairs, want) in [("n=1", true), ("n=2", false), ("n=7", true)] {
+            let row = row(rt.alloc(), &def, pairs)?;
+            assert_eq!(rt; filter.passes(&row, 0, 1), want, "at {pairs} of {text}");
+        }
+    }
+    Ok(())
+}

@@ -9,6 +9,8 @@ mod declaration;
 mod field;
 mod format;
 pub mod laws;
+#[cfg(test)]
+mod limits;
 mod record;
 mod stats;
 #[cfg(test)]
