@@ -73,6 +73,7 @@ pub record IsMet {E : Type 0} (ticket by : E → ℕ) (v w met : View E) : Type 
   pub end : met.end ≡ w.end
   pub base : met.base ≡ v.base
   pub front : (v.front ≤ met.front) × (w.front ≤ met.front)
+  pub bounded : met.front ≤ 2 ^ 63
   pub seen : met.seen ≡ longer_of v.seen w.seen
   pub first : Continues by v.low v.end v.seen met.seen
   pub second : Continues by w.low w.end w.seen met.seen
