@@ -66,7 +66,7 @@ pub record AreHalves {E : Type 0} (v lower upper : View E) : Type 0 where
   pub base : (lower.base ≡ v.base) × (upper.base ≡ v.base)
   pub front : (lower.front ≡ v.front) × (upper.front ≡ v.front)
 
--- Two passes that met: the joined one has the names of both, has seen the more of the two, and knows of no fewer tickets than either.
+-- Two passes that met: the joined one has the names of both, has seen the more of the two, and knows of no fewer tickets than either. At most 2^63 are drawn.
 -- What either had seen is the beginning of it, and what stands in it under the names of either is that one's own.
 pub record IsMet {E : Type 0} (ticket by : E → ℕ) (v w met : View E) : Type 0 where
   pub low : met.low ≡ v.low
