@@ -66,13 +66,14 @@ pub record AreHalves {E : Type 0} (v lower upper : View E) : Type 0 where
   pub base : (lower.base ≡ v.base) × (upper.base ≡ v.base)
   pub front : (lower.front ≡ v.front) × (upper.front ≡ v.front)
 
--- Two passes that met: the joined one has the names of both, has seen the more of the two, and knows of no fewer tickets than either.
+-- Two passes that met: the joined one has the names of both, has seen the more of the two, and knows of no fewer tickets than either. At most 2^63 are drawn.
 -- What either had seen is the beginning of it, and what stands in it under the names of either is that one's own.
 pub record IsMet {E : Type 0} (ticket by : E → ℕ) (v w met : View E) : Type 0 where
   pub low : met.low ≡ v.low
   pub end : met.end ≡ w.end
   pub base : met.base ≡ v.base
   pub front : (v.front ≤ met.front) × (w.front ≤ met.front)
+  pub bounded : met.front ≤ 2 ^ 63
   pub seen : met.seen ≡ longer_of v.seen w.seen
   pub first : Continues by v.low v.end v.seen met.seen
   pub second : Continues by w.low w.end w.seen met.seen

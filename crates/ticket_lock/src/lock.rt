@@ -10,10 +10,10 @@ use crate::views::{Opening, View};
 use atomic_table::{Refused, Seat, Table};
 use crossbeam_utils::Backoff;
 use std::alloc::{AllocFailed, Global};
+use std::fmt;
 use std::fmt::{Debug, Formatter};
 use std::snapshot::Snapshot;
 use std::sync::Wait;
-use std::{fmt, thread};
 
 // The word with the number of tickets drawn: the next ticket.
 const NEXT: usize = 0;
@@ -26,9 +26,6 @@ const SLOT: usize = 0;
 
 // The number of callers.
 const CALLERS: u32 = 65536;
-
-// How far its ticket is from the one that is served, for the next in line.
-const NEAR: u64 = 1;
 
 // No ticket is drawn from here on.
 const LAST: u64 = 1 << 63;
@@ -52,15 +49,6 @@ fn only<T>(mut slots: Vec<Option<T>>) -> T
         unreachable!()
     };
     value
-}
-
-// Waits a little. The next in line looks again soon, and each other gives way to the threads that go before it.
-fn stand_by(backoff: &Backoff, distance: u64) {
-    if distance > NEAR {
-        thread::yield_now();
-    } else {
-        backoff.snooze();
-    }
 }
 
 impl<T: Logged> TicketLock<T> {
@@ -157,7 +145,8 @@ impl<T: Logged> TicketLock<T> {
         Pass { seat, low, end }
     }
 
-    /// Draws a ticket and waits until it is served. The pass comes back where all tickets are drawn.
+    /// Waits until nobody is in line, draws a ticket, and takes the value once that ticket is served. The pass comes back
+    /// where all tickets are drawn.
     pub fn acquire<R: Wait>(&self, rt: &R, pass: Pass<T>) -> Result<Held<T>, Worn<T>>
         requires { IsOf self.now pass }
         ensures of { MatchResult result (λ h. IsTurnOf self.now h) (λ w. IsOf self.now w.pass) }
@@ -184,6 +173,9 @@ impl<T: Logged> TicketLock<T> {
     }
 
     // Draws the next ticket, where one is left.
+    //
+    // It waits before it draws, until nobody is in line. A drawn ticket fixes who goes next, so a thread that waits with a
+    // ticket and isn't running stops all others. One that waits without a ticket stops nobody.
     fn draw<R: Wait>(&self, rt: &R, seat: &mut Seat<Option<T>, View<T::Entry>>) -> Option<u64>
         requires of { seat.old.table_id ≡ self.now.table.shared.table_id }
         requires idle { seat.old.me.0.stage ≡ Idle }
@@ -197,6 +189,11 @@ impl<T: Logged> TicketLock<T> {
         for _ in rt.forever() {
             if next >= LAST {
                 return None;
+            }
+            if self.table.shared.peek(SERVING) < next {
+                backoff.snooze();
+                next = self.table.shared.load::<Looks<T>>(seat, NEXT);
+                continue;
             }
             let found = self
                 .table
@@ -229,7 +226,7 @@ impl<T: Logged> TicketLock<T> {
                 let Some(value) = slot else { unreachable!() };
                 return value;
             }
-            stand_by(&backoff, ticket - served);
+            backoff.snooze();
         }
         unreachable!()
     }

@@ -1,5 +1,5 @@
 //! The right to ask.
-ghost use Rattle.std.specs.Prelude.{◌≡◌, ◌<◌, true, length};
+ghost use Rattle.std.specs.Prelude.{◌≡◌, ◌<◌, ◌≤◌, ◌^◌, true, length};
 ghost use Rattle.ticket_lock.specs.Views.{is_idle};
 
 use crate::entries::Logged;
@@ -21,6 +21,7 @@ pub struct Pass<T: Logged> {
     ghost named: { low < end },
     ghost idle: { is_idle seat.me.0.stage ≡ true },
     ghost empty_handed: { length seat.me.1 ≡ 0 },
+    pub ghost bounded: { seat.me.0.front ≤ 2 ^ 63 },
 }
 
 impl<T: Logged> Pass<T> {

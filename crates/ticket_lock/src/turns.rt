@@ -1,5 +1,5 @@
 //! A turn of a pass, in which it has the value.
-ghost use Rattle.std.specs.Prelude.{◌≡◌, ◌<◌, ◌^◌, true};
+ghost use Rattle.std.specs.Prelude.{◌≡◌, ◌<◌, ◌≤◌, ◌^◌, true};
 ghost use Rattle.std.specs.Borrow.{sem};
 ghost use Rattle.ticket_lock.specs.Views.{is_holding, is_blank};
 
@@ -21,6 +21,7 @@ pub struct Turn<T: Logged> {
     ghost holding: { is_holding ticket seat.me.0.stage ≡ true },
     ghost blank: { is_blank seat.me.1 ≡ true },
     ghost few: { ticket < 2 ^ 63 },
+    ghost bounded: { seat.me.0.front ≤ 2 ^ 63 },
 }
 
 /// The value, for as long as the pass's ticket is served. It has to be given to `TicketLock::release`: it cannot be dropped.
