@@ -1,6 +1,5 @@
 -- What the words of the answers mean in legal histories. The newest entry stands first.
-use Rattle.std.specs.Prelude.{◌≡◌, ◌↔◌, ℕ, ◌+◌, ℤ, FitsSigned, IsTrue, true, List, ◌∷◌, ◌++◌, length, All, Option, Some, Ok}
-use Rattle.std.specs.Int.{w32}
+use Rattle.std.specs.Prelude.{◌≡◌, ◌↔◌, ℕ, ◌+◌, ℤ, IsTrue, true, List, ◌∷◌, ◌++◌, length, All, Option, Some, Ok}
 use Rattle.page_ring.specs.Account.{Reading, readings_of}
 use Rattle.trace_filter.specs.Filters.{IsFilter, Passes}
 use Rattle.trace_format.specs.Cells.{Cells, IsRowOf, payload_of}
@@ -32,23 +31,23 @@ FiltersHoldAsTheirTrees =
     → IsRowOf k.event row
     → IsTrue (filter_holds k.event (Some text) row cpu pid) ↔ Passes k.event text (record { values = row.values; cpu = cpu; pid = pid })
 
--- the line of an emission's record shows the row that was emitted, whatever is done later. With numbers in range, as a book's are, and the
--- process's number in 32 bits, each number of the record's head fits its place.
+-- the line of an emission's record shows the row that was emitted, then and whatever is done later: with numbers in range, as a book's are,
+-- each number of the record's head fits its place
 abbrev pub RecordsShowTheirRows : Type 0
 RecordsShowTheirRows =
-    (g : Config) (entries later : List Entry) (name : List ℕ) (k : NumberedEvent) (cpu : ℕ) (pid : ℤ) (pairs : List Pair) (row : Cells) (bytes : List ℕ)
-    → IsInRange g → IsLegalNewestFirst g entries → FitsSigned w32 pid
-    → event_named name (requests_of entries) ≡ Some k → row_of k.event pairs ≡ Ok row → emitted_record (requests_of entries) name cpu pid pairs ≡ Some bytes
-    → record_line (declared_events (requests_of (later ++ entries))) cpu bytes
-    ≡ row_line cpu (record { ts = now_of (requests_of entries) + 1; pid = pid; event = k.id; payload = length (payload_of row) }) k.event row.values
+    (g : Config) (entry : Entry) (before later : List Entry) (name : List ℕ) (k : NumberedEvent) (cpu : ℕ) (pid : ℤ) (pairs : List Pair) (row : Cells)
+    (bytes : List ℕ)
+    → IsInRange g → IsLegalNewestFirst g (entry ∷ before) → request_of entry.command ≡ Emission name cpu pid pairs
+    → event_named name (requests_of before) ≡ Some k → row_of k.event pairs ≡ Ok row → emitted_record (requests_of before) name cpu pid pairs ≡ Some bytes
+    → record_line (declared_events (requests_of (later ++ entry ∷ before))) cpu bytes
+    ≡ row_line cpu (record { ts = now_of (requests_of before) + 1; pid = pid; event = k.id; payload = length (payload_of row) }) k.event row.values
 
 -- the records that a CPU's ring keeps, as consuming reads find them
 abbrev pub kept_readings : Config → ℕ → List Request → List Reading
 kept_readings g cpu past = readings_of g.pages g.page_bytes (ring_events g cpu past)
 
--- a line shows an emission of the history: one on the CPU, of an event that was enabled, and its filter held. Where the process's
--- number is in 32 bits, as that of every command of the program is, the line is that of the emission's row, with this number and the time at
--- which the emission came.
+-- a line shows an emission of the history: one on the CPU, of an event that was enabled, and its filter held. The line is that of the
+-- emission's row, with the number of its process and the time at which it came.
 pub record ShowsEmission (cpu : ℕ) (entries : List Entry) (line : List ℕ) : Type 0 where
   pub later : List Entry
   pub entry : Entry
@@ -64,8 +63,8 @@ pub record ShowsEmission (cpu : ℕ) (entries : List Entry) (line : List ℕ) : 
   pub built : row_of k.event pairs ≡ Ok row
   pub enabled : is_enabled name (requests_of before) ≡ true
   pub passed : IsTrue (filter_holds k.event (filter_of name (requests_of before)) row cpu pid)
-  pub shown : FitsSigned w32 pid
-      → line ≡ row_line cpu (record { ts = now_of (requests_of before) + 1; pid = pid; event = k.id; payload = length (payload_of row) }) k.event row.values
+  pub shown : line
+      ≡ row_line cpu (record { ts = now_of (requests_of before) + 1; pid = pid; event = k.id; payload = length (payload_of row) }) k.event row.values
 
 -- the line of each record that is kept shows an emission
 abbrev pub KeptRecordsShowEmissions : Type 0

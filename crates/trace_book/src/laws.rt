@@ -9,8 +9,7 @@ pub fn filters_are_of_their_events()
     ensures holding { FiltersHoldAsTheirTrees }
 {}
 
-/// With a configuration in range, and for process numbers in 32 bits: the line of an emission's record shows the row that was emitted, then and
-/// later.
+/// With a configuration in range: the line of an emission's record shows the row that was emitted, then and later.
 pub fn records_show_their_rows()
     ensures { RecordsShowTheirRows }
 {}
