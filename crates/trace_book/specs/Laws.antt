@@ -1,5 +1,5 @@
--- What the words of the answers mean in legal histories. The newest entry stands first.
-use Rattle.std.specs.Prelude.{◌≡◌, ◌↔◌, ℕ, ◌+◌, ℤ, IsTrue, true, List, ◌∷◌, ◌++◌, length, All, Option, Some, Ok}
+-- What decimal numbers are, and what the words of the answers mean in legal histories. The newest entry stands first.
+use Rattle.std.specs.Prelude.{◌≡◌, ◌↔◌, ℕ, ◌+◌, ◌-◌, ◌*◌, ◌<◌, ◌≤◌, ℤ, IsTrue, true, List, [], ◌∷◌, ◌++◌, length, All, IsSome, Option, Some, Ok}
 use Rattle.page_ring.specs.Account.{Reading, readings_of}
 use Rattle.trace_filter.specs.Filters.{IsFilter, Passes}
 use Rattle.trace_format.specs.Cells.{Cells, IsRowOf, payload_of}
@@ -7,6 +7,7 @@ use Rattle.trace_format.specs.Rows.{row_of}
 use Rattle.trace_format.specs.declared.pair.Pair.{Pair}
 use Rattle.trace_text.specs.RecordText.{record_line, row_line}
 use Rattle.trace_book.specs.Configs.{IsInRange}
+use Rattle.trace_book.specs.Decimals.{decimal_number}
 use Rattle.trace_book.specs.History.{requests_of, IsLegalNewestFirst}
 use Rattle.trace_book.specs.Paths.{TracePipe, CpuTracePipe}
 use Rattle.trace_book.specs.Requests.{Request, Emission, ReadFile, request_of}
@@ -15,6 +16,22 @@ use Rattle.trace_book.specs.Settings.{NumberedEvent, event_named, declared_event
 use Rattle.trace_book.specs.TraceFiles.{taken_readings}
 use Rattle.trace_book.specs.declared.command.Config.{Config}
 use Rattle.trace_book.specs.declared.command.Entry.{Entry}
+
+-- a digit from `0` (48) to `9` (57)
+abbrev pub IsDigit : ℕ → Type 0
+IsDigit b = (48 ≤ b) × (b ≤ 57)
+
+-- a text writes a decimal number exactly where it is digits, one at least
+abbrev pub NumbersAreOfDigits : Type 0
+NumbersAreOfDigits = (text : List ℕ) → IsSome (decimal_number text) ↔ ((0 < length text) × All IsDigit text)
+
+-- one digit writes its value
+abbrev pub OneDigitIsItsValue : Type 0
+OneDigitIsItsValue = (d : ℕ) → IsDigit d → decimal_number (d ∷ []) ≡ Some (d - 48)
+
+-- one digit more writes ten times the number, and the digit
+abbrev pub EachDigitIsTimesTen : Type 0
+EachDigitIsTimesTen = (ds : List ℕ) (n d : ℕ) → decimal_number ds ≡ Some n → IsDigit d → decimal_number (ds ++ d ∷ []) ≡ Some (10 * n + (d - 48))
 
 -- the filter that an event has is one of the event, by the grammar and the event's fields
 abbrev pub FiltersAreOfTheirEvents : Type 0
