@@ -5,7 +5,7 @@ use Rattle.std.specs.Global.{Global}
 use Rattle.std.proofs.lemmas.Bool.{lt-ltb}
 use Rattle.std.proofs.lemmas.Slice.Eq.{bytes_eq-Decides}
 use Rattle.trace_book.specs.Paths.{File, CpuTracePipe, EventEnable}
-use Rattle.trace_book.specs.Refusals.{Answers, IsFoundEarly}
+use Rattle.trace_book.specs.Refusals.{IsAnswer, IsFoundEarly}
 use Rattle.trace_book.specs.Requests.{Request, Emission, WriteFile, ReadFile, request_of, FitsItsTypes}
 use Rattle.trace_filter.specs.Filters.{Parsed, parsed_of}
 use Rattle.trace_format.specs.Cells.{Cells}
@@ -38,7 +38,7 @@ done-limit_fits (Err refusal) path limit fits = tt
 
 -- a read changes nothing
 pub prepared-nothing : (g : Config) (past : List Request) (file : Option File) (limit : Option ℕ) (state : State) (answered : Result Reply Refusal)
-    → consumed 0 (ReadFile file limit) (kept_count g past) ≡ 0 → Answers answered (answer_with_room g past (ReadFile file limit)) → IsPrepared g past (ReadFile file limit) state (with_nothing answered)
+    → consumed 0 (ReadFile file limit) (kept_count g past) ≡ 0 → IsAnswer answered (answer_with_room g past (ReadFile file limit)) → IsPrepared g past (ReadFile file limit) state (with_nothing answered)
 prepared-nothing g past file limit state (Ok text) none given = (
   given,
   record {

@@ -89,6 +89,6 @@ abbrev pub IsRefusal : {A : Type 0} → Refusal → Result A Refusal → Type 0
 IsRefusal refusal answered = (refusal ≢ Memory → answered ≡ Err refusal) × (IsFoundEarly answered → answered ≡ Err refusal)
 
 -- the answer is given; or memory was refused, for one that is not found early
-abbrev pub Answers : {A : Type 0} → Result A Refusal → Result A Refusal → Type 0
-Answers (Ok reply) answered = answered ≡ Ok reply
-Answers (Err refusal) answered = IsRefusal refusal answered
+abbrev pub IsAnswer : {A : Type 0} → Result A Refusal → Result A Refusal → Type 0
+IsAnswer (Ok reply) answered = answered ≡ Ok reply
+IsAnswer (Err refusal) answered = IsRefusal refusal answered

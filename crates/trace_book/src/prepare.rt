@@ -5,7 +5,7 @@ ghost use Rattle.std.specs.List.{flat_map, list_any};
 ghost use Rattle.trace_book.specs.Decimals.{value_after};
 ghost use Rattle.trace_book.specs.Configs.{IsInRange};
 ghost use Rattle.trace_book.specs.History as history;
-ghost use Rattle.trace_book.specs.Refusals.{Answers};
+ghost use Rattle.trace_book.specs.Refusals.{IsAnswer};
 ghost use Rattle.trace_book.specs.Paths.{SyntheticEvents, EventsEnable, EventsFilter, EventEnable, EventFilter, EventFormat, CpuStats};
 ghost use Rattle.trace_book.specs.Requests.{Request, Emission, WriteFile, ReadFile};
 ghost use Rattle.trace_book.specs.Requests as requests;
@@ -305,7 +305,7 @@ impl State {
     ) -> Result<Reply, Refusal>
         requires { cpu < 1 }
         ensures { (past : List Request) → StandsFor config.now self.now past
-            → Answers result (history.whole_text limit (trace_text config.now past cpu)) }
+            → IsAnswer result (history.whole_text limit (trace_text config.now past cpu)) }
     {
         if limit.is_some() {
             return Err(Refusal::BadValue);
@@ -336,7 +336,7 @@ impl State {
     fn read_enable(&self, alloc: Global, name: &[u8], limit: Option<u64>) -> Result<Reply, Refusal>
         requires { IsUsable self.now }
         ensures { (g : Config) (past : List Request) → StandsFor g self.now past
-            → Answers result (history.answer_with_room g past (ReadFile (Some (EventEnable name.now)) limit)) }
+            → IsAnswer result (history.answer_with_room g past (ReadFile (Some (EventEnable name.now)) limit)) }
     {
         let Some(found) = find(&self.catalog, name) else {
             return Err(Refusal::NoSuchEvent);
@@ -359,7 +359,7 @@ impl State {
         requires usable { IsUsable self.now }
         requires in_range { IsInRange config.now }
         ensures { (past : List Request) → StandsFor config.now self.now past
-            → Answers result (history.answer_with_room config.now past (ReadFile (Some (CpuStats (value_after 0 digits.now))) limit)) }
+            → IsAnswer result (history.answer_with_room config.now past (ReadFile (Some (CpuStats (value_after 0 digits.now))) limit)) }
     {
         let Some(cpu) = cpu_below(digits, config.cpus) else {
             return Err(Refusal::NoSuchCpu);
@@ -375,7 +375,7 @@ impl State {
     fn read_filter(&self, alloc: Global, name: &[u8], limit: Option<u64>) -> Result<Reply, Refusal>
         requires { IsUsable self.now }
         ensures { (g : Config) (past : List Request) → StandsFor g self.now past
-            → Answers result (history.answer_with_room g past (ReadFile (Some (EventFilter name.now)) limit)) }
+            → IsAnswer result (history.answer_with_room g past (ReadFile (Some (EventFilter name.now)) limit)) }
     {
         let Some(found) = find(&self.catalog, name) else {
             return Err(Refusal::NoSuchEvent);
@@ -390,7 +390,7 @@ impl State {
     fn read_format(&self, alloc: Global, name: &[u8], limit: Option<u64>) -> Result<Reply, Refusal>
         requires { IsUsable self.now }
         ensures { (g : Config) (past : List Request) → StandsFor g self.now past
-            → Answers result (history.answer_with_room g past (ReadFile (Some (EventFormat name.now)) limit)) }
+            → IsAnswer result (history.answer_with_room g past (ReadFile (Some (EventFormat name.now)) limit)) }
     {
         let Some(found) = find(&self.catalog, name) else {
             return Err(Refusal::NoSuchEvent);
@@ -405,7 +405,7 @@ impl State {
 
     fn read_overwrite(&self, alloc: Global, limit: Option<u64>) -> Result<Reply, Refusal>
         ensures { (g : Config) (past : List Request) → StandsFor g self.now past
-            → Answers result (history.whole_text limit (history.flag_text (settings.overwrites past))) }
+            → IsAnswer result (history.whole_text limit (history.flag_text (settings.overwrites past))) }
     {
         if limit.is_some() {
             return Err(Refusal::BadValue);
@@ -416,7 +416,7 @@ impl State {
 
     fn read_options(&self, alloc: Global, limit: Option<u64>) -> Result<Reply, Refusal>
         ensures { (g : Config) (past : List Request) → StandsFor g self.now past
-            → Answers result (history.whole_text limit (history.option_text (settings.overwrites past))) }
+            → IsAnswer result (history.whole_text limit (history.option_text (settings.overwrites past))) }
     {
         if limit.is_some() {
             return Err(Refusal::BadValue);
@@ -427,7 +427,7 @@ impl State {
 
     fn read_switches(&self, alloc: Global, limit: Option<u64>) -> Result<Reply, Refusal>
         ensures { (g : Config) (past : List Request) → StandsFor g self.now past
-            → Answers result (history.answer_with_room g past (ReadFile (Some EventsEnable) limit)) }
+            → IsAnswer result (history.answer_with_room g past (ReadFile (Some EventsEnable) limit)) }
     {
         if limit.is_some() {
             return Err(Refusal::BadValue);
@@ -440,7 +440,7 @@ impl State {
     fn read_declarations(&self, alloc: Global, limit: Option<u64>) -> Result<Reply, Refusal>
         requires { IsUsable self.now }
         ensures { (past : List Request) → self.now.catalog ≡ settings.declared_events past
-            → Answers result (history.whole_text limit (history.declarations_text past)) }
+            → IsAnswer result (history.whole_text limit (history.declarations_text past)) }
     {
         if limit.is_some() {
             return Err(Refusal::BadValue);
@@ -524,7 +524,7 @@ fn filter_of_all(alloc: Global, events: &Catalog, text: &[u8], some: bool) -> Re
     requires one { 0 < length events.now }
     requires few { length events.now ≤ 64 }
     requires some { some ≡ list_any (λ event. is_set (change_of text.now event)) events.now }
-    ensures { Answers result (history.filter_of_all_answer text.now events.now) }
+    ensures { IsAnswer result (history.filter_of_all_answer text.now events.now) }
 {
     if some {
         return Ok(Reply::Done);
