@@ -1,5 +1,5 @@
 -- Filters that are written.
-use Rattle.std.proofs.Common.{◌≡◌, ◌≢◌, ◌⊎◌, ℕ, suc, ◌<◌, Bool, true, false, cond, List, [], ◌∷◌, length, map, get_or, is_some, Option, Some, None, Result, Ok, Err, refl, sym, ap, ◌∙◌, inl, inr, arith, Vec, Global}
+use Rattle.std.proofs.Common.{◌≡◌, ◌≢◌, ◌⊎◌, ℕ, suc, ◌<◌, Bool, true, false, cond, List, [], ◌∷◌, length, map, get_or, is_some, Option, Some, None, Result, Ok, Err, refl, sym, ap, ◌∙◌, subst, inl, inr, arith, Vec, Global}
 use Rattle.std.specs.List.{list_any}
 use Rattle.std.specs.Option.{option_map}
 use Rattle.std.specs.Str.{bytes_eq}
@@ -11,10 +11,10 @@ use Rattle.trace_filter.specs.Filters.{Parsed, IsFilterOf, IsAnswered, parsed_of
 use Rattle.trace_format.specs.Definitions.{Definition}
 use Rattle.trace_book.specs.History.{answer_with_room, filter_answer, filter_of_all_answer, filter_text, switch_answer}
 use Rattle.trace_book.specs.Paths.{EventFilter, EventsFilter, EventsEnable}
-use Rattle.trace_book.specs.Refusals.{refusal_of_filter, OrMemory}
+use Rattle.trace_book.specs.Refusals.{refusal_of_filter, IsFoundEarly, IsRefusal}
 use Rattle.trace_book.specs.Requests.{Request, WriteFile, ReadFile}
-use Rattle.trace_book.specs.Settings.{NumberedEvent, event_named, declared_events, clears_filter, can_take, sets_filter, filter_of, written_flag}
-use Rattle.trace_book.specs.States.{StandsFor, IsPlaceOf, IsPrepared, IsWrittenFilter, numbered, kept_filter, change_of, changed_filter, changed_filters, is_set, shown_filter, switching}
+use Rattle.trace_book.specs.Settings.{NumberedEvent, event_named, declared_events, clears_filter, can_take, sets_filter, filter_of, kept_filter, written_flag}
+use Rattle.trace_book.specs.States.{StandsFor, IsPlaceOf, IsPrepared, IsWrittenFilter, numbered, change_of, changed_filter, changed_filters, is_set, shown_filter, switching}
 use Rattle.trace_book.specs.declared.command.Config.{Config}
 use Rattle.trace_book.specs.declared.command.Reply.{Reply}
 use Rattle.trace_book.specs.declared.command.Reply.TheVariants as reply
@@ -41,14 +41,28 @@ pub filter-reads : (text : List ℕ) (event : Definition) (kept : Parsed) → cl
 unfolding filter_answer
 filter-reads text event kept on is answered = (rw (on, answered) refl, rw on (ap Some (kept-is event text kept is)))
 
+-- none of the refusals of a filter is found early
+filter-late : (text : List ℕ) (event : Definition) → IsFoundEarly (filter_answer text event) → ⊥
+unfolding filter_answer
+filter-late text event early = by (clears_filter text) (answer_of event text) refl refl
+  where
+    by : (off : Bool) (answered : Result Parsed FilterFault) → clears_filter text ≡ off → answer_of event text ≡ answered → ⊥
+    by true answered off is = rw off at early
+    by false (Ok kept) off is = rw (off, is) at early
+    by false (Err filter_fault.TooMany) off is = absurd (let h = rw (off, is) at early in cc)
+    by false (Err (filter_fault.FilterSyntax at)) off is = absurd (let h = rw (off, is) at early in cc)
+    by false (Err (filter_fault.NoSuchField at)) off is = absurd (let h = rw (off, is) at early in cc)
+    by false (Err (filter_fault.WrongOperator at)) off is = absurd (let h = rw (off, is) at early in cc)
+    by false (Err filter_fault.Memory) off is = absurd (let h = rw (off, is) at early in cc)
+
 pub filter-refuses : (text : List ℕ) (event : Definition) (fault : FilterFault) → clears_filter text ≡ false → IsAnswered (Err fault) (answer_of event text)
     → IsWrittenFilter text event (Err (refusal_of_filter fault))
 unfolding filter_answer
-filter-refuses text event filter_fault.TooMany on is = λ other. rw (on, is) refl
-filter-refuses text event (filter_fault.FilterSyntax at) on is = λ other. rw (on, is) refl
-filter-refuses text event (filter_fault.NoSuchField at) on is = λ other. rw (on, is) refl
-filter-refuses text event (filter_fault.WrongOperator at) on is = λ other. rw (on, is) refl
-filter-refuses text event filter_fault.Memory on is = λ other. absurd (other refl)
+filter-refuses text event filter_fault.TooMany on is = (λ other. rw (on, is) refl, λ early. rw (on, is) refl)
+filter-refuses text event (filter_fault.FilterSyntax at) on is = (λ other. rw (on, is) refl, λ early. rw (on, is) refl)
+filter-refuses text event (filter_fault.NoSuchField at) on is = (λ other. rw (on, is) refl, λ early. rw (on, is) refl)
+filter-refuses text event (filter_fault.WrongOperator at) on is = (λ other. rw (on, is) refl, λ early. rw (on, is) refl)
+filter-refuses text event filter_fault.Memory on is = (λ other. absurd (other refl), λ early. absurd (filter-late text event early))
 
 -- ---- a filter of all events
 
@@ -130,6 +144,15 @@ all-refused text event events r none refused = by (clears_filter text) refl
         let can : list_any (can_take text) (event ∷ events) ≡ false = sym (some-can text (event ∷ events) is) ∙ none in
         rw (can, refused) refl
 
+-- none of its refusals is found early, where there is an event
+all-late : (text : List ℕ) (event : Definition) (events : List Definition) → IsFoundEarly (filter_of_all_answer text (event ∷ events)) → ⊥
+unfolding filter_of_all_answer
+all-late text event events early = by (list_any (can_take text) (event ∷ events)) refl
+  where
+    by : (some : Bool) → list_any (can_take text) (event ∷ events) ≡ some → ⊥
+    by true is = rw is at early
+    by false is = filter-late text event (rw is at early)
+
 -- a first event
 cons-at : (events : List Definition) (event : Definition) → 0 < length events → event ≡ get_or events 0 event → (rest : List Definition) × (events ≡ event ∷ rest)
 cons-at [] event inside is = absurd (omega arith)
@@ -153,10 +176,12 @@ first-takes text events event kept inside is written =
 
 pub first-refuses : (text : List ℕ) (events : List Definition) (event : Definition) (r : Refusal) → 0 < length events → event ≡ get_or events 0 event
     → list_any (λ (e : Definition). is_set (change_of text e)) events ≡ false → IsWrittenFilter text event (Err r)
-    → OrMemory (let refused : Result Reply Refusal = Err r in refused) (filter_of_all_answer text events)
+    → IsRefusal r (filter_of_all_answer text events)
 first-refuses text events event r inside is none written =
     let cons = cons-at events event inside is in
-    λ other. rw cons.1 (all-refused text event cons.0 r (rw cons.1 at none) (written other))
+    let refused : r ≢ refusal.Memory → filter_of_all_answer text events ≡ Err r =
+    λ other. rw cons.1 (all-refused text event cons.0 r (rw cons.1 at none) (written.0 other)) in
+    (refused, λ early. absurd (all-late text event cons.0 (subst (λ (es : List Definition). IsFoundEarly (filter_of_all_answer text es)) cons.1 early)))
 
 -- ---- what is prepared
 
@@ -290,6 +315,16 @@ set-filters g past append text state changes stands are answered done = (
     ready : length changes.items ≡ length state.top.filters
     ready = rw (are, stands.filters, stands.events) (length-map events (change_of text) ∙ sym (length-map events (kept_filter past)))
 
+-- memory may be refused where there is an event
+pub memory-for-filters : (g : Config) (past : List Request) (append : Bool) (text : List ℕ) (state : State) → StandsFor g state past → 0 < length state.catalog
+    → IsPrepared g past (WriteFile (Some EventsFilter) append text) state (Err refusal.Memory)
+memory-for-filters g past append text state stands inside =
+    by (declared_events past) (let events = stands.events in rw events at inside)
+  where
+    by : (events : List Definition) → 0 < length events → IsRefusal refusal.Memory (filter_of_all_answer text events)
+    by [] inside = absurd (omega arith)
+    by (event ∷ events) inside = (λ other. absurd (other refl), λ early. absurd (all-late text event events early))
+
 -- a switch of all events
 pub set-switches : (g : Config) (past : List Request) (append : Bool) (text : List ℕ) (state : State) (flag : Option Bool) → written_flag text ≡ flag
     → IsPrepared g past (WriteFile (Some EventsEnable) append text) state (switching flag)
@@ -311,7 +346,7 @@ set-switches g past append text state (Some flag) is = (
   },
   tt,
 )
-set-switches g past append text state None is = λ other. rw is refl
+set-switches g past append text state None is = (λ other. rw is refl, λ early. rw is refl)
 
 -- ---- what is shown
 

@@ -1,13 +1,13 @@
 -- Histories with one entry more.
-use Rattle.std.proofs.Common.{◌≡◌, suc, ◌-◌, ◌<◌, ◌≤◌, ◌^◌, true, false, ltb, List, [], ◌∷◌, ◌++◌, length, reverse, All, IsOk, Ok, Err, refl, ap, ◌∙◌, arith}
+use Rattle.std.proofs.Common.{◌≡◌, suc, ◌-◌, ◌<◌, ◌≤◌, ◌^◌, Bool, true, false, nat_lt, ltb, List, [], ◌∷◌, ◌++◌, length, reverse, All, IsOk, Result, Ok, Err, refl, ap, subst, ◌∙◌, arith}
 use Rattle.std.proofs.lemmas.Bool.{lt-ltb}
 use Rattle.std.proofs.lemmas.Bool.Decides.{nat_tests}
 use Rattle.std.proofs.lemmas.List.{reverse-append, length-reverse, length-map, get_or-reverse}
 use Rattle.page_ring.specs.Shown as shown
 use Rattle.trace_book.specs.Configs.{IsInRange}
 use Rattle.trace_book.specs.Requests.{Request, request_of}
-use Rattle.trace_book.specs.History.{answer, answer_with_room, requests_of, past_of, IsLegal}
-use Rattle.trace_book.specs.Refusals.{OrMemory}
+use Rattle.trace_book.specs.History.{answer, answer_with_room, unless_full, requests_of, past_of, IsEntry, IsLegal}
+use Rattle.trace_book.specs.Refusals.{OrMemory, IsFoundEarly}
 use Rattle.trace_book.specs.States.{StandsFor, IsPrepared, IsUsable}
 use Rattle.trace_book.specs.declared.command.Config.{Config}
 use Rattle.trace_book.specs.declared.command.Entry.{Entry}
@@ -61,10 +61,10 @@ pub IsLegal-none : (g : Config) → IsLegal g []
 unfolding IsLegal
 IsLegal-none g = tt
 
-pub IsLegal-push : (g : Config) (entries : List Entry) (entry : Entry) → IsLegal g entries → All (λ (e : Entry). e.ticket < entry.ticket) entries
+pub IsLegal-push : (g : Config) (entries : List Entry) (entry : Entry) → IsLegal g entries → IsEntry entry → All (λ (e : Entry). e.ticket < entry.ticket) entries
     → IsOk (answer g (past_of entries) (request_of entry.command)) → IsLegal g (entries ++ entry ∷ [])
 unfolding IsLegal past_of
-IsLegal-push g entries entry legal below done = rw reverse-append (below_back, done, legal)
+IsLegal-push g entries entry legal fits below done = rw reverse-append (fits, below_back, done, legal)
   where
     below_back : All (λ (e : Entry). e.ticket < entry.ticket) (reverse entries)
     below_back = All-reverse (λ (e : Entry). e.ticket < entry.ticket) entries below
@@ -73,7 +73,29 @@ IsLegal-push g entries entry legal below done = rw reverse-append (below_back, d
 
 pub refused-reply : (g : Config) (past : List Request) (request : Request) (state : State) (refusal : Refusal)
     → IsPrepared g past request state (Err refusal) → OrMemory (Err refusal) (answer g past request)
-refused-reply g past request state refusal prepared = λ other. answer-refused g past request refusal (prepared other)
+refused-reply g past request state refusal prepared = λ other. answer-refused g past request refusal (prepared.0 other)
+
+-- what is found early is found whether there is room in the history or not
+early-with_room : (g : Config) (past : List Request) (request : Request) → IsFoundEarly (answer g past request) → IsFoundEarly (answer_with_room g past request)
+unfolding answer
+early-with_room g past request early = by (answer_with_room g past request) early
+  where
+    by : (r : Result Reply Refusal) → IsFoundEarly (unless_full g (length past) r) → IsFoundEarly r
+    by (Err refusal) e = e
+    by (Ok reply) e = by_room (nat_lt (length past) g.history_limit) refl
+      where
+        by_room : (room : Bool) → nat_lt (length past) g.history_limit ≡ room → ⊥
+        by_room true is = rw is at e
+        by_room false is = absurd (let h = rw is at e in cc)
+
+-- what would be done is not refused early
+pub late-done : (g : Config) (past : List Request) (request : Request) (reply : Reply) → answer_with_room g past request ≡ Ok reply
+    → IsFoundEarly (answer g past request) → ⊥
+late-done g past request reply given early = subst IsFoundEarly given (early-with_room g past request early)
+
+pub refused-early : (g : Config) (past : List Request) (request : Request) (state : State) (refusal : Refusal)
+    → IsPrepared g past request state (Err refusal) → IsFoundEarly (answer g past request) → answer g past request ≡ Err refusal
+refused-early g past request state refusal prepared early = answer-refused g past request refusal (prepared.1 (early-with_room g past request early))
 
 pub usable-from_stands : (g : Config) (state : State) (past : List Request) → IsInRange g → StandsFor g state past → length past ≤ 2 ^ 32 → IsUsable state
 usable-from_stands g state past in_range stands few = record {

@@ -1,5 +1,5 @@
 -- Each record that a ring keeps was brought by an emission.
-use Rattle.std.proofs.Common.{◌≡◌, ◌⊎◌, inl, inr, ℕ, zero, suc, ℤ, ◌+◌, ◌==◌, Bool, true, false, ◌&&◌, ◌||◌, if◌then◌else◌, List, [], ◌∷◌, ◌++◌, length, map, replicate, get_or, bytes_eq, All, IsTrue, Option, None, Some, Result, Ok, Err, refl, sym, ap, ◌∙◌, subst, append_assoc, eqb-true}
+use Rattle.std.proofs.Common.{◌≡◌, ◌⊎◌, inl, inr, ℕ, zero, suc, ℤ, ◌+◌, ◌==◌, Bool, true, false, ◌&&◌, ◌||◌, if◌then◌else◌, List, [], ◌∷◌, ◌++◌, length, map, replicate, get_or, bytes_eq, All, IsTrue, Option, None, Some, Result, Ok, Err, refl, sym, ap, ◌∙◌, subst, eqb-true}
 use Rattle.std.specs.List.{AllByRecursion}
 use Rattle.std.specs.Option.{option_to_list}
 use Rattle.std.specs.Result.{result_ok}
@@ -179,7 +179,7 @@ brought-emitted cpu (entry ∷ entries) bytes is =
 -- what stands behind entries of a legal history is legal
 legal-before : (g : Config) (later before : List Entry) → IsLegalNewestFirst g (later ++ before) → IsLegalNewestFirst g before
 legal-before g [] before legal = legal
-legal-before g (entry ∷ later) before legal = legal-before g later before legal.2
+legal-before g (entry ∷ later) before legal = legal-before g later before legal.3
 
 -- a row that was recorded
 record IsRecorded (past : List Request) (name : List ℕ) (cpu : ℕ) (pid : ℤ) (pairs : List Pair) : Type 0 where
@@ -224,16 +224,13 @@ emitted-shows g entries cpu bytes in_range legal found =
       built = was.built;
       enabled = found.enabled;
       passed = was.passed;
-      shown = λ pid_fits. ap (λ (es : List Entry). record_line (declared_events (requests_of es)) cpu bytes) cut
-          ∙ records_show_their_rows g found.before (found.later ++ found.entry ∷ []) found.name was.k cpu found.pid found.pairs was.row bytes in_range legal_then pid_fits
+      shown = ap (λ (es : List Entry). record_line (declared_events (requests_of es)) cpu bytes) found.cut
+          ∙ records_show_their_rows g found.entry found.before found.later found.name was.k cpu found.pid found.pairs was.row bytes in_range legal_then found.emission
           was.named was.built found.written;
     }
   where
-    cut : entries ≡ (found.later ++ found.entry ∷ []) ++ found.before
-    cut = found.cut ∙ sym (append_assoc found.later (found.entry ∷ []) found.before)
-
-    legal_then : IsLegalNewestFirst g found.before
-    legal_then = legal-before g (found.later ++ found.entry ∷ []) found.before (subst (IsLegalNewestFirst g) cut legal)
+    legal_then : IsLegalNewestFirst g (found.entry ∷ found.before)
+    legal_then = legal-before g found.later (found.entry ∷ found.before) (subst (IsLegalNewestFirst g) found.cut legal)
 
     was : IsRecorded (requests_of found.before) found.name cpu found.pid found.pairs
     was = recorded (requests_of found.before) found.name cpu found.pid found.pairs bytes found.written

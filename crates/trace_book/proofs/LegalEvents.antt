@@ -125,7 +125,7 @@ pub record AreLegalEvents (g : Config) (events : List Definition) : Type 0 where
 pub legal-events : (g : Config) (entries : List Entry) → IsLegalNewestFirst g entries → AreLegalEvents g (declared_events (requests_of entries))
 legal-events g [] legal = record { few = omega arith; are = tt; fit = tt }
 legal-events g (entry ∷ entries) legal =
-    by (declares (request_of entry.command)) refl (legal-events g entries legal.2)
+    by (declares (request_of entry.command)) refl (legal-events g entries legal.3)
   where
     past : List Request
     past = requests_of entries
@@ -134,7 +134,7 @@ legal-events g (entry ∷ entries) legal =
         → AreLegalEvents g (declared_events past ++ option_to_list (declares (request_of entry.command)))
     by None is before = rw (is, append-nil) before
     by (Some event) is before =
-        let new = declared-is_new g past (request_of entry.command) event (done-had_room g past (request_of entry.command) legal.1).0 is in
+        let new = declared-is_new g past (request_of entry.command) event (done-had_room g past (request_of entry.command) legal.2).0 is in
         rw is (record {
           few = omega (arith, length-append (declared_events past) (event ∷ []), new.room);
           are = AreEvents-push [] (declared_events past) event before.are new.is_event;

@@ -1,34 +1,44 @@
 -- What is prepared for a request is what the definitions say of it.
-use Rattle.std.proofs.Common.{◌≡◌, ℕ, zero, suc, ℤ, ◌+◌, ◌<◌, eqb, Bool, true, false, cond, List, [], ◌∷◌, length, map, get_or, unwrap_or, is_some, Option, Some, None, Result, Ok, Err, refl, sym, ap, ◌∙◌, arith, Vec}
+use Rattle.std.proofs.Common.{◌≡◌, ℕ, zero, suc, ℤ, ◌+◌, ◌^◌, ◌<◌, eqb, nat_lt, ltb-true, Bool, true, false, cond, List, [], ◌∷◌, length, map, get_or, unwrap_or, is_some, Option, Some, None, Result, Ok, Err, OnOk, refl, sym, ap, ◌∙◌, subst, arith, Vec}
 use Rattle.std.specs.Option.{option_map}
 use Rattle.std.specs.Global.{Global}
 use Rattle.std.proofs.lemmas.Bool.{lt-ltb}
 use Rattle.std.proofs.lemmas.Slice.Eq.{bytes_eq-Decides}
-use Rattle.trace_book.specs.Paths.{File, EventEnable}
-use Rattle.trace_book.specs.Refusals.{OrMemory}
-use Rattle.trace_book.specs.Requests.{Request, Emission, WriteFile, ReadFile}
+use Rattle.trace_book.specs.Paths.{File, CpuTracePipe, EventEnable}
+use Rattle.trace_book.specs.Refusals.{IsAnswer, IsFoundEarly}
+use Rattle.trace_book.specs.Requests.{Request, Emission, WriteFile, ReadFile, request_of, FitsItsTypes}
 use Rattle.trace_filter.specs.Filters.{Parsed, parsed_of}
 use Rattle.trace_format.specs.Cells.{Cells}
 use Rattle.trace_format.specs.Definitions.{Definition}
 use Rattle.trace_format.specs.Rows.{row_of}
 use Rattle.trace_format.specs.declared.pair.Pair.{Pair}
-use Rattle.trace_book.specs.Rings.{filter_holds, record_bytes, consumed, put_of, clears}
-use Rattle.trace_book.specs.Settings.{NumberedEvent, event_named, event_named_in, declared_events, declares, switches, is_enabled, sets_filter, filter_of, sets_overwrite, overwrites, written_flag, written_option, now_of}
+use Rattle.trace_book.specs.Rings.{filter_holds, record_bytes, up_to_limit, consumed, put_of, clears}
+use Rattle.trace_book.specs.Settings.{NumberedEvent, event_named, event_named_in, declared_events, declares, switches, is_enabled, sets_filter, filter_of, kept_filter, sets_overwrite, overwrites, written_flag, written_option, now_of}
 use Rattle.trace_book.specs.History.{emission_answer, switch_answer, option_answer, answer_with_room, flag_text}
-use Rattle.trace_book.specs.States.{StandsFor, IsChangeOf, IsPrepared, IsPlaceOf, kept_filter, kept_holds, numbered, with_nothing, bytes_in, written_record, kept_count, puts_by, overwriting}
+use Rattle.trace_book.specs.TraceFiles.{pipe_text}
+use Rattle.trace_book.specs.States.{StandsFor, IsChangeOf, IsPrepared, IsReady, IsTaking, IsPlaceOf, kept_holds, numbered, with_nothing, bytes_in, written_record, kept_count, puts_by, overwriting}
 use Rattle.trace_book.proofs.EventLists.{map-agrees}
 use Rattle.trace_book.specs.declared.command.Config.{Config}
+use Rattle.trace_book.specs.declared.command.Command.TheVariants.{Read}
 use Rattle.trace_book.specs.declared.command.Reply.{Reply}
 use Rattle.trace_book.specs.declared.command.Reply.TheVariants as reply
 use Rattle.trace_book.specs.declared.refusal.Refusal.{Refusal}
 use Rattle.trace_book.specs.declared.refusal.Refusal.TheVariants as refusal
+use Rattle.trace_book.specs.declared.state.Prepared.{Prepared}
 use Rattle.trace_book.specs.declared.state.State.{State}
 use Rattle.trace_book.specs.declared.state.Found.{Found}
-use Rattle.trace_book.specs.declared.state.Change.TheVariants.{Emit}
+use Rattle.trace_book.specs.declared.state.Change.TheVariants.{Take, Emit}
+
+-- the limit of a read that is done fits
+pub done-limit_fits : (done : Result Prepared Refusal) (path : List ℕ) (limit : Option ℕ) → ((most : ℕ) → limit ≡ Some most → most < 2 ^ 64)
+    → OnOk done (FitsItsTypes (request_of (Read path limit)))
+done-limit_fits (Ok prepared) path None fits = tt
+done-limit_fits (Ok prepared) path (Some most) fits = fits most refl
+done-limit_fits (Err refusal) path limit fits = tt
 
 -- a read changes nothing
 pub prepared-nothing : (g : Config) (past : List Request) (file : Option File) (limit : Option ℕ) (state : State) (answered : Result Reply Refusal)
-    → consumed 0 (ReadFile file limit) (kept_count g past) ≡ 0 → OrMemory answered (answer_with_room g past (ReadFile file limit)) → IsPrepared g past (ReadFile file limit) state (with_nothing answered)
+    → consumed 0 (ReadFile file limit) (kept_count g past) ≡ 0 → IsAnswer answered (answer_with_room g past (ReadFile file limit)) → IsPrepared g past (ReadFile file limit) state (with_nothing answered)
 prepared-nothing g past file limit state (Ok text) none given = (
   given,
   record {
@@ -47,6 +57,49 @@ prepared-nothing g past file limit state (Ok text) none given = (
   tt,
 )
 prepared-nothing g past file limit state (Err refusal) none given = given
+
+-- a read of a pipe consumes what it shows
+pub prepared-take : (g : Config) (past : List Request) (file : File) (limit : Option ℕ) (state : State) (taken : Result Prepared Refusal) → IsTaking g past limit taken
+    → answer_with_room g past (ReadFile (Some file) limit) ≡ Ok (reply.Text (pipe_text g past 0 limit))
+    → consumed 0 (ReadFile (Some file) limit) (kept_count g past) ≡ up_to_limit limit (kept_count g past)
+    → IsPrepared g past (ReadFile (Some file) limit) state taken
+prepared-take g past file limit state (Ok prepared) taking answered takes = (
+  answered ∙ ap (λ (r : Reply). Ok r) (sym taking.0),
+  subst (IsChangeOf g past (ReadFile (Some file) limit)) (sym taking.1) change,
+  subst (IsReady state) (sym taking.1) tt,
+)
+  where
+    change : IsChangeOf g past (ReadFile (Some file) limit) (Take (up_to_limit limit (kept_count g past)))
+    change = record {
+      declares = refl;
+      fresh = λ event e. absurd (cc);
+      switches = λ event. refl;
+      addressed = λ name e. absurd (cc);
+      filters = refl;
+      unfiltered = λ name none. refl;
+      overwrite = refl;
+      ticks = refl;
+      clears = refl;
+      puts = refl;
+      takes = takes;
+    }
+prepared-take g past file limit state (Err refusal) taking answered takes =
+    (λ other. absurd (other taking), λ early. absurd (subst IsFoundEarly answered early))
+
+-- and so does a read of the one CPU's
+pub prepared-cpu_take : (g : Config) (past : List Request) (n cpu : ℕ) (limit : Option ℕ) (state : State) (taken : Result Prepared Refusal) → g.cpus ≡ 1
+    → Some cpu ≡ cond (nat_lt n g.cpus) (Some n) None → IsTaking g past limit taken → IsPrepared g past (ReadFile (Some (CpuTracePipe n)) limit) state taken
+prepared-cpu_take g past n cpu limit state taken one is taking = by (nat_lt n g.cpus) refl
+  where
+    first : nat_lt 0 g.cpus ≡ true
+    first = lt-ltb 0 g.cpus (omega (arith, one))
+
+    by : (below : Bool) → nat_lt n g.cpus ≡ below → IsPrepared g past (ReadFile (Some (CpuTracePipe n)) limit) state taken
+    by true below =
+        let zero_is : 0 ≡ n = omega (arith, ltb-true n g.cpus below, one) in
+        subst (λ (k : ℕ). IsPrepared g past (ReadFile (Some (CpuTracePipe k)) limit) state taken) zero_is
+        (prepared-take g past (CpuTracePipe 0) limit state taken taking (rw first refl) refl)
+    by false below = absurd (let h = rw below at is in cc)
 
 -- an event that was found among those of the state is the one that the requests declared
 pub named-found : (g : Config) (state : State) (past : List Request) (name : List ℕ) (found : Found) → StandsFor g state past
@@ -180,7 +233,7 @@ prepared-option g past file append text state (Some flag) sets answered nothing 
   },
   tt,
 )
-prepared-option g past file append text state None sets answered nothing none unset not_cleared = λ other. answered
+prepared-option g past file append text state None sets answered nothing none unset not_cleared = (λ other. answered, λ early. answered)
 
 -- a switch answers by whether it is one
 pub answers-switch : (text : List ℕ) (flag : Option Bool) → written_flag text ≡ flag → switch_answer text ≡ cond (is_some flag) (Ok reply.Done) (Err refusal.BadValue)

@@ -1,5 +1,5 @@
 -- The lines of the records of a legal history.
-use Rattle.std.proofs.Common.{◌≡◌, ℕ, zero, suc, ℤ, ◌+◌, ◌*◌, ◌/◌, ◌<◌, ◌≤◌, ◌^◌, List, [], ◌∷◌, ◌++◌, length, filter_map, replicate, slice_get, Option, None, Some, Ok, refl, sym, ap, ◌∙◌, subst, arith, length-append}
+use Rattle.std.proofs.Common.{◌≡◌, ℕ, zero, suc, ℤ, FitsSigned, w32, ◌+◌, ◌*◌, ◌/◌, ◌<◌, ◌≤◌, ◌^◌, List, [], ◌∷◌, ◌++◌, length, filter_map, replicate, slice_get, Option, None, Some, Ok, refl, sym, ap, ◌∙◌, subst, arith, length-append}
 use Rattle.std.specs.List.{AllZip}
 use Rattle.std.specs.Option.{option_to_list}
 use Rattle.std.proofs.lemmas.Option.{get_or_from_slice_get, slice_get_within}
@@ -17,9 +17,9 @@ use Rattle.trace_text.specs.Laws.{IsHeadOf}
 use Rattle.trace_text.specs.RecordText.{record_line}
 use Rattle.trace_text.proofs.RecordLemmas.{record_shows_its_row}
 use Rattle.trace_book.specs.Configs.{IsInRange}
-use Rattle.trace_book.specs.History.{requests_of, IsLegalNewestFirst}
+use Rattle.trace_book.specs.History.{requests_of, IsEntry, IsLegalNewestFirst}
 use Rattle.trace_book.specs.Laws.{RecordsShowTheirRows}
-use Rattle.trace_book.specs.Requests.{Request, Emission, MakeInstance, RemoveInstance, WriteFile, ReadFile, request_of}
+use Rattle.trace_book.specs.Requests.{Request, Emission, MakeInstance, RemoveInstance, WriteFile, ReadFile, request_of, FitsItsTypes}
 use Rattle.trace_book.specs.Rings.{padding, record_bytes, filter_holds, emitted_record}
 use Rattle.trace_book.specs.Settings.{NumberedEvent, event_named, declares, declared_events, filter_of, ticks, now_of}
 use Rattle.trace_book.specs.States.{IsFit}
@@ -100,7 +100,7 @@ now_of-le (request ∷ past) = omega (arith, now_of-le past, ticks-le request)
 
 pub legal-short : (g : Config) (entries : List Entry) → IsLegalNewestFirst g entries → length (requests_of entries) ≤ g.history_limit
 legal-short g [] legal = omega arith
-legal-short g (entry ∷ entries) legal = let room = (done-had_room g (requests_of entries) (request_of entry.command) legal.1).1 in omega (arith, room)
+legal-short g (entry ∷ entries) legal = let room = (done-had_room g (requests_of entries) (request_of entry.command) legal.2).1 in omega (arith, room)
 
 payload-small : (g : Config) (event : Definition) (size : ℕ) → IsInRange g → IsFit g.page_bytes event → size ≡ payload_size_of event → size < 2 ^ 16
 payload-small g event size in_range fit is = by (payload_size_of event) fit.size is
@@ -117,14 +117,19 @@ emitted-is : (past : List Request) (name : List ℕ) (cpu : ℕ) (pid : ℤ) (pa
 emitted-is past name cpu pid pairs k row bytes there built emitted =
     (if_some (filter_holds k.event (filter_of name past) row cpu pid) (rw (there, built) at emitted)).1
 
+-- the process of an entry's emission has a number in 32 bits
+pid_of-fits : (entry : Entry) (name : List ℕ) (cpu : ℕ) (pid : ℤ) (pairs : List Pair) → IsEntry entry → request_of entry.command ≡ Emission name cpu pid pairs
+    → FitsSigned w32 pid
+pid_of-fits entry name cpu pid pairs fits emission = (subst FitsItsTypes emission fits.2).1
+
 pub records_show_their_rows : RecordsShowTheirRows
 unfolding record_bytes
-records_show_their_rows g entries later name k cpu pid pairs row bytes in_range legal pid_fits there built emitted =
-    ap (record_line (declared_events (requests_of (later ++ entries))) cpu) (sym (emitted-is past name cpu pid pairs k row bytes there built emitted))
-    ∙ record_shows_its_row (declared_events (requests_of (later ++ entries))) cpu k.event row head (replicate (padding (length (payload_of row))) 0) is_row is_head
+records_show_their_rows g entry before later name k cpu pid pairs row bytes in_range legal emission there built emitted =
+    ap (record_line (declared_events (requests_of (later ++ entry ∷ before))) cpu) (sym (emitted-is past name cpu pid pairs k row bytes there built emitted))
+    ∙ record_shows_its_row (declared_events (requests_of (later ++ entry ∷ before))) cpu k.event row head (replicate (padding (length (payload_of row))) 0) is_row is_head
   where
     past : List Request
-    past = requests_of entries
+    past = requests_of before
 
     head : Head
     head = record { ts = now_of past + 1; pid = pid; event = k.id; payload = length (payload_of row) }
@@ -135,12 +140,15 @@ records_show_their_rows g entries later name k cpu pid pairs row bytes in_range 
     at_number : event_of (declared_events past) k.id ≡ Some k.event
     at_number = (named-is_numbered (declared_events past) name k there).there
 
-    is_head : IsHeadOf (declared_events (requests_of (later ++ entries))) k.event row head
+    at_number_then : event_of (declared_events (requests_of (later ++ entry ∷ before))) k.id ≡ Some k.event
+    at_number_then = event_of-later later (entry ∷ before) k.id k.event (event_of-later (entry ∷ []) before k.id k.event at_number)
+
+    is_head : IsHeadOf (declared_events (requests_of (later ++ entry ∷ before))) k.event row head
     is_head = record {
-      event = event_of-later later entries k.id k.event at_number;
+      event = at_number_then;
       payload = refl;
-      event_fits = omega (arith, event_of-small (declared_events past) k.id k.event at_number, (legal-events g entries legal).few);
-      payload_fits = payload-small g k.event (length (payload_of row)) in_range (event_of-fit g entries k.id k.event legal at_number) (length-payload k.event row is_row);
-      ts_fits = omega (arith, now_of-le past, legal-short g entries legal, in_range.few_entries);
-      pid_fits = pid_fits;
+      event_fits = omega (arith, event_of-small (declared_events past) k.id k.event at_number, (legal-events g before legal.3).few);
+      payload_fits = payload-small g k.event (length (payload_of row)) in_range (event_of-fit g before k.id k.event legal.3 at_number) (length-payload k.event row is_row);
+      ts_fits = omega (arith, now_of-le past, legal-short g before legal.3, in_range.few_entries);
+      pid_fits = pid_of-fits entry name cpu pid pairs legal.0 emission;
     }

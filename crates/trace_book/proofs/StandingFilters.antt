@@ -122,8 +122,8 @@ taken-after g past request name done before = record { unfiltered = unfiltered; 
 taken-legal : (g : Config) (entries : List Entry) (name : List ℕ) → IsLegalNewestFirst g entries → IsTaken name (requests_of entries)
 taken-legal g [] name legal = record { unfiltered = λ none. refl; taken = λ k text there stands. absurd (cc) }
 taken-legal g (entry ∷ entries) name legal =
-    taken-after g (requests_of entries) (request_of entry.command) name (done-had_room g (requests_of entries) (request_of entry.command) legal.1).0
-    (taken-legal g entries name legal.2)
+    taken-after g (requests_of entries) (request_of entry.command) name (done-had_room g (requests_of entries) (request_of entry.command) legal.2).0
+    (taken-legal g entries name legal.3)
 
 -- ---- the laws
 

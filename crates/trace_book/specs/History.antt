@@ -1,5 +1,5 @@
 -- The answer that the requests done so far give a request, and which histories are legal. The newest request stands first.
-use Rattle.std.specs.Prelude.{ℕ, ◌<◌, nat_lt, Bool, true, false, not, ◌&&◌, is_some, IsOk, if◌then◌else◌, List, [], ◌∷◌, ◌++◌, length, map, flat_map, reverse, All, Option, Some, None, Result, Ok, Err, codes, ⊤}
+use Rattle.std.specs.Prelude.{ℕ, ◌<◌, ◌^◌, nat_lt, Bool, true, false, not, ◌&&◌, is_some, IsOk, if◌then◌else◌, List, [], ◌∷◌, ◌++◌, length, map, flat_map, reverse, All, Option, Some, None, Result, Ok, Err, codes, ⊤}
 use Rattle.page_ring.specs.Account.{stats_of}
 use Rattle.trace_book.specs.Paths.{File, Trace, CpuTrace, TracePipe, CpuTracePipe, CpuStats, Overwrite, TraceOptions, SyntheticEvents, EventsEnable, EventsFilter, EventEnable, EventFilter, EventFormat}
 use Rattle.std.specs.List.{list_all, list_any}
@@ -17,7 +17,7 @@ use Rattle.trace_text.specs.DeclarationText.{declaration_text}
 use Rattle.trace_text.specs.FormatText.{format_text}
 use Rattle.trace_text.specs.StatsText.{stats_text}
 use Rattle.trace_book.specs.TraceFiles.{trace_text, pipe_text}
-use Rattle.trace_book.specs.Requests.{Request, Emission, MakeInstance, RemoveInstance, WriteFile, ReadFile, request_of}
+use Rattle.trace_book.specs.Requests.{Request, Emission, MakeInstance, RemoveInstance, WriteFile, ReadFile, request_of, FitsItsTypes}
 use Rattle.trace_book.specs.Settings.{NumberedEvent, event_named, declared_events, written_flag, written_option, is_enabled, clears_filter, can_take, filter_of, overwrites, now_of}
 use Rattle.trace_book.specs.Refusals.{refusal_of_catalog, refusal_of_filter}
 use Rattle.trace_book.specs.Rings.{ring_events}
@@ -221,11 +221,16 @@ requests_of (entry ∷ entries) = request_of entry.command ∷ requests_of entri
 unfoldable pub past_of : List Entry → List Request
 past_of entries = requests_of (reverse entries)
 
--- entries, newest first, are legal: tickets rise, and no entry was refused after those before it
+-- the numbers of an entry fit their types: its ticket 64 bits, its caller's number 32, and those of its command
+abbrev pub IsEntry : Entry → Type 0
+IsEntry entry = (entry.ticket < 2 ^ 64) × (entry.by < 2 ^ 32) × FitsItsTypes (request_of entry.command)
+
+-- entries, newest first, are legal: their numbers fit their types, tickets rise, and no entry was refused after those before it
 abbrev pub IsLegalNewestFirst : Config → List Entry → Type 0
 IsLegalNewestFirst g [] = ⊤
 IsLegalNewestFirst g (entry ∷ before) =
-    All (λ earlier. earlier.ticket < entry.ticket) before × IsOk (answer g (requests_of before) (request_of entry.command)) × IsLegalNewestFirst g before
+    IsEntry entry × All (λ earlier. earlier.ticket < entry.ticket) before × IsOk (answer g (requests_of before) (request_of entry.command))
+    × IsLegalNewestFirst g before
 
 -- a legal history
 unfoldable pub IsLegal : Config → List Entry → Type 0

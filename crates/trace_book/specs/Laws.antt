@@ -1,6 +1,5 @@
--- What the words of the answers mean in legal histories. The newest entry stands first.
-use Rattle.std.specs.Prelude.{◌≡◌, ◌↔◌, ℕ, ◌+◌, ℤ, FitsSigned, IsTrue, true, List, ◌∷◌, ◌++◌, length, All, Option, Some, Ok}
-use Rattle.std.specs.Int.{w32}
+-- What decimal numbers are, and what the words of the answers mean in legal histories. The newest entry stands first.
+use Rattle.std.specs.Prelude.{◌≡◌, ◌↔◌, ℕ, ◌+◌, ◌-◌, ◌*◌, ◌<◌, ◌≤◌, ℤ, IsTrue, true, List, [], ◌∷◌, ◌++◌, length, All, IsSome, Option, Some, Ok}
 use Rattle.page_ring.specs.Account.{Reading, readings_of}
 use Rattle.trace_filter.specs.Filters.{IsFilter, Passes}
 use Rattle.trace_format.specs.Cells.{Cells, IsRowOf, payload_of}
@@ -8,6 +7,7 @@ use Rattle.trace_format.specs.Rows.{row_of}
 use Rattle.trace_format.specs.declared.pair.Pair.{Pair}
 use Rattle.trace_text.specs.RecordText.{record_line, row_line}
 use Rattle.trace_book.specs.Configs.{IsInRange}
+use Rattle.trace_book.specs.Decimals.{decimal_number}
 use Rattle.trace_book.specs.History.{requests_of, IsLegalNewestFirst}
 use Rattle.trace_book.specs.Paths.{TracePipe, CpuTracePipe}
 use Rattle.trace_book.specs.Requests.{Request, Emission, ReadFile, request_of}
@@ -16,6 +16,22 @@ use Rattle.trace_book.specs.Settings.{NumberedEvent, event_named, declared_event
 use Rattle.trace_book.specs.TraceFiles.{taken_readings}
 use Rattle.trace_book.specs.declared.command.Config.{Config}
 use Rattle.trace_book.specs.declared.command.Entry.{Entry}
+
+-- a digit from `0` (48) to `9` (57)
+abbrev pub IsDigit : ℕ → Type 0
+IsDigit b = (48 ≤ b) × (b ≤ 57)
+
+-- a text writes a decimal number exactly where it is digits, one at least
+abbrev pub NumbersAreOfDigits : Type 0
+NumbersAreOfDigits = (text : List ℕ) → IsSome (decimal_number text) ↔ ((0 < length text) × All IsDigit text)
+
+-- one digit writes its value
+abbrev pub OneDigitIsItsValue : Type 0
+OneDigitIsItsValue = (d : ℕ) → IsDigit d → decimal_number (d ∷ []) ≡ Some (d - 48)
+
+-- one digit more writes ten times the number, and the digit
+abbrev pub EachDigitIsTimesTen : Type 0
+EachDigitIsTimesTen = (ds : List ℕ) (n d : ℕ) → decimal_number ds ≡ Some n → IsDigit d → decimal_number (ds ++ d ∷ []) ≡ Some (10 * n + (d - 48))
 
 -- the filter that an event has is one of the event, by the grammar and the event's fields
 abbrev pub FiltersAreOfTheirEvents : Type 0
@@ -32,23 +48,23 @@ FiltersHoldAsTheirTrees =
     → IsRowOf k.event row
     → IsTrue (filter_holds k.event (Some text) row cpu pid) ↔ Passes k.event text (record { values = row.values; cpu = cpu; pid = pid })
 
--- the line of an emission's record shows the row that was emitted, whatever is done later. With numbers in range, as a book's are, and the
--- process's number in 32 bits, each number of the record's head fits its place.
+-- the line of an emission's record shows the row that was emitted, then and whatever is done later: with numbers in range, as a book's are,
+-- each number of the record's head fits its place
 abbrev pub RecordsShowTheirRows : Type 0
 RecordsShowTheirRows =
-    (g : Config) (entries later : List Entry) (name : List ℕ) (k : NumberedEvent) (cpu : ℕ) (pid : ℤ) (pairs : List Pair) (row : Cells) (bytes : List ℕ)
-    → IsInRange g → IsLegalNewestFirst g entries → FitsSigned w32 pid
-    → event_named name (requests_of entries) ≡ Some k → row_of k.event pairs ≡ Ok row → emitted_record (requests_of entries) name cpu pid pairs ≡ Some bytes
-    → record_line (declared_events (requests_of (later ++ entries))) cpu bytes
-    ≡ row_line cpu (record { ts = now_of (requests_of entries) + 1; pid = pid; event = k.id; payload = length (payload_of row) }) k.event row.values
+    (g : Config) (entry : Entry) (before later : List Entry) (name : List ℕ) (k : NumberedEvent) (cpu : ℕ) (pid : ℤ) (pairs : List Pair) (row : Cells)
+    (bytes : List ℕ)
+    → IsInRange g → IsLegalNewestFirst g (entry ∷ before) → request_of entry.command ≡ Emission name cpu pid pairs
+    → event_named name (requests_of before) ≡ Some k → row_of k.event pairs ≡ Ok row → emitted_record (requests_of before) name cpu pid pairs ≡ Some bytes
+    → record_line (declared_events (requests_of (later ++ entry ∷ before))) cpu bytes
+    ≡ row_line cpu (record { ts = now_of (requests_of before) + 1; pid = pid; event = k.id; payload = length (payload_of row) }) k.event row.values
 
 -- the records that a CPU's ring keeps, as consuming reads find them
 abbrev pub kept_readings : Config → ℕ → List Request → List Reading
 kept_readings g cpu past = readings_of g.pages g.page_bytes (ring_events g cpu past)
 
--- a line shows an emission of the history: one on the CPU, of an event that was enabled, and its filter held. Where the process's
--- number is in 32 bits, as that of every command of the program is, the line is that of the emission's row, with this number and the time at
--- which the emission came.
+-- a line shows an emission of the history: one on the CPU, of an event that was enabled, and its filter held. The line is that of the
+-- emission's row, with the number of its process and the time at which it came.
 pub record ShowsEmission (cpu : ℕ) (entries : List Entry) (line : List ℕ) : Type 0 where
   pub later : List Entry
   pub entry : Entry
@@ -64,8 +80,8 @@ pub record ShowsEmission (cpu : ℕ) (entries : List Entry) (line : List ℕ) : 
   pub built : row_of k.event pairs ≡ Ok row
   pub enabled : is_enabled name (requests_of before) ≡ true
   pub passed : IsTrue (filter_holds k.event (filter_of name (requests_of before)) row cpu pid)
-  pub shown : FitsSigned w32 pid
-      → line ≡ row_line cpu (record { ts = now_of (requests_of before) + 1; pid = pid; event = k.id; payload = length (payload_of row) }) k.event row.values
+  pub shown : line
+      ≡ row_line cpu (record { ts = now_of (requests_of before) + 1; pid = pid; event = k.id; payload = length (payload_of row) }) k.event row.values
 
 -- the line of each record that is kept shows an emission
 abbrev pub KeptRecordsShowEmissions : Type 0

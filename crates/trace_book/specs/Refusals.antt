@@ -1,5 +1,5 @@
--- The refusals' numbers, and answers that want of memory may take the place of.
-use Rattle.std.specs.Prelude.{◌≡◌, ◌≢◌, ℕ, Result, Ok, Err}
+-- The refusals' numbers, and which answers refused memory may take the place of.
+use Rattle.std.specs.Prelude.{◌≡◌, ◌≢◌, ℕ, Bool, true, false, IsTrue, Result, Ok, Err}
 use Rattle.trace_filter.specs.declared.fault.FilterFault.{FilterFault}
 use Rattle.trace_filter.specs.declared.fault.FilterFault.TheVariants as filter
 use Rattle.trace_format.specs.declared.fault.DefinitionFault.{DefinitionFault}
@@ -63,7 +63,32 @@ refusal_of_filter filter.Memory = Memory
 
 -- ---- answers
 
+-- the refusals that are found before a command takes any memory: no such file, CPU or event, a file that can't be read or written, and a
+-- wrong value. A declaration, a row, a filter and the room in the history are looked at once memory was taken.
+abbrev pub is_found_early : Refusal → Bool
+is_found_early NoSuchFile = true
+is_found_early NoSuchCpu = true
+is_found_early NoSuchEvent = true
+is_found_early NotReadable = true
+is_found_early NotWritable = true
+is_found_early BadValue = true
+is_found_early _ = false
+
+-- the answer is such a refusal
+abbrev pub IsFoundEarly : {A : Type 0} → Result A Refusal → Type 0
+IsFoundEarly (Ok reply) = ⊥
+IsFoundEarly (Err refusal) = IsTrue (is_found_early refusal)
+
 -- the answer is given, or memory was refused
 abbrev pub OrMemory : {A : Type 0} → Result A Refusal → Result A Refusal → Type 0
 OrMemory (Ok reply) answered = answered ≡ Ok reply
 OrMemory (Err refusal) answered = refusal ≢ Memory → answered ≡ Err refusal
+
+-- a refusal is the answer; or memory was refused, for an answer that is not found early
+abbrev pub IsRefusal : {A : Type 0} → Refusal → Result A Refusal → Type 0
+IsRefusal refusal answered = (refusal ≢ Memory → answered ≡ Err refusal) × (IsFoundEarly answered → answered ≡ Err refusal)
+
+-- the answer is given; or memory was refused, for one that is not found early
+abbrev pub IsAnswer : {A : Type 0} → Result A Refusal → Result A Refusal → Type 0
+IsAnswer (Ok reply) answered = answered ≡ Ok reply
+IsAnswer (Err refusal) answered = IsRefusal refusal answered

@@ -1,5 +1,6 @@
 -- Requests: commands whose paths were read.
-use Rattle.std.specs.Prelude.{ℕ, ℤ, Bool, List, Option}
+use Rattle.std.specs.Prelude.{ℕ, ℤ, ◌<◌, ◌^◌, FitsSigned, Bool, List, Option, Some, ⊤}
+use Rattle.std.specs.Int.{w32}
 use Rattle.trace_book.specs.Paths.{File, file_of}
 use Rattle.trace_format.specs.declared.pair.Pair.{Pair}
 use Rattle.trace_book.specs.declared.command.Command.{Command}
@@ -21,3 +22,9 @@ request_of (Mkdir path) = MakeInstance path
 request_of (Rmdir path) = RemoveInstance path
 request_of (Write path append text) = WriteFile (file_of path) append text
 request_of (Read path limit) = ReadFile (file_of path) limit
+
+-- the numbers of a request fit their types: the CPU of an emission 32 bits, its process 32 bits with a sign, the limit of a read 64 bits
+abbrev pub FitsItsTypes : Request → Type 0
+FitsItsTypes (Emission event cpu pid pairs) = (cpu < 2 ^ 32) × FitsSigned w32 pid
+FitsItsTypes (ReadFile file (Some limit)) = limit < 2 ^ 64
+FitsItsTypes _ = ⊤

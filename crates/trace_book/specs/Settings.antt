@@ -6,7 +6,7 @@ use Rattle.std.specs.Str.{bytes_eq}
 use Rattle.trace_format.specs.Blanks.{trimmed}
 use Rattle.trace_book.specs.Decimals.{written_number}
 use Rattle.trace_book.specs.Paths.{Overwrite, TraceOptions, SyntheticEvents, EventsEnable, EventsFilter, EventEnable, EventFilter}
-use Rattle.trace_filter.specs.Filters.{answer_of}
+use Rattle.trace_filter.specs.Filters.{Parsed, parsed_of, answer_of}
 use Rattle.trace_format.specs.Catalogs.{id_of, event_of}
 use Rattle.trace_format.specs.Definitions.{Definition}
 use Rattle.trace_format.specs.Reading.{definition_of}
@@ -93,6 +93,10 @@ sets_filter event past _ = None
 abbrev pub filter_of : List ℕ → List Request → Option (List ℕ)
 filter_of event [] = None
 filter_of event (request ∷ past) = unwrap_or (sets_filter event past request) (filter_of event past)
+
+-- an event's filter as an instance keeps it
+abbrev pub kept_filter : List Request → Definition → Option Parsed
+kept_filter past event = option_map (parsed_of event) (filter_of event.name past)
 
 -- the word of an option that is written to `trace_options`, exactly
 unfoldable pub written_option : List ℕ → Option Bool

@@ -1,5 +1,5 @@
 -- When what a book keeps agrees with the requests that were done, and what a change does to it.
-use Rattle.std.specs.Prelude.{◌≡◌, ℕ, ◌^◌, ℤ, slice_index_or, slice_set, replicate, unwrap_or, Vec, ◌+◌, ◌<◌, ◌≤◌, Bool, true, false, ◌&&◌, is_some, List, [], ◌∷◌, ◌++◌, length, map, IsSome, IsOk, Option, Some, None, Result, Ok, Err, ◌≢◌, if◌then◌else◌, codes, ⊤}
+use Rattle.std.specs.Prelude.{◌≡◌, ℕ, ◌^◌, ℤ, slice_index_or, slice_set, replicate, unwrap_or, Vec, ◌+◌, ◌<◌, ◌≤◌, Bool, true, false, ◌&&◌, is_some, List, [], ◌∷◌, ◌++◌, length, map, IsSome, IsOk, Option, Some, None, Result, Ok, Err, if◌then◌else◌, codes, ⊤}
 use Rattle.std.specs.List.{AllByRecursion}
 use Rattle.std.specs.Option.{option_to_list, option_map}
 use Rattle.std.specs.Global.{Global}
@@ -13,8 +13,9 @@ use Rattle.trace_filter.specs.Values.{holds_of}
 use Rattle.trace_format.specs.Catalogs.{id_for, IsEvent, AreEvents}
 use Rattle.trace_format.specs.Cells.{Cells, record_size_of}
 use Rattle.trace_format.specs.Definitions.{Definition}
+use Rattle.trace_book.specs.Refusals.{IsRefusal}
 use Rattle.trace_book.specs.Requests.{Request}
-use Rattle.trace_book.specs.Settings.{NumberedEvent, event_named, declares, declared_events, switches, is_enabled, clears_filter, can_take, written_filter, sets_filter, filter_of, sets_overwrite, overwrites, ticks, now_of}
+use Rattle.trace_book.specs.Settings.{NumberedEvent, event_named, declares, declared_events, switches, is_enabled, clears_filter, can_take, written_filter, sets_filter, filter_of, kept_filter, sets_overwrite, overwrites, ticks, now_of}
 use Rattle.trace_book.specs.Rings.{record_bytes, up_to_limit, consumed, put_of, clears, ring_events}
 use Rattle.trace_book.specs.Switches.{with_switch}
 use Rattle.trace_book.specs.History.{answer_with_room, filter_answer}
@@ -46,10 +47,6 @@ pub record IsPlaceOf (events : List Definition) (name : List ℕ) (index : ℕ) 
 pub record IsFit (page_bytes : ℕ) (event : Definition) : Type 0 where
   pub fields : length event.fields ≤ 16
   pub size : record_size_of event ≤ page_bytes
-
--- an event's filter as an instance keeps it
-abbrev pub kept_filter : List Request → Definition → Option Parsed
-kept_filter past event = option_map (parsed_of event) (filter_of event.name past)
 
 -- each part of the state is what the requests say of it
 pub record StandsFor (g : Config) (state : State) (past : List Request) : Type 0 where
@@ -191,7 +188,7 @@ pub record IsStep (old new : State) (change : Change) : Type 0 where
 abbrev pub IsPrepared : Config → List Request → Request → State → Result Prepared Refusal → Type 0
 IsPrepared g past request state (Ok prepared) =
     (answer_with_room g past request ≡ Ok prepared.reply) × IsChangeOf g past request prepared.change × IsReady state prepared.change
-IsPrepared g past request state (Err refusal) = refusal ≢ Memory → answer_with_room g past request ≡ Err refusal
+IsPrepared g past request state (Err refusal) = IsRefusal refusal (answer_with_room g past request)
 
 -- what every state of a book has, so that a command can be prepared without its past
 pub record IsUsable (state : State) : Type 0 where
@@ -240,7 +237,7 @@ switching None = Err BadValue
 -- the filter of an event that a text writes, or why the event can't take it
 abbrev pub IsWrittenFilter : List ℕ → Definition → Result (Option Parsed) Refusal → Type 0
 IsWrittenFilter text event (Ok kept) = (filter_answer text event ≡ Ok Done) × (kept ≡ option_map (parsed_of event) (written_filter text))
-IsWrittenFilter text event (Err refusal) = refusal ≢ Memory → filter_answer text event ≡ Err refusal
+IsWrittenFilter text event (Err refusal) = IsRefusal refusal (filter_answer text event)
 
 -- what a text that is written to the filter of all events changes of one's
 abbrev pub change_of : List ℕ → Definition → FilterChange

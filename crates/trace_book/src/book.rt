@@ -4,11 +4,10 @@ ghost use Rattle.std.specs.Prelude.{◌≡◌, ℕ, ◌+◌, ◌^◌, ◌≤◌,
 ghost use Rattle.page_ring.specs.Shown as shown;
 ghost use Rattle.trace_book.specs.Configs.{IsInRange};
 ghost use Rattle.trace_book.specs.History.{answer, past_of, IsLegal};
-ghost use Rattle.trace_book.specs.Refusals.{OrMemory};
+ghost use Rattle.trace_book.specs.Refusals.{OrMemory, IsFoundEarly};
 ghost use Rattle.trace_book.specs.Requests.{request_of};
 ghost use Rattle.trace_book.specs.Rings.{ring_events};
-ghost use Rattle.trace_book.specs.Settings.{declared_events, is_enabled, overwrites, now_of};
-ghost use Rattle.trace_book.specs.States.{kept_filter};
+ghost use Rattle.trace_book.specs.Settings.{declared_events, is_enabled, kept_filter, overwrites, now_of};
 ghost use Rattle.trace_book.specs.declared.refusal.Refusal.TheVariants as refusal;
 
 use crate::command::{Command, Config, Entry, Reply};
@@ -65,10 +64,13 @@ impl Book {
 
     /// Does a command, or refuses it. The answer is the one that the history gives: a command that is done is the next entry of the
     /// history, under this ticket and the number of this caller; one that is refused changes nothing.
-    /// `Memory` may come in place of any answer, where an allocation was refused.
+    /// `Memory` may come in place of the answer, where an allocation was refused; but a refusal that is found before any memory is
+    /// taken is always given.
     pub fn ask(&mut self, ticket: u64, by: u32, command: Command) -> Result<Reply, Refusal>
         requires { All (λ entry. entry.ticket < ticket) self.old.entries }
         ensures reply { OrMemory result (answer self.old.config (past_of self.old.entries) (request_of command)) }
+        ensures early { IsFoundEarly (answer self.old.config (past_of self.old.entries) (request_of command))
+            → result ≡ answer self.old.config (past_of self.old.entries) (request_of command) }
         ensures done { OnOk result (self.new.entries
             ≡ self.old.entries ++ record { ticket = ticket; by = by; command = command } ∷ []) }
         ensures refused { OnErr result (self.new.entries ≡ self.old.entries) }

@@ -1,12 +1,12 @@
 //! Commands are prepared before anything changes: all memory that they need is taken here, but for the catalog's growth and the history's.
 
-ghost use Rattle.std.specs.Prelude.{◌≡◌, ℕ, ◌^◌, ◌≤◌, ◌<◌, ◌++◌, Bool, List, Option, Some, None, is_some, nat_lt, length, map, option_copied, if◌then◌else◌, IfOk, OnOk};
+ghost use Rattle.std.specs.Prelude.{◌≡◌, ℕ, ◌^◌, ◌≤◌, ◌<◌, ◌++◌, Bool, List, Option, Some, None, is_some, nat_lt, length, map, option_copied, unwrap_or, if◌then◌else◌, IfOk, OnOk};
 ghost use Rattle.std.specs.List.{flat_map, list_any};
 ghost use Rattle.trace_book.specs.Decimals.{value_after};
 ghost use Rattle.trace_book.specs.Configs.{IsInRange};
 ghost use Rattle.trace_book.specs.History as history;
-ghost use Rattle.trace_book.specs.Refusals.{OrMemory};
-ghost use Rattle.trace_book.specs.Paths.{SyntheticEvents, EventsFilter, EventEnable, EventFilter, EventFormat, CpuStats};
+ghost use Rattle.trace_book.specs.Refusals.{IsAnswer};
+ghost use Rattle.trace_book.specs.Paths.{SyntheticEvents, EventsEnable, EventsFilter, EventEnable, EventFilter, EventFormat, CpuStats};
 ghost use Rattle.trace_book.specs.Requests.{Request, Emission, WriteFile, ReadFile};
 ghost use Rattle.trace_book.specs.Requests as requests;
 ghost use Rattle.trace_book.specs.Settings as settings;
@@ -45,6 +45,7 @@ impl State {
         ensures stands { (g : Config) (past : List Request) → StandsFor g self.old past → StandsFor g self.new past }
         ensures prepared { (past : List Request) → StandsFor config.now self.old past
             → IsPrepared config.now past (requests.request_of command.now) self.new result }
+        ensures fits { OnOk result (requests.FitsItsTypes (requests.request_of command.now)) }
     {
         match command {
             Command::Emit {
@@ -245,6 +246,9 @@ impl State {
         ensures { (g : Config) (past : List Request) (append : Bool) → StandsFor g self.now past
             → IsPrepared g past (WriteFile (Some EventsFilter) append text.now) self.now result }
     {
+        if self.catalog.is_empty() {
+            return Err(Refusal::NoSuchEvent);
+        }
         let Taken { changes, some } = filter_changes(alloc, &self.catalog, text)?;
         let reply = filter_of_all(alloc, &self.catalog, text, some)?;
         Ok(Prepared {
@@ -262,34 +266,27 @@ impl State {
     ) -> Result<Prepared, Refusal>
         requires usable { IsUsable self.now }
         requires in_range { IsInRange config.now }
-        ensures { (past : List Request) → StandsFor config.now self.now past
+        ensures prepared { (past : List Request) → StandsFor config.now self.now past
             → IsPrepared config.now past (ReadFile (Some (file_at place.entry)) limit) self.now result }
+        ensures fits { (most : ℕ) → limit ≡ Some most → most < 2 ^ 64 }
     {
+        let most = limit.unwrap_or(u64::MAX);
         match place {
             Place::Trace => unchanged(self.read_trace(alloc, config, 0, limit)),
             Place::CpuTrace(digits) => match cpu_below(digits, config.cpus) {
                 Some(cpu) => unchanged(self.read_trace(alloc, config, cpu, limit)),
                 None => Err(Refusal::NoSuchCpu),
             },
-            Place::TracePipe => self.prepare_take(alloc, 0, limit),
+            Place::TracePipe => self.prepare_take(alloc, 0, most),
             Place::CpuTracePipe(digits) => match cpu_below(digits, config.cpus) {
-                Some(cpu) => self.prepare_take(alloc, cpu, limit),
+                Some(cpu) => self.prepare_take(alloc, cpu, most),
                 None => Err(Refusal::NoSuchCpu),
             },
             Place::CpuStats(digits) => unchanged(self.read_stats(alloc, config, digits, limit)),
-            Place::Overwrite => unchanged(read_text(
-                limit,
-                flag_text(alloc, self.top.overwrites()),
-            )),
-            Place::TraceOptions => unchanged(read_text(
-                limit,
-                option_text(alloc, self.top.overwrites()),
-            )),
+            Place::Overwrite => unchanged(self.read_overwrite(alloc, limit)),
+            Place::TraceOptions => unchanged(self.read_options(alloc, limit)),
             Place::SyntheticEvents => unchanged(self.read_declarations(alloc, limit)),
-            Place::EventsEnable => unchanged(read_text(
-                limit,
-                mixture_text(alloc, self.top.none_on(), self.top.some_off()),
-            )),
+            Place::EventsEnable => unchanged(self.read_switches(alloc, limit)),
             Place::EventsFilter => Err(Refusal::NotReadable),
             Place::EventEnable(name) => unchanged(self.read_enable(alloc, name, limit)),
             Place::EventFilter(name) => unchanged(self.read_filter(alloc, name, limit)),
@@ -308,7 +305,7 @@ impl State {
     ) -> Result<Reply, Refusal>
         requires { cpu < 1 }
         ensures { (past : List Request) → StandsFor config.now self.now past
-            → OrMemory result (history.whole_text limit (trace_text config.now past cpu)) }
+            → IsAnswer result (history.whole_text limit (trace_text config.now past cpu)) }
     {
         if limit.is_some() {
             return Err(Refusal::BadValue);
@@ -321,21 +318,15 @@ impl State {
         Ok(Reply::Text(Text::from(out)))
     }
 
-    // What a pipe gives: the text is built before anything is consumed. For now there is one CPU.
+    // What a pipe gives, of this many records at most: the text is built before anything is consumed. For now there is one CPU.
     #[tactic(auto, unfolding(crate::specs::TraceFiles::pipe_text))]
-    fn prepare_take(&self, alloc: Global, cpu: u32, limit: Option<u64>) -> Result<Prepared, Refusal>
+    fn prepare_take(&self, alloc: Global, cpu: u32, most: u64) -> Result<Prepared, Refusal>
         requires { cpu < 1 }
-        ensures { (g : Config) (past : List Request) → StandsFor g self.now past → IsTaking g past limit result }
+        ensures { (g : Config) (past : List Request) (limit : Option ℕ) → StandsFor g self.now past
+            → most ≡ unwrap_or limit u64.MAX → IsTaking g past limit result }
     {
         let mut out = Vec::new(alloc);
-        let count = push_taken(
-            alloc,
-            &mut out,
-            &self.catalog,
-            cpu,
-            self.top.kept(),
-            limit.unwrap_or(u64::MAX),
-        )?;
+        let count = push_taken(alloc, &mut out, &self.catalog, cpu, self.top.kept(), most)?;
         Ok(Prepared {
             change: Change::Take(count),
             reply: Reply::Text(Text::from(out)),
@@ -345,7 +336,7 @@ impl State {
     fn read_enable(&self, alloc: Global, name: &[u8], limit: Option<u64>) -> Result<Reply, Refusal>
         requires { IsUsable self.now }
         ensures { (g : Config) (past : List Request) → StandsFor g self.now past
-            → OrMemory result (history.answer_with_room g past (ReadFile (Some (EventEnable name.now)) limit)) }
+            → IsAnswer result (history.answer_with_room g past (ReadFile (Some (EventEnable name.now)) limit)) }
     {
         let Some(found) = find(&self.catalog, name) else {
             return Err(Refusal::NoSuchEvent);
@@ -368,7 +359,7 @@ impl State {
         requires usable { IsUsable self.now }
         requires in_range { IsInRange config.now }
         ensures { (past : List Request) → StandsFor config.now self.now past
-            → OrMemory result (history.answer_with_room config.now past (ReadFile (Some (CpuStats (value_after 0 digits.now))) limit)) }
+            → IsAnswer result (history.answer_with_room config.now past (ReadFile (Some (CpuStats (value_after 0 digits.now))) limit)) }
     {
         let Some(cpu) = cpu_below(digits, config.cpus) else {
             return Err(Refusal::NoSuchCpu);
@@ -384,7 +375,7 @@ impl State {
     fn read_filter(&self, alloc: Global, name: &[u8], limit: Option<u64>) -> Result<Reply, Refusal>
         requires { IsUsable self.now }
         ensures { (g : Config) (past : List Request) → StandsFor g self.now past
-            → OrMemory result (history.answer_with_room g past (ReadFile (Some (EventFilter name.now)) limit)) }
+            → IsAnswer result (history.answer_with_room g past (ReadFile (Some (EventFilter name.now)) limit)) }
     {
         let Some(found) = find(&self.catalog, name) else {
             return Err(Refusal::NoSuchEvent);
@@ -399,7 +390,7 @@ impl State {
     fn read_format(&self, alloc: Global, name: &[u8], limit: Option<u64>) -> Result<Reply, Refusal>
         requires { IsUsable self.now }
         ensures { (g : Config) (past : List Request) → StandsFor g self.now past
-            → OrMemory result (history.answer_with_room g past (ReadFile (Some (EventFormat name.now)) limit)) }
+            → IsAnswer result (history.answer_with_room g past (ReadFile (Some (EventFormat name.now)) limit)) }
     {
         let Some(found) = find(&self.catalog, name) else {
             return Err(Refusal::NoSuchEvent);
@@ -412,11 +403,44 @@ impl State {
         Ok(Reply::Text(Text::from(out)))
     }
 
+    fn read_overwrite(&self, alloc: Global, limit: Option<u64>) -> Result<Reply, Refusal>
+        ensures { (g : Config) (past : List Request) → StandsFor g self.now past
+            → IsAnswer result (history.whole_text limit (history.flag_text (settings.overwrites past))) }
+    {
+        if limit.is_some() {
+            return Err(Refusal::BadValue);
+        }
+        let text = flag_text(alloc, self.top.overwrites())?;
+        Ok(Reply::Text(text))
+    }
+
+    fn read_options(&self, alloc: Global, limit: Option<u64>) -> Result<Reply, Refusal>
+        ensures { (g : Config) (past : List Request) → StandsFor g self.now past
+            → IsAnswer result (history.whole_text limit (history.option_text (settings.overwrites past))) }
+    {
+        if limit.is_some() {
+            return Err(Refusal::BadValue);
+        }
+        let text = option_text(alloc, self.top.overwrites())?;
+        Ok(Reply::Text(text))
+    }
+
+    fn read_switches(&self, alloc: Global, limit: Option<u64>) -> Result<Reply, Refusal>
+        ensures { (g : Config) (past : List Request) → StandsFor g self.now past
+            → IsAnswer result (history.answer_with_room g past (ReadFile (Some EventsEnable) limit)) }
+    {
+        if limit.is_some() {
+            return Err(Refusal::BadValue);
+        }
+        let text = mixture_text(alloc, self.top.none_on(), self.top.some_off())?;
+        Ok(Reply::Text(text))
+    }
+
     #[tactic(auto, unfolding(crate::specs::History::declarations_text))]
     fn read_declarations(&self, alloc: Global, limit: Option<u64>) -> Result<Reply, Refusal>
         requires { IsUsable self.now }
         ensures { (past : List Request) → self.now.catalog ≡ settings.declared_events past
-            → OrMemory result (history.whole_text limit (history.declarations_text past)) }
+            → IsAnswer result (history.whole_text limit (history.declarations_text past)) }
     {
         if limit.is_some() {
             return Err(Refusal::BadValue);
@@ -495,15 +519,13 @@ fn filter_changes(alloc: Global, events: &Catalog, text: &[u8]) -> Result<Taken,
     Ok(Taken { changes, some })
 }
 
-// The reply to a filter of all events. Where no event gets one, the first event says why, or that the text clears.
+// The reply to a filter of all events, of which there is one at least. Where no event gets one, the first event says why, or that the text clears.
 fn filter_of_all(alloc: Global, events: &Catalog, text: &[u8], some: bool) -> Result<Reply, Refusal>
+    requires one { 0 < length events.now }
     requires few { length events.now ≤ 64 }
     requires some { some ≡ list_any (λ event. is_set (change_of text.now event)) events.now }
-    ensures { OrMemory result (history.filter_of_all_answer text.now events.now) }
+    ensures { IsAnswer result (history.filter_of_all_answer text.now events.now) }
 {
-    if events.is_empty() {
-        return Err(Refusal::NoSuchEvent);
-    }
     if some {
         return Ok(Reply::Done);
     }
@@ -558,16 +580,6 @@ fn prepare_overwrite(flag: Option<bool>) -> Result<Prepared, Refusal>
         }),
         None => Err(Refusal::BadValue),
     }
-}
-
-// A file that is no pipe is read whole.
-fn read_text(limit: Option<u64>, text: Result<Text, AllocError>) -> Result<Reply, Refusal>
-    ensures { (answered : List ℕ) → IfOk text (λ t. t ≡ answered) → OrMemory result (history.whole_text limit answered) }
-{
-    if limit.is_some() {
-        return Err(Refusal::BadValue);
-    }
-    Ok(Reply::Text(text?))
 }
 
 // A reply to a command that changes nothing.

@@ -4,7 +4,7 @@ use Rattle.trace_book.specs.History.{past_of}
 use Rattle.trace_book.specs.BookSeen.{BookSeen}
 use Rattle.trace_book.specs.declared.command.Entry.{Entry}
 use Rattle.trace_book.specs.declared.command.Reply.{Reply}
-use Rattle.trace_book.proofs.Histories.{usable-from_stands, length-past_of, past_of-push, answer-done, answer-full, refused-reply, IsLegal-push}
+use Rattle.trace_book.proofs.Histories.{usable-from_stands, length-past_of, past_of-push, answer-done, answer-full, refused-reply, refused-early, late-done, IsLegal-push}
 use Rattle.trace_book.proofs.Steps.{stands_after}
 use Rattle.trace_book.proofs.book.Book.ask.Goals as goal
 
@@ -30,6 +30,14 @@ returns-in_err-change-clause-reply c =
     let prepared = c.in_err-change.ensures.prepared past c.self.invariant.stands in
     rw (← c.self.view_is, out) (refused-reply book.config past (request_of c.args.command) c.prepare.new.self c.in_err-change.field-0.0 prepared)
 
+pub returns-in_err-change-clause-early : goal.returns-in_err-change-clause-early
+returns-in_err-change-clause-early c =
+    let book = c.self.inside in
+    let past = past_of book.entries.items in
+    let out : c.from_residual.result ≡ Err c.in_err-change.field-0.0 = search rules in
+    let prepared = c.in_err-change.ensures.prepared past c.self.invariant.stands in
+    rw (← c.self.view_is, out) (λ early. sym (refused-early book.config past (request_of c.args.command) c.prepare.new.self c.in_err-change.field-0.0 prepared early))
+
 pub invariant_of-self-then-len-self : goal.invariant_of-self-then-len-self
 invariant_of-self-then-len-self c = record {
   in_range = c.self.invariant.in_range;
@@ -45,6 +53,21 @@ returns-then-len-self-clause-reply c = λ other.
     let prepared = c.in_ok-change.ensures.prepared past c.self.invariant.stands in
     rw (← c.self.view_is) (answer-full book.config past (request_of c.args.command) c.in_ok-change.reply (prepared.0 ∙ ap (λ (r : Reply). Ok r) c.in_ok-change.reply-is)
     (omega (arith, length-past_of book.entries.items, c.len.ensures, book.entries.ok.0)))
+
+pub returns-then-len-self-clause-early : goal.returns-then-len-self-clause-early
+returns-then-len-self-clause-early c =
+    let book = c.self.inside in
+    let past = past_of book.entries.items in
+    let prepared = c.in_ok-change.ensures.prepared past c.self.invariant.stands in
+    rw (← c.self.view_is) (λ early. sym (answer-full book.config past (request_of c.args.command) c.in_ok-change.reply (prepared.0 ∙ ap (λ (r : Reply). Ok r) c.in_ok-change.reply-is)
+    (omega (arith, length-past_of book.entries.items, c.len.ensures, book.entries.ok.0))))
+
+pub returns-in_err-reserve-clause-early : goal.returns-in_err-reserve-clause-early
+returns-in_err-reserve-clause-early c =
+    let book = c.self.inside in
+    let past = past_of book.entries.items in
+    let prepared = c.in_ok-change.ensures.prepared past c.self.invariant.stands in
+    rw (← c.self.view_is) (λ early. absurd (late-done book.config past (request_of c.args.command) c.in_ok-change.reply (prepared.0 ∙ ap (λ (r : Reply). Ok r) c.in_ok-change.reply-is) early))
 
 pub invariant_of-self-in_err-reserve : goal.invariant_of-self-in_err-reserve
 invariant_of-self-in_err-reserve c = record {
@@ -66,6 +89,13 @@ commit-requires-clause-few c =
     let stands = c.prepare.ensures.stands book.config (past_of book.entries.items) c.self.invariant.stands in
     omega (arith, stands.offered, length-past_of book.entries.items, c.len.ensures, book.entries.ok.0, c.self.invariant.in_range.few_entries)
 
+pub returns-in_err-commit-clause-early : goal.returns-in_err-commit-clause-early
+returns-in_err-commit-clause-early c =
+    let book = c.self.inside in
+    let past = past_of book.entries.items in
+    let prepared = c.in_ok-change.ensures.prepared past c.self.invariant.stands in
+    rw (← c.self.view_is) (λ early. absurd (late-done book.config past (request_of c.args.command) c.in_ok-change.reply (prepared.0 ∙ ap (λ (r : Reply). Ok r) c.in_ok-change.reply-is) early))
+
 pub invariant_of-self-2 : goal.invariant_of-self-2
 invariant_of-self-2 c =
     let book = c.self.inside in
@@ -84,7 +114,7 @@ invariant_of-self-2 c =
     record {
       in_range = c.self.invariant.in_range;
       few = rw items (omega (arith, length-append book.entries.items (entry ∷ []), c.len.ensures, book.entries.ok.0, c.self.invariant.in_range.few_entries));
-      legal = rw items (IsLegal-push g book.entries.items entry c.self.invariant.legal below (rw done refl));
+      legal = rw items (IsLegal-push g book.entries.items entry c.self.invariant.legal (c.ranges.ticket.fits, c.ranges.by.fits, c.in_ok-change.ensures.fits) below (rw done refl));
       stands = rw (items, past_of-push) (stands_after g c.prepare.new.self c.commit.new.self past request c.in_ok-change.field-0.change stands prepared.1 c.in_ok-commit.ensures.done);
     }
 
@@ -95,3 +125,10 @@ returns-clause-reply c =
     let prepared = c.in_ok-change.ensures.prepared past c.self.invariant.stands in
     rw (← c.self.view_is) (answer-done book.config past (request_of c.args.command) c.in_ok-change.field-0.reply prepared.0
     (omega (arith, length-past_of book.entries.items, c.len.ensures, book.entries.ok.0)))
+
+pub returns-clause-early : goal.returns-clause-early
+returns-clause-early c =
+    let book = c.self.inside in
+    let past = past_of book.entries.items in
+    let prepared = c.in_ok-change.ensures.prepared past c.self.invariant.stands in
+    rw (← c.self.view_is) (λ early. absurd (late-done book.config past (request_of c.args.command) c.in_ok-change.field-0.reply prepared.0 early))
