@@ -255,6 +255,17 @@ fn most_records(rt: HostRuntime) -> Result<(), Fail> {
     Ok(())
 }
 
+// Memory is given however many records were read, dropped and lost before.
+#[test]
+fn long_use(rt: HostRuntime) -> Result<(), Fail> {
+    let mut ring = Ring::new(rt.alloc(), 2, 64)?;
+    for round in 0..20_000u64 {
+        write_ticks(&mut ring, 1, 8, round % 2 == 0)?;
+        assert!(rt; ring.take().is_some());
+    }
+    Ok(())
+}
+
 fn stats(
     entries: u64,
     overrun: u64,
