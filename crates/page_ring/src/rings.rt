@@ -96,8 +96,8 @@ impl Model for Ring {
 impl Ring {
     ghost use Rattle.page_ring.specs.Reading.{reading};
 
-    /// An empty ring of so many pages in a circle, each for so many bytes of records. The error is
-    /// want of memory alone.
+    /// An empty ring of so many pages in a circle, each for so many bytes of records. The only error
+    /// is that memory is refused.
     pub fn new(alloc: Global, pages: u32, page_bytes: u32) -> Result<Ring, AllocError>
         requires pages { (2 ≤ pages) × (pages ≤ 1024) }
         requires page_bytes { (64 ≤ page_bytes) × (page_bytes ≤ 4080) × (page_bytes % 8 ≡ 0) }

@@ -106,7 +106,7 @@ impl Filter {
 ghost use Rattle.trace_filter.specs.declared.fault.FilterFault.{FilterFault as fault_type};
 ghost use Rattle.trace_filter.specs.Filters.{IsFilter as IsFilterText, IsRefused as IsRefusedText};
 
-/// Whether a text is a filter of an event: whether nothing but want of memory makes `Filter::parse` refuse it.
+/// Whether a text is a filter of an event: whether `Filter::parse` refuses it only if it runs out of memory.
 #[tactic(auto, using(crate::proofs::FilterLemmas::never_refused))]
 pub fn applies_to(alloc: Global, text: &[u8], def: &EventDef) -> Result<bool, AllocError>
     ensures filter { IfOk result (λ applies. IsTrue applies ↔ IsFilterText def.now text.now) }

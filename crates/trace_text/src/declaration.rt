@@ -31,7 +31,7 @@ fn push_fields(alloc: Global, out: &mut Vec<u8>, fields: &[Field]) -> Result<(),
 
 /// Appends an event's line of `synthetic_events` ("Synthetic events" of histogram.rst): its name, and its fields as they are declared.
 ///
-/// It is refused for want of memory alone, and `out` is then as it was.
+/// It is refused only if it runs out of memory, and `out` is then as it was.
 #[tactic(auto, unfolding(crate::specs::DeclarationText::declaration_text))]
 pub fn declaration_text(alloc: Global, def: &EventDef, out: &mut Vec<u8>) -> Result<(), AllocError>
     ensures text { OnOk result (out.new.items ≡ out.old.items ++ texts.declaration_text def.now) }

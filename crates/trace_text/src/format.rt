@@ -85,7 +85,7 @@ fn push_common_pid_line(alloc: Global, out: &mut Vec<u8>) -> Result<(), AllocErr
 /// and one for each field. A line has the field as it is declared, the place of its first byte in a record and its size, both in bytes, and
 /// 1 where it holds numbers below 0, else 0.
 ///
-/// It is refused for want of memory alone, and `out` is then as it was.
+/// It is refused only if it runs out of memory, and `out` is then as it was.
 #[tactic(auto, unfolding(crate::specs::FormatText::format_text))]
 pub fn format_text(
     alloc: Global,

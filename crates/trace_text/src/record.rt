@@ -154,7 +154,7 @@ fn push_record_line(
 /// `rec` is the record's bytes: its head, which names an event of the catalog, the payload of a row of that event, and what fills it up. Bytes
 /// with no head, of no such event, or with no row of it have no line.
 ///
-/// It is refused for want of memory alone, and `out` is then as it was.
+/// It is refused only if it runs out of memory, and `out` is then as it was.
 pub fn record_text(
     alloc: Global,
     catalog: &Catalog,

@@ -18,7 +18,7 @@ fn push_line(out: &mut String, label: &str, n: u64) -> Result<(), AllocError>
 /// Appends the text of `per_cpu/cpuN/stats` ("The File System" of ftrace.rst): the statistics of a CPU's ring and the clock, a line each.
 /// `bytes` adds up the sizes of the kept records; `oldest` and `now` are ticks of the clock, which counts emissions.
 ///
-/// It is refused for want of memory alone, and `out` is then as it was.
+/// It is refused only if it runs out of memory, and `out` is then as it was.
 #[tactic(auto, unfolding(crate::specs::StatsText::stats_text))]
 pub fn stats_text(
     alloc: Global,

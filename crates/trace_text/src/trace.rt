@@ -24,7 +24,7 @@ fn push_lost_line(alloc: Global, out: &mut Vec<u8>, cpu: u32, lost: u64) -> Resu
 /// Appends the line of `trace_pipe` before a record of a CPU where records were lost between it and the one consumed before ("The File
 /// System" of ftrace.rst); where none was lost, nothing.
 ///
-/// It is refused for want of memory alone, and `out` is then as it was.
+/// It is refused only if it runs out of memory, and `out` is then as it was.
 pub fn lost_text(alloc: Global, cpu: u32, lost: u64, out: &mut Vec<u8>) -> Result<(), AllocError>
     ensures text { OnOk result (out.new.items ≡ out.old.items ++ texts.lost_line cpu lost) }
     ensures refused { OnErr result (out.new.items ≡ out.old.items) }
@@ -45,7 +45,7 @@ fn push_trace_title(out: &mut Vec<u8>) -> Result<(), AllocError>
 /// Appends the head of `trace` ("Output format" of ftrace.rst): how many records are kept, how many are kept or were lost to overwriting,
 /// and the number of CPUs.
 ///
-/// It is refused for want of memory alone, and `out` is then as it was.
+/// It is refused only if it runs out of memory, and `out` is then as it was.
 #[tactic(auto, unfolding(crate::specs::TraceText::trace_head))]
 pub fn trace_head_text(
     alloc: Global,
