@@ -174,7 +174,7 @@ fn trace(alloc: Global, count: u64, lines: &str) -> Result<String, Refused> {
 fn traces_and_pipes_are_long(rt: HostRuntime) {
     let alloc = rt.alloc();
     let mut refusals = Refusals::new();
-    for (pages, page_bytes, count) in [(50, 2_048, 4_000), (1_024, 4_080, 174_000)] {
+    for (pages, page_bytes, count) in [(50, 2_048, 4_000), (1_024, 4_080, 20_000)] {
         let lines = refusals.tried(&rt, || lines(alloc, count));
         let trace = refusals.tried(&rt, || trace(alloc, count, &lines));
         let mut desk = ticking_desk(&rt, pages, page_bytes, 0);
