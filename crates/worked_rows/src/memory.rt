@@ -1,5 +1,6 @@
 //! Whatever allocation of a command is refused, the files are as they were before it, and the same command is done when it is asked again.
-//! `rt try --test --fail-alloc 1..` refuses each allocation in turn; `rt test` refuses none, and each test then sees that no memory was wanted twice.
+//! `rt try --test --fail-alloc N` refuses the Nth allocation of each test; `rt test` refuses none. Both make every assertion: a test goes on
+//! after one refusal, and a second one, at preparing too, fails it.
 
 use crate::desk::{Desk, Shown, Step};
 use std::process::Abort;

@@ -25,7 +25,7 @@ pub(crate) fn config(page_bytes: u32, history_limit: u64) -> Config
 }
 
 /// What a session over memory writes for a script, and its status: where memory was refused, those of a second session, and the first
-/// wrote a front of its bytes.
+/// wrote a prefix of its bytes.
 pub(crate) fn session(
     rt: &(impl Abort + AllocGlobal),
     refusals: &mut Refusals,
@@ -34,15 +34,15 @@ pub(crate) fn session(
 ) -> (Vec<u8>, Status)
     requires { IsInRange config }
 {
-    let (front, status) = attempt(rt.alloc(), config, script);
+    let (begun, status) = attempt(rt.alloc(), config, script);
     if !is_stopped(status) {
-        return (front, status);
+        return (begun, status);
     }
     refusals.meet(rt);
-    assert!(rt; status == Status::Device || is_whole_lines(&front));
+    assert!(rt; status == Status::Device || is_whole_lines(&begun));
     let (written, status) = attempt(rt.alloc(), config, script);
     assert!(rt; !is_stopped(status), "memory was refused a second time");
-    assert!(rt; written.starts_with(&front));
+    assert!(rt; written.starts_with(&begun));
     (written, status)
 }
 
