@@ -1,7 +1,7 @@
 //! Filters and switches of all events.
 
-use crate::rows::Row;
-use crate::sessions::{config, session};
+use crate::rows::{Row, hold};
+use crate::sessions::config;
 use trace_book::Config;
 
 const ROWS: [Row; 7] = [
@@ -67,22 +67,14 @@ const WIDE_ROWS: [Row; 2] = [
 
 #[test]
 fn rows_of_filters_hold(rt: HostRuntime) {
-    for row in &ROWS {
-        let (written, status) = session(rt.alloc(), config(64, 1 << 32), row.script.as_bytes());
-        assert_eq!(rt; written.as_slice(), row.written.as_bytes(), "{}", row.name);
-        assert_eq!(rt; status.code(), row.status, "{}", row.name);
-    }
+    hold(&rt, config(64, 1 << 32), &ROWS);
 }
 
 #[test]
 fn wide_rows_of_filters_hold(rt: HostRuntime) {
-    for row in &WIDE_ROWS {
-        let wide = Config {
-            pages: 4,
-            ..config(256, 1 << 32)
-        };
-        let (written, status) = session(rt.alloc(), wide, row.script.as_bytes());
-        assert_eq!(rt; written.as_slice(), row.written.as_bytes(), "{}", row.name);
-        assert_eq!(rt; status.code(), row.status, "{}", row.name);
-    }
+    let wide = Config {
+        pages: 4,
+        ..config(256, 1 << 32)
+    };
+    hold(&rt, wide, &WIDE_ROWS);
 }

@@ -1,11 +1,11 @@
-use crate::fakes::{Hesitant, Narrow, WhenFull};
+//! Worked rows: what whole sessions write.
+
+ghost use Rattle.trace_book.specs.Configs.{IsInRange};
+
+use crate::refusals::Refusals;
 use crate::sessions::{config, session};
-use std::alloc::{AllocError, Global};
-use std::io;
-use std::io::Read;
-use std::test::Fail;
-use trace_book::{Book, Command, Refusal, Text};
-use trace_session::{Input, MOST_SCRIPT_BYTES, Output, Status, run_session};
+use std::process::Abort;
+use trace_book::Config;
 
 /// A script, what is written for it, and the exit status.
 pub(crate) struct Row {
@@ -172,111 +172,42 @@ const ROWS: [Row; 25] = [
     },
 ];
 
-#[test]
-fn rows_hold(rt: HostRuntime) {
-    for row in &ROWS {
-        let (written, status) = session(rt.alloc(), config(64, 1 << 32), row.script.as_bytes());
+/// Sees that sessions of this configuration write what the rows say.
+pub(crate) fn hold(rt: &(impl Abort + AllocGlobal), config: Config, rows: &[Row])
+    requires { IsInRange config }
+{
+    let mut refusals = Refusals::new();
+    for row in rows {
+        let (written, status) = session(rt, &mut refusals, config, row.script.as_bytes());
         assert_eq!(rt; written.as_slice(), row.written.as_bytes(), "{}", row.name);
         assert_eq!(rt; status.code(), row.status, "{}", row.name);
     }
 }
 
-/// A write by `>`.
-fn write(alloc: Global, path: &[u8], text: &[u8]) -> Result<Command, AllocError> {
-    Ok(Command::Write {
-        path: Text::from_slice(alloc, path)?,
-        append: false,
-        text: Text::from_slice(alloc, text)?,
-    })
+#[test]
+fn rows_hold(rt: HostRuntime) {
+    hold(&rt, config(64, 1 << 32), &ROWS);
 }
+
+/// A history of two commands is full.
+const FULL_ROWS: [Row; 1] = [Row {
+    name: "a_full_history_takes_no_more",
+    script: "\
+echo 'tick u64 n' > synthetic_events
+echo 1 > events/synthetic/tick/enable
+cat per_cpu/cpu0/stats
+echo 1 > events/synthetic/tick/enable
+cat nothing
+",
+    written: "\
+! 3: N22 HistoryFull
+! 4: N22 HistoryFull
+! 5: N1 NoSuchFile
+",
+    status: 1,
+}];
 
 #[test]
-fn a_full_history_takes_no_more(rt: HostRuntime) -> Result<(), Fail> {
-    let alloc = rt.alloc();
-    let script =
-        b"echo 'tick u64 n' > synthetic_events\necho 1 > events/synthetic/tick/enable\ncat per_cpu/cpu0/stats\n";
-    let (written, status) = session(alloc, config(64, 2), script.as_slice());
-    assert_eq!(rt; written.as_slice(), b"! 3: N22 HistoryFull\n".as_slice());
-    assert_eq!(rt; status, Status::Refused);
-
-    let mut book = Book::new(alloc, config(64, 2))?;
-    book.ask(0, 0, write(alloc, b"synthetic_events", b"tick u64 n")?)?;
-    book.ask(1, 0, write(alloc, b"events/synthetic/tick/enable", b"1")?)?;
-    let refused = book.ask(2, 0, write(alloc, b"events/synthetic/tick/enable", b"1")?);
-    assert!(rt; matches!(refused, Err(Refusal::HistoryFull)));
-    assert_eq!(rt; book.entries().len(), 2);
-    Ok(())
-}
-
-/// A session whose writer takes so many bytes, one at a time: what it took, how often it failed, and the status.
-fn narrow_session(
-    alloc: Global,
-    script: &[u8],
-    room: usize,
-    when_full: WhenFull,
-) -> (Vec<u8>, u64, Status) {
-    let mut input = Input::new(Hesitant {
-        rest: script,
-        fails_at_end: false,
-    });
-    let mut output = Output::new(Narrow {
-        taken: Vec::new(alloc),
-        room,
-        when_full,
-    });
-    let status = run_session(alloc, config(64, 1 << 32), &mut input, &mut output);
-    (output.device.taken, output.failures, status)
-}
-
-#[test]
-fn a_full_writer_gets_a_front(rt: HostRuntime) {
-    let script = b"cat nothing\ncat nothing\n".as_slice();
-    let written = b"! 1: N1 NoSuchFile\n! 2: N1 NoSuchFile\n".as_slice();
-    for when_full in [WhenFull::Fails, WhenFull::TakesNothing] {
-        for room in 0..39 {
-            let (taken, failures, status) = narrow_session(rt.alloc(), script, room, when_full);
-            let is_whole = room == written.len();
-            let front = &written[..room.min(written.len())];
-            assert_eq!(rt; taken.as_slice(), front, "{room}");
-            assert_eq!(rt; failures, if is_whole { 0 } else { 1 }, "{room}");
-            assert_eq!(rt;
-                status,
-                if is_whole {
-                    Status::Refused
-                } else {
-                    Status::Device
-                },
-                "{room}"
-            );
-        }
-    }
-}
-
-#[test]
-fn a_failed_read_writes_nothing(rt: HostRuntime) {
-    let mut input = Input::new(Hesitant {
-        rest: b"cat nothing\n",
-        fails_at_end: true,
-    });
-    let mut output = Output::new(Vec::new(rt.alloc()));
-    let status = run_session(rt.alloc(), config(64, 1 << 32), &mut input, &mut output);
-    assert_eq!(rt; status, Status::Device);
-    assert_eq!(rt; input.failures, 1);
-    assert!(rt; output.device.is_empty());
-}
-
-#[test]
-fn a_script_has_a_greatest_length(rt: HostRuntime) {
-    for (more, status, written) in [
-        (0, Status::Fault, b"! 1: script LineTooLong\n".as_slice()),
-        (1, Status::Device, b"".as_slice()),
-    ] {
-        let mut input = Input::new(io::repeat(b'#').take(MOST_SCRIPT_BYTES as u64 + more));
-        let mut output = Output::new(Vec::new(rt.alloc()));
-        assert_eq!(rt;
-            run_session(rt.alloc(), config(64, 1 << 32), &mut input, &mut output),
-            status
-        );
-        assert_eq!(rt; output.device.as_slice(), written);
-    }
+fn a_full_history_takes_no_more(rt: HostRuntime) {
+    hold(&rt, config(64, 2), &FULL_ROWS);
 }
