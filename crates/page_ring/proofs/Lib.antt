@@ -1,4 +1,3 @@
-mod Bytes
 mod PageFacts
 mod SoundFacts
 mod Moves

@@ -2,7 +2,7 @@
 -- kept, and what each call answers.
 use Rattle.std.specs.Prelude.{ℕ, ◌+◌, ◌-◌, ◌==◌, nat_le, Bool, false, not, ◌&&◌, ◌||◌, List, [], ◌∷◌, ◌++◌, length, fold, filter, sum_by, Option, Some, None, if◌then◌else◌}
 use Rattle.std.specs.List.{list_any}
-use Rattle.page_ring.specs.Record.{timestamp}
+use Rattle.trace_record.specs.Record.{timestamp}
 use Rattle.page_ring.specs.Events.{Event, Put, Take}
 use Rattle.page_ring.specs.Cut.{Accepted, cut, next_page}
 use Rattle.page_ring.specs.declared.rings.Put.{Put as Answer}

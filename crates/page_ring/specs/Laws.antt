@@ -1,9 +1,9 @@
 -- The definitions once more, in the words of the subject.
 use Rattle.std.specs.Prelude.{◌≡◌, ◌≢◌, ◌↔◌, ℕ, ◌+◌, ◌<◌, ◌≤◌, Bool, true, false, not, ◌&&◌, List, [], ◌∷◌, ◌++◌, length, drop, take, map, filter, count_by, sum_by, All, Option, Some, IsSomeAnd, slice_get, replicate}
 use Rattle.std.specs.List.{range_with_len}
-use Rattle.page_ring.specs.declared.heads.Head.{Head}
+use Rattle.trace_record.specs.declared.head.Head.{Head}
 use Rattle.page_ring.specs.declared.rings.RingStats.{RingStats}
-use Rattle.page_ring.specs.Record.{head_of, timestamp}
+use Rattle.trace_record.specs.Record.{head_of, timestamp}
 use Rattle.page_ring.specs.Events.{Event, Put, Take}
 use Rattle.page_ring.specs.Cut.{Accepted, cut, filled, last_page}
 use Rattle.page_ring.specs.Account.{Account, account, accepts, kept, is_taken, reader_page, readings_of, stats_of, first, Reading}
@@ -106,10 +106,6 @@ abbrev pub NothingToRead : Type 0
 NothingToRead =
     (pages page_bytes : ℕ) (events : List Event)
     → kept page_bytes (account pages page_bytes events) ≡ [] → account pages page_bytes (events ++ Take ∷ []) ≡ account pages page_bytes events
-
--- the time of a record is the one that the head at its front tells
-abbrev pub TimestampIsHeads : Type 0
-TimestampIsHeads = (bytes : List ℕ) (head : Head) → head_of bytes ≡ Some head → timestamp bytes ≡ head.ts
 
 -- a put of a record that passes the test, or a read
 abbrev pub puts_pass : (List ℕ → Bool) → Event → Bool

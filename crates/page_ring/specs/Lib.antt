@@ -1,4 +1,3 @@
-pub mod Record
 pub mod Events
 pub mod Cut
 pub mod Account

@@ -2,7 +2,7 @@
 //! function does nothing: its contract is a theorem.
 #![tactic(auto)]
 
-ghost use Rattle.page_ring.specs.Laws.{OfferedIsPuts, LostBySomePut, AcceptedAlways, AcceptedWithoutLoss, DroppedOnly, CutIsGreedy, LeastIsRead, LostIsBetween, ReadingsAreAhead, TakesLeaveTheRest, NothingToRead, TimestampIsHeads, KeptWerePut, CountsAreOfRecords, DroppedAreRefused};
+ghost use Rattle.page_ring.specs.Laws.{OfferedIsPuts, LostBySomePut, AcceptedAlways, AcceptedWithoutLoss, DroppedOnly, CutIsGreedy, LeastIsRead, LostIsBetween, ReadingsAreAhead, TakesLeaveTheRest, NothingToRead, KeptWerePut, CountsAreOfRecords, DroppedAreRefused};
 
 /// A ring was offered as many records as were put since it was new or cleared.
 pub fn offered_is_puts()
@@ -36,11 +36,6 @@ pub fn least_is_read()
     ensures ahead { ReadingsAreAhead }
     ensures rest { TakesLeaveTheRest }
     ensures nothing { NothingToRead }
-{}
-
-/// A record that begins with a head was written at that head's time.
-pub fn timestamp_is_heads()
-    ensures { TimestampIsHeads }
 {}
 
 /// What holds of each record that was put holds of each record that is kept.

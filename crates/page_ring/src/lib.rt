@@ -7,12 +7,11 @@
 //! `laws` says it once more in the words of the subject.
 #![tactic(auto)]
 
-mod heads;
 pub mod laws;
 mod pages;
 mod rings;
 #[cfg(test)]
 mod tests;
 
-pub use heads::{Head, read_head, write_head};
 pub use rings::{Kept, KeptRecords, Put, Ring, RingStats};
+pub use trace_record::{Head, read_head, write_head};

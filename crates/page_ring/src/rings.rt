@@ -5,7 +5,7 @@ ghost use Rattle.std.specs.Prelude.{◌≡◌, ℕ, ◌+◌, ◌<◌, ◌≤◌,
 ghost use Rattle.std.specs.Vec.{vec_capacity};
 ghost use Rattle.std.specs.Option.{option_map};
 ghost use Rattle.std.specs.Iterator.{YieldsFirstBy, item_count};
-ghost use Rattle.page_ring.specs.Record.{IsRecord, timestamp};
+ghost use Rattle.trace_record.specs.Record.{IsRecord, timestamp};
 ghost use Rattle.page_ring.specs.Events as event;
 ghost use Rattle.page_ring.specs.Account.{put_answer, readings_of, stats_of, first, first_timestamp};
 ghost use Rattle.page_ring.specs.Pages.{kept_in};
@@ -13,12 +13,12 @@ ghost use Rattle.std.specs.List.{AllByRecursion};
 ghost use Rattle.page_ring.specs.Shown.{StandsFor, offered};
 ghost use Rattle.page_ring.specs.Step.{after_put, put_answer_shown, without_first, readings_shown, stats_shown, overrun_by, left_by, appended, moved};
 
-use crate::heads::timestamp;
 use crate::pages::{Page, Pages, Stored, Unread};
 use std::alloc::{AllocError, Global};
 use std::collections::VecDeque;
 use std::marker::Model;
 use std::mem;
+use trace_record::timestamp;
 
 /// What became of a record that was put (the two modes of "The Generic Ring Buffer" in
 /// ring-buffer-design.rst).

@@ -1,7 +1,7 @@
 //! Worked rows on a ring of two pages of sixty-four bytes, and what no clause can say: that rings
 //! and records of each size are taken while there is memory.
 ghost use Rattle.std.specs.Prelude.{◌≡◌, ℕ, ◌+◌, ◌*◌, ◌/◌, ◌-◌, ◌<◌, ◌≤◌, ◌^◌, length};
-ghost use Rattle.page_ring.specs.Record.{IsRecord, record_size};
+ghost use Rattle.trace_record.specs.Record.{IsRecord, record_size};
 ghost use Rattle.page_ring.specs.Shown.{offered};
 ghost use Rattle.page_ring.specs.Rows.{FiveEmissions, SevenEmissions, StatsAfterOverrun, ReadsAfterOverrun, StatsAfterReads, WriterGoesOn, WriterGoesOnWithoutOverwriting, BigIsDropped, SmallerIsKept, BigLosesPage};
 

@@ -9,23 +9,24 @@ use Rattle.trace_filter.specs.declared.fault.FilterFault.{FilterFault}
 use Rattle.trace_filter.specs.declared.fault.FilterFault.TheVariants as filter_fault
 use Rattle.trace_filter.specs.Filters.{Parsed, IsFilterOf, IsAnswered, parsed_of, answer_of}
 use Rattle.trace_format.specs.Definitions.{Definition}
-use Rattle.trace_book.specs.History.{answer_with_room, filter_answer, filter_of_all_answer, filter_text, switch_answer}
-use Rattle.trace_book.specs.Paths.{EventFilter, EventsFilter, EventsEnable}
-use Rattle.trace_book.specs.Refusals.{refusal_of_filter, IsFoundEarly, IsRefusal}
-use Rattle.trace_book.specs.Requests.{Request, WriteFile, ReadFile}
-use Rattle.trace_book.specs.Settings.{NumberedEvent, event_named, declared_events, clears_filter, can_take, sets_filter, filter_of, kept_filter, written_flag}
-use Rattle.trace_book.specs.States.{StandsFor, IsPlaceOf, IsPrepared, IsWrittenFilter, numbered, change_of, changed_filter, changed_filters, is_set, shown_filter, switching}
-use Rattle.trace_book.specs.declared.command.Config.{Config}
-use Rattle.trace_book.specs.declared.command.Reply.{Reply}
-use Rattle.trace_book.specs.declared.command.Reply.TheVariants as reply
-use Rattle.trace_book.specs.declared.refusal.Refusal.{Refusal}
-use Rattle.trace_book.specs.declared.refusal.Refusal.TheVariants as refusal
+use Rattle.trace_history.specs.History.{answer_with_room, filter_answer, filter_of_all_answer, filter_text, switch_answer}
+use Rattle.trace_command.specs.Paths.{EventFilter, EventsFilter, EventsEnable}
+use Rattle.trace_command.specs.Refusals.{refusal_of_filter, IsFoundEarly, IsRefusal}
+use Rattle.trace_command.specs.Requests.{Request, WriteFile, ReadFile}
+use Rattle.trace_history.specs.Settings.{NumberedEvent, event_named, declared_events, clears_filter, can_take, sets_filter, filter_of, kept_filter, written_flag}
+use Rattle.trace_book.specs.States.{StandsFor, IsPrepared, IsWrittenFilter, numbered, change_of, changed_filter, changed_filters, is_set, shown_filter, switching}
+use Rattle.trace_history.specs.Declarations.{IsPlaceOf}
+use Rattle.trace_command.specs.declared.command.Config.{Config}
+use Rattle.trace_command.specs.declared.command.Reply.{Reply}
+use Rattle.trace_command.specs.declared.command.Reply.TheVariants as reply
+use Rattle.trace_command.specs.declared.refusal.Refusal.{Refusal}
+use Rattle.trace_command.specs.declared.refusal.Refusal.TheVariants as refusal
 use Rattle.trace_book.specs.declared.state.Change.TheVariants.{SetFilter, SetFilters}
 use Rattle.trace_book.specs.declared.state.FilterChange.{FilterChange}
 use Rattle.trace_book.specs.declared.state.FilterChange.TheVariants as change
 use Rattle.trace_book.specs.declared.state.Found.{Found}
 use Rattle.trace_book.specs.declared.state.State.{State}
-use Rattle.trace_book.proofs.EventLists.{map-agrees, map-set, named_at, one_place}
+use Rattle.trace_history.proofs.EventLists.{map-agrees, map-set, named_at, one_place}
 
 -- ---- one filter
 

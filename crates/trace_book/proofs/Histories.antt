@@ -4,16 +4,16 @@ use Rattle.std.proofs.lemmas.Bool.{lt-ltb}
 use Rattle.std.proofs.lemmas.Bool.Decides.{nat_tests}
 use Rattle.std.proofs.lemmas.List.{reverse-append, length-reverse, length-map, get_or-reverse}
 use Rattle.page_ring.specs.Shown as shown
-use Rattle.trace_book.specs.Configs.{IsInRange}
-use Rattle.trace_book.specs.Requests.{Request, request_of}
-use Rattle.trace_book.specs.History.{answer, answer_with_room, unless_full, requests_of, past_of, IsEntry, IsLegal}
-use Rattle.trace_book.specs.Refusals.{OrMemory, IsFoundEarly}
+use Rattle.trace_command.specs.Configs.{IsInRange}
+use Rattle.trace_command.specs.Requests.{Request, request_of}
+use Rattle.trace_history.specs.History.{answer, answer_with_room, unless_full, requests_of, past_of, IsEntry, IsLegal}
+use Rattle.trace_command.specs.Refusals.{OrMemory, IsFoundEarly}
 use Rattle.trace_book.specs.States.{StandsFor, IsPrepared, IsUsable}
-use Rattle.trace_book.specs.declared.command.Config.{Config}
-use Rattle.trace_book.specs.declared.command.Entry.{Entry}
-use Rattle.trace_book.specs.declared.command.Reply.{Reply}
-use Rattle.trace_book.specs.declared.refusal.Refusal.{Refusal}
-use Rattle.trace_book.specs.declared.refusal.Refusal.TheVariants.{HistoryFull}
+use Rattle.trace_command.specs.declared.command.Config.{Config}
+use Rattle.trace_command.specs.declared.command.Entry.{Entry}
+use Rattle.trace_command.specs.declared.command.Reply.{Reply}
+use Rattle.trace_command.specs.declared.refusal.Refusal.{Refusal}
+use Rattle.trace_command.specs.declared.refusal.Refusal.TheVariants.{HistoryFull}
 use Rattle.trace_book.specs.declared.state.State.{State}
 
 -- ---- the requests of entries

@@ -1,17 +1,8 @@
-pub mod EventLists
-pub mod Events
 pub mod Filtering
 pub mod Histories
-pub mod KeptEmissions
-pub mod LegalEvents
-pub mod Parts
-pub mod PipeReads
 pub mod Prepared
 pub mod Ready
 pub mod RecordBytes
-pub mod ShownRecords
-pub mod StandingFilters
 pub mod Steps
 pub mod Switching
 pub mod Taking
-pub mod Values

@@ -4,26 +4,27 @@ use Rattle.std.specs.Option.{option_map}
 use Rattle.std.specs.Global.{Global}
 use Rattle.std.proofs.lemmas.Bool.{lt-ltb}
 use Rattle.std.proofs.lemmas.Slice.Eq.{bytes_eq-Decides}
-use Rattle.trace_book.specs.Paths.{File, CpuTracePipe, EventEnable}
-use Rattle.trace_book.specs.Refusals.{IsAnswer, IsFoundEarly}
-use Rattle.trace_book.specs.Requests.{Request, Emission, WriteFile, ReadFile, request_of, FitsItsTypes}
+use Rattle.trace_command.specs.Paths.{File, CpuTracePipe, EventEnable}
+use Rattle.trace_command.specs.Refusals.{IsAnswer, IsFoundEarly}
+use Rattle.trace_command.specs.Requests.{Request, Emission, WriteFile, ReadFile, request_of, FitsItsTypes}
 use Rattle.trace_filter.specs.Filters.{Parsed, parsed_of}
 use Rattle.trace_format.specs.Cells.{Cells}
 use Rattle.trace_format.specs.Definitions.{Definition}
 use Rattle.trace_format.specs.Rows.{row_of}
 use Rattle.trace_format.specs.declared.pair.Pair.{Pair}
-use Rattle.trace_book.specs.Rings.{filter_holds, record_bytes, up_to_limit, consumed, put_of, clears}
-use Rattle.trace_book.specs.Settings.{NumberedEvent, event_named, event_named_in, declared_events, declares, switches, is_enabled, sets_filter, filter_of, kept_filter, sets_overwrite, overwrites, written_flag, written_option, now_of}
-use Rattle.trace_book.specs.History.{emission_answer, switch_answer, option_answer, answer_with_room, flag_text}
-use Rattle.trace_book.specs.TraceFiles.{pipe_text}
-use Rattle.trace_book.specs.States.{StandsFor, IsChangeOf, IsPrepared, IsReady, IsTaking, IsPlaceOf, kept_holds, numbered, with_nothing, bytes_in, written_record, kept_count, puts_by, overwriting}
-use Rattle.trace_book.proofs.EventLists.{map-agrees}
-use Rattle.trace_book.specs.declared.command.Config.{Config}
-use Rattle.trace_book.specs.declared.command.Command.TheVariants.{Read}
-use Rattle.trace_book.specs.declared.command.Reply.{Reply}
-use Rattle.trace_book.specs.declared.command.Reply.TheVariants as reply
-use Rattle.trace_book.specs.declared.refusal.Refusal.{Refusal}
-use Rattle.trace_book.specs.declared.refusal.Refusal.TheVariants as refusal
+use Rattle.trace_history.specs.Rings.{filter_holds, record_bytes, up_to_limit, consumed, put_of, clears}
+use Rattle.trace_history.specs.Settings.{NumberedEvent, event_named, event_named_in, declared_events, declares, switches, is_enabled, sets_filter, filter_of, kept_filter, sets_overwrite, overwrites, written_flag, written_option, now_of}
+use Rattle.trace_history.specs.History.{emission_answer, switch_answer, option_answer, answer_with_room, flag_text}
+use Rattle.trace_history.specs.TraceFiles.{pipe_text}
+use Rattle.trace_book.specs.States.{StandsFor, IsChangeOf, IsPrepared, IsReady, IsTaking, kept_holds, numbered, with_nothing, bytes_in, written_record, kept_count, puts_by, overwriting}
+use Rattle.trace_history.specs.Declarations.{IsPlaceOf}
+use Rattle.trace_history.proofs.EventLists.{map-agrees}
+use Rattle.trace_command.specs.declared.command.Config.{Config}
+use Rattle.trace_command.specs.declared.command.Command.TheVariants.{Read}
+use Rattle.trace_command.specs.declared.command.Reply.{Reply}
+use Rattle.trace_command.specs.declared.command.Reply.TheVariants as reply
+use Rattle.trace_command.specs.declared.refusal.Refusal.{Refusal}
+use Rattle.trace_command.specs.declared.refusal.Refusal.TheVariants as refusal
 use Rattle.trace_book.specs.declared.state.Prepared.{Prepared}
 use Rattle.trace_book.specs.declared.state.State.{State}
 use Rattle.trace_book.specs.declared.state.Found.{Found}

@@ -3,10 +3,10 @@ use Rattle.std.proofs.Common.{◌≡◌, ℕ, List}
 use Rattle.page_ring.specs.Events as ring
 use Rattle.page_ring.specs.Shown.{Seen, StandsFor}
 use Rattle.trace_book.specs.Instances.{InstanceSeen}
-use Rattle.trace_book.specs.Requests.{Request}
-use Rattle.trace_book.specs.Rings.{ring_events}
+use Rattle.trace_command.specs.Requests.{Request}
+use Rattle.trace_history.specs.Rings.{ring_events}
 use Rattle.trace_book.specs.States.{StandsFor as StandsState}
-use Rattle.trace_book.specs.declared.command.Config.{Config}
+use Rattle.trace_command.specs.declared.command.Config.{Config}
 use Rattle.trace_book.specs.declared.state.State.{State}
 
 -- what memory is at hand is not part of what a ring stands for

@@ -6,17 +6,18 @@ use Rattle.std.specs.List.{AllByRecursion}
 use Rattle.std.specs.Option.{option_map, option_to_list}
 use Rattle.std.specs.Str.{bytes_eq}
 use Rattle.std.proofs.lemmas.Slice.Eq.{bytes_eq-Decides}
-use Rattle.trace_book.specs.Requests.{Request}
-use Rattle.trace_book.specs.Settings.{event_named, declares, declared_events, switches, is_enabled, sets_filter, filter_of, kept_filter}
+use Rattle.trace_command.specs.Requests.{Request}
+use Rattle.trace_history.specs.Settings.{event_named, declares, declared_events, switches, is_enabled, sets_filter, filter_of, kept_filter}
 use Rattle.trace_book.specs.Switches.{with_switch}
-use Rattle.trace_book.specs.Rings.{ring_events}
-use Rattle.trace_book.specs.States.{StandsFor, IsFit, filters_after, filters_with, IsChangeOf, IsStep, declared_by, switched_by, addressed_by, ticks_by, flags_after}
-use Rattle.trace_book.specs.declared.command.Config.{Config}
+use Rattle.trace_history.specs.Rings.{ring_events}
+use Rattle.trace_book.specs.States.{StandsFor, filters_after, filters_with, IsChangeOf, IsStep, declared_by, switched_by, addressed_by, ticks_by, flags_after}
+use Rattle.trace_history.specs.Declarations.{IsFit}
+use Rattle.trace_command.specs.declared.command.Config.{Config}
 use Rattle.trace_format.specs.Definitions.{Definition}
 use Rattle.trace_filter.specs.Filters.{Parsed, parsed_of}
 use Rattle.trace_format.specs.Catalogs.{IsEvent, AreEvents}
-use Rattle.trace_book.proofs.EventLists.{map-constant, named_at, AreEvents-push}
-use Rattle.trace_book.proofs.Events.{named_in-fewer, fit-push}
+use Rattle.trace_history.proofs.EventLists.{map-constant, named_at, AreEvents-push}
+use Rattle.trace_history.proofs.Events.{named_in-fewer, fit-push}
 use Rattle.trace_book.specs.declared.state.State.{State}
 use Rattle.trace_book.specs.declared.state.Change.{Change}
 use Rattle.trace_book.specs.declared.state.Change.TheVariants.{Nothing, Declare, Switch, SwitchAll, SetFilter, SetFilters, SetOverwrite, Clear, Take, Emit}

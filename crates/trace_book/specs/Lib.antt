@@ -1,16 +1,5 @@
-pub mod Decimals
-pub mod Refusals
-pub mod Paths
-pub mod Places
-pub mod Configs
-pub mod Requests
-pub mod Settings
-pub mod Rings
-pub mod TraceFiles
-pub mod History
 pub mod Instances
 pub mod States
 pub mod BookSeen
 pub mod Books
 pub mod Switches
-pub mod Laws

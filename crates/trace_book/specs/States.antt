@@ -5,7 +5,7 @@ use Rattle.std.specs.Option.{option_to_list, option_map}
 use Rattle.std.specs.Global.{Global}
 use Rattle.std.specs.Str.{bytes_eq}
 use Rattle.page_ring.specs.Events as ring
-use Rattle.page_ring.specs.Record.{IsRecord}
+use Rattle.trace_record.specs.Record.{IsRecord}
 use Rattle.page_ring.specs.Account.{readings_of}
 use Rattle.page_ring.specs.Shown as shown
 use Rattle.trace_filter.specs.Filters.{Parsed, parsed_of}
@@ -13,18 +13,19 @@ use Rattle.trace_filter.specs.Values.{holds_of}
 use Rattle.trace_format.specs.Catalogs.{id_for, IsEvent, AreEvents}
 use Rattle.trace_format.specs.Cells.{Cells, record_size_of}
 use Rattle.trace_format.specs.Definitions.{Definition}
-use Rattle.trace_book.specs.Refusals.{IsRefusal}
-use Rattle.trace_book.specs.Requests.{Request}
-use Rattle.trace_book.specs.Settings.{NumberedEvent, event_named, declares, declared_events, switches, is_enabled, clears_filter, can_take, written_filter, sets_filter, filter_of, kept_filter, sets_overwrite, overwrites, ticks, now_of}
-use Rattle.trace_book.specs.Rings.{record_bytes, up_to_limit, consumed, put_of, clears, ring_events}
+use Rattle.trace_command.specs.Refusals.{IsRefusal}
+use Rattle.trace_history.specs.Declarations.{IsFit}
+use Rattle.trace_command.specs.Requests.{Request}
+use Rattle.trace_history.specs.Settings.{NumberedEvent, event_named, declares, declared_events, switches, is_enabled, clears_filter, can_take, written_filter, sets_filter, filter_of, kept_filter, sets_overwrite, overwrites, ticks, now_of}
+use Rattle.trace_history.specs.Rings.{record_bytes, up_to_limit, consumed, put_of, clears, ring_events}
 use Rattle.trace_book.specs.Switches.{with_switch}
-use Rattle.trace_book.specs.History.{answer_with_room, filter_answer}
-use Rattle.trace_book.specs.TraceFiles.{pipe_text}
-use Rattle.trace_book.specs.declared.command.Config.{Config}
-use Rattle.trace_book.specs.declared.command.Reply.{Reply}
-use Rattle.trace_book.specs.declared.command.Reply.TheVariants.{Done, Text}
-use Rattle.trace_book.specs.declared.refusal.Refusal.{Refusal}
-use Rattle.trace_book.specs.declared.refusal.Refusal.TheVariants.{BadValue, Memory}
+use Rattle.trace_history.specs.History.{answer_with_room, filter_answer}
+use Rattle.trace_history.specs.TraceFiles.{pipe_text}
+use Rattle.trace_command.specs.declared.command.Config.{Config}
+use Rattle.trace_command.specs.declared.command.Reply.{Reply}
+use Rattle.trace_command.specs.declared.command.Reply.TheVariants.{Done, Text}
+use Rattle.trace_command.specs.declared.refusal.Refusal.{Refusal}
+use Rattle.trace_command.specs.declared.refusal.Refusal.TheVariants.{BadValue, Memory}
 use Rattle.trace_book.specs.declared.state.State.{State}
 use Rattle.trace_book.specs.declared.state.Found.{Found}
 use Rattle.trace_book.specs.declared.state.Change.{Change}
@@ -36,17 +37,6 @@ use Rattle.trace_book.specs.declared.state.Prepared.{Prepared}
 -- an event that was found, with its id
 abbrev pub numbered : Found → NumberedEvent
 numbered found = record { id = found.index + 1; event = found.event.now }
-
--- the event has this name, and so many events were declared before it
-pub record IsPlaceOf (events : List Definition) (name : List ℕ) (index : ℕ) (event : Definition) : Type 0 where
-  pub inside : index < length events
-  pub there : event ≡ slice_index_or events index event
-  pub named : bytes_eq name event.name ≡ true
-
--- an event's fields are few, and its record fits a page
-pub record IsFit (page_bytes : ℕ) (event : Definition) : Type 0 where
-  pub fields : length event.fields ≤ 16
-  pub size : record_size_of event ≤ page_bytes
 
 -- each part of the state is what the requests say of it
 pub record StandsFor (g : Config) (state : State) (past : List Request) : Type 0 where

@@ -2,20 +2,19 @@
 
 ghost use Rattle.std.specs.Prelude.{◌≡◌, ℕ, ◌+◌, ◌^◌, ◌≤◌, ◌<◌, [], ◌∷◌, ◌++◌, All, map, is_none, is_some, IfOk, IfErr, IfSome, OnOk, OnErr, ◌≢◌, true, false};
 ghost use Rattle.page_ring.specs.Shown as shown;
-ghost use Rattle.trace_book.specs.Configs.{IsInRange};
-ghost use Rattle.trace_book.specs.History.{answer, past_of, IsLegal};
-ghost use Rattle.trace_book.specs.Refusals.{OrMemory, IsFoundEarly};
-ghost use Rattle.trace_book.specs.Requests.{request_of};
-ghost use Rattle.trace_book.specs.Rings.{ring_events};
-ghost use Rattle.trace_book.specs.Settings.{declared_events, is_enabled, kept_filter, overwrites, now_of};
-ghost use Rattle.trace_book.specs.declared.refusal.Refusal.TheVariants as refusal;
+ghost use Rattle.trace_command.specs.Configs.{IsInRange};
+ghost use Rattle.trace_history.specs.History.{answer, past_of, IsLegal};
+ghost use Rattle.trace_command.specs.Refusals.{OrMemory, IsFoundEarly};
+ghost use Rattle.trace_command.specs.Requests.{request_of};
+ghost use Rattle.trace_history.specs.Rings.{ring_events};
+ghost use Rattle.trace_history.specs.Settings.{declared_events, is_enabled, kept_filter, overwrites, now_of};
+ghost use Rattle.trace_command.specs.declared.refusal.Refusal.TheVariants as refusal;
 
-use crate::command::{Command, Config, Entry, Reply};
 use crate::instance::Instance;
-use crate::refusal::Refusal;
 use crate::state::{Prepared, State};
 use std::alloc::Global;
 use std::marker::Model;
+use trace_command::{Command, Config, Entry, Refusal, Reply};
 use trace_format::Catalog;
 
 /// A tracer's book: what it was made with, the history of what was done, and what that has come to. It is worked through files as

@@ -2,7 +2,7 @@
 
 ghost use Rattle.std.specs.Prelude.{◌≡◌, ℕ, ◌+◌, ◌%◌, ◌^◌, ◌≤◌, ◌<◌, Bool, true, false, not, Option, None, List, [], ◌∷◌, ◌++◌, length, map, slice_index_or, slice_set, option_copied, max, replicate, if◌then◌else◌, IfOk, OnOk, OnErr};
 ghost use Rattle.std.specs.Str.{bytes_eq};
-ghost use Rattle.page_ring.specs.Record.{IsRecord};
+ghost use Rattle.trace_record.specs.Record.{IsRecord};
 ghost use Rattle.page_ring.specs.Events as event;
 ghost use Rattle.page_ring.specs.Account.{stats_of, readings_of};
 ghost use Rattle.page_ring.specs.Shown.{Seen, StandsFor, offered};

@@ -1,20 +1,18 @@
-//! The commands of a tracer, the files that they are worked through, and the history of what was done.
+//! The book: it does a tracer's commands, and keeps their history and what that has come to.
 #![tactic(auto)]
 
 mod book;
-mod command;
-mod decimal;
 mod instance;
-pub mod laws;
 mod pipe_text;
-mod place;
 mod prepare;
-mod refusal;
 mod row;
 mod state;
+#[cfg(test)]
+mod tests;
 
 pub use book::Book;
-pub use command::{Command, Config, Entry, Pairs, Reply};
 pub use instance::Instance;
-pub use refusal::Refusal;
-pub use trace_format::{Pair, Text};
+pub use trace_command::{Command, Config, Entry, Pairs, Refusal, Reply};
+pub use trace_format::Pair;
+pub use trace_history::laws;
+pub use trace_lex::Text;

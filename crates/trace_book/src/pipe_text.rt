@@ -5,7 +5,7 @@ ghost use Rattle.std.specs.List.{flat_map};
 ghost use Rattle.page_ring.specs.Account.{Reading};
 ghost use Rattle.page_ring.specs.Reading.{reading};
 ghost use Rattle.trace_text.specs.RecordText.{record_line};
-ghost use Rattle.trace_book.specs.TraceFiles as texts;
+ghost use Rattle.trace_history.specs.TraceFiles as texts;
 
 use page_ring::{Kept, KeptRecords};
 use std::alloc::{AllocError, Global};
@@ -13,7 +13,7 @@ use trace_format::Catalog;
 use trace_text::{lost_text, record_text};
 
 // A record as a pipe shows it.
-#[tactic(auto, unfolding(crate::specs::TraceFiles::pipe_lines))]
+#[tactic(auto, unfolding(trace_history::specs::TraceFiles::pipe_lines))]
 fn push_pipe_lines(
     alloc: Global,
     out: &mut Vec<u8>,

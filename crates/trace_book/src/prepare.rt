@@ -2,34 +2,32 @@
 
 ghost use Rattle.std.specs.Prelude.{◌≡◌, ℕ, ◌^◌, ◌≤◌, ◌<◌, ◌++◌, Bool, List, Option, Some, None, is_some, nat_lt, length, map, option_copied, unwrap_or, if◌then◌else◌, IfOk, OnOk};
 ghost use Rattle.std.specs.List.{flat_map, list_any};
-ghost use Rattle.trace_book.specs.Decimals.{value_after};
-ghost use Rattle.trace_book.specs.Configs.{IsInRange};
-ghost use Rattle.trace_book.specs.History as history;
-ghost use Rattle.trace_book.specs.Refusals.{IsAnswer};
-ghost use Rattle.trace_book.specs.Paths.{SyntheticEvents, EventsEnable, EventsFilter, EventEnable, EventFilter, EventFormat, CpuStats};
-ghost use Rattle.trace_book.specs.Requests.{Request, Emission, WriteFile, ReadFile};
-ghost use Rattle.trace_book.specs.Requests as requests;
-ghost use Rattle.trace_book.specs.Settings as settings;
+ghost use Rattle.trace_lex.specs.Decimals.{value_after};
+ghost use Rattle.trace_command.specs.Configs.{IsInRange};
+ghost use Rattle.trace_history.specs.History as history;
+ghost use Rattle.trace_command.specs.Refusals.{IsAnswer};
+ghost use Rattle.trace_command.specs.Paths.{SyntheticEvents, EventsEnable, EventsFilter, EventEnable, EventFilter, EventFormat, CpuStats};
+ghost use Rattle.trace_command.specs.Requests.{Request, Emission, WriteFile, ReadFile};
+ghost use Rattle.trace_command.specs.Requests as requests;
+ghost use Rattle.trace_history.specs.Settings as settings;
 ghost use Rattle.trace_book.specs.States.{StandsFor, IsPrepared, IsReady, IsUsable, IsTaking, IsWrittenFilter, bytes_in, change_of, clearing, is_set, overwriting, shown_filter, switching, written_record, with_nothing};
-ghost use Rattle.trace_book.specs.Places.{file_at};
-ghost use Rattle.trace_book.specs.declared.command.Config.{Config};
-ghost use Rattle.trace_book.specs.TraceFiles.{trace_text};
+ghost use Rattle.trace_command.specs.Places.{file_at};
+ghost use Rattle.trace_command.specs.declared.command.Config.{Config};
+ghost use Rattle.trace_history.specs.TraceFiles.{trace_text};
 ghost use Rattle.trace_text.specs.DeclarationText as texts;
 ghost use Rattle.trace_format.specs.Cells.{size_of_all};
-ghost use Rattle.page_ring.specs.Record.{record_size};
-ghost use Rattle.trace_book.specs.declared.refusal.Refusal.TheVariants as refusal;
+ghost use Rattle.trace_record.specs.Record.{record_size};
+ghost use Rattle.trace_command.specs.declared.refusal.Refusal.TheVariants as refusal;
 ghost use Rattle.trace_book.specs.declared.state.Change.TheVariants as change;
 
-use crate::command::{Command, Config, Reply};
-use crate::decimal::{digits_value, written_number};
 use crate::pipe_text::{push_records, push_taken};
-use crate::place::{Place, place_of};
-use crate::refusal::Refusal;
 use crate::row::record;
 use crate::state::{Change, FilterChange, Prepared, State, event_at, find};
 use std::alloc::{AllocError, Global};
+use trace_command::{Command, Config, Place, Refusal, Reply, place_of};
 use trace_filter::{Filter, FilterFault};
-use trace_format::{Catalog, EventDef, Pair, Row, Text, payload_size, trim};
+use trace_format::{Catalog, EventDef, Pair, Row, payload_size};
+use trace_lex::{Text, digits_value, trim, written_number};
 use trace_text::{declaration_text, format_text, stats_text, trace_head_text};
 
 impl State {
@@ -75,7 +73,7 @@ impl State {
     }
 
     // An emission: its CPU, its event, its row, and then room for its record.
-    #[tactic(auto, unfolding(crate::specs::History::emission_answer))]
+    #[tactic(auto, unfolding(trace_history::specs::History::emission_answer))]
     fn prepare_emission(
         &mut self,
         alloc: Global,
@@ -181,7 +179,7 @@ impl State {
     }
 
     // A declaration: its text, whether it may begin anew, and whether the catalog can take it.
-    #[tactic(auto, unfolding(crate::specs::History::declaration_answer))]
+    #[tactic(auto, unfolding(trace_history::specs::History::declaration_answer))]
     fn prepare_declaration(
         &mut self,
         alloc: Global,
@@ -206,7 +204,7 @@ impl State {
     }
 
     // A switch: its event, and then the flag.
-    #[tactic(auto, unfolding(crate::specs::History::switch_answer))]
+    #[tactic(auto, unfolding(trace_history::specs::History::switch_answer))]
     fn prepare_switch(&self, alloc: Global, name: &[u8], text: &[u8]) -> Result<Prepared, Refusal>
         requires { IsUsable self.now }
         ensures { (g : Config) (past : List Request) (append : Bool) → StandsFor g self.now past
@@ -295,7 +293,7 @@ impl State {
     }
 
     // The trace of a CPU; for now there is one.
-    #[tactic(auto, unfolding(crate::specs::TraceFiles::trace_text))]
+    #[tactic(auto, unfolding(trace_history::specs::TraceFiles::trace_text))]
     fn read_trace(
         &self,
         alloc: Global,
@@ -319,7 +317,7 @@ impl State {
     }
 
     // What a pipe gives, of this many records at most: the text is built before anything is consumed. For now there is one CPU.
-    #[tactic(auto, unfolding(crate::specs::TraceFiles::pipe_text))]
+    #[tactic(auto, unfolding(trace_history::specs::TraceFiles::pipe_text))]
     fn prepare_take(&self, alloc: Global, cpu: u32, most: u64) -> Result<Prepared, Refusal>
         requires { cpu < 1 }
         ensures { (g : Config) (past : List Request) (limit : Option ℕ) → StandsFor g self.now past
@@ -348,7 +346,7 @@ impl State {
         Ok(Reply::Text(text))
     }
 
-    #[tactic(auto, unfolding(crate::specs::History::cpu_stats_text))]
+    #[tactic(auto, unfolding(trace_history::specs::History::cpu_stats_text))]
     fn read_stats(
         &self,
         alloc: Global,
@@ -436,7 +434,7 @@ impl State {
         Ok(Reply::Text(text))
     }
 
-    #[tactic(auto, unfolding(crate::specs::History::declarations_text))]
+    #[tactic(auto, unfolding(trace_history::specs::History::declarations_text))]
     fn read_declarations(&self, alloc: Global, limit: Option<u64>) -> Result<Reply, Refusal>
         requires { IsUsable self.now }
         ensures { (past : List Request) → self.now.catalog ≡ settings.declared_events past
@@ -465,7 +463,7 @@ fn prepare_switch_all(flag: Option<bool>) -> Result<Prepared, Refusal>
 }
 
 // Whether a text written to a filter clears it.
-#[tactic(auto, unfolding(crate::specs::Settings::clears_filter))]
+#[tactic(auto, unfolding(trace_history::specs::Settings::clears_filter))]
 fn clears_filter(text: &[u8]) -> bool
     ensures { result ≡ settings.clears_filter text.now }
 {
@@ -605,7 +603,7 @@ fn cpu_below(digits: &[u8], cpus: u32) -> Option<u32>
 }
 
 // The switch that a text writes.
-#[tactic(auto, unfolding(crate::specs::Settings::written_flag))]
+#[tactic(auto, unfolding(trace_history::specs::Settings::written_flag))]
 fn written_flag(text: &[u8]) -> Option<bool>
     ensures { result ≡ settings.written_flag text.now }
 {
@@ -617,7 +615,7 @@ fn written_flag(text: &[u8]) -> Option<bool>
 }
 
 // The word of an option.
-#[tactic(auto, unfolding(crate::specs::Settings::written_option))]
+#[tactic(auto, unfolding(trace_history::specs::Settings::written_option))]
 fn written_option(text: &[u8]) -> Option<bool>
     ensures { result ≡ settings.written_option text.now }
 {
@@ -631,7 +629,7 @@ fn written_option(text: &[u8]) -> Option<bool>
 }
 
 // The text of an option.
-#[tactic(auto, unfolding(crate::specs::History::option_text))]
+#[tactic(auto, unfolding(trace_history::specs::History::option_text))]
 fn option_text(alloc: Global, flag: bool) -> Result<Text, AllocError>
     ensures { IfOk result (λ text. text ≡ history.option_text flag) }
 {
@@ -643,7 +641,7 @@ fn option_text(alloc: Global, flag: bool) -> Result<Text, AllocError>
 }
 
 // The text of a mixture of switches.
-#[tactic(auto, unfolding(crate::specs::History::mixture_text))]
+#[tactic(auto, unfolding(trace_history::specs::History::mixture_text))]
 fn mixture_text(alloc: Global, none_on: bool, some_off: bool) -> Result<Text, AllocError>
     ensures { IfOk result (λ text. text ≡ history.mixture_text none_on some_off) }
 {
@@ -669,7 +667,7 @@ fn filter_text(alloc: Global, filter: Option<&Filter>) -> Result<Text, AllocErro
 }
 
 // The text of a switch.
-#[tactic(auto, unfolding(crate::specs::History::flag_text))]
+#[tactic(auto, unfolding(trace_history::specs::History::flag_text))]
 fn flag_text(alloc: Global, flag: bool) -> Result<Text, AllocError>
     ensures { IfOk result (λ text. text ≡ history.flag_text flag) }
 {

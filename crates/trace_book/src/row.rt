@@ -1,16 +1,13 @@
 //! The bytes of records.
 
 ghost use Rattle.std.specs.Prelude.{◌≡◌, ◌<◌, ◌≤◌, ◌+◌, ◌^◌, ◌++◌, length, take, drop, replicate, IfOk};
-ghost use Rattle.page_ring.specs.Record.{IsRecord, head_bytes, record_size};
+ghost use Rattle.trace_record.specs.Record.{IsRecord, head_bytes, padding, record_size};
 ghost use Rattle.trace_format.specs.Cells.{size_of_all, payload_of};
-ghost use Rattle.trace_book.specs.Rings.{padding, record_bytes};
+ghost use Rattle.trace_history.specs.Rings.{record_bytes};
 
-use page_ring::{Head, write_head};
 use std::alloc::{AllocError, Global};
 use trace_format::Row;
-
-/// How many bytes a record's head takes.
-const HEAD_SIZE: usize = 16;
+use trace_record::{HEAD_SIZE, Head, record_size, write_head};
 
 /// Writes a row's payload behind the place of the head.
 fn write_payload(row: &Row, size: usize, out: &mut [u8])
@@ -38,7 +35,7 @@ fn write_record(head: Head, row: &Row, size: usize, out: &mut [u8])
 }
 
 /// The record of an emission, whose row has a payload of so many bytes.
-#[tactic(auto, unfolding(crate::specs::Rings::record_bytes))]
+#[tactic(auto, unfolding(trace_history::specs::Rings::record_bytes))]
 pub(crate) fn record(
     alloc: Global,
     timestamp: u64,
@@ -53,7 +50,7 @@ pub(crate) fn record(
     ensures is_record { IfOk result (λ bytes. IsRecord bytes.items) }
     ensures size { IfOk result (λ bytes. length bytes.items ≡ record_size size) }
 {
-    let mut bytes = vec![in alloc; 0; HEAD_SIZE + size.div_ceil(8) * 8]?;
+    let mut bytes = vec![in alloc; 0; record_size(size)]?;
     let head = Head {
         ts: timestamp,
         pid,

@@ -3,15 +3,16 @@
 ghost use Rattle.std.specs.Prelude.{◌≡◌, ℕ, ◌+◌, ◌^◌, ◌≤◌, ◌<◌, Bool, true, false, List, [], ◌∷◌, ◌++◌, length, slice_index_or, IfErr, IfSome, OnOk, OnErr};
 ghost use Rattle.std.specs.Option.{option_map};
 ghost use Rattle.page_ring.specs.Shown as shown;
-ghost use Rattle.trace_book.specs.Settings.{event_named_in};
+ghost use Rattle.trace_history.specs.Settings.{event_named_in};
+ghost use Rattle.trace_history.specs.Declarations.{IsPlaceOf};
 ghost use Rattle.trace_book.specs.States as states;
-ghost use Rattle.trace_book.specs.declared.refusal.Refusal.TheVariants as refusal;
+ghost use Rattle.trace_command.specs.declared.refusal.Refusal.TheVariants as refusal;
 
-use crate::command::{Config, Reply};
 use crate::instance::Instance;
-use crate::refusal::Refusal;
+use trace_command::{Config, Refusal, Reply};
 use trace_filter::Filter;
-use trace_format::{Catalog, EventDef, Text};
+use trace_format::{Catalog, EventDef};
+use trace_lex::Text;
 
 /// The declared events, the clock, and the top instance.
 #[derive(Drop)]
@@ -90,7 +91,7 @@ pub(crate) struct Found<'a> {
 /// The event of this name.
 pub(crate) fn find<'a>(catalog: &'a Catalog, name: &[u8]) -> Option<Found<'a>>
     ensures named { option_map states.numbered result ≡ event_named_in catalog.now name.now }
-    ensures place { IfSome result (λ found. states.IsPlaceOf catalog.now name.now found.index found.event.now) }
+    ensures place { IfSome result (λ found. IsPlaceOf catalog.now name.now found.index found.event.now) }
 {
     let id = catalog.find(name)?;
     let event = catalog.def(id)?;

@@ -10,7 +10,7 @@ use Rattle.trace_filter.specs.declared.syntax.Verdict.{Verdict}
 use Rattle.trace_filter.specs.declared.syntax.Verdict.TheVariants.{Fine, TooDeep, WrongAt}
 use Rattle.trace_filter.specs.declared.test.Subject.TheVariants as subjects
 use Rattle.trace_filter.specs.declared.token.Comparison.TheVariants as comparisons
-use Rattle.trace_format.specs.Blanks.{trimmed}
+use Rattle.trace_lex.specs.Blanks.{trimmed}
 use Rattle.trace_filter.specs.Tokens.{Token, Compare, Name, Value, Spot, spots_of, tokens_of}
 use Rattle.trace_filter.specs.Grammar.{Expr, Spells, expr_tokens, depth_of}
 use Rattle.trace_filter.specs.Syntax.{start, reading}

@@ -11,7 +11,7 @@ use Rattle.std.proofs.lemmas.Slice.Eq.{bytes_eq-Decides}
 use Rattle.trace_format.specs.declared.kind.Kind.{Kind}
 use Rattle.trace_format.specs.declared.kind.Kind.TheVariants as kind
 use Rattle.trace_format.specs.declared.event.Field.{Field}
-use Rattle.trace_format.specs.Numbers.{number_of}
+use Rattle.trace_lex.specs.Numbers.{number_of}
 use Rattle.trace_format.specs.Cells.{Datum, Whole, Bytes, Cells, Holds, IsRowOf}
 use Rattle.trace_format.specs.Definitions.{Definition, AreFields, IsDefinition, is_kind}
 use Rattle.trace_filter.specs.declared.token.Comparison.{Comparison}

@@ -3,7 +3,7 @@ use Rattle.std.proofs.Common.{◌≡◌, ℕ, zero, suc, ◌+◌, ◌-◌, ◌�
 use Rattle.std.specs.List.{prefix_len}
 use Rattle.std.proofs.lemmas.Bool.{cond-true, cond-false, cond_both}
 use Rattle.trace_filter.specs.declared.token.Piece as pieces
-use Rattle.trace_format.specs.Blanks.{is_blank}
+use Rattle.trace_lex.specs.Blanks.{is_blank}
 use Rattle.trace_filter.specs.Tokens.{piece_of, is_comparison, Token, Spot, spots_from}
 use Rattle.trace_filter.specs.Seen.{token_of, IsPiece, IsNextToken}
 

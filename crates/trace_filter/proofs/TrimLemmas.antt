@@ -5,7 +5,7 @@ use Rattle.std.proofs.lemmas.Bool.{cond_both}
 use Rattle.std.proofs.lemmas.List.{reverse-append, take-append-drop, length-reverse}
 use Rattle.std.proofs.lemmas.List.Sums.{prefix_len-le-length}
 use Rattle.std.proofs.Math.Seq.{drop-append_seam}
-use Rattle.trace_format.specs.Blanks.{is_blank, without_end, trimmed}
+use Rattle.trace_lex.specs.Blanks.{is_blank, without_end, trimmed}
 use Rattle.trace_filter.specs.Tokens.{is_comparison, piece_of, Spot, spots_from, spots_of, tokens_of, shifted_by}
 use Rattle.trace_filter.proofs.SpotLemmas.{blanks}
 

@@ -6,7 +6,7 @@ use Rattle.trace_filter.specs.declared.fault.FilterFault.TheVariants.{TooMany, F
 use Rattle.trace_filter.specs.declared.syntax.Verdict.{Verdict}
 use Rattle.trace_filter.specs.declared.syntax.Verdict.TheVariants.{Fine, TooDeep, WrongAt}
 use Rattle.trace_filter.specs.declared.test.Subject.{Subject}
-use Rattle.trace_format.specs.Blanks.{trimmed}
+use Rattle.trace_lex.specs.Blanks.{trimmed}
 use Rattle.trace_filter.specs.Tokens.{spots_of, tokens_of}
 use Rattle.trace_filter.specs.Grammar.{Expr, Spells, IsVerdict}
 use Rattle.trace_filter.specs.Syntax.{start, reading}

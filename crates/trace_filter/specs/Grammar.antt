@@ -3,7 +3,7 @@
 -- is a test (a name, a comparison and a value), a filter in parentheses, or a `!` with a unary behind it.
 use Rattle.std.specs.Prelude.{◌≡◌, ◌⊎◌, ℕ, ◌+◌, ◌<◌, ◌≤◌, Bool, true, false, ◌&&◌, ◌||◌, nat_lt, max, IsTrue, List, [], ◌∷◌, ◌++◌, length, sum}
 use Rattle.std.specs.List.{list_all}
-use Rattle.trace_format.specs.Names.{is_name}
+use Rattle.trace_lex.specs.Names.{is_name}
 use Rattle.trace_filter.specs.declared.token.Comparison.{Comparison}
 use Rattle.trace_filter.specs.declared.syntax.Verdict.{Verdict}
 use Rattle.trace_filter.specs.declared.syntax.Verdict.TheVariants.{Fine, TooDeep, WrongAt}

@@ -4,7 +4,7 @@ use Rattle.std.specs.List.{prefix_len}
 use Rattle.trace_format.specs.Cells.{Cells, IsRowOf}
 use Rattle.trace_format.specs.Definitions.{Definition, IsDefinition}
 use Rattle.trace_filter.specs.declared.fault.FilterFault.{FilterFault}
-use Rattle.trace_format.specs.Blanks.{is_blank, without_end, trimmed}
+use Rattle.trace_lex.specs.Blanks.{is_blank, without_end, trimmed}
 use Rattle.trace_filter.specs.Tokens.{Token, Spot, spots_of, tokens_of, shifted_by}
 use Rattle.trace_filter.specs.TokenGrammar.{IsWrittenText}
 use Rattle.trace_filter.specs.Grammar.{Expr, Spells, depth_of, depth}

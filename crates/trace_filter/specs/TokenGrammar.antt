@@ -1,10 +1,10 @@
 -- The grammar of tokens: what a text is written of, and which tokens that means.
 use Rattle.std.specs.Prelude.{◌≡◌, ◌≢◌, ℕ, ◌+◌, Bool, true, false, if◌then◌else◌, List, [], ◌∷◌, ◌++◌, length, map}
 use Rattle.std.specs.List.{flat_map, AllByRecursion}
-use Rattle.trace_format.specs.Names.{is_name, is_name_byte}
+use Rattle.trace_lex.specs.Names.{is_name, is_name_byte}
 use Rattle.trace_filter.specs.declared.token.Comparison.{Comparison}
 use Rattle.trace_filter.specs.declared.token.Comparison.TheVariants as comparison
-use Rattle.trace_format.specs.Blanks.{is_blank}
+use Rattle.trace_lex.specs.Blanks.{is_blank}
 use Rattle.trace_filter.specs.Tokens.{Word, Quoted, Token, Open, Close, Bang, Both, Either, Compare, Name, Value, Illegible, is_quote, is_word_byte, begins_with, is_comparison, Spot}
 
 -- a token that is always written alike

@@ -1,8 +1,8 @@
 -- The tokens of a filter: a function of its text alone.
 use Rattle.std.specs.Prelude.{ℕ, zero, suc, ◌+◌, Bool, true, false, not, ◌||◌, ◌==◌, nat_lt, if◌then◌else◌, List, [], ◌∷◌, length, map, take}
 use Rattle.std.specs.List.{prefix_len}
-use Rattle.trace_format.specs.Blanks.{is_blank, without_end}
-use Rattle.trace_format.specs.Names.{is_name, is_name_byte}
+use Rattle.trace_lex.specs.Blanks.{is_blank, without_end}
+use Rattle.trace_lex.specs.Names.{is_name, is_name_byte}
 use Rattle.trace_filter.specs.declared.token.Comparison.{Comparison}
 use Rattle.trace_filter.specs.declared.token.Comparison.TheVariants as comparison
 

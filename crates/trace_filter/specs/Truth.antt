@@ -1,7 +1,7 @@
 -- When a filter holds of a row, a CPU and a process.
 use Rattle.std.specs.Prelude.{◌≡◌, ◌⊎◌, ℕ, ◌-◌, ◌%◌, ◌^◌, ℤ, pos, negsuc, ◌≤ℤ◌, bit_and, List, if◌then◌else◌, bytes_eq, codes, Option, None, Some}
 use Rattle.trace_format.specs.declared.event.Field.{Field}
-use Rattle.trace_format.specs.Numbers.{number_of}
+use Rattle.trace_lex.specs.Numbers.{number_of}
 use Rattle.trace_format.specs.Cells.{Datum, Whole, Bytes, value_at}
 use Rattle.trace_filter.specs.declared.token.Comparison.{Comparison}
 use Rattle.trace_filter.specs.declared.token.Comparison.TheVariants as comparison

@@ -8,7 +8,8 @@ use crate::steps::{Step, compile, evaluate};
 use crate::syntax::{Verdict, read_syntax};
 use std::alloc::{AllocError, Global};
 use std::marker::Model;
-use trace_format::{EventDef, Row, trim, trim_end};
+use trace_format::{EventDef, Row};
+use trace_lex::{trim, trim_end};
 
 /// A filter has at most so many bytes, without the blanks at both ends.
 const LONGEST: usize = 1024;

@@ -12,7 +12,8 @@ ghost use Rattle.trace_filter.specs.Tests.{number_test, text_test, datum_test};
 use crate::glob::{TEXT_END, matches};
 use crate::token::{Comparison, Literal};
 use std::alloc::{AllocError, Global};
-use trace_format::{Field, Kind, Value, number};
+use trace_format::{Field, Kind, Value};
+use trace_lex::number;
 
 /// Which value of an emission a name means.
 #[derive(Clone, Copy, Debug, PartialEq, Eq)]

@@ -3,7 +3,8 @@
 use super::*;
 use std::alloc::Global;
 use std::test::Fail;
-use trace_format::{EventDef, Pair, Row, Text};
+use trace_format::{EventDef, Pair, Row};
+use trace_lex::Text;
 
 /// Texts for `tick u64 n`, each with the refusal, or `-` where it is a filter.
 const TEXTS: &str = "\

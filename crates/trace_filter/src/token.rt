@@ -2,11 +2,11 @@
 
 ghost use Rattle.std.specs.Prelude.{◌≡◌, ◌≤◌, ◌<◌, [], ◌∷◌, length, drop, nat_lt, if◌then◌else◌, IfNone, IfSome};
 ghost use Rattle.std.specs.List.{prefix_len};
-ghost use Rattle.trace_format.specs.Names.{is_name as spec_is_name, is_name_byte as spec_name_byte};
+ghost use Rattle.trace_lex.specs.Names.{is_name as spec_is_name, is_name_byte as spec_name_byte};
 ghost use Rattle.trace_filter.specs.Tokens.{Name, Illegible, is_quote as spec_quote, is_word_byte as spec_word_byte, is_not, begins_with as spec_begins_with, quoted_piece as spec_quoted_piece, word_piece as spec_word_piece, name_piece as spec_name_piece, longest as spec_longest, symbol_piece as spec_symbol_piece, piece_of, is_comparison as spec_comparison, spots_from};
 ghost use Rattle.trace_filter.specs.Seen.{token_of, IsPiece, IsNextToken};
 
-use trace_format::{blanks_len, is_blank, is_name};
+use trace_lex::{blanks_len, is_blank, is_name, is_name_byte};
 
 /// How a test compares a field's value with a written one.
 #[derive(Clone, Copy, Debug, PartialEq, Eq)]
@@ -83,12 +83,6 @@ fn is_word_byte(byte: u8) -> bool
     let is_parenthesis = byte == b'(' || byte == b')';
     let is_joint = byte == b'&' || byte == b'|';
     !(is_blank(byte) || ((is_parenthesis || is_joint) || is_quote(byte)))
-}
-
-fn is_name_byte(byte: u8) -> bool
-    ensures { result ≡ spec_name_byte byte }
-{
-    (byte.is_ascii_alphabetic() || byte == b'_') || byte.is_ascii_digit()
 }
 
 /// What stands from a place on.

@@ -10,12 +10,12 @@ use Rattle.trace_format.specs.declared.event.Field.{Field}
 use Rattle.trace_format.specs.declared.pair.Pair.{Pair}
 use Rattle.trace_format.specs.declared.fault.RowFault.{RowFault}
 use Rattle.trace_format.specs.declared.fault.RowFault.TheVariants.{BadRow, Memory}
-use Rattle.trace_format.specs.Numbers.{number_of}
+use Rattle.trace_lex.specs.Numbers.{number_of}
 use Rattle.trace_format.specs.Kinds.{least, greatest}
 use Rattle.trace_format.specs.Definitions.{Definition}
 use Rattle.trace_format.specs.Cells.{Datum, Holds, is_printable, kinds_of}
 use Rattle.trace_format.specs.Rows.{number_in, value_of, first_wrong, first_missing, pair_named, given, row_unless, row_of, IsBuilt, IsBadRow, IsMissing}
-use Rattle.trace_format.proofs.Options.{if_some, and_then_some}
+use Rattle.trace_lex.proofs.Options.{if_some, and_then_some}
 
 -- what a text gives may be held
 value_of-holds : (kind : Kind) (text : List ℕ) (value : Datum) → value_of kind text ≡ Some value → Holds kind value

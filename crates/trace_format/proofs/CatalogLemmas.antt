@@ -12,8 +12,8 @@ use Rattle.trace_format.specs.Definitions.{Definition, IsDefinition}
 use Rattle.trace_format.specs.declared.fault.CatalogFault.{CatalogFault}
 use Rattle.trace_format.specs.declared.fault.CatalogFault.TheVariants.{EventExists, TooMany}
 use Rattle.trace_format.specs.Catalogs.{id_of, event_of, id_for, IsCatalog, IsEvent, AreEvents}
-use Rattle.trace_format.proofs.Lists.{AllByRecursion-push}
-use Rattle.trace_format.proofs.Options.{map_some, some_is}
+use Rattle.trace_lex.proofs.Lists.{AllByRecursion-push}
+use Rattle.trace_lex.proofs.Options.{map_some, some_is}
 
 abbrev pub Entry : Type 0
 Entry = Vec ℕ Global × Definition

@@ -6,7 +6,7 @@ use Rattle.std.proofs.lemmas.List.{length-map}
 use Rattle.std.proofs.lemmas.Slice.Eq.{bytes_eq-Decides}
 use Rattle.std.proofs.lemmas.Bool.Decides.{nat_tests}
 use Rattle.trace_format.specs.declared.event.Field.{Field}
-use Rattle.trace_format.specs.Names.{is_letter, is_name_byte, is_name}
+use Rattle.trace_lex.specs.Names.{is_letter, is_name_byte, is_name}
 use Rattle.trace_format.specs.Definitions.{has_field, is_reserved}
 
 abbrev is_among : List ℕ → List (List ℕ) → Bool

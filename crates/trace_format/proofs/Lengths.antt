@@ -6,7 +6,7 @@ use Rattle.std.proofs.lemmas.Bool.{agree_below_at, and_parts, or_cases, cond-tru
 use Rattle.std.proofs.lemmas.Bool.Decides.{nat_tests}
 use Rattle.std.proofs.lemmas.Slice.Eq.{bytes_eq-Decides}
 use Rattle.trace_format.specs.Reading.{length_of}
-use Rattle.trace_format.proofs.Options.{if_some}
+use Rattle.trace_lex.proofs.Options.{if_some}
 
 -- a decimal number of at most two digits
 abbrev two_digits : ℕ → List ℕ

@@ -1,13 +1,9 @@
-pub mod BlankLemmas
 pub mod BuildLemmas
 pub mod CatalogLemmas
 pub mod FieldNames
 pub mod FreshNames
 pub mod Lengths
-pub mod Lists
 pub mod MapLemmas
-pub mod NumberLemmas
-pub mod Options
 pub mod PairLemmas
 pub mod PartLemmas
 pub mod Patterns

@@ -8,7 +8,7 @@ use Rattle.trace_format.specs.declared.pair.Pair.{Pair}
 use Rattle.trace_format.specs.Cells.{Datum, value_at}
 use Rattle.trace_format.specs.Rows.{value_of, field_named, pair_value, pair_named, is_right, first_wrong, first_missing, given}
 use Rattle.trace_format.specs.Pairs.{HasPair}
-use Rattle.trace_format.proofs.Options.{and_then_some}
+use Rattle.trace_lex.proofs.Options.{and_then_some}
 
 -- the first of two lists where nothing is found in the first
 find-append : {X : Type 0} (test : X → Bool) (xs ys : List X) → is_some (find test xs) ≡ false → find test (xs ++ ys) ≡ find test ys

@@ -11,8 +11,8 @@ use Rattle.trace_format.specs.Definitions.{Definition, IsDefinition, has_field}
 use Rattle.trace_format.specs.Cells.{Datum, Cells, IsRowOf, StandByName, kinds_of, value_at}
 use Rattle.trace_format.specs.Rows.{value_of, field_named, pair_value, pair_named, is_right, first_wrong, first_missing, given, row_unless, row_of, IsBuilt}
 use Rattle.trace_format.specs.Pairs.{has_pair, HasPair, AreOnce, Give, IsRight, AreRight, IsWrong, IsWrongPair, IsMissingField, IsRefusedRow}
-use Rattle.trace_format.proofs.Lists.{AllByRecursion-push}
-use Rattle.trace_format.proofs.Options.{some_is, and_then_some}
+use Rattle.trace_lex.proofs.Lists.{AllByRecursion-push}
+use Rattle.trace_lex.proofs.Options.{some_is, and_then_some}
 use Rattle.trace_format.proofs.BuildLemmas.{row_ok}
 use Rattle.trace_format.proofs.FieldNames.{bytes_eq-swap, fields_named, stand_by_name}
 use Rattle.trace_format.proofs.MapLemmas.{has_pairs, is_value, no_fault}

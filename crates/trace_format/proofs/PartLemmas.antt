@@ -5,10 +5,10 @@ use Rattle.std.proofs.lemmas.Bool.{cond-true, cond-false, eqb-true}
 use Rattle.std.proofs.lemmas.List.{length-append}
 use Rattle.std.proofs.lemmas.List.Elements.{All-nil, All-cons, All-head, All-tail}
 use Rattle.std.specs.List.{AllPass}
-use Rattle.trace_format.specs.Blanks.{is_blank}
+use Rattle.trace_lex.specs.Blanks.{is_blank}
 use Rattle.trace_format.specs.Words.{Spot, is_word_byte, semicolon, more_of, spots_from, spots_of}
 use Rattle.trace_format.specs.WordParts.{Part, Blank, Semicolon, Word, MayPrecede, AreParts, part_text, parts_spots, IsWritten}
-use Rattle.trace_format.proofs.Lists.{BeginsNot, run_ends}
+use Rattle.trace_lex.proofs.Lists.{BeginsNot, run_ends}
 use Rattle.trace_format.proofs.WordLemmas.{skipped}
 
 -- ---- what is written is found

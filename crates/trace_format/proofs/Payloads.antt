@@ -14,7 +14,7 @@ use Rattle.trace_format.specs.Kinds.{number_size, size_of}
 use Rattle.trace_format.specs.Cells.{Datum, Whole, Bytes, datum_of, Cells, Holds, is_printable, two's_complement, field_bytes, bytes_of, size_of_all, IsRowOf, kinds_of, payload_of}
 use Rattle.trace_format.specs.Definitions.{Definition}
 use Rattle.trace_format.specs.Decoding.{is_zero, is_not_zero, text_at, text_from, field_from, values_from, row_from}
-use Rattle.trace_format.proofs.Options.{if_some, some_is, map_some, and_then_some}
+use Rattle.trace_lex.proofs.Options.{if_some, some_is, map_some, and_then_some}
 use Rattle.trace_format.proofs.Patterns.{AreBytes, length-little_endian, number-written, number-read, number-held}
 
 -- ---- texts

@@ -8,7 +8,7 @@ use Rattle.trace_format.specs.Definitions.{Definition, IsDefinition}
 use Rattle.trace_format.specs.Cells.{Cells, IsRowOf}
 use Rattle.trace_format.specs.Rows.{value_of, field_named, pair_value, pair_named, is_right, first_wrong, first_missing, row_unless, row_of}
 use Rattle.trace_format.specs.Pairs.{has_pair, Give, AreRight, IsWrong, IsWrongPair, IsMissingField}
-use Rattle.trace_format.proofs.Options.{none_is}
+use Rattle.trace_lex.proofs.Options.{none_is}
 use Rattle.trace_format.proofs.BuildLemmas.{row_held, row_wrong, row_missing}
 use Rattle.trace_format.proofs.FieldNames.{fields_named}
 use Rattle.trace_format.proofs.PairLemmas.{pair_found, field_found, right_from, HasValue, have_values, given_there, given_row, row_is, give_is, refused_is}

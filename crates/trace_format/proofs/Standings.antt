@@ -9,12 +9,12 @@ use Rattle.trace_format.specs.declared.kind.Kind.TheVariants.{Number, Char}
 use Rattle.trace_format.specs.declared.event.Field.{Field}
 use Rattle.trace_format.specs.declared.reader.Due.{Due}
 use Rattle.trace_format.specs.declared.reader.Due.TheVariants as due
-use Rattle.trace_format.specs.Names.{is_name}
+use Rattle.trace_lex.specs.Names.{is_name}
 use Rattle.trace_format.specs.Words.{semicolon}
 use Rattle.trace_format.specs.Kinds.{type_words, kind_words, type_of, unsigned_type_of}
 use Rattle.trace_format.specs.Definitions.{Definition, is_kind, IsField, AreFields, length_suffix, field_words, closed_words, Declares, Begins}
 use Rattle.trace_format.specs.Reading.{Standing, step, step_at, with_field, with_due, text_field_of, finish, start}
-use Rattle.trace_format.proofs.Options.{if_some, some_is, map_some, and_then_some}
+use Rattle.trace_lex.proofs.Options.{if_some, some_is, map_some, and_then_some}
 use Rattle.trace_format.proofs.FreshNames.{open_name}
 use Rattle.trace_format.proofs.TextFields.{text_field-read}
 use Rattle.trace_format.proofs.Types.{type_of-read, unsigned_type_of-read}

@@ -5,10 +5,10 @@ use Rattle.std.proofs.lemmas.Bool.{and_parts, and_from, or_left, cond_both, cond
 use Rattle.std.proofs.lemmas.Bool.Decides.{nat_tests}
 use Rattle.trace_format.specs.declared.kind.Kind.TheVariants.{Char}
 use Rattle.trace_format.specs.declared.event.Field.{Field}
-use Rattle.trace_format.specs.Names.{is_letter, is_name_byte, is_name}
+use Rattle.trace_lex.specs.Names.{is_letter, is_name_byte, is_name}
 use Rattle.trace_format.specs.Definitions.{length_suffix, is_kind}
 use Rattle.trace_format.specs.Reading.{is_before_bracket, length_of, text_field_at, text_field_of}
-use Rattle.trace_format.proofs.Options.{map_some}
+use Rattle.trace_lex.proofs.Options.{map_some}
 use Rattle.trace_format.proofs.Lengths.{length_of-spelled, length_of-read}
 
 no_bracket : (b : ℕ) → is_name_byte b ≡ true → is_before_bracket b ≡ true

@@ -11,12 +11,12 @@ use Rattle.trace_format.specs.declared.fault.DefinitionFault.{DefinitionFault}
 use Rattle.trace_format.specs.declared.fault.DefinitionFault.TheVariants.{BadDefinition, Memory}
 use Rattle.trace_format.specs.declared.reader.Due.{Due}
 use Rattle.trace_format.specs.declared.reader.Due.TheVariants as due
-use Rattle.trace_format.specs.Blanks.{is_blank}
+use Rattle.trace_lex.specs.Blanks.{is_blank}
 use Rattle.trace_format.specs.Words.{Spot, semicolon, more_of, spots_from, spots_of, words_of}
 use Rattle.trace_format.specs.Kinds.{type_words}
 use Rattle.trace_format.specs.Definitions.{Definition, IsField, AreFields, IsDefinition, field_words, closed_words, Declares, IsWrongAt, EndsEarly}
 use Rattle.trace_format.specs.Reading.{Standing, step, step_at, with_field, finish, start, ◌>>=◌, reading, definition_of, IsRead, IsRefusal}
-use Rattle.trace_format.proofs.Options.{some_is, and_then_some}
+use Rattle.trace_lex.proofs.Options.{some_is, and_then_some}
 use Rattle.trace_format.proofs.TextFields.{text_field-spelled}
 use Rattle.trace_format.proofs.Standings.{Stands, stands-start, stands-step, declares, begins}
 

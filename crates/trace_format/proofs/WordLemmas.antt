@@ -3,7 +3,7 @@ use Rattle.std.proofs.Common.{◌≡◌, ℕ, zero, suc, ◌+◌, ◌-◌, ◌�
 use Rattle.std.specs.List.{prefix_len}
 use Rattle.std.proofs.lemmas.Bool.{cond-true, cond-false, cond_both}
 use Rattle.std.proofs.lemmas.List.Sums.{prefix_len-le-length}
-use Rattle.trace_format.specs.Blanks.{is_blank}
+use Rattle.trace_lex.specs.Blanks.{is_blank}
 use Rattle.trace_format.specs.Words.{is_word_byte, more_of, spots_from, IsNextWord}
 
 -- to skip bytes is to drop them

@@ -8,6 +8,7 @@ use Rattle.trace_format.specs.declared.value.Value.{Value}
 use Rattle.trace_format.specs.declared.value.Value.TheVariants.{Num, Text}
 use Rattle.trace_format.specs.Kinds.{number_size, least, greatest, size_of}
 use Rattle.trace_format.specs.Definitions.{Definition}
+use Rattle.trace_record.specs.Record.{record_size}
 
 -- ---- values and rows
 
@@ -96,6 +97,6 @@ size_of_all (kind ∷ kinds) = size_of kind + size_of_all kinds
 abbrev pub payload_size_of : Definition → ℕ
 payload_size_of definition = size_of_all (kinds_of definition)
 
--- and its record: a head of 16 bytes, the payload, and as few bytes more as make it a multiple of 8
+-- and its record
 abbrev pub record_size_of : Definition → ℕ
-record_size_of definition = (16 + payload_size_of definition + 7) / 8 * 8
+record_size_of definition = record_size (payload_size_of definition)

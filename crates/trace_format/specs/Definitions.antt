@@ -4,7 +4,7 @@ use Rattle.std.specs.List.{list_any}
 use Rattle.trace_format.specs.declared.kind.Kind.{Kind}
 use Rattle.trace_format.specs.declared.kind.Kind.TheVariants.{Number, Char}
 use Rattle.trace_format.specs.declared.event.Field.{Field}
-use Rattle.trace_format.specs.Names.{is_name}
+use Rattle.trace_lex.specs.Names.{is_name}
 use Rattle.trace_format.specs.Kinds.{kind_words}
 use Rattle.trace_format.specs.Words.{Spot, semicolon, spots_of, words_of}
 

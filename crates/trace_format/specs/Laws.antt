@@ -1,10 +1,6 @@
--- What `trimmed`, `without_end`, `digits_of`, `spots_of`, `definition_of`, `row_of` and `row_from` say, as laws without a program.
-use Rattle.std.specs.Prelude.{◌≡◌, ◌⊎◌, ◌↔◌, ℕ, ◌+◌, ◌*◌, ◌<◌, ◌^◌, false, IsTrue, List, [], ◌∷◌, ◌++◌, length, All, None, Some, Ok, Err}
-use Rattle.std.specs.Char.{is_digit, digit_value}
-use Rattle.std.specs.List.{Any}
+-- What `spots_of`, `definition_of`, `row_of` and `row_from` say, as laws without a program.
+use Rattle.std.specs.Prelude.{◌≡◌, ◌⊎◌, ◌↔◌, ℕ, ◌<◌, ◌^◌, List, length, All, Some, Ok, Err}
 use Rattle.trace_format.specs.declared.pair.Pair.{Pair}
-use Rattle.trace_format.specs.Blanks.{trimmed, without_end, IsBeforeBlanks, IsBetweenBlanks}
-use Rattle.trace_format.specs.Numbers.{digits_of}
 use Rattle.trace_format.specs.Words.{Spot, spots_of, words_of}
 use Rattle.trace_format.specs.WordParts.{IsWritten}
 use Rattle.trace_format.specs.Definitions.{Definition, IsDefinition, Declares, IsRefusedAt}
@@ -13,29 +9,6 @@ use Rattle.trace_format.specs.Cells.{Cells, IsRowOf, payload_of, payload_size_of
 use Rattle.trace_format.specs.Rows.{row_of}
 use Rattle.trace_format.specs.Pairs.{Give, IsWrongPair, IsMissingField}
 use Rattle.trace_format.specs.Decoding.{row_from}
-
--- ---- blanks
-
--- a text without the blanks at its end is what only blanks follow in it; with no blanks at both ends it is what only blanks surround
-abbrev pub WithoutEndIsBefore : Type 0
-WithoutEndIsBefore = (text body : List ℕ) → (without_end text ≡ body) ↔ IsBeforeBlanks text body
-
-abbrev pub TrimmedIsBetween : Type 0
-TrimmedIsBetween = (text body : List ℕ) → (trimmed text ≡ body) ↔ IsBetweenBlanks text body
-
--- ---- digits; these three give the value of every text
-
--- one digit has its own value
-abbrev pub OneDigit : Type 0
-OneDigit = (base digit : ℕ) → IsTrue (is_digit digit base) → digits_of base (digit ∷ []) ≡ Some (digit_value digit)
-
--- with one more digit at the end the value is base times what it was, and that digit's value
-abbrev pub OneMoreDigit : Type 0
-OneMoreDigit = (base : ℕ) → (digits : List ℕ) → (value digit : ℕ) → digits_of base digits ≡ Some value → IsTrue (is_digit digit base) → digits_of base (digits ++ digit ∷ []) ≡ Some (base * value + digit_value digit)
-
--- there is no value exactly where there are no digits, or a byte that is no digit of the base
-abbrev pub NoDigits : Type 0
-NoDigits = (base : ℕ) → (text : List ℕ) → (digits_of base text ≡ None) ↔ ((text ≡ []) ⊎ Any (λ byte. is_digit byte base ≡ false) text)
 
 -- ---- words
 

@@ -1,6 +1,3 @@
-pub mod Blanks
-pub mod Names
-pub mod Numbers
 pub mod Kinds
 pub mod Words
 pub mod WordParts

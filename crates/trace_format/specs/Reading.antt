@@ -10,7 +10,7 @@ use Rattle.trace_format.specs.declared.fault.DefinitionFault.TheVariants.{BadDef
 use Rattle.trace_format.specs.declared.reader.Due.{Due}
 use Rattle.trace_format.specs.declared.reader.Due.TheVariants as due
 use Rattle.trace_format.specs.Kinds.{type_of, unsigned_type_of}
-use Rattle.trace_format.specs.Names.{is_name}
+use Rattle.trace_lex.specs.Names.{is_name}
 use Rattle.trace_format.specs.Words.{Spot, semicolon, spots_of}
 use Rattle.trace_format.specs.Definitions.{Definition, IsRefusedAt, is_reserved, has_field}
 

@@ -8,7 +8,7 @@ use Rattle.trace_format.specs.declared.kind.Kind.{Kind}
 use Rattle.trace_format.specs.declared.kind.Kind.TheVariants.{Number, Char}
 use Rattle.trace_format.specs.declared.event.Field.{Field}
 use Rattle.trace_format.specs.declared.pair.Pair.{Pair}
-use Rattle.trace_format.specs.Numbers.{number_of}
+use Rattle.trace_lex.specs.Numbers.{number_of}
 use Rattle.trace_format.specs.Kinds.{least, greatest}
 use Rattle.trace_format.specs.Definitions.{Definition}
 use Rattle.trace_format.specs.Cells.{Datum, Whole, Bytes, Cells, kinds_of, is_printable}

@@ -1,7 +1,7 @@
 -- What a text is written of, and which words with which places these parts stand for. `spots_of` finds exactly these.
 use Rattle.std.specs.Prelude.{◌≡◌, ℕ, ◌<◌, IsTrue, List, [], ◌∷◌, ◌++◌, length, flat_map}
 use Rattle.std.specs.List.{AllPass}
-use Rattle.trace_format.specs.Blanks.{is_blank}
+use Rattle.trace_lex.specs.Blanks.{is_blank}
 use Rattle.trace_format.specs.Words.{Spot, is_word_byte, semicolon}
 
 -- a part of a text: a blank, a `;`, or a word

@@ -2,7 +2,7 @@
 -- What a text is written of, with no scanner, is in WordParts.
 use Rattle.std.specs.Prelude.{◌≡◌, ◌<◌, ◌≤◌, drop, ℕ, zero, suc, ◌+◌, Bool, not, ◌||◌, ◌==◌, if◌then◌else◌, List, [], ◌∷◌, length, map, take}
 use Rattle.std.specs.List.{prefix_len}
-use Rattle.trace_format.specs.Blanks.{is_blank}
+use Rattle.trace_lex.specs.Blanks.{is_blank}
 
 -- no blank and no `;`
 abbrev pub is_word_byte : ℕ → Bool

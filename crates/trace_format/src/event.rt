@@ -5,10 +5,10 @@ ghost use Rattle.std.specs.Prelude.{◌≡◌, ◌<◌, ◌^◌, List, ℕ, IfOk
 use crate::fault::DefinitionFault;
 use crate::kind::Kind;
 use crate::reader::Reader;
-use crate::text::Text;
 use crate::words::next_word;
 use std::alloc::Global;
 use std::marker::Model;
+use trace_lex::Text;
 
 /// A field of an event: a name that no other field of the event has, and a type.
 #[derive(Debug, Drop)]

@@ -5,9 +5,9 @@ ghost use Rattle.trace_format.specs.declared.fault.DefinitionFault.TheVariants a
 ghost use Rattle.trace_format.specs.declared.fault.CatalogFault.TheVariants as catalog;
 ghost use Rattle.trace_format.specs.declared.fault.RowFault.TheVariants as row;
 
-use crate::text::Text;
 use std::alloc::{AllocError, AllocFailed};
 use thiserror::Error;
+use trace_lex::Text;
 
 /// Why a text declares no event.
 #[derive(Debug, Drop, Error)]

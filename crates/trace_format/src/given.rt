@@ -7,9 +7,9 @@ ghost use Rattle.trace_format.specs.Rows.{field_named, pair_named, is_right, fir
 use crate::event::Field;
 use crate::fault::RowFault;
 use crate::pair::Pair;
-use crate::text::Text;
 use crate::value::{Value, is_value, read_value};
 use std::alloc::{AllocError, Global};
+use trace_lex::Text;
 
 /// The field of a name.
 fn field_of<'a>(fields: &'a [Field], name: &[u8]) -> Option<&'a Field>

@@ -1,21 +1,6 @@
 //! What the definitions of the contracts mean. Each function does nothing: its contract is a theorem.
 
-ghost use Rattle.trace_format.specs.Laws.{WithoutEndIsBefore, TrimmedIsBetween, OneDigit, OneMoreDigit, NoDigits, WordsAreAsWritten, DefinitionIsRead, RefusalIsRead, DeclaredOrRefused, NeverBoth, OneDefinition, OneRefusal, RowIsGiven, RefusalIsGiven, PayloadIsRead, OneRow, PayloadHasItsSize};
-
-/// A text without the blanks at its ends is what stands in it between blanks: it is empty, where the text has nothing but blanks, or it
-/// begins and ends with no blank. Likewise, a text without the blanks at its end is what stands before them.
-pub fn trimmed_texts_are_between_blanks()
-    ensures trimmed { TrimmedIsBetween }
-    ensures without_end { WithoutEndIsBefore }
-{}
-
-/// The value of digits in a base: that of one digit is its own; one more digit at the end makes it base times what it was, and that digit's
-/// value; there is none exactly where there are no digits or a byte is no digit of the base.
-pub fn digits_have_their_value()
-    ensures one { OneDigit }
-    ensures more { OneMoreDigit }
-    ensures none { NoDigits }
-{}
+ghost use Rattle.trace_format.specs.Laws.{WordsAreAsWritten, DefinitionIsRead, RefusalIsRead, DeclaredOrRefused, NeverBoth, OneDefinition, OneRefusal, RowIsGiven, RefusalIsGiven, PayloadIsRead, OneRow, PayloadHasItsSize};
 
 /// The words and `;` of a text with their places are those of the parts that it is written of: blanks, `;` and words, where no two words
 /// stand side by side and each place is the length of all that is written before it. So each text has one list of words and places.

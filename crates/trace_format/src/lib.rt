@@ -4,15 +4,12 @@
 //! for each field of an event; its payload is the bytes that a record keeps of it. Texts are bytes.
 #![tactic(auto)]
 
-mod blanks;
 mod catalog;
 mod event;
 mod fault;
 mod given;
 mod kind;
 pub mod laws;
-mod name;
-mod numeral;
 mod pair;
 mod payload;
 mod reader;
@@ -20,19 +17,15 @@ mod row;
 mod sizes;
 #[cfg(test)]
 mod tests;
-mod text;
 mod value;
 mod words;
 
-pub use blanks::{blanks_len, is_blank, trim, trim_end};
 pub use catalog::Catalog;
 pub use event::{EventDef, Field};
 pub use fault::{CatalogFault, DefinitionFault, RowFault};
 pub use kind::{Kind, NumberType};
-pub use name::is_name;
-pub use numeral::number;
 pub use pair::Pair;
 pub use row::Row;
 pub use sizes::{payload_size, record_size};
-pub use text::Text;
+pub use trace_lex::Text;
 pub use value::Value;

@@ -1,6 +1,6 @@
 //! Pairs of a field's name and a value, as an emission writes them.
 
-use crate::text::Text;
+use trace_lex::Text;
 
 /// A field's name and the text of its value.
 #[derive(Debug, Drop)]

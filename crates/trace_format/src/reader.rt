@@ -10,10 +10,9 @@ ghost use Rattle.trace_format.specs.declared.kind.Kind.TheVariants as kind;
 
 use crate::event::Field;
 use crate::kind::{Kind, NumberType};
-use crate::name::is_name;
-use crate::text::Text;
 use std::alloc::{AllocError, Global};
 use std::marker::Model;
+use trace_lex::{Text, is_name};
 
 /// What may stand next in a declaration.
 #[derive(Clone, Copy, Debug, PartialEq, Eq)]
@@ -74,7 +73,7 @@ impl Reader {
     {
         Reader {
             due: Due::Name,
-            name: Text::from(Vec::new(alloc)),
+            name: Text::new(alloc),
             fields: Vec::new(alloc),
         }
     }

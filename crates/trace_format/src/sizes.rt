@@ -5,9 +5,6 @@ ghost use Rattle.trace_format.specs.Cells.{payload_size_of, record_size_of};
 
 use crate::event::EventDef;
 
-/// How many bytes a record's head takes.
-const HEAD_SIZE: usize = 16;
-
 /// How many bytes the payload of an event takes: those of its fields.
 pub fn payload_size(def: &EventDef) -> usize
     requires { length def.now.fields ≤ 16 }
@@ -27,5 +24,5 @@ pub fn record_size(def: &EventDef) -> usize
     ensures size { result ≡ record_size_of def.now }
     ensures bound { result < 2 ^ 13 }
 {
-    (HEAD_SIZE + payload_size(def)).div_ceil(8) * 8
+    trace_record::record_size(payload_size(def))
 }

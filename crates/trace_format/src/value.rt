@@ -7,8 +7,8 @@ ghost use Rattle.trace_format.specs.Cells.{Datum, Whole, Bytes, datum_of, is_pri
 ghost use Rattle.trace_format.specs.Rows.{value_of};
 
 use crate::kind::{Kind, NumberType};
-use crate::numeral::number;
 use std::alloc::{AllocError, Global};
+use trace_lex::number;
 
 /// The value of a field.
 #[derive(Debug, Drop)]

@@ -4,7 +4,7 @@ ghost use Rattle.std.specs.Prelude.{◌≡◌, ◌≤◌, [], length, drop, IfNo
 ghost use Rattle.std.specs.List.{prefix_len};
 ghost use Rattle.trace_format.specs.Words.{is_word_byte as spec_word_byte, more_of, spots_from, IsNextWord};
 
-use crate::blanks::{blanks_len, is_blank};
+use trace_lex::{blanks_len, is_blank};
 
 /// A word or `;` of a text.
 #[derive(Clone, Copy, Debug)]

@@ -4,7 +4,7 @@ use Rattle.std.proofs.lemmas.List.{append-nil}
 use Rattle.std.proofs.lemmas.Bool.{eq-eqb, eqb-true}
 use Rattle.std.proofs.lemmas.Bool.Decides.{nat_tests}
 use Rattle.std.specs.List.{flat_map, AllByRecursion}
-use Rattle.trace_format.specs.Blanks.{is_blank}
+use Rattle.trace_lex.specs.Blanks.{is_blank}
 use Rattle.trace_session.specs.Tokens.{is_quote, is_end, place_of, plain, behind, tokens_from, tokens_of}
 use Rattle.trace_session.specs.Grammar.{Piece, Plain, Quoted, IsPiece, piece_text, piece_value, Part, Gap, Redirection, Written, part_text, part_tokens, MayPrecede, IsLine, IsWritten}
 use Rattle.trace_session.specs.declared.token.Token.{Token}

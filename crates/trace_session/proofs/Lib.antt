@@ -1,4 +1,3 @@
-pub mod Numbers
 pub mod TokenLemmas
 pub mod GrammarLaws
 pub mod LineLemmas

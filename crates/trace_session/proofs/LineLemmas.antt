@@ -5,8 +5,8 @@ use Rattle.std.proofs.lemmas.Bool.Decides.{nat_tests}
 use Rattle.std.specs.List.{join_with_byte}
 use Rattle.std.specs.Option.{option_map}
 use Rattle.trace_format.specs.declared.pair.Pair.{Pair}
-use Rattle.trace_book.specs.declared.command.Command.{Command}
-use Rattle.trace_book.specs.declared.command.Command.TheVariants.{Write}
+use Rattle.trace_command.specs.declared.command.Command.{Command}
+use Rattle.trace_command.specs.declared.command.Command.TheVariants.{Write}
 use Rattle.trace_session.specs.Lines.{write_behind, write_of, IsWriteOf}
 use Rattle.trace_session.specs.declared.fault.ScriptFault.{ScriptFault}
 use Rattle.trace_session.specs.declared.token.Token.{Token}

@@ -5,9 +5,9 @@ use Rattle.std.proofs.lemmas.List.Splits.{slice_split_first}
 use borrow.Author.Tests.{ltb-true, ltb-false}
 use Rattle.std.proofs.lemmas.Option.{cond_some}
 use Rattle.std.specs.List.{onto_first, position_or_len}
-use Rattle.trace_book.specs.History.{past_of, requests_of}
-use Rattle.trace_book.specs.Requests.{request_of}
-use Rattle.trace_book.specs.declared.command.Entry.{Entry}
+use Rattle.trace_history.specs.History.{past_of, requests_of}
+use Rattle.trace_command.specs.Requests.{request_of}
+use Rattle.trace_command.specs.declared.command.Entry.{Entry}
 use Rattle.trace_session.specs.Sessions.{lines_of}
 
 -- an entry that is done is the newest request

@@ -4,8 +4,8 @@ use Rattle.std.proofs.lemmas.List.{append-nil, take_at, length_push}
 use Rattle.std.proofs.lemmas.List.Folds.{list_any-append}
 use Rattle.std.specs.List.{concat, list_any}
 use Rattle.std.specs.Io.KnownBytes.{Appends}
-use Rattle.trace_book.specs.Requests.{Request}
-use Rattle.trace_book.specs.declared.command.Config.{Config}
+use Rattle.trace_command.specs.Requests.{Request}
+use Rattle.trace_command.specs.declared.command.Config.{Config}
 use Rattle.trace_session.specs.Devices.{AppendsFront, AppendsWhole}
 use Rattle.trace_session.specs.Sessions.{lines_of, lines_left, turn_of, is_fault, is_refusal, outcomes_of, text_of, texts_from, status_of, session, IsWhole}
 use Rattle.trace_session.specs.declared.render.Outcome.{Outcome}

@@ -1,7 +1,7 @@
 -- The grammar of a line: what it is written of, and which words and redirections these parts stand for.
 use Rattle.std.specs.Prelude.{◌≡◌, ◌≢◌, ℕ, Bool, true, false, List, [], ◌∷◌, ◌++◌}
 use Rattle.std.specs.List.{flat_map, AllByRecursion}
-use Rattle.trace_format.specs.Blanks.{is_blank}
+use Rattle.trace_lex.specs.Blanks.{is_blank}
 use Rattle.trace_session.specs.Tokens.{is_quote, is_end}
 use Rattle.trace_session.specs.declared.token.Token.{Token}
 use Rattle.trace_session.specs.declared.token.Token.TheVariants.{Word, Redirect}

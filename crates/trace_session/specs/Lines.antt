@@ -4,11 +4,11 @@ use Rattle.std.proofs.Common.{neg_ℤ}
 use Rattle.std.specs.List.{list_all, join_with_byte}
 use Rattle.std.specs.Option.{option_map, option_and_then}
 use Rattle.std.specs.Str.{bytes_eq}
-use Rattle.trace_format.specs.Blanks.{is_blank}
-use Rattle.trace_book.specs.Decimals.{decimal_number, up_to}
+use Rattle.trace_lex.specs.Blanks.{is_blank}
+use Rattle.trace_lex.specs.Decimals.{decimal_number, up_to}
 use Rattle.trace_format.specs.declared.pair.Pair.{Pair}
-use Rattle.trace_book.specs.declared.command.Command.{Command}
-use Rattle.trace_book.specs.declared.command.Command.TheVariants.{Emit, Write, Read}
+use Rattle.trace_command.specs.declared.command.Command.{Command}
+use Rattle.trace_command.specs.declared.command.Command.TheVariants.{Emit, Write, Read}
 use Rattle.trace_session.specs.Outcomes.{or_fault, ◌>>=◌}
 use Rattle.trace_session.specs.Tokens.{tokens_of}
 use Rattle.trace_session.specs.declared.line.Line.{Line}

@@ -1,42 +1,15 @@
 -- What a session writes for a line.
 use Rattle.std.specs.Prelude.{ℕ, List, [], ◌∷◌, ◌++◌, codes}
 use Rattle.std.specs.Fmt.{decimal}
-use Rattle.trace_book.specs.Refusals.{number_of}
-use Rattle.trace_book.specs.declared.command.Reply.{Reply}
-use Rattle.trace_book.specs.declared.command.Reply.TheVariants.{Done, Text}
-use Rattle.trace_book.specs.declared.refusal.Refusal.{Refusal}
-use Rattle.trace_book.specs.declared.refusal.Refusal.TheVariants.{NoSuchFile, NotReadable, NotWritable, BadValue, NoSuchEvent, EventExists, BadDefinition, TooBig, FilterSyntax, NoSuchField, WrongOperator, HistSyntax, BadSize, TriggerExists, NoSuchTrigger, TooMany, InstanceExists, NoSuchInstance, Busy, NoSuchCpu, BadRow, HistoryFull, Memory, Worn}
+use Rattle.trace_command.specs.Refusals.{number_of, name_of}
+use Rattle.trace_command.specs.declared.command.Reply.{Reply}
+use Rattle.trace_command.specs.declared.command.Reply.TheVariants.{Done, Text}
+use Rattle.trace_command.specs.declared.refusal.Refusal.{Refusal}
+use Rattle.trace_command.specs.declared.refusal.Refusal.TheVariants.{NoSuchFile, NotReadable, NotWritable, BadValue, NoSuchEvent, EventExists, BadDefinition, TooBig, FilterSyntax, NoSuchField, WrongOperator, HistSyntax, BadSize, TriggerExists, NoSuchTrigger, TooMany, InstanceExists, NoSuchInstance, Busy, NoSuchCpu, BadRow, HistoryFull, Memory, Worn}
 use Rattle.trace_session.specs.declared.fault.ScriptFault.{ScriptFault}
 use Rattle.trace_session.specs.declared.fault.ScriptFault.TheVariants.{LineTooLong, BadByte, UnclosedQuote, UnknownCommand, WrongWords, BadNumber, BlockOutOfPlace, TooManyThreads}
 use Rattle.trace_session.specs.declared.render.Outcome.{Outcome}
 use Rattle.trace_session.specs.declared.render.Outcome.TheVariants.{Replied, Refused, Fault}
-
--- the name that is printed for a refusal
-unfoldable pub refusal_name : Refusal → List ℕ
-refusal_name NoSuchFile = codes "NoSuchFile"
-refusal_name NotReadable = codes "NotReadable"
-refusal_name NotWritable = codes "NotWritable"
-refusal_name BadValue = codes "BadValue"
-refusal_name NoSuchEvent = codes "NoSuchEvent"
-refusal_name EventExists = codes "EventExists"
-refusal_name (BadDefinition at) = codes "BadDefinition"
-refusal_name TooBig = codes "TooBig"
-refusal_name (FilterSyntax at) = codes "FilterSyntax"
-refusal_name (NoSuchField at) = codes "NoSuchField"
-refusal_name (WrongOperator at) = codes "WrongOperator"
-refusal_name (HistSyntax at) = codes "HistSyntax"
-refusal_name BadSize = codes "BadSize"
-refusal_name TriggerExists = codes "TriggerExists"
-refusal_name NoSuchTrigger = codes "NoSuchTrigger"
-refusal_name TooMany = codes "TooMany"
-refusal_name InstanceExists = codes "InstanceExists"
-refusal_name NoSuchInstance = codes "NoSuchInstance"
-refusal_name Busy = codes "Busy"
-refusal_name NoSuchCpu = codes "NoSuchCpu"
-refusal_name (BadRow field) = codes "BadRow"
-refusal_name HistoryFull = codes "HistoryFull"
-refusal_name Memory = codes "Memory"
-refusal_name Worn = codes "Worn"
 
 -- where in the written text, or which field; nothing for the other refusals
 unfoldable pub detail_of : Refusal → List ℕ
@@ -62,7 +35,7 @@ fault_name TooManyThreads = codes "TooManyThreads"
 -- `! LINE: N7 BadDefinition at 2`, and a newline
 unfoldable pub refusal_line : ℕ → Refusal → List ℕ
 refusal_line number refusal =
-    codes "! " ++ decimal number ++ codes ": N" ++ decimal (number_of refusal) ++ codes " " ++ refusal_name refusal ++ detail_of refusal ++ codes "\n"
+    codes "! " ++ decimal number ++ codes ": N" ++ decimal (number_of refusal) ++ codes " " ++ name_of refusal ++ detail_of refusal ++ codes "\n"
 
 -- `! LINE: script FAULT`, and a newline
 unfoldable pub fault_line : ℕ → ScriptFault → List ℕ

@@ -1,11 +1,11 @@
 -- What a session writes for a script, and its status.
 use Rattle.std.specs.Prelude.{ℕ, ◌+◌, ◌==◌, Bool, true, false, if◌then◌else◌, List, [], ◌∷◌, length, Option, Some, None, Result, Ok, Err}
 use Rattle.std.specs.List.{slice_split, list_any}
-use Rattle.trace_book.specs.History.{answer}
-use Rattle.trace_book.specs.Requests.{Request, request_of}
-use Rattle.trace_book.specs.declared.command.Config.{Config}
-use Rattle.trace_book.specs.declared.command.Reply.{Reply}
-use Rattle.trace_book.specs.declared.refusal.Refusal.{Refusal}
+use Rattle.trace_history.specs.History.{answer}
+use Rattle.trace_command.specs.Requests.{Request, request_of}
+use Rattle.trace_command.specs.declared.command.Config.{Config}
+use Rattle.trace_command.specs.declared.command.Reply.{Reply}
+use Rattle.trace_command.specs.declared.refusal.Refusal.{Refusal}
 use Rattle.trace_session.specs.Lines.{line_of}
 use Rattle.trace_session.specs.Rendering.{rendered}
 use Rattle.trace_session.specs.declared.fault.ScriptFault.{ScriptFault}

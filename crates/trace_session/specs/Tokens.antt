@@ -1,7 +1,7 @@
 -- How a line is cut into words and redirections, byte by byte. The grammar that this reads is in Grammar.
 use Rattle.std.specs.Prelude.{ℕ, Bool, ◌||◌, ◌==◌, if◌then◌else◌, List, [], ◌∷◌, ◌++◌, Option, Some, None, true, false}
 use Rattle.std.specs.Option.{option_map}
-use Rattle.trace_format.specs.Blanks.{is_blank}
+use Rattle.trace_lex.specs.Blanks.{is_blank}
 use Rattle.trace_session.specs.declared.token.Token.{Token}
 use Rattle.trace_session.specs.declared.token.Token.TheVariants.{Word, Redirect}
 use Rattle.trace_session.specs.declared.token.Place.{Place}

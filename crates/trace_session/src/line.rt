@@ -2,18 +2,19 @@
 
 ghost use Rattle.std.specs.Prelude.{◌≡◌, List, Ok, ◌==◌, ◌++◌, ◌∷◌, [], OnOk, position, if◌then◌else◌};
 ghost use Rattle.std.specs.List.{list_all};
-ghost use Rattle.trace_book.specs.declared.command.Command.{Command};
+ghost use Rattle.trace_command.specs.declared.command.Command.{Command};
 ghost use Rattle.trace_session.specs.declared.token.Token.{Token};
 ghost use Rattle.trace_session.specs.Outcomes.{Gives, or_fault};
 ghost use Rattle.trace_session.specs.Lines.{IsWriteOf, pair_of, pairs_of, emission_of, write_of, read_of, take_of, named_command, command_of, redirected_to, is_line_byte, says_nothing, spoken, line_of};
 ghost use Rattle.trace_session.specs.declared.fault.ScriptFault.TheVariants.{WrongWords};
 
 use crate::fault::{LineError, ScriptFault};
-use crate::number::{cpu_number, number_up_to, process_id};
+use crate::number::{cpu_number, process_id};
 use crate::token::{Token, tokens};
 use std::alloc::{AllocError, Global};
-use trace_book::{Command, Pair, Pairs, Text};
-use trace_format::is_blank;
+use trace_command::{Command, Pairs};
+use trace_format::Pair;
+use trace_lex::{Text, decimal_number, is_blank};
 
 /// The most bytes that a line may have.
 const MOST_BYTES: usize = 4096;
@@ -154,7 +155,7 @@ fn take(alloc: Global, tokens: &[Token]) -> Result<Command, LineError>
 {
     match tokens {
         [Token::Word(count), Token::Word(path)] => {
-            let Some(limit) = number_up_to(count.as_bytes(), u64::MAX) else {
+            let Some(limit) = decimal_number(count.as_bytes(), u64::MAX) else {
                 return Err(LineError::Fault(ScriptFault::BadNumber));
             };
             let path = Text::from_slice(alloc, path.as_bytes())?;

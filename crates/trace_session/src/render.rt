@@ -2,11 +2,11 @@
 
 ghost use Rattle.std.specs.Prelude.{◌≡◌, ◌++◌, ◌∷◌, IfOk, codes};
 ghost use Rattle.std.specs.Fmt.{decimal};
-ghost use Rattle.trace_session.specs.Rendering.{refusal_name, fault_name, detail_of, refusal_line, fault_line, rendered};
+ghost use Rattle.trace_session.specs.Rendering.{fault_name, detail_of, refusal_line, fault_line, rendered};
 
 use crate::fault::ScriptFault;
 use std::alloc::{AllocError, Global};
-use trace_book::{Refusal, Reply};
+use trace_command::{Refusal, Reply};
 
 /// What became of a line.
 #[derive(Debug, Drop)]
@@ -14,39 +14,6 @@ pub(crate) enum Outcome {
     Replied(Reply),
     Refused(Refusal),
     Fault(ScriptFault),
-}
-
-/// A refusal's name, as it is printed behind its number.
-#[tactic(auto, unfolding(crate::specs::Rendering::refusal_name))]
-fn refusal_name(refusal: &Refusal) -> &'static str
-    ensures { result.now ≡ refusal_name refusal.now }
-{
-    match refusal {
-        Refusal::NoSuchFile => "NoSuchFile",
-        Refusal::NotReadable => "NotReadable",
-        Refusal::NotWritable => "NotWritable",
-        Refusal::BadValue => "BadValue",
-        Refusal::NoSuchEvent => "NoSuchEvent",
-        Refusal::EventExists => "EventExists",
-        Refusal::BadDefinition { .. } => "BadDefinition",
-        Refusal::TooBig => "TooBig",
-        Refusal::FilterSyntax { .. } => "FilterSyntax",
-        Refusal::NoSuchField { .. } => "NoSuchField",
-        Refusal::WrongOperator { .. } => "WrongOperator",
-        Refusal::HistSyntax { .. } => "HistSyntax",
-        Refusal::BadSize => "BadSize",
-        Refusal::TriggerExists => "TriggerExists",
-        Refusal::NoSuchTrigger => "NoSuchTrigger",
-        Refusal::TooMany => "TooMany",
-        Refusal::InstanceExists => "InstanceExists",
-        Refusal::NoSuchInstance => "NoSuchInstance",
-        Refusal::Busy => "Busy",
-        Refusal::NoSuchCpu => "NoSuchCpu",
-        Refusal::BadRow { .. } => "BadRow",
-        Refusal::HistoryFull => "HistoryFull",
-        Refusal::Memory => "Memory",
-        Refusal::Worn => "Worn",
-    }
 }
 
 /// A script fault's name.
@@ -104,7 +71,7 @@ fn refusal_line(alloc: Global, number: usize, refusal: &Refusal) -> Result<Vec<u
     ensures { IfOk result (λ text. text.items ≡ refusal_line number refusal.now) }
 {
     let code = refusal.number();
-    let name = refusal_name(refusal);
+    let name = refusal.name();
     let detail = detail(alloc, refusal)?;
     let mut text = format!(in alloc; "! {number}: N{code} {name}")?.into_bytes();
     text.extend_from_slice(&detail)?;

@@ -4,8 +4,8 @@ ghost use Rattle.std.specs.Prelude.{◌≡◌, ◌==◌, ◌≢◌, ◌+◌, ◌
 ghost use Rattle.std.specs.List.{concat};
 ghost use Rattle.std.specs.Option.{option_copied};
 ghost use Rattle.std.specs.Io.KnownBytes.{Appends, Consumes, IsAtEnd, Keeps};
-ghost use Rattle.trace_book.specs.Configs.{IsInRange};
-ghost use Rattle.trace_book.specs.History.{past_of};
+ghost use Rattle.trace_command.specs.Configs.{IsInRange};
+ghost use Rattle.trace_history.specs.History.{past_of};
 ghost use Rattle.trace_session.specs.Devices.{AppendsFront, AppendsWhole, ConsumesAtMost, HasRisen};
 ghost use Rattle.trace_session.specs.Sessions.{lines_of, lines_left, bytes_left, turn_of, text_of, session, is_asked, status_of, IsWhole};
 
@@ -15,7 +15,8 @@ use crate::line::{Line, prepare};
 use crate::render::{Outcome, render};
 use crate::status::Status;
 use std::alloc::{AllocError, Global};
-use trace_book::{Book, Config, Refusal};
+use trace_book::Book;
+use trace_command::{Config, Refusal};
 
 /// The most bytes that a script may have.
 pub const MOST_SCRIPT_BYTES: usize = 16_777_216;

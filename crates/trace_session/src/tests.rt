@@ -3,7 +3,8 @@ use crate::line::{Line, prepare};
 use crate::render::{Outcome, render};
 use std::alloc::Global;
 use std::test::Fail;
-use trace_book::{Command, Refusal, Reply, Text};
+use trace_command::{Command, Refusal, Reply};
+use trace_lex::Text;
 
 /// What a line is read as: its fault, or what it asks for.
 fn reading(alloc: Global, line: &[u8]) -> &'static str {

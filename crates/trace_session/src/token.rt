@@ -10,8 +10,7 @@ ghost use Rattle.trace_session.specs.declared.fault.ScriptFault.TheVariants.{Unc
 use crate::fault::{LineError, ScriptFault};
 use std::alloc::{AllocError, Global};
 use std::mem;
-use trace_book::Text;
-use trace_format::is_blank;
+use trace_lex::{Text, is_blank};
 
 /// Room for the tokens of a usual line, so that their list seldom grows.
 const USUAL_TOKENS: usize = 8;
@@ -62,39 +61,39 @@ fn place_of(byte: u8) -> Place
 struct Lexer {
     alloc: Global,
     tokens: Vec<Token>,
-    word: Vec<u8>,
+    word: Text,
     place: Place,
 }
 
 impl Lexer {
     fn new(alloc: Global) -> Result<Lexer, AllocError>
         ensures tokens { IfOk result (λ lexer. lexer.tokens.items ≡ []) }
-        ensures word { IfOk result (λ lexer. lexer.word.items ≡ []) }
+        ensures word { IfOk result (λ lexer. lexer.word ≡ []) }
         ensures place { IfOk result (λ lexer. lexer.place ≡ Place.Between) }
     {
         Ok(Lexer {
             alloc,
             tokens: Vec::with_capacity(alloc, USUAL_TOKENS)?,
-            word: Vec::new(alloc),
+            word: Text::new(alloc),
             place: Place::Between,
         })
     }
 
     /// Ends the word that is open.
     fn end_word(&mut self) -> Result<(), AllocError>
-        ensures tokens { OnOk result (self.new.tokens.items ≡ self.old.tokens.items ++ Token.Word self.old.word.items ∷ []) }
-        ensures word { OnOk result (self.new.word.items ≡ []) }
+        ensures tokens { OnOk result (self.new.tokens.items ≡ self.old.tokens.items ++ Token.Word self.old.word ∷ []) }
+        ensures word { OnOk result (self.new.word ≡ []) }
         ensures place { OnOk result (self.new.place ≡ self.old.place) }
     {
-        let word = mem::replace(&mut self.word, Vec::new(self.alloc));
-        self.tokens.push(Token::Word(Text::from(word)))?;
+        let word = mem::replace(&mut self.word, Text::new(self.alloc));
+        self.tokens.push(Token::Word(word))?;
         Ok(())
     }
 
     /// Takes a byte that stands outside quotes and ends no token.
     fn outside(&mut self, byte: u8) -> Result<(), AllocError>
         ensures tokens { OnOk result (self.new.tokens.items ≡ self.old.tokens.items) }
-        ensures word { OnOk result (self.new.word.items ≡ self.old.word.items ++ plain byte) }
+        ensures word { OnOk result (self.new.word ≡ self.old.word ++ plain byte) }
         ensures place { OnOk result (self.new.place ≡ place_of byte) }
     {
         self.place = place_of(byte);
@@ -108,8 +107,8 @@ impl Lexer {
     #[tactic(auto, using(crate::proofs::TokenLemmas::behind_append))]
     fn step(&mut self, byte: u8) -> Result<(), AllocError>
         ensures { OnOk result ((bytes : List ℕ) →
-            behind self.new.tokens.items (tokens_from self.new.place self.new.word.items bytes)
-            ≡ behind self.old.tokens.items (tokens_from self.old.place self.old.word.items (byte ∷ bytes))) }
+            behind self.new.tokens.items (tokens_from self.new.place self.new.word bytes)
+            ≡ behind self.old.tokens.items (tokens_from self.old.place self.old.word (byte ∷ bytes))) }
     {
         match self.place {
             Place::Between => self.outside(byte),
@@ -141,7 +140,7 @@ impl Lexer {
     /// The tokens, at the end of the line.
     fn finish(mut self) -> Result<Vec<Token>, LineError>
         ensures { Gives (λ tokens. tokens.items) result
-            (or_fault UnclosedQuote (behind self.tokens.items (tokens_from self.place self.word.items []))) }
+            (or_fault UnclosedQuote (behind self.tokens.items (tokens_from self.place self.word []))) }
     {
         match self.place {
             Place::Between => {}

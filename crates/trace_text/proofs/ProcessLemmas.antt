@@ -2,7 +2,7 @@
 use Rattle.std.proofs.Common.{◌≡◌, ℕ, ◌/◌, ◌%◌, ◌^◌, ℤ, pos, negsuc, [], ◌∷◌, refl, arith}
 use Rattle.std.specs.Int.{w32, to_le_bytes, cast_unsigned}
 use Rattle.trace_format.specs.Cells.{little_endian, two's_complement}
-use Rattle.page_ring.specs.Record.{head_bytes}
+use Rattle.trace_record.specs.Record.{head_bytes}
 use Rattle.trace_text.specs.FieldText.{field_text}
 use Rattle.trace_text.specs.FormatText.{field_line, common_pid_line}
 use Rattle.trace_text.specs.Laws.{ProcessHasLine, ProcessLiesAtOffset}

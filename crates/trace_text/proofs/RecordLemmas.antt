@@ -6,13 +6,13 @@ use Rattle.std.proofs.lemmas.Bool.{le-ltb}
 use Rattle.std.proofs.lemmas.Int.{to_z-of_z}
 use Rattle.std.proofs.lemmas.List.{take_at, drop_at, length-replicate}
 use Rattle.std.proofs.Math.Facts.{Fits-of_z}
-use Rattle.page_ring.specs.declared.heads.Head.{Head}
-use Rattle.page_ring.specs.Record.{head_of, head_bytes}
+use Rattle.trace_record.specs.declared.head.Head.{Head}
+use Rattle.trace_record.specs.Record.{head_of, head_bytes, payload_in}
 use Rattle.trace_format.specs.Cells.{payload_of}
 use Rattle.trace_format.specs.Decoding.{row_from}
 use Rattle.trace_format.proofs.Payloads.{row_from-payload}
 use Rattle.trace_format.proofs.SizeLemmas.{payload_has_its_size}
-use Rattle.trace_text.specs.RecordText.{line_of_row, line_of_event, line_of_head, payload_in, record_line}
+use Rattle.trace_text.specs.RecordText.{line_of_row, line_of_event, line_of_head, record_line}
 use Rattle.trace_text.specs.Laws.{RecordShowsItsRow, RecordHasItsSize}
 
 pub sixteen : (head : Head) → length (head_bytes head) ≡ 16

@@ -1,8 +1,8 @@
 -- What a record's line is, in the words of the row that was recorded, how many bytes a record has, and where a format says that they lie.
 use Rattle.std.specs.Prelude.{◌≡◌, ℕ, ◌+◌, ◌-◌, ◌*◌, ◌/◌, ◌<◌, ◌^◌, FitsSigned, List, [], ◌∷◌, ◌++◌, length, map, take, drop, replicate, codes, Some}
 use Rattle.std.specs.Int.{w32}
-use Rattle.page_ring.specs.Record.{head_bytes}
-use Rattle.page_ring.specs.declared.heads.Head.{Head}
+use Rattle.trace_record.specs.Record.{head_bytes}
+use Rattle.trace_record.specs.declared.head.Head.{Head}
 use Rattle.trace_format.specs.Definitions.{Definition}
 use Rattle.trace_format.specs.declared.event.Field.{Field}
 use Rattle.trace_format.specs.declared.kind.NumberType.TheVariants.{S32}

@@ -1,9 +1,9 @@
 -- The line of a record in the `trace` and `trace_pipe` files (ftrace.rst, "The File System", "Output format"); its layout was chosen by
 -- this project.
-use Rattle.std.specs.Prelude.{ℕ, ◌+◌, ◌/◌, ◌%◌, List, [], ◌∷◌, ◌++◌, take, drop, Option, Some, None, codes}
+use Rattle.std.specs.Prelude.{ℕ, ◌+◌, ◌/◌, ◌%◌, List, [], ◌∷◌, ◌++◌, Option, Some, None, codes}
 use Rattle.std.specs.Fmt.{decimal, signed_decimal}
-use Rattle.page_ring.specs.Record.{head_of}
-use Rattle.page_ring.specs.declared.heads.Head.{Head}
+use Rattle.trace_record.specs.Record.{head_of, payload_in}
+use Rattle.trace_record.specs.declared.head.Head.{Head}
 use Rattle.trace_format.specs.declared.event.Field.{Field}
 use Rattle.trace_format.specs.Definitions.{Definition}
 use Rattle.trace_format.specs.Cells.{Cells, Datum, Whole, Bytes}
@@ -46,10 +46,6 @@ line_of_row cpu head definition (Some row) = row_line cpu head definition row.va
 abbrev pub line_of_event : ℕ → Head → List ℕ → Option Definition → List ℕ
 line_of_event cpu head payload None = []
 line_of_event cpu head payload (Some definition) = line_of_row cpu head definition (row_from definition payload)
-
--- a record's payload stands behind its head, which has 16 bytes
-abbrev pub payload_in : Head → List ℕ → List ℕ
-payload_in head bytes = take head.payload (drop 16 bytes)
 
 abbrev pub line_of_head : List Definition → ℕ → List ℕ → Option Head → List ℕ
 line_of_head events cpu bytes None = []

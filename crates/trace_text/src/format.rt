@@ -7,9 +7,10 @@ use crate::append::push_decimal;
 use crate::field::push_field;
 use std::alloc::{AllocError, Global};
 use trace_format::{EventDef, Field};
+use trace_record::HEAD_SIZE;
 
 /// Where the fields begin in a record: behind its head.
-const FIRST_OFFSET: u128 = 16;
+const FIRST_OFFSET: u128 = HEAD_SIZE as u128;
 
 /// Appends 1 for a signed field, and 0 for another.
 fn push_sign(out: &mut Vec<u8>, signed: bool) -> Result<(), AllocError>

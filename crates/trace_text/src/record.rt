@@ -1,17 +1,14 @@
 //! The line of a record in the `trace` and `trace_pipe` files.
 
-ghost use Rattle.std.specs.Prelude.{◌≡◌, ◌++◌, take, map, OnOk, OnErr};
+ghost use Rattle.std.specs.Prelude.{◌≡◌, ◌++◌, map, OnOk, OnErr};
 ghost use Rattle.trace_format.specs.Cells.{datum_of};
 ghost use Rattle.trace_format.specs.Decoding.{row_from};
 ghost use Rattle.trace_text.specs.RecordText as texts;
 
 use crate::append::{push_decimal, push_signed};
-use page_ring::{Head, read_head};
 use std::alloc::{AllocError, Global};
 use trace_format::{Catalog, EventDef, Field, Row, Value};
-
-/// How many bytes a record's head takes.
-const HEAD_SIZE: usize = 16;
+use trace_record::{Head, payload_in, read_head};
 
 /// Appends a number below 1,000 in three digits.
 fn push_three_digits(out: &mut Vec<u8>, n: u32) -> Result<(), AllocError>
@@ -101,14 +98,6 @@ fn push_row_line(
     out.extend_from_slice(b":".as_slice())?;
     push_cells(alloc, out, def.fields(), row.values())?;
     out.extend_from_slice(b"\n".as_slice())
-}
-
-/// The payload that stands behind a record's head.
-fn payload_in<'a>(head: &Head, rec: &'a [u8]) -> &'a [u8]
-    ensures { result.now ≡ texts.payload_in head.now rec.now }
-{
-    let behind = rec.get(HEAD_SIZE..).unwrap_or(&[]);
-    behind.get(..usize::from(head.payload)).unwrap_or(behind)
 }
 
 /// Appends the line of a record of an event.

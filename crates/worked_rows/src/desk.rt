@@ -1,7 +1,7 @@
 //! A book that is asked step by step.
 
 ghost use Rattle.std.specs.Prelude.{◌<◌, All};
-ghost use Rattle.trace_book.specs.Configs.{IsInRange};
+ghost use Rattle.trace_command.specs.Configs.{IsInRange};
 
 use crate::refusals::{Refusals, Refused};
 use std::alloc::{AllocError, Global};

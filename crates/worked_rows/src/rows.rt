@@ -1,6 +1,6 @@
 //! Worked rows: what whole sessions write.
 
-ghost use Rattle.trace_book.specs.Configs.{IsInRange};
+ghost use Rattle.trace_command.specs.Configs.{IsInRange};
 
 use crate::refusals::Refusals;
 use crate::sessions::{config, session};

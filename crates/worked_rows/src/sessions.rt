@@ -1,7 +1,7 @@
 //! Sessions over memory.
 
 ghost use Rattle.std.specs.Prelude.{◌≡◌, ◌≤◌, ◌%◌, ◌^◌};
-ghost use Rattle.trace_book.specs.Configs.{IsInRange};
+ghost use Rattle.trace_command.specs.Configs.{IsInRange};
 
 use crate::refusals::Refusals;
 use std::alloc::Global;

@@ -1,5 +1,5 @@
 use Rattle.std.proofs.Common.{refl}
-use Rattle.page_ring.specs.Record.{timestamp}
+use Rattle.trace_record.specs.Record.{timestamp}
 use Rattle.page_ring.specs.Cut.{cut}
 use Rattle.page_ring.specs.Account.{account, stats_of, readings_of, put_answer}
 use Rattle.page_ring.proofs.tests.rows_of_the_definitions.Goals as goal

@@ -1,7 +1,7 @@
 use Rattle.std.proofs.Common.{◌≡◌, ◌∷◌, List, arith, rules, length, ap}
 use Rattle.page_ring.specs.Account.{Reading}
 use Rattle.page_ring.specs.Reading.{reading}
-use Rattle.trace_book.specs.TraceFiles.{pipe_lines}
+use Rattle.trace_history.specs.TraceFiles.{pipe_lines}
 use Rattle.trace_book.proofs.Taking.{taken_step}
 use Rattle.trace_book.proofs.pipe_text.push_taken.Goals as goal
 

@@ -1,6 +1,6 @@
 use Rattle.std.proofs.Common.{◌≡◌, ◌+◌, ◌-◌, ◌≤◌, length, take, ◌++◌}
 use Rattle.std.specs.List.{flat_map}
-use Rattle.trace_book.specs.TraceFiles.{pipe_lines}
+use Rattle.trace_history.specs.TraceFiles.{pipe_lines}
 use Rattle.trace_book.proofs.pipe_text.push_taken.Given as goal
 
 abbrev pub invariant-loop-kept : goal.invariant-loop-kept

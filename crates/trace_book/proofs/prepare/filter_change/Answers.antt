@@ -1,6 +1,6 @@
 use Rattle.std.proofs.Common.{◌≡◌, ◌≢◌, false, sym, ◌∙◌, rules}
 use Rattle.trace_filter.specs.declared.fault.FilterFault.TheVariants as filter_fault
-use Rattle.trace_book.specs.Settings.{clears_filter}
+use Rattle.trace_history.specs.Settings.{clears_filter}
 use Rattle.trace_book.proofs.Filtering.{change-takes, change-keeps}
 use Rattle.trace_book.proofs.prepare.filter_change.Goals as goal
 

@@ -1,5 +1,5 @@
 use Rattle.std.proofs.Common.{◌++◌, drop, ap, ◌∙◌, List, ℕ}
-use Rattle.page_ring.specs.Record.{head_bytes}
+use Rattle.trace_record.specs.Record.{head_bytes}
 use Rattle.trace_format.specs.Cells.{payload_of}
 use Rattle.trace_book.proofs.RecordBytes.{filled}
 use Rattle.trace_book.proofs.row.write_record.Goals as goal

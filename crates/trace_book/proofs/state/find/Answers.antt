@@ -1,6 +1,6 @@
 use Rattle.std.proofs.Common.{◌≡◌, Some, sym, ◌∙◌}
 use Rattle.trace_format.specs.Catalogs.{id_of, event_of}
-use Rattle.trace_book.proofs.Events.{place_of_id}
+use Rattle.trace_history.proofs.Events.{place_of_id}
 use Rattle.trace_book.proofs.state.find.Goals as goal
 
 pub returns-clause-place : goal.returns-clause-place

@@ -1,5 +1,5 @@
 use Rattle.std.proofs.Common.{◌≤◌, ◌+◌, ◌∷◌, List, ℕ, length, take, one-add, if◌then◌else◌, ap, subst, ◌∙◌}
-use Rattle.trace_format.specs.Names.{is_name}
+use Rattle.trace_lex.specs.Names.{is_name}
 use Rattle.trace_filter.specs.Tokens.{Token, Name, Illegible}
 use Rattle.trace_filter.proofs.token.name_piece.Goals as goal
 

@@ -1,7 +1,7 @@
 use Rattle.std.proofs.Common.{length, length-drop, sym, ap, ◌∙◌, arith}
 use Rattle.std.specs.List.{prefix_len}
 use Rattle.std.proofs.lemmas.List.{nil_from_length}
-use Rattle.trace_format.specs.Blanks.{is_blank}
+use Rattle.trace_lex.specs.Blanks.{is_blank}
 use Rattle.trace_filter.proofs.SpotLemmas.{no_token, next_token_at}
 use Rattle.trace_filter.proofs.token.next_token.Goals as goal
 

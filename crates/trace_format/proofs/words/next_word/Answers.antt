@@ -1,7 +1,7 @@
 use Rattle.std.proofs.Common.{◌+◌, take, length, length-drop, sym, ap, ◌∙◌, arith}
 use Rattle.std.specs.List.{prefix_len}
 use Rattle.std.proofs.lemmas.List.{nil_from_length}
-use Rattle.trace_format.specs.Blanks.{is_blank}
+use Rattle.trace_lex.specs.Blanks.{is_blank}
 use Rattle.trace_format.proofs.WordLemmas.{no_word, next_word_at}
 use Rattle.trace_format.proofs.words.next_word.Goals as goal
 

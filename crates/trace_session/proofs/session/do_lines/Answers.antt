@@ -1,7 +1,7 @@
 use Rattle.std.proofs.Common.{◌∙◌, arith, refl}
 use Rattle.std.proofs.lemmas.Result.{err_from_is_err_and}
 use Rattle.std.specs.Option.{option_copied}
-use Rattle.trace_book.specs.History.{past_of}
+use Rattle.trace_history.specs.History.{past_of}
 use Rattle.trace_session.proofs.SessionLemmas.{past_of_none}
 use Rattle.trace_session.proofs.Turns.{begins, keeps, at_fault, at_memory, at_device, at_end}
 use Rattle.trace_session.proofs.session.do_lines.Goals as goal

@@ -1,6 +1,6 @@
 use Rattle.std.proofs.Common.{◌≡◌, ◌+◌, ◌<◌, ◌≤◌, length, All}
 use Rattle.std.specs.Option.{option_copied}
-use Rattle.trace_book.specs.History.{past_of}
+use Rattle.trace_history.specs.History.{past_of}
 use Rattle.trace_session.specs.Sessions.{bytes_left}
 use Rattle.trace_session.proofs.Turns.{Stands}
 use Rattle.trace_session.proofs.session.do_lines.Given as goal

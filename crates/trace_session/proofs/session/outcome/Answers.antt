@@ -1,6 +1,6 @@
 use Rattle.std.proofs.Common.{List, Some, Ok, ap, sym, ◌∙◌}
-use Rattle.trace_book.specs.History.{past_of}
-use Rattle.trace_book.specs.Requests.{Request, request_of}
+use Rattle.trace_history.specs.History.{past_of}
+use Rattle.trace_command.specs.Requests.{Request, request_of}
 use Rattle.trace_session.specs.Sessions.{Turn, answered, taken, turn_of}
 use Rattle.trace_session.specs.declared.line.Line.{Line}
 use Rattle.trace_session.specs.declared.render.Outcome.TheVariants.{Replied}

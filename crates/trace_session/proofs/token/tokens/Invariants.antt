@@ -4,4 +4,4 @@ use Rattle.trace_session.proofs.token.tokens.Given as goal
 
 abbrev pub invariant-loop-byte : goal.invariant-loop-byte
 invariant-loop-byte l =
-    behind l.lexer.tokens.items (tokens_from l.lexer.place l.lexer.word.items (drop l.byte-index l.line)) ≡ tokens_of l.line
+    behind l.lexer.tokens.items (tokens_from l.lexer.place l.lexer.word (drop l.byte-index l.line)) ≡ tokens_of l.line

@@ -1,6 +1,6 @@
 use Rattle.std.proofs.Common.{ap, ◌∙◌, List}
 use Rattle.std.specs.Option.{option_map}
-use Rattle.page_ring.specs.Record.{timestamp}
+use Rattle.trace_record.specs.Record.{timestamp}
 use Rattle.page_ring.specs.Account.{Reading, first}
 use Rattle.page_ring.proofs.Stands.{readings_of_shown}
 use Rattle.page_ring.proofs.rings.Ring.peek_ts.Goals as goal

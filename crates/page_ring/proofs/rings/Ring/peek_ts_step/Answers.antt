@@ -1,6 +1,6 @@
 use Rattle.std.proofs.Common.{◌≡◌, ℕ, Option, Some, None, ap, sym, subst}
 use Rattle.std.specs.Option.{option_map}
-use Rattle.page_ring.specs.Record.{timestamp}
+use Rattle.trace_record.specs.Record.{timestamp}
 use Rattle.page_ring.specs.Account.{Reading, first}
 use Rattle.page_ring.specs.Pages.{kept_in}
 use Rattle.page_ring.specs.Shown.{Seen}

@@ -1,9 +1,9 @@
 use Rattle.std.proofs.Common.{List, [], ◌∷◌, ◌++◌, All, subst, ◌≡◌, ◌<◌, Ok, Err, arith, rules, refl, ap, sym, ◌∙◌, length-append}
-use Rattle.trace_book.specs.Requests.{request_of}
-use Rattle.trace_book.specs.History.{past_of}
+use Rattle.trace_command.specs.Requests.{request_of}
+use Rattle.trace_history.specs.History.{past_of}
 use Rattle.trace_book.specs.BookSeen.{BookSeen}
-use Rattle.trace_book.specs.declared.command.Entry.{Entry}
-use Rattle.trace_book.specs.declared.command.Reply.{Reply}
+use Rattle.trace_command.specs.declared.command.Entry.{Entry}
+use Rattle.trace_command.specs.declared.command.Reply.{Reply}
 use Rattle.trace_book.proofs.Histories.{usable-from_stands, length-past_of, past_of-push, answer-done, answer-full, refused-reply, refused-early, late-done, IsLegal-push}
 use Rattle.trace_book.proofs.Steps.{stands_after}
 use Rattle.trace_book.proofs.book.Book.ask.Goals as goal

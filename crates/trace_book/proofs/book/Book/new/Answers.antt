@@ -1,5 +1,5 @@
 use Rattle.std.proofs.Common.{refl, arith, rules}
-use Rattle.trace_book.specs.Configs.{IsInRange}
+use Rattle.trace_command.specs.Configs.{IsInRange}
 use Rattle.trace_book.proofs.Histories.{IsLegal-none, stands-new}
 use Rattle.trace_book.proofs.book.Book.new.Goals as goal
 

@@ -1,8 +1,8 @@
 use Rattle.std.proofs.Common.{◌≡◌, ◌<◌, ℤ, eqb, true, Ok, refl, ap, ◌∙◌, to_z, of_z, w32, arith, rules}
 use Rattle.std.proofs.lemmas.Int.{to_z-of_z}
 use Rattle.trace_format.specs.Rows.{row_of}
-use Rattle.trace_book.specs.Settings.{is_enabled, filter_of}
-use Rattle.trace_book.specs.Rings.{filter_holds}
+use Rattle.trace_history.specs.Settings.{is_enabled, filter_of}
+use Rattle.trace_history.specs.Rings.{filter_holds}
 use Rattle.trace_book.specs.States.{numbered, written_record}
 use Rattle.trace_book.proofs.Prepared.{named-found, enabled-found, answers-emission, changes-emission, puts-emission, filter-found, kept-found}
 use Rattle.trace_book.proofs.state.State.prepare_emission.Goals as goal

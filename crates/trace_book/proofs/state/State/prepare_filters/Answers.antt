@@ -1,7 +1,7 @@
 use Rattle.std.proofs.Common.{◌≡◌, Ok, Err, sym, ap, ◌∙◌, rules}
-use Rattle.trace_book.specs.History.{filter_of_all_answer}
-use Rattle.trace_book.specs.Settings.{declared_events}
-use Rattle.trace_book.specs.declared.refusal.Refusal.TheVariants.{Memory}
+use Rattle.trace_history.specs.History.{filter_of_all_answer}
+use Rattle.trace_history.specs.Settings.{declared_events}
+use Rattle.trace_command.specs.declared.refusal.Refusal.TheVariants.{Memory}
 use Rattle.trace_book.proofs.Filtering.{no-event-refused, memory-for-filters, set-filters}
 use Rattle.trace_book.proofs.state.State.prepare_filters.Goals as goal
 

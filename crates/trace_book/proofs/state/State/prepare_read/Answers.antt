@@ -1,6 +1,6 @@
 use Rattle.std.proofs.Common.{Some, refl}
-use Rattle.trace_book.specs.Decimals.{value_after}
-use Rattle.trace_book.specs.Paths.{TracePipe, EventEnable}
+use Rattle.trace_lex.specs.Decimals.{value_after}
+use Rattle.trace_command.specs.Paths.{TracePipe, EventEnable}
 use Rattle.trace_book.proofs.Prepared.{prepared-nothing, prepared-take, prepared-cpu_take}
 use Rattle.trace_book.proofs.state.State.prepare_read.Goals as goal
 

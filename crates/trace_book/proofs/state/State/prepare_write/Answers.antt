@@ -1,5 +1,5 @@
 use Rattle.std.proofs.Common.{refl, sym}
-use Rattle.trace_book.specs.Paths.{Overwrite, TraceOptions}
+use Rattle.trace_command.specs.Paths.{Overwrite, TraceOptions}
 use Rattle.trace_book.proofs.Filtering.{set-switches}
 use Rattle.trace_book.proofs.Prepared.{prepared-option, answers-switch, answers-option}
 use Rattle.trace_book.proofs.state.State.prepare_write.Goals as goal

@@ -1,5 +1,5 @@
 use Rattle.std.proofs.Common.{ap, ◌∙◌, rules}
-use Rattle.trace_book.specs.Settings.{filter_of}
+use Rattle.trace_history.specs.Settings.{filter_of}
 use Rattle.trace_book.specs.States.{numbered, shown_filter}
 use Rattle.trace_book.proofs.Prepared.{named-found, filter-found}
 use Rattle.trace_book.proofs.Filtering.{shown-filter, reads-filter}

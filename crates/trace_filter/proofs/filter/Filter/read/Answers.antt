@@ -3,7 +3,7 @@ use Rattle.std.proofs.lemmas.Result.{err_from_is_err_and}
 use Rattle.trace_filter.specs.declared.syntax.Verdict.TheVariants.{Fine}
 use Rattle.trace_filter.specs.declared.test.Subject.TheVariants as subjects
 use Rattle.trace_filter.specs.declared.token.Comparison.TheVariants as comparisons
-use Rattle.trace_format.specs.Blanks.{trimmed}
+use Rattle.trace_lex.specs.Blanks.{trimmed}
 use Rattle.trace_filter.specs.Tokens.{spots_of, spots_from, tokens_of}
 use Rattle.trace_filter.specs.Syntax.{start, reading}
 use Rattle.trace_filter.specs.Places.{first_fault, IsToldAs}

@@ -1,8 +1,0 @@
-use Rattle.trace_book.proofs.PipeReads.{pipe_reads_consume_what_they_show, whole_pipe_reads_consume_what_they_show}
-use Rattle.trace_book.proofs.laws.pipe_reads_consume_what_they_show.Goals as goal
-
-pub returns-clause-cpu : goal.returns-clause-cpu
-returns-clause-cpu c = pipe_reads_consume_what_they_show c.least_is_read.ensures.rest
-
-pub returns-clause-all : goal.returns-clause-all
-returns-clause-all c = whole_pipe_reads_consume_what_they_show c.least_is_read.ensures.rest

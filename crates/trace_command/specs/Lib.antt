@@ -1,0 +1,5 @@
+pub mod Configs
+pub mod Paths
+pub mod Places
+pub mod Refusals
+pub mod Requests

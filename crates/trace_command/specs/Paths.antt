@@ -1,0 +1,86 @@
+-- The files of the tracing tree, and which file a path names.
+use Rattle.std.specs.Prelude.{ℕ, ◌&&◌, not, ◌==◌, if◌then◌else◌, List, [], ◌∷◌, Option, Some, None, take, drop, codes}
+use Rattle.std.specs.Option.{option_and_then}
+use Rattle.std.specs.List.{slice_split}
+use Rattle.std.specs.Str.{bytes_eq}
+use Rattle.trace_lex.specs.Names.{is_name}
+use Rattle.trace_lex.specs.Decimals.{decimal_number, has_leading_zero}
+
+-- what stands between the slashes of a path
+abbrev pub parts : List ℕ → List (List ℕ)
+parts path = slice_split (λ b. b == 47) path
+
+-- a file. One of an event has the event's name, one of a CPU its number. There is one system of events, so the switch of all events is one
+-- file with two paths.
+pub data File : Type 0 where
+  Trace : File
+  CpuTrace : ℕ → File
+  TracePipe : File
+  CpuTracePipe : ℕ → File
+  CpuStats : ℕ → File
+  Overwrite : File
+  TraceOptions : File
+  SyntheticEvents : File
+  EventsEnable : File
+  EventsFilter : File
+  EventEnable : List ℕ → File
+  EventFilter : List ℕ → File
+  EventFormat : List ℕ → File
+
+-- the number in `cpuN`: decimal, without leading zeros
+abbrev pub cpu_number : List ℕ → Option ℕ
+cpu_number part =
+    if bytes_eq (take 3 part) (codes "cpu") && not (has_leading_zero (drop 3 part)) then decimal_number (drop 3 part) else None
+
+-- a file at the top
+unfoldable pub top_file : List ℕ → Option File
+top_file name =
+    if bytes_eq name (codes "trace") then Some Trace
+    else (if bytes_eq name (codes "trace_pipe") then Some TracePipe
+    else (if bytes_eq name (codes "trace_options") then Some TraceOptions
+    else (if bytes_eq name (codes "synthetic_events") then Some SyntheticEvents else None)))
+
+-- a file of an option
+unfoldable pub option_file : List ℕ → Option File
+option_file name = if bytes_eq name (codes "overwrite") then Some Overwrite else None
+
+-- a file of all events, below `events`
+unfoldable pub events_file : List ℕ → Option File
+events_file name = if bytes_eq name (codes "enable") then Some EventsEnable else None
+
+-- a file of all events of the one system
+unfoldable pub system_file : List ℕ → Option File
+system_file name =
+    if bytes_eq name (codes "enable") then Some EventsEnable
+    else (if bytes_eq name (codes "filter") then Some EventsFilter else None)
+
+-- a file of a CPU
+unfoldable pub cpu_file : ℕ → List ℕ → Option File
+cpu_file cpu name =
+    if bytes_eq name (codes "stats") then Some (CpuStats cpu)
+    else (if bytes_eq name (codes "trace") then Some (CpuTrace cpu)
+    else (if bytes_eq name (codes "trace_pipe") then Some (CpuTracePipe cpu) else None))
+
+-- a file of an event
+unfoldable pub event_file : List ℕ → List ℕ → Option File
+event_file event name =
+    if bytes_eq name (codes "enable") then Some (EventEnable event)
+    else (if bytes_eq name (codes "filter") then Some (EventFilter event)
+    else (if bytes_eq name (codes "format") then Some (EventFormat event) else None))
+
+-- the file that the parts of a path name
+abbrev pub file_in : List (List ℕ) → Option File
+file_in (name ∷ []) = top_file name
+file_in (first ∷ name ∷ []) =
+    if bytes_eq first (codes "options") then option_file name
+    else (if bytes_eq first (codes "events") then events_file name else None)
+file_in (first ∷ second ∷ name ∷ []) =
+    if bytes_eq first (codes "per_cpu") then option_and_then (λ cpu. cpu_file cpu name) (cpu_number second)
+    else (if bytes_eq first (codes "events") && bytes_eq second (codes "synthetic") then system_file name else None)
+file_in (first ∷ second ∷ third ∷ name ∷ []) =
+    if bytes_eq first (codes "events") && (bytes_eq second (codes "synthetic") && is_name third) then event_file third name else None
+file_in _ = None
+
+-- the file that a path names
+unfoldable pub file_of : List ℕ → Option File
+file_of path = file_in (parts path)

@@ -1,0 +1,94 @@
+//! Commands, their replies, and the entries of a history.
+
+ghost use Rattle.std.specs.Prelude.{◌≡◌};
+
+use std::marker::Model;
+use trace_format::Pair;
+use trace_lex::Text;
+
+/// The pairs of an emission, in the order given.
+#[derive(Debug, Drop)]
+pub struct Pairs {
+    pairs: Vec<Pair>,
+}
+
+impl Model for Pairs {
+    ghost use Rattle.std.specs.Prelude.{List};
+    ghost use Rattle.trace_format.specs.declared.pair.Pair.{Pair};
+
+    ghost Value = { List Pair };
+
+    ghost view = { λ p. p.pairs.items };
+}
+
+impl From<Vec<Pair>> for Pairs {
+    ghost from_gives = { λ pairs result. result ≡ pairs.items };
+
+    fn from(pairs: Vec<Pair>) -> Pairs {
+        Pairs { pairs }
+    }
+}
+
+impl Pairs {
+    /// The pairs.
+    pub fn as_slice(&self) -> &[Pair]
+        ensures { result.now ≡ self.now }
+    {
+        &self.pairs
+    }
+}
+
+/// What is asked of a tracer.
+#[derive(Debug, Drop)]
+pub enum Command {
+    /// An event happens on a CPU, in a process.
+    Emit {
+        event: Text,
+        cpu: u32,
+        pid: i32,
+        pairs: Pairs,
+    },
+    /// Makes the instance of this path. For now this is refused.
+    Mkdir(Text),
+    /// Removes the instance of this path. For now this is refused.
+    Rmdir(Text),
+    /// Writes the text to a file, by `>` or, to append, by `>>`.
+    Write {
+        path: Text,
+        append: bool,
+        text: Text,
+    },
+    /// Reads a file; of a pipe at most `limit` records.
+    Read {
+        path: Text,
+        limit: Option<u64>,
+    },
+}
+
+/// The answer to a command that was done.
+#[derive(Debug, Drop)]
+pub enum Reply {
+    Done,
+    Text(Text),
+}
+
+/// A command that was done: its ticket, and its caller's number.
+#[derive(Debug, Drop)]
+pub struct Entry {
+    pub ticket: u64,
+    pub by: u32,
+    pub command: Command,
+}
+
+/// What a book is made with.
+#[derive(Clone, Copy, Debug, PartialEq, Eq)]
+pub struct Config {
+    /// The number of CPUs; for now it is 1.
+    pub cpus: u32,
+    /// The pages of each CPU's ring, from 2 to 1,024.
+    pub pages: u32,
+    /// The bytes of a page, from 64 to 4,080 and a multiple of 8.
+    pub page_bytes: u32,
+    /// The most entries that the history may have, from 1 to 2^32.
+    pub history_limit: u64,
+}

@@ -1,0 +1,10 @@
+//! What a tracer is asked and what it answers: commands, replies, refusals, the entries of a history, and the files that paths name.
+#![tactic(auto)]
+
+mod command;
+mod place;
+mod refusal;
+
+pub use command::{Command, Config, Entry, Pairs, Reply};
+pub use place::{Place, place_of};
+pub use refusal::Refusal;

@@ -1,0 +1,225 @@
+//! Refusals: why a command was not done.
+
+ghost use Rattle.std.specs.Prelude.{◌≡◌};
+ghost use Rattle.trace_command.specs.Refusals.{refusal_of_definition, refusal_of_catalog, refusal_of_row, refusal_of_filter};
+ghost use Rattle.trace_command.specs.declared.refusal.Refusal.TheVariants.{Memory};
+
+use std::alloc::{AllocError, AllocFailed};
+use thiserror::Error;
+use trace_filter::FilterFault;
+use trace_format::{CatalogFault, DefinitionFault, RowFault};
+use trace_lex::Text;
+
+/// Why a command was refused. A refused command changes nothing and is not in the history.
+/// `at` is a place in the text as it was written: how many bytes stand before it.
+#[derive(Debug, Drop, Error)]
+pub enum Refusal {
+    /// No file of the tracing tree has this path.
+    #[error("no such file")]
+    NoSuchFile,
+    /// The file can't be read.
+    #[error("not readable")]
+    NotReadable,
+    /// The file can't be written.
+    #[error("not writable")]
+    NotWritable,
+    /// What was written is no value of the file, a limit was given for a file that is no pipe, or a number of
+    /// the configuration is out of range.
+    #[error("bad value")]
+    BadValue,
+    /// No event of this name was declared; or none at all, where a filter is written for all.
+    #[error("no such event")]
+    NoSuchEvent,
+    /// An event of this name was declared before.
+    #[error("event exists")]
+    EventExists,
+    /// The text is no declaration of an event: with what begins at this byte none goes on, or more was to come at the text's end.
+    #[error("bad definition at {at}")]
+    BadDefinition { at: usize },
+    /// A record of the event would not fit a page.
+    #[error("too big")]
+    TooBig,
+    /// The text is no filter: with what begins at this byte none goes on, or it is no number though its field needs one, or more was to come at
+    /// the text's end.
+    #[error("filter syntax at {at}")]
+    FilterSyntax { at: usize },
+    /// The event has no field of the name at this byte.
+    #[error("no such field at {at}")]
+    NoSuchField { at: usize },
+    /// The field does not take the operator at this byte.
+    #[error("wrong operator at {at}")]
+    WrongOperator { at: usize },
+    /// The text is no hist trigger: with what begins at this byte none goes on.
+    #[error("hist syntax at {at}")]
+    HistSyntax { at: usize },
+    /// The size of a hist trigger is out of range.
+    #[error("bad size")]
+    BadSize,
+    /// Such a trigger is attached already.
+    #[error("trigger exists")]
+    TriggerExists,
+    /// No such trigger is attached.
+    #[error("no such trigger")]
+    NoSuchTrigger,
+    /// There would be too many: over 16 fields of an event, over 64 events, or a filter of over 1,024 bytes or of over 16 open `!` and `(`.
+    #[error("too many")]
+    TooMany,
+    /// An instance of this name is there already.
+    #[error("instance exists")]
+    InstanceExists,
+    /// No instance of this name is there.
+    #[error("no such instance")]
+    NoSuchInstance,
+    /// What would be changed is in use.
+    #[error("busy")]
+    Busy,
+    /// The CPU's number is not below the number of CPUs.
+    #[error("no such CPU")]
+    NoSuchCpu,
+    /// The row of an emission is wrong at this field.
+    #[error("bad row")]
+    BadRow { field: Text },
+    /// The history has as many entries as it may have.
+    #[error("history full")]
+    HistoryFull,
+    /// Memory was refused.
+    #[error("out of memory")]
+    Memory,
+    /// All tickets are drawn.
+    #[error("worn")]
+    Worn,
+}
+
+impl From<AllocError> for Refusal {
+    ghost from_gives = { λ _ refusal. refusal ≡ Memory };
+
+    fn from(_error: AllocError) -> Refusal {
+        Refusal::Memory
+    }
+}
+
+impl<T: Drop> From<AllocFailed<T>> for Refusal {
+    ghost from_gives = { λ _ refusal. refusal ≡ Memory };
+
+    fn from(_error: AllocFailed<T>) -> Refusal {
+        Refusal::Memory
+    }
+}
+
+impl From<DefinitionFault> for Refusal {
+    ghost from_gives = { λ fault refusal. refusal ≡ refusal_of_definition fault };
+
+    fn from(fault: DefinitionFault) -> Refusal {
+        match fault {
+            DefinitionFault::BadDefinition { at } => Refusal::BadDefinition { at },
+            DefinitionFault::Memory => Refusal::Memory,
+        }
+    }
+}
+
+impl From<CatalogFault> for Refusal {
+    ghost from_gives = { λ fault refusal. refusal ≡ refusal_of_catalog fault };
+
+    fn from(fault: CatalogFault) -> Refusal {
+        match fault {
+            CatalogFault::EventExists => Refusal::EventExists,
+            CatalogFault::TooMany => Refusal::TooMany,
+            CatalogFault::TooBig => Refusal::TooBig,
+            CatalogFault::Memory => Refusal::Memory,
+        }
+    }
+}
+
+impl From<FilterFault> for Refusal {
+    ghost from_gives = { λ fault refusal. refusal ≡ refusal_of_filter fault };
+
+    fn from(fault: FilterFault) -> Refusal {
+        match fault {
+            FilterFault::TooMany => Refusal::TooMany,
+            FilterFault::FilterSyntax { at } => Refusal::FilterSyntax { at },
+            FilterFault::NoSuchField { at } => Refusal::NoSuchField { at },
+            FilterFault::WrongOperator { at } => Refusal::WrongOperator { at },
+            FilterFault::Memory => Refusal::Memory,
+        }
+    }
+}
+
+impl From<RowFault> for Refusal {
+    ghost from_gives = { λ fault refusal. refusal ≡ refusal_of_row fault };
+
+    fn from(fault: RowFault) -> Refusal {
+        match fault {
+            RowFault::BadRow { field } => Refusal::BadRow { field },
+            RowFault::Memory => Refusal::Memory,
+        }
+    }
+}
+
+impl Refusal {
+    ghost use Rattle.trace_command.specs.Refusals.{number_of, name_of};
+
+    /// The refusal's number, from 1 to 24, as it is printed after the letter N.
+    pub fn number(&self) -> u8
+        ensures { result ≡ number_of self.now }
+    {
+        match self {
+            Refusal::NoSuchFile => 1,
+            Refusal::NotReadable => 2,
+            Refusal::NotWritable => 3,
+            Refusal::BadValue => 4,
+            Refusal::NoSuchEvent => 5,
+            Refusal::EventExists => 6,
+            Refusal::BadDefinition { .. } => 7,
+            Refusal::TooBig => 8,
+            Refusal::FilterSyntax { .. } => 9,
+            Refusal::NoSuchField { .. } => 10,
+            Refusal::WrongOperator { .. } => 11,
+            Refusal::HistSyntax { .. } => 12,
+            Refusal::BadSize => 13,
+            Refusal::TriggerExists => 14,
+            Refusal::NoSuchTrigger => 15,
+            Refusal::TooMany => 16,
+            Refusal::InstanceExists => 17,
+            Refusal::NoSuchInstance => 18,
+            Refusal::Busy => 19,
+            Refusal::NoSuchCpu => 20,
+            Refusal::BadRow { .. } => 21,
+            Refusal::HistoryFull => 22,
+            Refusal::Memory => 23,
+            Refusal::Worn => 24,
+        }
+    }
+
+    /// The refusal's name, as it is printed after its number.
+    #[tactic(auto, unfolding(crate::specs::Refusals::name_of))]
+    pub fn name(&self) -> &'static str
+        ensures { result.now ≡ name_of self.now }
+    {
+        match self {
+            Refusal::NoSuchFile => "NoSuchFile",
+            Refusal::NotReadable => "NotReadable",
+            Refusal::NotWritable => "NotWritable",
+            Refusal::BadValue => "BadValue",
+            Refusal::NoSuchEvent => "NoSuchEvent",
+            Refusal::EventExists => "EventExists",
+            Refusal::BadDefinition { .. } => "BadDefinition",
+            Refusal::TooBig => "TooBig",
+            Refusal::FilterSyntax { .. } => "FilterSyntax",
+            Refusal::NoSuchField { .. } => "NoSuchField",
+            Refusal::WrongOperator { .. } => "WrongOperator",
+            Refusal::HistSyntax { .. } => "HistSyntax",
+            Refusal::BadSize => "BadSize",
+            Refusal::TriggerExists => "TriggerExists",
+            Refusal::NoSuchTrigger => "NoSuchTrigger",
+            Refusal::TooMany => "TooMany",
+            Refusal::InstanceExists => "InstanceExists",
+            Refusal::NoSuchInstance => "NoSuchInstance",
+            Refusal::Busy => "Busy",
+            Refusal::NoSuchCpu => "NoSuchCpu",
+            Refusal::BadRow { .. } => "BadRow",
+            Refusal::HistoryFull => "HistoryFull",
+            Refusal::Memory => "Memory",
+            Refusal::Worn => "Worn",
+        }
+    }
+}

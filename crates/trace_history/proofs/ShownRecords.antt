@@ -1,0 +1,155 @@
+-- The lines of the records of a legal history.
+use Rattle.std.proofs.Common.{◌≡◌, ℕ, zero, suc, ℤ, FitsSigned, w32, ◌+◌, ◌*◌, ◌/◌, ◌<◌, ◌≤◌, ◌^◌, List, [], ◌∷◌, ◌++◌, length, filter_map, replicate, slice_get, Option, None, Some, Ok, refl, sym, ap, ◌∙◌, subst, arith, length-append}
+use Rattle.std.specs.List.{AllZip}
+use Rattle.std.specs.Option.{option_to_list}
+use Rattle.std.proofs.lemmas.Option.{get_or_from_slice_get, slice_get_within}
+use Rattle.trace_record.specs.declared.head.Head.{Head}
+use Rattle.trace_format.specs.declared.kind.Kind.{Kind}
+use Rattle.trace_format.specs.declared.pair.Pair.{Pair}
+use Rattle.trace_format.specs.Catalogs.{event_of}
+use Rattle.trace_format.specs.Cells.{Datum, Cells, Holds, IsRowOf, kinds_of, field_bytes, bytes_of, payload_of, size_of_all, payload_size_of}
+use Rattle.trace_format.specs.Definitions.{Definition}
+use Rattle.trace_format.specs.Rows.{first_wrong, first_missing, given, row_unless, row_of}
+use Rattle.trace_format.proofs.BuildLemmas.{row_held}
+use Rattle.trace_lex.proofs.Options.{if_some}
+use Rattle.trace_format.proofs.Payloads.{length-field_bytes}
+use Rattle.trace_text.specs.Laws.{IsHeadOf}
+use Rattle.trace_text.specs.RecordText.{record_line}
+use Rattle.trace_text.proofs.RecordLemmas.{record_shows_its_row}
+use Rattle.trace_command.specs.Configs.{IsInRange}
+use Rattle.trace_history.specs.History.{requests_of, IsEntry, IsLegalNewestFirst}
+use Rattle.trace_history.specs.Laws.{RecordsShowTheirRows}
+use Rattle.trace_command.specs.Requests.{Request, Emission, MakeInstance, RemoveInstance, WriteFile, ReadFile, request_of, FitsItsTypes}
+use Rattle.trace_history.specs.Rings.{record_bytes, filter_holds, emitted_record}
+use Rattle.trace_record.specs.Record.{padding}
+use Rattle.trace_history.specs.Settings.{NumberedEvent, event_named, declares, declared_events, filter_of, ticks, now_of}
+use Rattle.trace_history.specs.Declarations.{IsFit}
+use Rattle.trace_command.specs.declared.command.Config.{Config}
+use Rattle.trace_command.specs.declared.command.Entry.{Entry}
+use Rattle.trace_history.proofs.Events.{fit_at}
+use Rattle.trace_history.proofs.LegalEvents.{done-had_room, legal-events, named-is_numbered}
+
+-- ---- rows
+
+-- what pairs give is a row of the event
+pub row_of-is_row : (event : Definition) (pairs : List Pair) (row : Cells) → row_of event pairs ≡ Ok row → IsRowOf event row
+unfolding row_of
+row_of-is_row event pairs row built = by (first_wrong event.fields [] pairs) (first_missing event.fields pairs) refl built
+  where
+    given_row : Cells
+    given_row = record { kinds = kinds_of event; values = filter_map (given pairs) event.fields }
+
+    by : (wrong missing : Option (List ℕ)) → first_missing event.fields pairs ≡ missing → row_unless wrong missing given_row ≡ Ok row → IsRowOf event row
+    by (Some name) missing is h = absurd (cc)
+    by None (Some name) is h = absurd (cc)
+    by None None is h =
+        let same : given_row ≡ row = cc in
+        subst (IsRowOf event) same (record { kinds = refl; values = row_held event.fields pairs is })
+
+length-bytes_of : (kinds : List Kind) (values : List Datum) → AllZip Holds kinds values → length (bytes_of kinds values) ≡ size_of_all kinds
+length-bytes_of [] [] held = refl
+length-bytes_of [] (value ∷ values) held = elim held [ ]
+length-bytes_of (kind ∷ kinds) [] held = elim held [ ]
+length-bytes_of (kind ∷ kinds) (value ∷ values) held =
+    omega (arith, length-append (field_bytes kind value) (bytes_of kinds values), length-field_bytes kind value held.0, length-bytes_of kinds values held.1)
+
+-- a row's payload has the size that its event says
+length-payload : (event : Definition) (row : Cells) → IsRowOf event row → length (payload_of row) ≡ payload_size_of event
+length-payload event row is = length-bytes_of row.kinds row.values is.values ∙ ap size_of_all is.kinds
+
+-- ---- events by number
+
+slice_get-more : (events more : List Definition) (place : ℕ) (event : Definition) → slice_get events place ≡ Some event → slice_get (events ++ more) place ≡ Some event
+slice_get-more [] more place event there = absurd (cc)
+slice_get-more (first ∷ events) more zero event there = there
+slice_get-more (first ∷ events) more (suc place) event there = slice_get-more events more place event there
+
+event_of-more : (events more : List Definition) (id : ℕ) (event : Definition) → event_of events id ≡ Some event → event_of (events ++ more) id ≡ Some event
+event_of-more events more zero event there = absurd (cc)
+event_of-more events more (suc place) event there = slice_get-more events more place event there
+
+-- an event keeps its number
+event_of-later : (later entries : List Entry) (id : ℕ) (event : Definition) → event_of (declared_events (requests_of entries)) id ≡ Some event
+    → event_of (declared_events (requests_of (later ++ entries))) id ≡ Some event
+event_of-later [] entries id event there = there
+event_of-later (entry ∷ later) entries id event there =
+    event_of-more (declared_events (requests_of (later ++ entries))) (option_to_list (declares (request_of entry.command))) id event (event_of-later later entries id event there)
+
+-- ---- an event's number, its record's size and the clock are small
+
+event_of-small : (events : List Definition) (id : ℕ) (event : Definition) → event_of events id ≡ Some event → id ≤ length events
+event_of-small events zero event there = absurd (cc)
+event_of-small events (suc place) event there = let within = slice_get_within events place event there in omega (arith, within)
+
+event_of-fit : (g : Config) (entries : List Entry) (id : ℕ) (event : Definition) → IsLegalNewestFirst g entries
+    → event_of (declared_events (requests_of entries)) id ≡ Some event → IsFit g.page_bytes event
+event_of-fit g entries zero event legal there = absurd (cc)
+event_of-fit g entries (suc place) event legal there =
+    let events = declared_events (requests_of entries) in
+    fit_at g.page_bytes events place event (legal-events g entries legal).fit (slice_get_within events place event there) (sym (get_or_from_slice_get events place event event there))
+
+ticks-le : (request : Request) → ticks request ≤ 1
+ticks-le (Emission event cpu pid pairs) = omega arith
+ticks-le (MakeInstance path) = omega arith
+ticks-le (RemoveInstance path) = omega arith
+ticks-le (WriteFile file append text) = omega arith
+ticks-le (ReadFile file limit) = omega arith
+
+now_of-le : (past : List Request) → now_of past ≤ length past
+now_of-le [] = omega arith
+now_of-le (request ∷ past) = omega (arith, now_of-le past, ticks-le request)
+
+pub legal-short : (g : Config) (entries : List Entry) → IsLegalNewestFirst g entries → length (requests_of entries) ≤ g.history_limit
+legal-short g [] legal = omega arith
+legal-short g (entry ∷ entries) legal = let room = (done-had_room g (requests_of entries) (request_of entry.command) legal.2).1 in omega (arith, room)
+
+payload-small : (g : Config) (event : Definition) (size : ℕ) → IsInRange g → IsFit g.page_bytes event → size ≡ payload_size_of event → size < 2 ^ 16
+payload-small g event size in_range fit is = by (payload_size_of event) fit.size is
+  where
+    by : (n : ℕ) → 16 + 8 * ((n + 7) / 8) ≤ g.page_bytes → size ≡ n → size < 2 ^ 16
+    by n fits e = omega (arith, in_range.few_bytes)
+
+-- ---- the law
+
+-- the bytes of an emission's record
+emitted-is : (past : List Request) (name : List ℕ) (cpu : ℕ) (pid : ℤ) (pairs : List Pair) (k : NumberedEvent) (row : Cells) (bytes : List ℕ)
+    → event_named name past ≡ Some k → row_of k.event pairs ≡ Ok row → emitted_record past name cpu pid pairs ≡ Some bytes
+    → record_bytes (now_of past + 1) pid k.id row ≡ bytes
+emitted-is past name cpu pid pairs k row bytes there built emitted =
+    (if_some (filter_holds k.event (filter_of name past) row cpu pid) (rw (there, built) at emitted)).1
+
+-- the process of an entry's emission has a number in 32 bits
+pid_of-fits : (entry : Entry) (name : List ℕ) (cpu : ℕ) (pid : ℤ) (pairs : List Pair) → IsEntry entry → request_of entry.command ≡ Emission name cpu pid pairs
+    → FitsSigned w32 pid
+pid_of-fits entry name cpu pid pairs fits emission = (subst FitsItsTypes emission fits.2).1
+
+pub records_show_their_rows : RecordsShowTheirRows
+unfolding record_bytes
+records_show_their_rows g entry before later name k cpu pid pairs row bytes in_range legal emission there built emitted =
+    ap (record_line (declared_events (requests_of (later ++ entry ∷ before))) cpu) (sym (emitted-is past name cpu pid pairs k row bytes there built emitted))
+    ∙ record_shows_its_row (declared_events (requests_of (later ++ entry ∷ before))) cpu k.event row head (replicate (padding (length (payload_of row))) 0) is_row is_head
+  where
+    past : List Request
+    past = requests_of before
+
+    head : Head
+    head = record { ts = now_of past + 1; pid = pid; event = k.id; payload = length (payload_of row) }
+
+    is_row : IsRowOf k.event row
+    is_row = row_of-is_row k.event pairs row built
+
+    at_number : event_of (declared_events past) k.id ≡ Some k.event
+    at_number = (named-is_numbered (declared_events past) name k there).there
+
+    at_number_then : event_of (declared_events (requests_of (later ++ entry ∷ before))) k.id ≡ Some k.event
+    at_number_then = event_of-later later (entry ∷ before) k.id k.event (event_of-later (entry ∷ []) before k.id k.event at_number)
+
+    is_head : IsHeadOf (declared_events (requests_of (later ++ entry ∷ before))) k.event row head
+    is_head = record {
+      event = at_number_then;
+      payload = refl;
+      event_fits = omega (arith, event_of-small (declared_events past) k.id k.event at_number, (legal-events g before legal.3).few);
+      payload_fits = payload-small g k.event (length (payload_of row)) in_range (event_of-fit g before k.id k.event legal.3 at_number) (length-payload k.event row is_row);
+      ts_fits = omega (arith, now_of-le past, legal-short g before legal.3, in_range.few_entries);
+      pid_fits = pid_of-fits entry name cpu pid pairs legal.0 emission;
+    }

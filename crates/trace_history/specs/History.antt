@@ -1,0 +1,237 @@
+-- The answer that the requests done so far give a request, and which histories are legal. The newest request stands first.
+use Rattle.std.specs.Prelude.{ℕ, ◌<◌, ◌^◌, nat_lt, Bool, true, false, not, ◌&&◌, is_some, IsOk, if◌then◌else◌, List, [], ◌∷◌, ◌++◌, length, map, flat_map, reverse, All, Option, Some, None, Result, Ok, Err, codes, ⊤}
+use Rattle.page_ring.specs.Account.{stats_of}
+use Rattle.trace_command.specs.Paths.{File, Trace, CpuTrace, TracePipe, CpuTracePipe, CpuStats, Overwrite, TraceOptions, SyntheticEvents, EventsEnable, EventsFilter, EventEnable, EventFilter, EventFormat}
+use Rattle.std.specs.List.{list_all, list_any}
+use Rattle.trace_filter.specs.declared.fault.FilterFault.{FilterFault}
+use Rattle.trace_filter.specs.Filters.{Parsed, answer_of}
+use Rattle.trace_lex.specs.Blanks.{trimmed}
+use Rattle.trace_format.specs.Catalogs.{id_for}
+use Rattle.trace_format.specs.Cells.{Cells}
+use Rattle.trace_format.specs.Definitions.{Definition}
+use Rattle.trace_format.specs.Reading.{definition_of}
+use Rattle.trace_format.specs.Rows.{row_of}
+use Rattle.trace_format.specs.declared.fault.CatalogFault.{CatalogFault}
+use Rattle.trace_format.specs.declared.pair.Pair.{Pair}
+use Rattle.trace_text.specs.DeclarationText.{declaration_text}
+use Rattle.trace_text.specs.FormatText.{format_text}
+use Rattle.trace_text.specs.StatsText.{stats_text}
+use Rattle.trace_history.specs.TraceFiles.{trace_text, pipe_text}
+use Rattle.trace_command.specs.Requests.{Request, Emission, MakeInstance, RemoveInstance, WriteFile, ReadFile, request_of, FitsItsTypes}
+use Rattle.trace_history.specs.Settings.{NumberedEvent, event_named, declared_events, written_flag, written_option, is_enabled, clears_filter, can_take, filter_of, overwrites, now_of}
+use Rattle.trace_command.specs.Refusals.{refusal_of_catalog, refusal_of_filter}
+use Rattle.trace_history.specs.Rings.{ring_events}
+use Rattle.trace_command.specs.declared.command.Config.{Config}
+use Rattle.trace_command.specs.declared.command.Entry.{Entry}
+use Rattle.trace_command.specs.declared.command.Reply.{Reply}
+use Rattle.trace_command.specs.declared.command.Reply.TheVariants.{Done, Text}
+use Rattle.trace_command.specs.declared.refusal.Refusal.{Refusal}
+use Rattle.trace_command.specs.declared.refusal.Refusal.TheVariants.{NoSuchFile, NotReadable, NotWritable, BadValue, NoSuchEvent, BadDefinition, Busy, NoSuchCpu, BadRow, HistoryFull}
+
+-- ---- emissions
+
+-- the row is read last
+abbrev pub row_answer : Result Cells (List ℕ) → Result Reply Refusal
+row_answer (Ok row) = Ok Done
+row_answer (Err name) = Err (BadRow name)
+
+abbrev pub event_answer : Option NumberedEvent → List Pair → Result Reply Refusal
+event_answer None pairs = Err NoSuchEvent
+event_answer (Some k) pairs = row_answer (row_of k.event pairs)
+
+-- an emission: first its CPU, then its event, then its row
+unfoldable pub emission_answer : Config → List Request → List ℕ → ℕ → List Pair → Result Reply Refusal
+emission_answer g past name cpu pairs = if nat_lt cpu g.cpus then event_answer (event_named name past) pairs else Err NoSuchCpu
+
+-- ---- what a write to each file answers
+
+-- an event that is added: first its name, then its fields and the number of events, then its record's size
+abbrev pub added_answer : Result ℕ CatalogFault → Result Reply Refusal
+added_answer (Ok id) = Ok Done
+added_answer (Err fault) = Err (refusal_of_catalog fault)
+
+-- a definition that was read: first whether it may begin anew, and then whether it can be added
+abbrev pub new_event_answer : Config → List Request → Bool → Definition → Result Reply Refusal
+new_event_answer g past append definition =
+    if not append && nat_lt 0 (length (declared_events past)) then Err Busy else added_answer (id_for (declared_events past) definition g.page_bytes)
+
+-- a declaration: first its text, which is refused at the place where it is wrong
+abbrev pub read_declaration_answer : Config → List Request → Bool → Result Definition ℕ → Result Reply Refusal
+read_declaration_answer g past append (Ok definition) = new_event_answer g past append definition
+read_declaration_answer g past append (Err at) = Err (BadDefinition at)
+
+unfoldable pub declaration_answer : Config → List Request → Bool → List ℕ → Result Reply Refusal
+declaration_answer g past append text = read_declaration_answer g past append (definition_of text)
+
+-- a switch: 0 or 1
+unfoldable pub switch_answer : List ℕ → Result Reply Refusal
+switch_answer text = if is_some (written_flag text) then Ok Done else Err BadValue
+
+-- a filter that an event can take, or why it can't
+abbrev pub taken_answer : Result Parsed FilterFault → Result Reply Refusal
+taken_answer (Ok filter) = Ok Done
+taken_answer (Err fault) = Err (refusal_of_filter fault)
+
+-- a filter of an event: the text that clears, or one that the event can take
+unfoldable pub filter_answer : List ℕ → Definition → Result Reply Refusal
+filter_answer text event = if clears_filter text then Ok Done else taken_answer (answer_of event text)
+
+-- the event's name is one that was declared
+abbrev pub named_filter_answer : List ℕ → Option NumberedEvent → Result Reply Refusal
+named_filter_answer text None = Err NoSuchEvent
+named_filter_answer text (Some k) = filter_answer text k.event
+
+-- a filter of all events: done where it clears or some event can take it, else refused as the first event refuses it; without an event
+-- always refused
+unfoldable pub filter_of_all_answer : List ℕ → List Definition → Result Reply Refusal
+filter_of_all_answer text [] = Err NoSuchEvent
+filter_of_all_answer text (event ∷ events) =
+    if list_any (can_take text) (event ∷ events) then Ok Done else filter_answer text event
+
+-- the word of an option
+unfoldable pub option_answer : List ℕ → Result Reply Refusal
+option_answer text = if is_some (written_option text) then Ok Done else Err BadValue
+
+-- a write to a file: to a trace any text, to a pipe, to statistics and to a format none
+abbrev pub write_answer : Config → List Request → Bool → List ℕ → File → Result Reply Refusal
+write_answer g past append text Trace = Ok Done
+write_answer g past append text (CpuTrace cpu) = Ok Done
+write_answer g past append text TracePipe = Err NotWritable
+write_answer g past append text (CpuTracePipe cpu) = Err NotWritable
+write_answer g past append text (CpuStats cpu) = Err NotWritable
+write_answer g past append text Overwrite = switch_answer text
+write_answer g past append text TraceOptions = option_answer text
+write_answer g past append text SyntheticEvents = declaration_answer g past append text
+write_answer g past append text (EventEnable event) = switch_answer text
+write_answer g past append text EventsEnable = switch_answer text
+write_answer g past append text EventsFilter = filter_of_all_answer text (declared_events past)
+write_answer g past append text (EventFilter event) = named_filter_answer text (event_named event past)
+write_answer g past append text (EventFormat event) = Err NotWritable
+
+-- ---- what each file shows
+
+-- a file that is no pipe takes no limit
+abbrev pub whole_text : Option ℕ → List ℕ → Result Reply Refusal
+whole_text None text = Ok (Text text)
+whole_text (Some limit) text = Err BadValue
+
+-- the text of a switch
+unfoldable pub flag_text : Bool → List ℕ
+flag_text flag = if flag then codes "1\n" else codes "0\n"
+
+-- the statistics of a CPU's ring
+unfoldable pub cpu_stats_text : Config → List Request → ℕ → List ℕ
+cpu_stats_text g past cpu = stats_text (stats_of g.pages g.page_bytes (ring_events g cpu past)) (now_of past)
+
+-- the word of the option
+unfoldable pub option_text : Bool → List ℕ
+option_text flag = if flag then codes "overwrite\n" else codes "nooverwrite\n"
+
+-- the declarations, one on each line
+unfoldable pub declarations_text : List Request → List ℕ
+declarations_text past = flat_map declaration_text (declared_events past)
+
+-- the text of all switches, from whether none is on and whether some is off
+unfoldable pub mixture_text : Bool → Bool → List ℕ
+mixture_text true false = codes "?\n"
+mixture_text true true = codes "0\n"
+mixture_text false false = codes "1\n"
+mixture_text false true = codes "X\n"
+
+abbrev pub switches_text : List Bool → List ℕ
+switches_text flags = mixture_text (list_all not flags) (list_any not flags)
+
+-- the text of an event's filter, without the blanks at its ends, or `none`
+unfoldable pub filter_text : Option (List ℕ) → List ℕ
+filter_text None = codes "none\n"
+filter_text (Some text) = trimmed text ++ codes "\n"
+
+-- the format of an event; its name is one that was declared
+abbrev pub format_of_event : Option NumberedEvent → List ℕ
+format_of_event None = []
+format_of_event (Some k) = format_text k.id k.event
+
+-- a read of a file: all CPUs are shown as the one that there is for now
+abbrev pub read_answer : Config → List Request → Option ℕ → File → Result Reply Refusal
+read_answer g past limit Trace = whole_text limit (trace_text g past 0)
+read_answer g past limit (CpuTrace cpu) = whole_text limit (trace_text g past cpu)
+read_answer g past limit TracePipe = Ok (Text (pipe_text g past 0 limit))
+read_answer g past limit (CpuTracePipe cpu) = Ok (Text (pipe_text g past cpu limit))
+read_answer g past limit (CpuStats cpu) = whole_text limit (cpu_stats_text g past cpu)
+read_answer g past limit Overwrite = whole_text limit (flag_text (overwrites past))
+read_answer g past limit TraceOptions = whole_text limit (option_text (overwrites past))
+read_answer g past limit SyntheticEvents = whole_text limit (declarations_text past)
+read_answer g past limit (EventEnable event) = whole_text limit (flag_text (is_enabled event past))
+read_answer g past limit EventsEnable = whole_text limit (switches_text (map (λ event. is_enabled event.name past) (declared_events past)))
+read_answer g past limit EventsFilter = Err NotReadable
+read_answer g past limit (EventFilter event) = whole_text limit (filter_text (filter_of event past))
+read_answer g past limit (EventFormat event) = whole_text limit (format_of_event (event_named event past))
+
+-- ---- the answer
+
+-- the CPU of a path that is not there
+abbrev pub missing_cpu : Config → ℕ → Option Refusal
+missing_cpu g cpu = if nat_lt cpu g.cpus then None else Some NoSuchCpu
+
+-- the event of a path that is not there
+abbrev pub missing_event : List Request → List ℕ → Option Refusal
+missing_event past event = if is_some (event_named event past) then None else Some NoSuchEvent
+
+-- the CPU or the event of a path that is not there
+abbrev pub missing : Config → List Request → File → Option Refusal
+missing g past (CpuTrace cpu) = missing_cpu g cpu
+missing g past (CpuTracePipe cpu) = missing_cpu g cpu
+missing g past (CpuStats cpu) = missing_cpu g cpu
+missing g past (EventEnable event) = missing_event past event
+missing g past (EventFilter event) = missing_event past event
+missing g past (EventFormat event) = missing_event past event
+missing g past _ = None
+
+-- a refusal, or else the answer
+abbrev pub unless_refused : Option Refusal → Result Reply Refusal → Result Reply Refusal
+unless_refused (Some refusal) answered = Err refusal
+unless_refused None answered = answered
+
+-- the answer, were there no limit on the history; for now there are no instances to make or remove
+abbrev pub answer_with_room : Config → List Request → Request → Result Reply Refusal
+answer_with_room g past (Emission name cpu pid pairs) = emission_answer g past name cpu pairs
+answer_with_room g past (MakeInstance path) = Err NoSuchFile
+answer_with_room g past (RemoveInstance path) = Err NoSuchFile
+answer_with_room g past (WriteFile None append text) = Err NoSuchFile
+answer_with_room g past (WriteFile (Some file) append text) = unless_refused (missing g past file) (write_answer g past append text file)
+answer_with_room g past (ReadFile None limit) = Err NoSuchFile
+answer_with_room g past (ReadFile (Some file) limit) = unless_refused (missing g past file) (read_answer g past limit file)
+
+-- what would be done is refused where the history is full
+abbrev pub unless_full : Config → ℕ → Result Reply Refusal → Result Reply Refusal
+unless_full g count (Err refusal) = Err refusal
+unless_full g count (Ok reply) = if nat_lt count g.history_limit then Ok reply else Err HistoryFull
+
+-- the answer that the requests done so far give a request
+unfoldable pub answer : Config → List Request → Request → Result Reply Refusal
+answer g past request = unless_full g (length past) (answer_with_room g past request)
+
+-- ---- histories
+
+-- the requests of entries, newest first
+abbrev pub requests_of : List Entry → List Request
+requests_of [] = []
+requests_of (entry ∷ entries) = request_of entry.command ∷ requests_of entries
+
+unfoldable pub past_of : List Entry → List Request
+past_of entries = requests_of (reverse entries)
+
+-- the numbers of an entry fit their types: its ticket 64 bits, its caller's number 32, and those of its command
+abbrev pub IsEntry : Entry → Type 0
+IsEntry entry = (entry.ticket < 2 ^ 64) × (entry.by < 2 ^ 32) × FitsItsTypes (request_of entry.command)
+
+-- entries, newest first, are legal: their numbers fit their types, tickets rise, and no entry was refused after those before it
+abbrev pub IsLegalNewestFirst : Config → List Entry → Type 0
+IsLegalNewestFirst g [] = ⊤
+IsLegalNewestFirst g (entry ∷ before) =
+    IsEntry entry × All (λ earlier. earlier.ticket < entry.ticket) before × IsOk (answer g (requests_of before) (request_of entry.command))
+    × IsLegalNewestFirst g before
+
+-- a legal history
+unfoldable pub IsLegal : Config → List Entry → Type 0
+IsLegal g entries = IsLegalNewestFirst g (reverse entries)

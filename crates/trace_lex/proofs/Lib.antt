@@ -1,0 +1,5 @@
+pub mod BlankLemmas
+pub mod DecimalLemmas
+pub mod Lists
+pub mod NumberLemmas
+pub mod Options

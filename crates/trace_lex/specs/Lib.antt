@@ -1,0 +1,5 @@
+pub mod Blanks
+pub mod Decimals
+pub mod Laws
+pub mod Names
+pub mod Numbers

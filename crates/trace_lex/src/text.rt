@@ -1,0 +1,77 @@
+//! Strings of bytes.
+
+ghost use Rattle.std.specs.Prelude.{◌≡◌, List, ℕ, [], ◌∷◌, ◌++◌, IfOk, OnOk, OnErr};
+
+use smallvec::SmallVec;
+use std::alloc::{AllocError, Global};
+use std::marker::Model;
+
+/// So many bytes lie in the value itself and take no allocation: most names, paths' parts and numbers are no longer.
+const INLINE_BYTES: usize = 16;
+
+/// A string, as bytes that need not be UTF-8.
+#[derive(Debug, Drop)]
+pub struct Text {
+    bytes: SmallVec<u8, INLINE_BYTES>,
+}
+
+impl Model for Text {
+    ghost Value = { List ℕ };
+
+    ghost view = { λ t. t.bytes.items };
+}
+
+impl Text {
+    /// The empty string.
+    pub fn new(alloc: Global) -> Text
+        ensures { result ≡ [] }
+    {
+        Text {
+            bytes: SmallVec::new(alloc),
+        }
+    }
+
+    /// A copy of the bytes.
+    pub fn from_slice(alloc: Global, bytes: &[u8]) -> Result<Text, AllocError>
+        ensures { IfOk result (λ t. t ≡ bytes.now) }
+    {
+        Ok(Text {
+            bytes: SmallVec::from_slice(alloc, bytes)?,
+        })
+    }
+
+    /// Puts a byte at the end.
+    pub fn push(&mut self, byte: u8) -> Result<(), AllocError>
+        ensures ok { OnOk result (self.new ≡ self.old ++ byte ∷ []) }
+        ensures err { OnErr result (self.new ≡ self.old) }
+    {
+        self.bytes.push(byte)?;
+        Ok(())
+    }
+
+    /// The bytes.
+    pub fn as_bytes(&self) -> &[u8]
+        ensures { result.now ≡ self.now }
+    {
+        self.bytes.as_slice()
+    }
+
+    /// The bytes, as a vector of the caller's own. A string that was made of a vector with room for more than 16
+    /// bytes gives it back; another takes an allocation.
+    pub fn into_bytes(self) -> Result<Vec<u8>, AllocError>
+        ensures { IfOk result (λ bytes. bytes.items ≡ self) }
+    {
+        let Text { bytes } = self;
+        Ok(bytes.into_vec()?)
+    }
+}
+
+impl From<Vec<u8>> for Text {
+    ghost from_gives = { λ v t. t ≡ v.items };
+
+    fn from(bytes: Vec<u8>) -> Text {
+        Text {
+            bytes: SmallVec::from_vec(bytes),
+        }
+    }
+}
