@@ -3,9 +3,8 @@
 ghost use Rattle.std.specs.Prelude.{◌≡◌, ℕ, ◌+◌, ◌^◌, ◌≤◌, ◌<◌, [], ◌∷◌, ◌++◌, All, map, is_none, is_some, IfOk, IfErr, IfSome, OnOk, OnErr, ◌≢◌, true, false};
 ghost use Rattle.page_ring.specs.Shown as shown;
 ghost use Rattle.trace_command.specs.Configs.{IsInRange};
-ghost use Rattle.trace_history.specs.History.{answer, past_of, IsLegal};
+ghost use Rattle.trace_history.specs.History.{answer_to, past_of, IsLegal};
 ghost use Rattle.trace_command.specs.Refusals.{OrMemory, IsFoundEarly};
-ghost use Rattle.trace_command.specs.Requests.{request_of};
 ghost use Rattle.trace_history.specs.Rings.{ring_events};
 ghost use Rattle.trace_history.specs.Settings.{declared_events, is_enabled, kept_filter, overwrites, now_of};
 ghost use Rattle.trace_command.specs.declared.refusal.Refusal.TheVariants as refusal;
@@ -67,9 +66,9 @@ impl Book {
     /// taken is always given.
     pub fn ask(&mut self, ticket: u64, by: u32, command: Command) -> Result<Reply, Refusal>
         requires { All (λ entry. entry.ticket < ticket) self.old.entries }
-        ensures reply { OrMemory result (answer self.old.config (past_of self.old.entries) (request_of command)) }
-        ensures early { IsFoundEarly (answer self.old.config (past_of self.old.entries) (request_of command))
-            → result ≡ answer self.old.config (past_of self.old.entries) (request_of command) }
+        ensures reply { OrMemory result (answer_to self.old.config self.old.entries command) }
+        ensures early { IsFoundEarly (answer_to self.old.config self.old.entries command)
+            → result ≡ answer_to self.old.config self.old.entries command }
         ensures done { OnOk result (self.new.entries
             ≡ self.old.entries ++ record { ticket = ticket; by = by; command = command } ∷ []) }
         ensures refused { OnErr result (self.new.entries ≡ self.old.entries) }

@@ -1,7 +1,8 @@
 //! Commands, their replies, and the entries of a history.
 
-ghost use Rattle.std.specs.Prelude.{◌≡◌};
+ghost use Rattle.std.specs.Prelude.{◌≡◌, [], ◌∷◌, ◌++◌, IfOk, OnOk, OnErr, Some, None, true, false};
 
+use std::alloc::{AllocError, Global};
 use std::marker::Model;
 use trace_format::Pair;
 use trace_lex::Text;
@@ -30,6 +31,26 @@ impl From<Vec<Pair>> for Pairs {
 }
 
 impl Pairs {
+    /// No pair.
+    pub fn new(alloc: Global) -> Pairs
+        ensures { result ≡ [] }
+    {
+        Pairs {
+            pairs: Vec::new(alloc),
+        }
+    }
+
+    /// Puts the pair of a field's name and the value that is written for it at the end.
+    pub fn push(&mut self, alloc: Global, name: &[u8], value: &[u8]) -> Result<(), AllocError>
+        ensures ok { OnOk result (self.new ≡ self.old ++ record { name = name.now; value = value.now } ∷ []) }
+        ensures err { OnErr result (self.new ≡ self.old) }
+    {
+        let name = Text::from_slice(alloc, name)?;
+        let value = Text::from_slice(alloc, value)?;
+        self.pairs.push(Pair { name, value })?;
+        Ok(())
+    }
+
     /// The pairs.
     pub fn as_slice(&self) -> &[Pair]
         ensures { result.now ≡ self.now }
@@ -63,6 +84,68 @@ pub enum Command {
         path: Text,
         limit: Option<u64>,
     },
+}
+
+impl Command {
+    /// What `echo TEXT > PATH` asks: a write that replaces.
+    pub fn write(alloc: Global, path: &[u8], text: &[u8]) -> Result<Command, AllocError>
+        ensures { IfOk result (λ command. command ≡ Command.Write path.now false text.now) }
+    {
+        Ok(Command::Write {
+            path: Text::from_slice(alloc, path)?,
+            append: false,
+            text: Text::from_slice(alloc, text)?,
+        })
+    }
+
+    /// What `echo TEXT >> PATH` asks: a write that appends.
+    pub fn append(alloc: Global, path: &[u8], text: &[u8]) -> Result<Command, AllocError>
+        ensures { IfOk result (λ command. command ≡ Command.Write path.now true text.now) }
+    {
+        Ok(Command::Write {
+            path: Text::from_slice(alloc, path)?,
+            append: true,
+            text: Text::from_slice(alloc, text)?,
+        })
+    }
+
+    /// What `cat PATH` asks: a read to the end.
+    pub fn read(alloc: Global, path: &[u8]) -> Result<Command, AllocError>
+        ensures { IfOk result (λ command. command ≡ Command.Read path.now None) }
+    {
+        Ok(Command::Read {
+            path: Text::from_slice(alloc, path)?,
+            limit: None,
+        })
+    }
+
+    /// What `take LIMIT PATH` asks: a read of at most so many records.
+    pub fn take(alloc: Global, path: &[u8], limit: u64) -> Result<Command, AllocError>
+        ensures { IfOk result (λ command. command ≡ Command.Read path.now (Some limit)) }
+    {
+        Ok(Command::Read {
+            path: Text::from_slice(alloc, path)?,
+            limit: Some(limit),
+        })
+    }
+
+    /// An emission of the event of this name on a CPU, in a process.
+    pub fn emit(
+        alloc: Global,
+        event: &[u8],
+        cpu: u32,
+        pid: i32,
+        pairs: Pairs,
+    ) -> Result<Command, AllocError>
+        ensures { IfOk result (λ command. command ≡ Command.Emit event.now cpu pid pairs) }
+    {
+        Ok(Command::Emit {
+            event: Text::from_slice(alloc, event)?,
+            cpu,
+            pid,
+            pairs,
+        })
+    }
 }
 
 /// The answer to a command that was done.

@@ -21,6 +21,7 @@ use Rattle.trace_command.specs.Requests.{Request, Emission, MakeInstance, Remove
 use Rattle.trace_history.specs.Settings.{NumberedEvent, event_named, declared_events, written_flag, written_option, is_enabled, clears_filter, can_take, filter_of, overwrites, now_of}
 use Rattle.trace_command.specs.Refusals.{refusal_of_catalog, refusal_of_filter}
 use Rattle.trace_history.specs.Rings.{ring_events}
+use Rattle.trace_command.specs.declared.command.Command.{Command}
 use Rattle.trace_command.specs.declared.command.Config.{Config}
 use Rattle.trace_command.specs.declared.command.Entry.{Entry}
 use Rattle.trace_command.specs.declared.command.Reply.{Reply}
@@ -220,6 +221,10 @@ requests_of (entry ∷ entries) = request_of entry.command ∷ requests_of entri
 
 unfoldable pub past_of : List Entry → List Request
 past_of entries = requests_of (reverse entries)
+
+-- the answer that the entries done so far, oldest first, give a command
+abbrev pub answer_to : Config → List Entry → Command → Result Reply Refusal
+answer_to g entries command = answer g (past_of entries) (request_of command)
 
 -- the numbers of an entry fit their types: its ticket 64 bits, its caller's number 32, and those of its command
 abbrev pub IsEntry : Entry → Type 0

@@ -16,7 +16,7 @@ use crate::render::{Outcome, render};
 use crate::status::Status;
 use std::alloc::{AllocError, Global};
 use trace_book::Book;
-use trace_command::{Config, Refusal};
+use trace_command::{Config, Refusal, Reply};
 
 /// The most bytes that a script may have.
 pub const MOST_SCRIPT_BYTES: usize = 16_777_216;
@@ -182,13 +182,27 @@ fn outcome(
     }
 }
 
-/// What is written for the line of this number.
-fn text_of(alloc: Global, number: usize, outcome: &Option<Outcome>) -> Result<Vec<u8>, AllocError>
-    ensures { IfOk result (λ text. text.items ≡ text_of number outcome.now) }
+/// Writes what a line of this number gives. A reply is written as it is, and the rest is rendered first.
+fn write_outcome<W: Sink>(
+    alloc: Global,
+    number: usize,
+    outcome: &Option<Outcome>,
+    writer: &mut W,
+) -> Result<(), Stop>
+    ensures written { OnOk result (Appends (W.contents writer.old) (W.contents writer.new) (text_of number outcome.now)) }
+    ensures failures { OnOk result (W.failures writer.new ≡ W.failures writer.old) }
+    ensures memory { IsErrOf result Stop.Memory → Appends (W.contents writer.old) (W.contents writer.new) [] }
+    ensures unfailed { IsErrOf result Stop.Memory → W.failures writer.new ≡ W.failures writer.old }
+    ensures device { IsErrOf result Stop.Device → HasRisen (W.failures writer.old) (W.failures writer.new)
+        × AppendsFront (W.contents writer.old) (W.contents writer.new) (text_of number outcome.now) }
 {
     match outcome {
-        Some(outcome) => render(alloc, number, outcome),
-        None => Ok(Vec::new(alloc)),
+        None => write_all(writer, &[]),
+        Some(Outcome::Replied(Reply::Text(text))) => write_all(writer, text.as_bytes()),
+        Some(outcome) => {
+            let text = render(alloc, number, outcome)?;
+            write_all(writer, &text)
+        }
     }
 }
 
@@ -230,8 +244,7 @@ fn turn<W: Sink>(
         (text_of number (turn_of book.old.config (past_of book.old.entries) line.now).outcome) }
 {
     let outcome = outcome(alloc, book, next_ticket, line)?;
-    let text = text_of(alloc, number, &outcome)?;
-    write_all(writer, &text)?;
+    write_outcome(alloc, number, &outcome, writer)?;
     Ok(line_status(&outcome))
 }
 

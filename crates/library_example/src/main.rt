@@ -1,0 +1,75 @@
+//! A tracer used as a library: a book, two writes, five emissions and one read, whose reply is printed.
+#![tactic(auto)]
+
+ghost use Rattle.std.specs.Prelude.{◌<◌, All};
+
+use std::alloc::Global;
+use std::process::ExitCode;
+use trace_book::{Book, Command, Config, Pairs, Refusal, Reply};
+
+const CONFIG: Config = Config {
+    cpus: 1,
+    pages: 2,
+    page_bytes: 64,
+    history_limit: 1_000,
+};
+
+/// The caller's number, under which its commands stand in the history.
+const CALLER: u32 = 0;
+
+/// The process that the emissions name.
+const PROCESS: i32 = 7;
+
+/// A book, and a ticket above those of its history: each command that is asked wants such a ticket.
+#[derive(Drop)]
+struct Tracer {
+    book: Book,
+    next: u64,
+    ghost tickets: { All (λ entry. entry.ticket < next) book.entries },
+}
+
+impl Tracer {
+    /// Does a command, or refuses it.
+    fn ask(&mut self, command: Command) -> Result<Reply, Refusal> {
+        let ticket = self.next;
+        self.next = ticket.checked_add(1).ok_or(Refusal::Worn)?;
+        self.book.ask(ticket, CALLER, command)
+    }
+}
+
+/// The command `emit 0 7 tick n=NUMBER`.
+fn tick(alloc: Global, number: u32) -> Result<Command, Refusal> {
+    let value = format!(in alloc; "{number}")?;
+    let mut pairs = Pairs::new(alloc);
+    pairs.push(alloc, b"n", value.as_bytes())?;
+    Ok(Command::emit(alloc, b"tick", 0, PROCESS, pairs)?)
+}
+
+/// The statistics of CPU 0 after five emissions.
+fn statistics(alloc: Global) -> Result<Reply, Refusal> {
+    let mut tracer = Tracer {
+        book: Book::new(alloc, CONFIG)?,
+        next: 0,
+    };
+    tracer.ask(Command::write(alloc, b"synthetic_events", b"tick u64 n")?)?;
+    tracer.ask(Command::write(alloc, b"events/synthetic/tick/enable", b"1")?)?;
+    for number in 1..6 {
+        tracer.ask(tick(alloc, number)?)?;
+    }
+    tracer.ask(Command::read(alloc, b"per_cpu/cpu0/stats")?)
+}
+
+fn main(rt: HostRuntime) -> ExitCode {
+    match statistics(rt.alloc()) {
+        Ok(Reply::Done) => ExitCode::SUCCESS,
+        Ok(Reply::Text(text)) => {
+            let shown = str::from_utf8(text.as_bytes()).unwrap_or("no text");
+            let _ = print!(rt; "{shown}");
+            ExitCode::SUCCESS
+        }
+        Err(refusal) => {
+            let _ = eprintln!(rt; "{refusal}");
+            ExitCode::FAILURE
+        }
+    }
+}
