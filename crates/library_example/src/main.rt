@@ -1,4 +1,4 @@
-//! A tracer used as a library: a book, two writes, five emissions and one read, whose reply is printed.
+//! A tracer used as a library: a book, two writes, five emissions and two reads, whose replies are printed.
 #![tactic(auto)]
 
 ghost use Rattle.std.specs.Prelude.{◌<◌, All};
@@ -45,28 +45,42 @@ fn tick(alloc: Global, number: u32) -> Result<Command, Refusal> {
     Ok(Command::emit(alloc, b"tick", 0, PROCESS, pairs)?)
 }
 
-/// The statistics of CPU 0 after five emissions.
-fn statistics(alloc: Global) -> Result<Reply, Refusal> {
+/// A tracer whose ring has taken five emissions.
+fn busy_tracer(alloc: Global) -> Result<Tracer, Refusal> {
     let mut tracer = Tracer {
         book: Book::new(alloc, CONFIG)?,
         next: 0,
     };
-    tracer.ask(Command::write(alloc, b"synthetic_events", b"tick u64 n")?)?;
+    tracer.ask(Command::append(alloc, b"synthetic_events", b"tick u64 n")?)?;
     tracer.ask(Command::write(alloc, b"events/synthetic/tick/enable", b"1")?)?;
     for number in 1..6 {
         tracer.ask(tick(alloc, number)?)?;
     }
-    tracer.ask(Command::read(alloc, b"per_cpu/cpu0/stats")?)
+    Ok(tracer)
+}
+
+/// Prints a text, and nothing for a command that has none.
+fn show(rt: &impl Print, reply: Reply) {
+    if let Reply::Text(text) = reply {
+        let shown = str::from_utf8(text.as_bytes()).unwrap_or("no text");
+        let _ = print!(rt; "{shown}");
+    }
+}
+
+/// Consumes the oldest record, and shows it and the statistics of CPU 0 after it.
+fn run(rt: &(impl Print + AllocGlobal)) -> Result<(), Refusal> {
+    let alloc = rt.alloc();
+    let mut tracer = busy_tracer(alloc)?;
+    let record = tracer.ask(Command::take(alloc, b"trace_pipe", 1)?)?;
+    show(rt, record);
+    let statistics = tracer.ask(Command::read(alloc, b"per_cpu/cpu0/stats")?)?;
+    show(rt, statistics);
+    Ok(())
 }
 
 fn main(rt: HostRuntime) -> ExitCode {
-    match statistics(rt.alloc()) {
-        Ok(Reply::Done) => ExitCode::SUCCESS,
-        Ok(Reply::Text(text)) => {
-            let shown = str::from_utf8(text.as_bytes()).unwrap_or("no text");
-            let _ = print!(rt; "{shown}");
-            ExitCode::SUCCESS
-        }
+    match run(&rt) {
+        Ok(()) => ExitCode::SUCCESS,
         Err(refusal) => {
             let _ = eprintln!(rt; "{refusal}");
             ExitCode::FAILURE

@@ -1,4 +1,5 @@
 use crate::numeral::number;
+use crate::text::Text;
 use std::test::Fail;
 
 /// Numbers as texts, each with its value, or `-` where it is none.
@@ -37,5 +38,28 @@ fn numbers(rt: HostRuntime) -> Result<(), Fail> {
         };
         assert_eq!(rt; found.as_str(), want, "at {line}");
     }
+    Ok(())
+}
+
+#[test]
+fn strings_grow(rt: HostRuntime) -> Result<(), Fail> {
+    let mut text = Text::new(rt.alloc());
+    let mut bytes = Vec::new(rt.alloc());
+    for number in 0..70_000u32 {
+        let byte = (number % 251) as u8;
+        text.push(byte)?;
+        bytes.push(byte)?;
+        if number == 15 || number == 16 || number == 69_999 {
+            assert_eq!(rt; text.as_bytes(), bytes.as_slice(), "after {number}");
+        }
+    }
+    let copy = Text::from_slice(rt.alloc(), &bytes)?;
+    assert_eq!(rt; copy.into_bytes()?.as_slice(), bytes.as_slice());
+    let short = Text::from_slice(rt.alloc(), b"0123456789abcdef")?;
+    assert_eq!(rt;
+        short.into_bytes()?.as_slice(),
+        b"0123456789abcdef".as_slice()
+    );
+    assert_eq!(rt; Text::from(bytes).as_bytes(), text.as_bytes());
     Ok(())
 }
