@@ -62,8 +62,8 @@ impl Book {
 
     /// Does a command, or refuses it. The answer is the one that the history gives: a command that is done is the next entry of the
     /// history, under this ticket and the number of this caller; one that is refused changes nothing.
-    /// `Memory` may come in place of the answer, where an allocation was refused; but a refusal that is found before any memory is
-    /// taken is always given.
+    /// `Memory` may come in place of the answer, where an allocation was refused; but that no such file, CPU or event is there, that a file
+    /// can't be read or written, and that a value is wrong is always told.
     pub fn ask(&mut self, ticket: u64, by: u32, command: Command) -> Result<Reply, Refusal>
         requires { All (λ entry. entry.ticket < ticket) self.old.entries }
         ensures reply { OrMemory result (answer_to self.old.config self.old.entries command) }

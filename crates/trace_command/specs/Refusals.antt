@@ -91,7 +91,7 @@ name_of Worn = codes "Worn"
 -- ---- answers
 
 -- the refusals that are found before a command takes any memory: no such file, CPU or event, a file that can't be read or written, and a
--- wrong value. A declaration, a row, a filter and the room in the history are looked at once memory was taken.
+-- wrong value. A declaration, a row, a filter and the room in the history may be looked at only after memory was taken.
 abbrev pub is_found_early : Refusal → Bool
 is_found_early NoSuchFile = true
 is_found_early NoSuchCpu = true

@@ -34,7 +34,7 @@ abbrev pub AreMembers : List Member → Type 0
 AreMembers [] = Unit {0}
 AreMembers (member ∷ members) = IsMemberBefore (flat_map member_text members) member × AreMembers members
 
--- the bytes between a class's brackets can be written of these members
+-- the bytes of a class, after its `[` or `[!` and before its `]`, can be written of these members
 pub record AreWrittenOf (bytes : List ℕ) (members : List Member) : Type 0 where
   pub lawful : AreMembers members
   pub text : flat_map member_text members ≡ bytes

@@ -26,8 +26,8 @@ pub fn globs_are_as_written()
     ensures { GlobsAreAsWritten }
 {}
 
-/// The bytes between the brackets of a class can be written of single bytes and ranges in one way, and only in one. The class holds the bytes
-/// that these have, and a negated one all others.
+/// The bytes between the brackets of a class, without the `!` that negates, can be written of single bytes and ranges in one way, and only in
+/// one. The class holds the bytes that these have, and a negated one all others.
 pub fn classes_are_as_written()
     ensures written { ClassIsWritten }
     ensures unique { OneListOfMembers }

@@ -30,7 +30,7 @@ record_size payload = 16 + 8 * ((payload + 7) / 8)
 abbrev pub padding : ℕ → ℕ
 padding payload = 8 * ((payload + 7) / 8) - payload
 
--- the bytes of a record: its head, its payload, and the zeros that fill it up
+-- the bytes of a record, for a head that tells this payload's length: the head, the payload, and the zeros that fill it up
 abbrev pub record_of : Head → List ℕ → List ℕ
 record_of head payload = head_bytes head ++ payload ++ replicate (padding (length payload)) 0
 

@@ -20,7 +20,7 @@ abbrev pub failures_after_read : {E : Type 0} → ℕ → Result ℕ E → ℕ
 failures_after_read failures (Ok count) = failures
 failures_after_read failures (Err error) = one_more failures
 
--- the failures after a write of so many bytes: a call that fails is one, and one that takes none of the bytes that it was offered
+-- the failures after a write of so many bytes: a call that fails is one, and one that takes none, though some were offered
 abbrev pub failures_after_write : {E : Type 0} → ℕ → ℕ → Result ℕ E → ℕ
 failures_after_write offered failures (Ok count) = if nat_lt 0 offered && count == 0 then one_more failures else failures
 failures_after_write offered failures (Err error) = one_more failures

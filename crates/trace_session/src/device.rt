@@ -28,7 +28,7 @@ pub trait Sink {
     /// The bytes that it holds, where they are known.
     ghost contents: { Self → Option (List ℕ) };
 
-    /// How many calls failed, or took none of the bytes that they were offered.
+    /// How many calls failed, or took no byte though some were offered.
     ghost failures: { Self → ℕ };
 
     /// Takes some bytes from the front of `buf`, and gives their number.
@@ -72,7 +72,7 @@ impl<R: Read> Source for Input<R> {
     }
 }
 
-/// A writer of std, and how many of its calls failed or took none of the bytes that they were offered.
+/// A writer of std, and how many of its calls failed, or took no byte though some were offered.
 #[derive(Drop)]
 pub struct Output<W> {
     pub device: W,

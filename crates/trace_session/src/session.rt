@@ -21,7 +21,7 @@ use trace_command::{Config, Refusal, Reply};
 /// The most bytes that a script may have.
 pub const MOST_SCRIPT_BYTES: usize = 16_777_216;
 
-/// The most reads: one byte each, and one more to see that the script is too long.
+/// The most reads: one byte each, and one more that finds the end, or that the script is too long.
 const MOST_READS: usize = 16_777_217;
 
 /// How many bytes are asked of a reader at once.
@@ -182,7 +182,7 @@ fn outcome(
     }
 }
 
-/// Writes what a line of this number gives. A reply is written as it is, and the rest is rendered first.
+/// Writes what a line of this number gives. The text of a reply is written as it is; all else is rendered first.
 fn write_outcome<W: Sink>(
     alloc: Global,
     number: usize,
@@ -317,7 +317,9 @@ fn attempt<R: Source, W: Sink>(
         → ConsumesAtMost MOST_SCRIPT_BYTES (R.remaining reader.old) (R.remaining reader.new) }
     ensures device { IsErrOf result Stop.Device → IfSome (R.remaining reader.old) (λ script.
         AppendsFront (W.contents writer.old) (W.contents writer.new) (concat (session config script).texts)) }
-    ensures unwritten { IsErrOf result Stop.Device → HasRisen (W.failures writer.old) (W.failures writer.new)
+    ensures unwritten { IsErrOf result Stop.Device → (HasRisen (W.failures writer.old) (W.failures writer.new)
+        × (R.failures reader.new ≡ R.failures reader.old)
+        × IfSome (R.remaining reader.old) (λ script. length script ≤ MOST_SCRIPT_BYTES))
         ⊎ Appends (W.contents writer.old) (W.contents writer.new) [] }
     ensures only { IsErrOf result Stop.Device → HasRisen (R.failures reader.old) (R.failures reader.new)
         ⊎ HasRisen (W.failures writer.old) (W.failures writer.new)
@@ -335,7 +337,7 @@ fn attempt<R: Source, W: Sink>(
 ///
 /// At the statuses `Done`, `Refused` and `Fault` the bytes and the status are those of the script's session. At `Memory` no call of a
 /// device failed, and the first replies of the session were written, each of them whole. At `Device` a read or a write failed or the script
-/// has over 16,777,216 bytes, and a prefix of the session was written: nothing, unless a write failed.
+/// has over 16,777,216 bytes, and a prefix of the session was written: nothing, where a read failed or the script is too long.
 pub fn run_session<R: Source, W: Sink>(
     alloc: Global,
     config: Config,
@@ -364,7 +366,9 @@ pub fn run_session<R: Source, W: Sink>(
     // A failure, or a script that is too long.
     ensures device { result ≡ Status.Device → IfSome (R.remaining reader.old) (λ script.
         AppendsFront (W.contents writer.old) (W.contents writer.new) (concat (session config script).texts)) }
-    ensures unwritten { result ≡ Status.Device → HasRisen (W.failures writer.old) (W.failures writer.new)
+    ensures unwritten { result ≡ Status.Device → (HasRisen (W.failures writer.old) (W.failures writer.new)
+        × (R.failures reader.new ≡ R.failures reader.old)
+        × IfSome (R.remaining reader.old) (λ script. length script ≤ MOST_SCRIPT_BYTES))
         ⊎ Appends (W.contents writer.old) (W.contents writer.new) [] }
     ensures only { result ≡ Status.Device → HasRisen (R.failures reader.old) (R.failures reader.new)
         ⊎ HasRisen (W.failures writer.old) (W.failures writer.new)
