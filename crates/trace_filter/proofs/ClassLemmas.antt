@@ -4,7 +4,7 @@ use Rattle.std.specs.List.{prefix_len}
 use Rattle.std.specs.Bool.{passes}
 use Rattle.std.proofs.lemmas.Bool.{cond-true, cond-false, cond_both, and_parts, le-ltb, ltb-false}
 use Rattle.trace_filter.specs.declared.glob.PartPiece as pieces
-use Rattle.trace_filter.specs.Tokens.{is_not}
+use Rattle.trace_lex.specs.Prefixes.{is_not}
 use Rattle.trace_filter.specs.Globs.{OneByte, itself, class_from, class_piece, part_of}
 use Rattle.trace_filter.specs.SeenGlobs.{IsPartPiece}
 

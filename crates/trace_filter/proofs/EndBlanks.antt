@@ -10,7 +10,8 @@ use Rattle.std.proofs.Math.Seq.{take-append_seam}
 use Rattle.trace_lex.proofs.Lists.{AllByRecursion-push}
 use Rattle.trace_lex.specs.Names.{is_name, is_name_byte}
 use Rattle.trace_lex.specs.Blanks.{is_blank, without_end}
-use Rattle.trace_filter.specs.Tokens.{Word, Quoted, Token, Name, Value, Illegible, is_quote, is_word_byte, is_not, begins_with, Piece, quoted_piece, word_piece, name_piece, longest, symbol_piece, piece_of, is_comparison, Spot, spots_from}
+use Rattle.trace_lex.specs.Prefixes.{is_not}
+use Rattle.trace_filter.specs.Tokens.{Word, Quoted, Token, Name, Value, Illegible, is_quote, is_word_byte, begins_with, Piece, quoted_piece, word_piece, name_piece, longest, symbol_piece, piece_of, is_comparison, Spot, spots_from}
 use Rattle.trace_filter.proofs.Ends.{other}
 
 abbrev pub sized : Token → ℕ → Piece

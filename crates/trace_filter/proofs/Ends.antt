@@ -3,7 +3,7 @@ use Rattle.std.proofs.Common.{◌≡◌, ◌≢◌, ℕ, suc, ◌+◌, ◌==◌,
 use Rattle.std.specs.List.{prefix_len, AllByRecursion}
 use Rattle.std.proofs.lemmas.Bool.{cond-true, cond-false, eq-eqb, eqb-true}
 use Rattle.std.proofs.lemmas.Bool.Decides.{nat_tests}
-use Rattle.trace_filter.specs.Tokens.{is_not}
+use Rattle.trace_lex.specs.Prefixes.{is_not}
 
 pub differs : (a b : ℕ) → (a == b) ≡ false → a ≢ b
 differs a b d same = let t : (a == b) ≡ true = eq-eqb a b same in absurd (cc)

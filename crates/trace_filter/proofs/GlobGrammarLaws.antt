@@ -3,7 +3,7 @@ use Rattle.std.proofs.Common.{◌≡◌, ◌≢◌, ℕ, zero, suc, ◌+◌, ◌
 use Rattle.std.specs.List.{prefix_len, flat_map, AllByRecursion}
 use Rattle.std.proofs.lemmas.Bool.{cond-true, cond-false, eqb-true, lt-ltb}
 use Rattle.std.proofs.Math.Seq.{take-append_seam, drop-append_seam}
-use Rattle.trace_filter.specs.Tokens.{is_not}
+use Rattle.trace_lex.specs.Prefixes.{is_not}
 use Rattle.trace_filter.proofs.Ends.{differs, other, EndsAt, ends, end_len}
 use Rattle.trace_filter.specs.Globs.{Part, OneByte, PartPiece, itself, class_from, class_piece, part_of, parts_from, parts_of}
 use Rattle.trace_filter.specs.GlobGrammar.{GlobPiece, Star, Question, Bracketed, Plain, IsClass, class_text, BeginsClass, IsPieceBefore, piece_text, piece_part, IsPattern, IsWrittenGlob}

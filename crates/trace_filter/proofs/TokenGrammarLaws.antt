@@ -7,7 +7,8 @@ use Rattle.std.proofs.Math.Seq.{take-append_seam, drop-append_seam}
 use Rattle.trace_lex.specs.Names.{is_name, is_name_byte}
 use Rattle.trace_filter.specs.declared.token.Comparison.TheVariants as comparison
 use Rattle.trace_lex.specs.Blanks.{is_blank}
-use Rattle.trace_filter.specs.Tokens.{Word, Quoted, Token, Name, Value, Illegible, is_quote, is_word_byte, is_not, begins_with, Piece, quoted_piece, symbol_piece, piece_of, is_comparison, Spot, spots_from, spots_of}
+use Rattle.trace_lex.specs.Prefixes.{is_not}
+use Rattle.trace_filter.specs.Tokens.{Word, Quoted, Token, Name, Value, Illegible, is_quote, is_word_byte, begins_with, Piece, quoted_piece, symbol_piece, piece_of, is_comparison, Spot, spots_from, spots_of}
 use Rattle.trace_filter.specs.TokenGrammar.{Sign, Opening, Closing, Negation, Conjunction, Disjunction, Comparing, sign_text, sign_token, IsLongest, first_is, IsRun, Lexeme, Gap, Signed, Run, Bare, Within, lexeme_text, IsLexemeBefore, BeginsLexeme, TextPart, Legible, Stray, IsTextPart, part_text, part_tokens, due_behind, IsText, part_spots, IsWrittenText}
 use Rattle.trace_filter.proofs.Ends.{ends, end_len}
 use Rattle.trace_filter.proofs.SpotLemmas.{skipped}

@@ -1,7 +1,7 @@
 -- Globs: which texts a pattern matches.
 use Rattle.std.specs.Prelude.{◌≡◌, ℕ, zero, suc, ◌+◌, Bool, true, false, not, ◌&&◌, ◌==◌, nat_lt, nat_le, IsTrue, if◌then◌else◌, List, [], ◌∷◌, ◌++◌, length, take}
 use Rattle.std.specs.List.{prefix_len, list_any}
-use Rattle.trace_filter.specs.Tokens.{is_not}
+use Rattle.trace_lex.specs.Prefixes.{is_not}
 
 -- from the lower to the upper byte; nothing, where they fall
 pub record Range : Type 0 where

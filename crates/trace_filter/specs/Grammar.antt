@@ -7,7 +7,8 @@ use Rattle.trace_lex.specs.Names.{is_name}
 use Rattle.trace_filter.specs.declared.token.Comparison.{Comparison}
 use Rattle.trace_filter.specs.declared.syntax.Verdict.{Verdict}
 use Rattle.trace_filter.specs.declared.syntax.Verdict.TheVariants.{Fine, TooDeep, WrongAt}
-use Rattle.trace_filter.specs.Tokens.{Literal, Word, Quoted, Token, Open, Close, Bang, Both, Either, Compare, Name, Value, Illegible, is_word_byte, is_not, Spot, tokens_of}
+use Rattle.trace_lex.specs.Prefixes.{is_not}
+use Rattle.trace_filter.specs.Tokens.{Literal, Word, Quoted, Token, Open, Close, Bang, Both, Either, Compare, Name, Value, Illegible, is_word_byte, Spot, tokens_of}
 
 mutual
   -- some conjunctions with `||` between them

@@ -3,6 +3,7 @@ use Rattle.std.specs.Prelude.{ℕ, zero, suc, ◌+◌, Bool, true, false, not, �
 use Rattle.std.specs.List.{prefix_len}
 use Rattle.trace_lex.specs.Blanks.{is_blank, without_end}
 use Rattle.trace_lex.specs.Names.{is_name, is_name_byte}
+use Rattle.trace_lex.specs.Prefixes.{is_not}
 use Rattle.trace_filter.specs.declared.token.Comparison.{Comparison}
 use Rattle.trace_filter.specs.declared.token.Comparison.TheVariants as comparison
 
@@ -30,10 +31,6 @@ is_quote b = b == 34 || b == 39
 -- no blank, none of `(` `)` `&` `|`, no quote
 abbrev pub is_word_byte : ℕ → Bool
 is_word_byte b = not (is_blank b || (((b == 40 || b == 41) || (b == 38 || b == 124)) || is_quote b))
-
--- any byte but the quote
-abbrev pub is_not : ℕ → ℕ → Bool
-is_not quote b = not (b == quote)
 
 -- whether the bytes begin with the byte
 abbrev pub begins_with : ℕ → List ℕ → Bool

@@ -1,11 +1,12 @@
 //! Globs: patterns that whole texts match.
 
 ghost use Rattle.std.specs.Prelude.{◌≡◌, ◌≤◌, ◌==◌, ◌&&◌, ◌<◌, ◌+◌, [], ◌∷◌, ◌↔◌, false, List, ℕ, length, take, drop, IsTrue, IfNone, IfSome};
-ghost use Rattle.std.specs.List.{prefix_len, list_any};
-ghost use Rattle.trace_filter.specs.Tokens.{is_not};
+ghost use Rattle.std.specs.List.{list_any};
 ghost use Rattle.trace_filter.specs.Globs.{ranges_of, parts_of, parts_from, part_of, class_from as spec_class_from, class_piece as spec_class_piece, itself as spec_itself, is_member as spec_is_member, is_in_class};
 ghost use Rattle.trace_filter.specs.Marks.{is_match, advance as spec_advance, advance_all, mark_at, spread as spec_spread, shift as spec_shift, first_row as spec_first_row};
 ghost use Rattle.trace_filter.specs.SeenGlobs.{class_of, glob_part_of, IsPartPiece};
+
+use trace_lex::len_before;
 
 /// A text that is matched has fewer bytes than this.
 pub(crate) const TEXT_END: usize = 256;
@@ -65,14 +66,6 @@ impl Class<'_> {
     }
 }
 
-/// How many bytes stand before a `]`.
-fn members_len(bytes: &[u8]) -> usize
-    ensures value { result ≡ prefix_len (is_not 93) bytes.now }
-    ensures bound { result ≤ length bytes.now }
-{
-    bytes.iter().take_while(|byte| **byte != b']').count()
-}
-
 /// The piece of a byte that stands for itself.
 fn itself(first: u8, byte: &[u8]) -> PartPiece<'_>
     requires { byte.now ≡ first ∷ [] }
@@ -95,7 +88,7 @@ fn class_from(negated: bool, before: usize, bytes: &[u8]) -> PartPiece<'_>
     let Some((_, rest)) = bytes.split_first() else {
         return itself(b'[', b"[");
     };
-    let size = members_len(rest);
+    let size = len_before(b']', rest);
     if size == rest.len() {
         return itself(b'[', b"[");
     }

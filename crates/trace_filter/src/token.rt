@@ -3,10 +3,10 @@
 ghost use Rattle.std.specs.Prelude.{◌≡◌, ◌≤◌, ◌<◌, [], ◌∷◌, length, drop, nat_lt, if◌then◌else◌, IfNone, IfSome};
 ghost use Rattle.std.specs.List.{prefix_len};
 ghost use Rattle.trace_lex.specs.Names.{is_name as spec_is_name, is_name_byte as spec_name_byte};
-ghost use Rattle.trace_filter.specs.Tokens.{Name, Illegible, is_quote as spec_quote, is_word_byte as spec_word_byte, is_not, begins_with as spec_begins_with, quoted_piece as spec_quoted_piece, word_piece as spec_word_piece, name_piece as spec_name_piece, longest as spec_longest, symbol_piece as spec_symbol_piece, piece_of, is_comparison as spec_comparison, spots_from};
+ghost use Rattle.trace_filter.specs.Tokens.{Name, Illegible, is_quote as spec_quote, is_word_byte as spec_word_byte, begins_with as spec_begins_with, quoted_piece as spec_quoted_piece, word_piece as spec_word_piece, name_piece as spec_name_piece, longest as spec_longest, symbol_piece as spec_symbol_piece, piece_of, is_comparison as spec_comparison, spots_from};
 ghost use Rattle.trace_filter.specs.Seen.{token_of, IsPiece, IsNextToken};
 
-use trace_lex::{blanks_len, is_blank, is_name, is_name_byte};
+use trace_lex::{blanks_len, is_blank, is_name, is_name_byte, len_before, rest_of};
 
 /// How a test compares a field's value with a written one.
 #[derive(Clone, Copy, Debug, PartialEq, Eq)]
@@ -85,14 +85,6 @@ fn is_word_byte(byte: u8) -> bool
     !(is_blank(byte) || ((is_parenthesis || is_joint) || is_quote(byte)))
 }
 
-/// What stands from a place on.
-fn rest_of(text: &[u8], from: usize) -> &[u8]
-    requires { from ≤ length text.now }
-    ensures { result.now ≡ drop from text.now }
-{
-    &text[from..]
-}
-
 /// How many bytes of a bare word a text begins with.
 fn word_len(text: &[u8]) -> usize
     ensures value { result ≡ prefix_len spec_word_byte text.now }
@@ -109,14 +101,6 @@ fn name_len(text: &[u8]) -> usize
     text.iter().take_while(|byte| is_name_byte(**byte)).count()
 }
 
-/// How many bytes stand before a quote.
-fn quoted_len(quote: u8, text: &[u8]) -> usize
-    ensures value { result ≡ prefix_len (is_not quote) text.now }
-    ensures bound { result ≤ length text.now }
-{
-    text.iter().take_while(|byte| **byte != quote).count()
-}
-
 /// Whether a text begins with a byte.
 fn begins_with(byte: u8, text: &[u8]) -> bool
     ensures { result ≡ spec_begins_with byte text.now }
@@ -130,7 +114,7 @@ fn begins_with(byte: u8, text: &[u8]) -> bool
 fn quoted_piece(quote: u8, rest: &[u8]) -> Piece<'_>
     ensures { IsPiece (spec_quoted_piece quote rest.now) result rest.now }
 {
-    let size = quoted_len(quote, rest);
+    let size = len_before(quote, rest);
     if size < rest.len() {
         Piece {
             token: Token::Value(Literal::Quoted(&rest[..size])),

@@ -5,6 +5,7 @@ use Rattle.std.proofs.lemmas.Bool.{and_parts, and_from, cond-true, cond-false}
 use Rattle.std.proofs.lemmas.Bool.Decides.{nat_tests}
 use Rattle.std.proofs.lemmas.List.{length-replicate, length-map, take_at, take_all, drop_at, drop_more}
 use Rattle.std.proofs.lemmas.Slice.Zip.{AllZip-long}
+use Rattle.trace_lex.specs.Prefixes.{is_not}
 use Rattle.trace_format.specs.declared.value.Value.{Value}
 use Rattle.std.proofs.lemmas.List.Elements.{All-head, All-tail}
 use Rattle.std.proofs.lemmas.List.Folds.{length-prefix_len}
@@ -13,17 +14,17 @@ use Rattle.trace_format.specs.declared.kind.Kind.TheVariants.{Number, Char}
 use Rattle.trace_format.specs.Kinds.{number_size, size_of}
 use Rattle.trace_format.specs.Cells.{Datum, Whole, Bytes, datum_of, Cells, Holds, is_printable, two's_complement, field_bytes, bytes_of, size_of_all, IsRowOf, kinds_of, payload_of}
 use Rattle.trace_format.specs.Definitions.{Definition}
-use Rattle.trace_format.specs.Decoding.{is_zero, is_not_zero, text_at, text_from, field_from, values_from, row_from}
+use Rattle.trace_format.specs.Decoding.{is_zero, text_at, text_from, field_from, values_from, row_from}
 use Rattle.trace_lex.proofs.Options.{if_some, some_is, map_some, and_then_some}
 use Rattle.trace_format.proofs.Patterns.{AreBytes, length-little_endian, number-written, number-read, number-held}
 
 -- ---- texts
 
-printable_nonzero : (b : ℕ) → is_printable b ≡ true → is_not_zero b ≡ true
+printable_nonzero : (b : ℕ) → is_printable b ≡ true → is_not 0 b ≡ true
 printable_nonzero b h = grind (arith, nat_tests)
 
 -- a text ends at the first of the zeros behind it
-text_end : (text : List ℕ) (n : ℕ) → list_all is_printable text ≡ true → prefix_len is_not_zero (text ++ replicate n 0) ≡ length text
+text_end : (text : List ℕ) (n : ℕ) → list_all is_printable text ≡ true → prefix_len (is_not 0) (text ++ replicate n 0) ≡ length text
 text_end [] zero h = refl
 text_end [] (suc n) h = refl
 text_end (b ∷ text) n h = cond-true _ _ _ (printable_nonzero b (and_parts _ _ h).0) ∙ ap (λ n. 1 + n) (text_end text n (and_parts _ _ h).1) ∙ one-add (length text)
@@ -53,13 +54,13 @@ pub record IsText (n : ℕ) (bytes : List ℕ) (value : Datum) : Type 0 where
 
 pub text-read : (bytes : List ℕ) (value : Datum) → text_from bytes ≡ Some value → IsText (length bytes) bytes value
 text-read bytes value h =
-    let size = prefix_len is_not_zero bytes in
+    let size = prefix_len (is_not 0) bytes in
     let test = if_some _ h in
     let parts = and_parts _ _ test.0 in
     let front = and_parts _ _ parts.0 in
     let short : size < length bytes = ltb-true _ _ front.0 in
     let text = take size bytes in
-    let text_size : length text ≡ size = length-prefix_len is_not_zero bytes in
+    let text_size : length text ≡ size = length-prefix_len (is_not 0) bytes in
     let zeros : drop size bytes ≡ replicate (length bytes - length text) 0 =
     zeros_are (drop size bytes) parts.1 ∙ ap (λ k. replicate k 0) (length-drop size bytes ∙ ap (λ k. length bytes - k) (sym text_size)) in
     subst (IsText (length bytes) bytes) test.1 (record {

@@ -3,21 +3,22 @@ use Rattle.std.proofs.Common.{◌≡◌, ℕ, suc, ◌+◌, true, List, [], ◌�
 use Rattle.std.specs.List.{list_all, prefix_len}
 use Rattle.std.proofs.lemmas.Bool.{and_parts, and_from, or_left, cond_both, cond-true, not-false, leb-true, le-leb, eqb-true}
 use Rattle.std.proofs.lemmas.Bool.Decides.{nat_tests}
+use Rattle.trace_lex.specs.Prefixes.{is_not}
 use Rattle.trace_format.specs.declared.kind.Kind.TheVariants.{Char}
 use Rattle.trace_format.specs.declared.event.Field.{Field}
 use Rattle.trace_lex.specs.Names.{is_letter, is_name_byte, is_name}
 use Rattle.trace_format.specs.Definitions.{length_suffix, is_kind}
-use Rattle.trace_format.specs.Reading.{is_before_bracket, length_of, text_field_at, text_field_of}
+use Rattle.trace_format.specs.Reading.{length_of, text_field_at, text_field_of}
 use Rattle.trace_lex.proofs.Options.{map_some}
 use Rattle.trace_format.proofs.Lengths.{length_of-spelled, length_of-read}
 
-no_bracket : (b : ℕ) → is_name_byte b ≡ true → is_before_bracket b ≡ true
+no_bracket : (b : ℕ) → is_name_byte b ≡ true → is_not 91 b ≡ true
 no_bracket b h = grind (arith, nat_tests)
 
 -- a name of name bytes before a bracket ends at the bracket
-name_end : (name rest : List ℕ) → list_all is_name_byte name ≡ true → prefix_len is_before_bracket (name ++ 91 ∷ rest) ≡ length name
+name_end : (name rest : List ℕ) → list_all is_name_byte name ≡ true → prefix_len (is_not 91) (name ++ 91 ∷ rest) ≡ length name
 name_end [] rest h = refl
-name_end (b ∷ bs) rest h = cond-true (is_before_bracket b) _ _ (no_bracket b (and_parts _ _ h).0) ∙ ap (λ n. 1 + n) (name_end bs rest (and_parts _ _ h).1) ∙ one-add (length bs)
+name_end (b ∷ bs) rest h = cond-true (is_not 91 b) _ _ (no_bracket b (and_parts _ _ h).0) ∙ ap (λ n. 1 + n) (name_end bs rest (and_parts _ _ h).1) ∙ one-add (length bs)
 
 taken_name : (name rest : List ℕ) → take (length name) (name ++ 91 ∷ rest) ≡ name
 taken_name [] rest = refl
@@ -51,11 +52,11 @@ one_before b p n bs rest h =
     ap (λ xs. b ∷ xs) (rest (sym (ap length_of back) ∙ h)) ∙ sym (λ i. front i ++ 91 ∷ back i)
 
 -- what stands before and behind the first bracket
-bracket_at : (word : List ℕ) (n : ℕ) → length_of (drop (prefix_len is_before_bracket word + 1) word) ≡ Some n → word ≡ take (prefix_len is_before_bracket word) word ++ 91 ∷ drop (prefix_len is_before_bracket word + 1) word
+bracket_at : (word : List ℕ) (n : ℕ) → length_of (drop (prefix_len (is_not 91) word + 1) word) ≡ Some n → word ≡ take (prefix_len (is_not 91) word) word ++ 91 ∷ drop (prefix_len (is_not 91) word + 1) word
 bracket_at [] n h = absurd (cc)
 bracket_at (b ∷ bs) n h =
-    cond_both (is_before_bracket b) (1 + prefix_len is_before_bracket bs) 0 (λ k. length_of (drop (k + 1) (b ∷ bs)) ≡ Some n → b ∷ bs ≡ take k (b ∷ bs) ++ 91 ∷ drop (k + 1) (b ∷ bs))
-    (λ _. one_before b (prefix_len is_before_bracket bs) n bs (bracket_at bs n))
+    cond_both (is_not 91 b) (1 + prefix_len (is_not 91) bs) 0 (λ k. length_of (drop (k + 1) (b ∷ bs)) ≡ Some n → b ∷ bs ≡ take k (b ∷ bs) ++ 91 ∷ drop (k + 1) (b ∷ bs))
+    (λ _. one_before b (prefix_len (is_not 91) bs) n bs (bracket_at bs n))
     (λ e _. ap (λ x. x ∷ bs) (eqb-true b 91 (not-false _ e)))
     h
 
@@ -68,7 +69,7 @@ pub record IsTextField (word : List ℕ) (field : Field) : Type 0 where
 
 pub text_field-read : (word : List ℕ) (field : Field) → text_field_of word ≡ Some field → IsTextField word field
 text_field-read word field h =
-    let size = prefix_len is_before_bracket word in
+    let size = prefix_len (is_not 91) word in
     let made = map_some (λ m. record { name = take size word; kind = Char m }) (length_of (drop (size + 1) word)) field h in
     let read = length_of-read (drop (size + 1) word) made.value made.was in
     subst (IsTextField word) made.gives (record {

@@ -1,6 +1,7 @@
 -- Payloads read field by field. That this is the way back from `payload_of` is stated in `Laws`, as `PayloadIsRead`.
-use Rattle.std.specs.Prelude.{ℕ, ◌+◌, ◌-◌, ◌*◌, ◌/◌, ◌^◌, suc, ℤ, pos, negsuc, Bool, not, ◌&&◌, ◌==◌, nat_lt, if◌then◌else◌, List, [], ◌∷◌, length, take, drop, Option, None, Some, option_map, option_and_then}
+use Rattle.std.specs.Prelude.{ℕ, ◌+◌, ◌-◌, ◌*◌, ◌/◌, ◌^◌, suc, ℤ, pos, negsuc, Bool, ◌&&◌, ◌==◌, nat_lt, if◌then◌else◌, List, [], ◌∷◌, length, take, drop, Option, None, Some, option_map, option_and_then}
 use Rattle.std.specs.List.{list_all, prefix_len}
+use Rattle.trace_lex.specs.Prefixes.{is_not}
 use Rattle.trace_format.specs.declared.kind.NumberType.{NumberType}
 use Rattle.trace_format.specs.declared.kind.Kind.{Kind}
 use Rattle.trace_format.specs.declared.kind.Kind.TheVariants.{Number, Char}
@@ -23,15 +24,12 @@ number_from t bytes = if is_signed t then signed_from (number_size t) (unsigned_
 abbrev pub is_zero : ℕ → Bool
 is_zero b = b == 0
 
-abbrev pub is_not_zero : ℕ → Bool
-is_not_zero b = not (b == 0)
-
 -- the text before the zeros that fill a field, of which there is one at least
 abbrev pub text_at : ℕ → List ℕ → Option Datum
 text_at size bytes = if (nat_lt size (length bytes) && list_all is_printable (take size bytes)) && list_all is_zero (drop size bytes) then Some (Bytes (take size bytes)) else None
 
 abbrev pub text_from : List ℕ → Option Datum
-text_from bytes = text_at (prefix_len is_not_zero bytes) bytes
+text_from bytes = text_at (prefix_len (is_not 0) bytes) bytes
 
 abbrev pub field_from : Kind → List ℕ → Option Datum
 field_from (Number t) bytes = Some (Whole (number_from t bytes))

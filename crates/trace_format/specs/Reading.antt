@@ -11,6 +11,7 @@ use Rattle.trace_format.specs.declared.reader.Due.{Due}
 use Rattle.trace_format.specs.declared.reader.Due.TheVariants as due
 use Rattle.trace_format.specs.Kinds.{type_of, unsigned_type_of}
 use Rattle.trace_lex.specs.Names.{is_name}
+use Rattle.trace_lex.specs.Prefixes.{is_not}
 use Rattle.trace_format.specs.Words.{Spot, semicolon, spots_of}
 use Rattle.trace_format.specs.Definitions.{Definition, IsRefusedAt, is_reserved, has_field}
 
@@ -28,16 +29,12 @@ length_of (a ∷ b ∷ []) = if (is_ascii_digit a && not (a == 48)) && b == 93 t
 length_of (a ∷ b ∷ c ∷ []) = if ((is_ascii_digit a && not (a == 48)) && is_ascii_digit b) && (nat_le (10 * (a - 48) + (b - 48)) 64 && c == 93) then Some (10 * (a - 48) + (b - 48)) else None
 length_of (a ∷ b ∷ c ∷ d ∷ bytes) = None
 
--- whether a byte is not `[`
-abbrev pub is_before_bracket : ℕ → Bool
-is_before_bracket b = not (b == 91)
-
--- a text field: what stands before the first `[` is its name, and what stands behind it its length
+-- a text field: what stands before the first `[` (91) is its name, and what stands behind it its length
 abbrev pub text_field_at : ℕ → List ℕ → Option Field
 text_field_at size word = option_map (λ n. record { name = take size word; kind = Char n }) (length_of (drop (size + 1) word))
 
 abbrev pub text_field_of : List ℕ → Option Field
-text_field_of word = text_field_at (prefix_len is_before_bracket word) word
+text_field_of word = text_field_at (prefix_len (is_not 91) word) word
 
 -- behind a field, if it may stand there
 abbrev pub with_field : Standing → Field → Option Standing

@@ -1,16 +1,17 @@
 //! The bytes of fields.
 
 ghost use Rattle.std.specs.Prelude.{◌≡◌, ◌<◌, ◌≤◌, ◌+◌, ◌-◌, ◌^◌, ◌++◌, ℤ, pos, neg_ℤ, ◌≤ℤ◌, ◌<ℤ◌, IfOk, length, take, drop, map, replicate, option_map};
-ghost use Rattle.std.specs.List.{AllZip, list_all, prefix_len};
+ghost use Rattle.std.specs.List.{AllZip, list_all};
 ghost use Rattle.trace_format.specs.declared.kind.Kind.TheVariants as kinds;
 ghost use Rattle.trace_format.specs.Kinds.{size_of, number_size};
 ghost use Rattle.trace_format.specs.Cells.{Datum, Whole, Bytes, datum_of, Holds, size_of_all, bytes_of, field_bytes, little_endian, two's_complement};
-ghost use Rattle.trace_format.specs.Decoding.{field_from, values_from, number_from, unsigned_from, text_from, is_not_zero, is_zero};
+ghost use Rattle.trace_format.specs.Decoding.{field_from, values_from, number_from, unsigned_from, text_from, is_zero};
 
 use crate::event::Field;
 use crate::kind::{Kind, NumberType};
 use crate::value::{Value, are_printable};
 use std::alloc::{AllocError, Global};
+use trace_lex::len_before;
 
 /// Writes values one behind the other.
 pub(crate) fn encode_values(kinds: &[Kind], values: &[Value], out: &mut [u8])
@@ -148,14 +149,6 @@ fn decode_unsigned(bytes: &[u8]) -> u64
     }
 }
 
-/// How many bytes stand before the first zero.
-fn zero_place(bytes: &[u8]) -> usize
-    ensures value { result ≡ prefix_len is_not_zero bytes.now }
-    ensures bound { result ≤ length bytes.now }
-{
-    bytes.iter().take_while(|byte| **byte != 0).count()
-}
-
 fn are_zeros(bytes: &[u8]) -> bool
     ensures { result ≡ list_all is_zero bytes.now }
 {
@@ -166,7 +159,7 @@ fn are_zeros(bytes: &[u8]) -> bool
 fn decode_text(bytes: &[u8]) -> Option<&[u8]>
     ensures { option_map (λ text. Bytes text.now) result ≡ text_from bytes.now }
 {
-    let (text, zeros) = bytes.split_at(zero_place(bytes));
+    let (text, zeros) = bytes.split_at(len_before(0, bytes));
     if text.len() < bytes.len() && are_printable(text) && are_zeros(zeros) {
         Some(text)
     } else {

@@ -1,18 +1,17 @@
 //! Declarations, read word by word.
 
-ghost use Rattle.std.specs.Prelude.{◌≡◌, ◌≤◌, List, ℕ, IfOk, Bool, true, false, Some, None, length, option_map, take_while};
+ghost use Rattle.std.specs.Prelude.{◌≡◌, List, ℕ, IfOk, Bool, true, false, Some, None, option_map};
 ghost use Rattle.std.specs.Prelude.{◌-◌, if◌then◌else◌};
 ghost use Rattle.std.specs.Char.{is_ascii_digit};
-ghost use Rattle.std.specs.List.{prefix_len};
 ghost use Rattle.trace_format.specs.Definitions.{is_reserved as reserved, has_field as field_there};
-ghost use Rattle.trace_format.specs.Reading.{is_before_bracket, text_field_of, length_of};
+ghost use Rattle.trace_format.specs.Reading.{text_field_of, length_of};
 ghost use Rattle.trace_format.specs.declared.kind.Kind.TheVariants as kind;
 
 use crate::event::Field;
 use crate::kind::{Kind, NumberType};
 use std::alloc::{AllocError, Global};
 use std::marker::Model;
-use trace_lex::{Text, is_name};
+use trace_lex::{Text, is_name, len_before};
 
 /// What may stand next in a declaration.
 #[derive(Clone, Copy, Debug, PartialEq, Eq)]
@@ -176,19 +175,11 @@ impl Reader {
     }
 }
 
-/// How many bytes stand before the first `[`.
-fn bracket_place(word: &[u8]) -> usize
-    ensures value { result ≡ prefix_len is_before_bracket word.now }
-    ensures bound { result ≤ length word.now }
-{
-    word.iter().take_while(|byte| **byte != b'[').count()
-}
-
 /// The name and the length of a text field.
 fn text_field(word: &[u8]) -> Option<(&[u8], u8)>
     ensures { option_map (λ f. record { name = f.0.now; kind = kind.Char f.1 }) result ≡ text_field_of word.now }
 {
-    let place = bracket_place(word);
+    let place = len_before(b'[', word);
     if place == word.len() {
         return None;
     }

@@ -4,7 +4,7 @@ ghost use Rattle.std.specs.Prelude.{◌≡◌, ◌≤◌, [], length, drop, IfNo
 ghost use Rattle.std.specs.List.{prefix_len};
 ghost use Rattle.trace_format.specs.Words.{is_word_byte as spec_word_byte, more_of, spots_from, IsNextWord};
 
-use trace_lex::{blanks_len, is_blank};
+use trace_lex::{blanks_len, is_blank, rest_of};
 
 /// A word or `;` of a text.
 #[derive(Clone, Copy, Debug)]
@@ -18,14 +18,6 @@ fn is_word_byte(byte: u8) -> bool
     ensures { result ≡ spec_word_byte byte }
 {
     !(is_blank(byte) || byte == b';')
-}
-
-/// What stands from a place on.
-fn rest_of(text: &[u8], from: usize) -> &[u8]
-    requires { from ≤ length text.now }
-    ensures { result.now ≡ drop from text.now }
-{
-    &text[from..]
 }
 
 /// How many bytes of a word a text begins with.

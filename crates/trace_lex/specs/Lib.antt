@@ -3,3 +3,4 @@ pub mod Decimals
 pub mod Laws
 pub mod Names
 pub mod Numbers
+pub mod Prefixes

@@ -7,6 +7,7 @@ mod decimal;
 pub mod laws;
 mod name;
 mod numeral;
+mod prefix;
 #[cfg(test)]
 mod tests;
 mod text;
@@ -15,4 +16,5 @@ pub use blanks::{blanks_len, is_blank, trim, trim_end};
 pub use decimal::{all_digits, decimal_number, digits_value, has_leading_zero, written_number};
 pub use name::{is_name, is_name_byte};
 pub use numeral::number;
+pub use prefix::{len_before, rest_of};
 pub use text::Text;
