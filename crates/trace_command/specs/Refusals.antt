@@ -1,5 +1,7 @@
 -- The refusals' numbers and names, the refusals that faults become, and which answers refused memory may take the place of.
-use Rattle.std.specs.Prelude.{◌≡◌, ◌≢◌, ℕ, Bool, true, false, IsTrue, List, Result, Ok, Err, codes}
+use Rattle.std.specs.Prelude.{◌≡◌, ◌≢◌, ℕ, Bool, true, false, IsTrue, if◌then◌else◌, List, [], ◌∷◌, ◌++◌, Result, Ok, Err, codes}
+use Rattle.std.specs.Fmt.{decimal}
+use Rattle.std.specs.Str.{is_utf8}
 use Rattle.trace_filter.specs.declared.fault.FilterFault.{FilterFault}
 use Rattle.trace_filter.specs.declared.fault.FilterFault.TheVariants as filter
 use Rattle.trace_format.specs.declared.fault.DefinitionFault.{DefinitionFault}
@@ -87,6 +89,24 @@ name_of (BadRow field) = codes "BadRow"
 name_of HistoryFull = codes "HistoryFull"
 name_of Memory = codes "Memory"
 name_of Worn = codes "Worn"
+
+-- a field's name as text: U+FFFD, of which these are the bytes, for one that is not UTF-8
+unfoldable pub shown_name : List ℕ → List ℕ
+shown_name name = if is_utf8 name then name else 239 ∷ 191 ∷ 189 ∷ []
+
+-- what is shown behind a refusal's name: a place in the written text, or a field
+unfoldable pub shown_detail : Refusal → List ℕ
+shown_detail (BadDefinition at) = codes " at " ++ decimal at
+shown_detail (FilterSyntax at) = codes " at " ++ decimal at
+shown_detail (NoSuchField at) = codes " at " ++ decimal at
+shown_detail (WrongOperator at) = codes " at " ++ decimal at
+shown_detail (HistSyntax at) = codes " at " ++ decimal at
+shown_detail (BadRow field) = codes " " ++ shown_name field
+shown_detail _ = []
+
+-- a refusal as text: `N7 BadDefinition at 2`
+unfoldable pub shown : Refusal → List ℕ
+shown refusal = codes "N" ++ decimal (number_of refusal) ++ codes " " ++ name_of refusal ++ shown_detail refusal
 
 -- ---- answers
 

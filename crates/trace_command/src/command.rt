@@ -1,6 +1,6 @@
 //! Commands, their replies, and the entries of a history.
 
-ghost use Rattle.std.specs.Prelude.{◌≡◌, [], ◌∷◌, ◌++◌, IfOk, OnOk, OnErr, Some, None, true, false};
+ghost use Rattle.std.specs.Prelude.{◌≡◌, [], ◌∷◌, ◌++◌, ◌↔◌, IfOk, IsTrue, OnOk, OnErr, Some, None, true, false};
 
 use std::alloc::{AllocError, Global};
 use std::marker::Model;
@@ -27,6 +27,42 @@ impl From<Vec<Pair>> for Pairs {
 
     fn from(pairs: Vec<Pair>) -> Pairs {
         Pairs { pairs }
+    }
+}
+
+/// Pairs are equal if they are the same in the same order.
+impl PartialEq for Pairs {
+    ghost use Rattle.std.specs.Cmp.Lexicographic.{pointwise, lists_per};
+    ghost use Rattle.trace_format.specs.contracts.pair.PairPartialEq.TheImpl.Laws.{laws-law};
+
+    ghost eq = { pointwise ⟦<Pair as PartialEq>⟧.eq };
+
+    ghost laws = { lists_per laws-law };
+
+    #[tactic(auto, using(crate::proofs::EqualLemmas::pairs_decided))]
+    fn eq(&self, other: &Pairs) -> bool
+        ensures value { result ≡ pointwise ⟦<Pair as PartialEq>⟧.eq self.now other.now }
+        ensures same { IsTrue result ↔ (self.now ≡ other.now) }
+    {
+        self.pairs == other.pairs
+    }
+}
+
+impl Eq for Pairs {
+    ghost use Rattle.std.specs.Cmp.Lexicographic.{lists_equiv};
+    ghost use Rattle.trace_format.specs.contracts.pair.PairEq.TheImpl.Laws.{laws-law};
+
+    ghost laws = { lists_equiv laws-law };
+}
+
+/// A clone is of the same pairs.
+impl Clone for Pairs {
+    ghost is_clone = { λ pairs copy. copy ≡ pairs };
+
+    fn clone(&self) -> Result<Pairs, AllocError> {
+        Ok(Pairs {
+            pairs: self.pairs.clone()?,
+        })
     }
 }
 
@@ -60,7 +96,7 @@ impl Pairs {
 }
 
 /// What is asked of a tracer.
-#[derive(Debug, Drop)]
+#[derive(Clone, Debug, PartialEq, Eq, Drop)]
 pub enum Command {
     /// An event happens on a CPU, in a process.
     Emit {
@@ -149,14 +185,14 @@ impl Command {
 }
 
 /// The answer to a command that was done.
-#[derive(Debug, Drop)]
+#[derive(Clone, Debug, PartialEq, Eq, Drop)]
 pub enum Reply {
     Done,
     Text(Text),
 }
 
 /// A command that was done: its ticket, and its caller's number.
-#[derive(Debug, Drop)]
+#[derive(Clone, Debug, PartialEq, Eq, Drop)]
 pub struct Entry {
     pub ticket: u64,
     pub by: u32,

@@ -1,92 +1,70 @@
 //! Refusals: why a command was not done.
 
-ghost use Rattle.std.specs.Prelude.{◌≡◌};
-ghost use Rattle.trace_command.specs.Refusals.{refusal_of_definition, refusal_of_catalog, refusal_of_row, refusal_of_filter};
+ghost use Rattle.std.specs.Prelude.{◌≡◌, Some};
+ghost use Rattle.trace_command.specs.Refusals.{refusal_of_definition, refusal_of_catalog, refusal_of_row, refusal_of_filter, shown_name as shown_name_of};
 ghost use Rattle.trace_command.specs.declared.refusal.Refusal.TheVariants.{Memory};
 
 use std::alloc::{AllocError, AllocFailed};
-use thiserror::Error;
+use std::error::Error;
+use std::fmt::{Display, Formatter, Write};
+use std::{fmt, str};
 use trace_filter::FilterFault;
 use trace_format::{CatalogFault, DefinitionFault, RowFault};
 use trace_lex::Text;
 
 /// Why a command was refused. A refused command changes nothing and is not in the history.
 /// `at` is a place in the text as it was written: how many bytes stand before it.
-#[derive(Debug, Drop, Error)]
+#[derive(Clone, Debug, PartialEq, Eq, Drop)]
 pub enum Refusal {
     /// No file of the tracing tree has this path.
-    #[error("no such file")]
     NoSuchFile,
     /// The file can't be read.
-    #[error("not readable")]
     NotReadable,
     /// The file can't be written.
-    #[error("not writable")]
     NotWritable,
     /// What was written is no value of the file, a limit was given for a file that is no pipe, or a number of
     /// the configuration is out of range.
-    #[error("bad value")]
     BadValue,
     /// No event of this name was declared; or none at all, where a filter is written for all.
-    #[error("no such event")]
     NoSuchEvent,
     /// An event of this name was declared before.
-    #[error("event exists")]
     EventExists,
     /// The text is no declaration of an event: with what begins at this byte none goes on, or more was to come at the text's end.
-    #[error("bad definition at {at}")]
     BadDefinition { at: usize },
     /// A record of the event would not fit a page.
-    #[error("too big")]
     TooBig,
     /// The text is no filter: with what begins at this byte none goes on, or it is no number though its field needs one, or more was to come at
     /// the text's end.
-    #[error("filter syntax at {at}")]
     FilterSyntax { at: usize },
     /// The event has no field of the name at this byte.
-    #[error("no such field at {at}")]
     NoSuchField { at: usize },
     /// The field does not take the operator at this byte.
-    #[error("wrong operator at {at}")]
     WrongOperator { at: usize },
     /// The text is no hist trigger: with what begins at this byte none goes on.
-    #[error("hist syntax at {at}")]
     HistSyntax { at: usize },
     /// The size of a hist trigger is out of range.
-    #[error("bad size")]
     BadSize,
     /// Such a trigger is attached already.
-    #[error("trigger exists")]
     TriggerExists,
     /// No such trigger is attached.
-    #[error("no such trigger")]
     NoSuchTrigger,
     /// There would be too many: over 16 fields of an event, over 64 events, or a filter of over 1,024 bytes or of over 16 open `!` and `(`.
-    #[error("too many")]
     TooMany,
     /// An instance of this name is there already.
-    #[error("instance exists")]
     InstanceExists,
     /// No instance of this name is there.
-    #[error("no such instance")]
     NoSuchInstance,
     /// What would be changed is in use.
-    #[error("busy")]
     Busy,
     /// The CPU's number is not below the number of CPUs.
-    #[error("no such CPU")]
     NoSuchCpu,
     /// The row of an emission is wrong at this field.
-    #[error("bad row")]
     BadRow { field: Text },
     /// The history has as many entries as it may have.
-    #[error("history full")]
     HistoryFull,
     /// Memory was refused.
-    #[error("out of memory")]
     Memory,
     /// All tickets are drawn.
-    #[error("worn")]
     Worn,
 }
 
@@ -223,3 +201,41 @@ impl Refusal {
         }
     }
 }
+
+/// A field's name as text; U+FFFD stands for one that is not UTF-8.
+#[tactic(auto, unfolding(crate::specs::Refusals::shown_name))]
+fn shown_name(name: &[u8]) -> &str
+    ensures { result.now ≡ shown_name_of name.now }
+{
+    match str::from_utf8(name) {
+        Ok(text) => text,
+        Err(_) => "\u{fffd}",
+    }
+}
+
+/// `N7 BadDefinition at 2`, as a script's output has it behind the line's number.
+impl Display for Refusal {
+    ghost use Rattle.trace_command.specs.Refusals.{shown};
+
+    ghost output = { λ refusal. Some (shown refusal) };
+
+    #[tactic(auto, unfolding(crate::specs::Refusals::shown, crate::specs::Refusals::shown_detail))]
+    fn fmt<W: Write>(&self, f: &mut Formatter<W>) -> fmt::Result {
+        let number = self.number();
+        let name = self.name();
+        match self {
+            Refusal::BadDefinition { at }
+            | Refusal::FilterSyntax { at }
+            | Refusal::NoSuchField { at }
+            | Refusal::WrongOperator { at }
+            | Refusal::HistSyntax { at } => write!(f, "N{number} {name} at {at}"),
+            Refusal::BadRow { field } => {
+                let field = shown_name(field.as_bytes());
+                write!(f, "N{number} {name} {field}")
+            }
+            _ => write!(f, "N{number} {name}"),
+        }
+    }
+}
+
+impl Error for Refusal {}

@@ -1,5 +1,5 @@
 -- Rows: the values of an event's fields, and the bytes that record them.
-use Rattle.std.specs.Prelude.{◌≡◌, ℕ, zero, suc, ◌+◌, ◌-◌, ◌*◌, ◌/◌, ◌%◌, ◌^◌, ◌<◌, ℤ, pos, negsuc, ◌≤ℤ◌, Bool, ◌&&◌, nat_le, IsTrue, if◌then◌else◌, bytes_eq, List, [], ◌∷◌, ◌++◌, length, map, replicate, Option, None, Some}
+use Rattle.std.specs.Prelude.{◌≡◌, ℕ, zero, suc, ◌+◌, ◌-◌, ◌/◌, ◌%◌, ◌^◌, ◌<◌, ℤ, pos, negsuc, ◌≤ℤ◌, Bool, ◌&&◌, nat_le, IsTrue, if◌then◌else◌, bytes_eq, List, [], ◌∷◌, ◌++◌, length, map, replicate, Option, None, Some}
 use Rattle.std.specs.List.{list_all, AllZip}
 use Rattle.trace_format.specs.declared.kind.Kind.{Kind}
 use Rattle.trace_format.specs.declared.kind.Kind.TheVariants.{Number, Char}

@@ -1,6 +1,10 @@
 //! What the definitions of the contracts mean. Each function does nothing: its contract is a theorem.
 
+ghost use Rattle.std.specs.Prelude.{◌≡◌, ◌↔◌, IsTrue};
+ghost use Rattle.trace_format.specs.declared.pair.Pair.{Pair as PairValue};
 ghost use Rattle.trace_format.specs.Laws.{WordsAreAsWritten, DefinitionIsRead, RefusalIsRead, DeclaredOrRefused, NeverBoth, OneDefinition, OneRefusal, RowIsGiven, RefusalIsGiven, PayloadIsRead, OneRow, PayloadHasItsSize};
+
+use crate::pair::Pair;
 
 /// The words and `;` of a text with their places are those of the parts that it is written of: blanks, `;` and words, where no two words
 /// stand side by side and each place is the length of all that is written before it. So each text has one list of words and places.
@@ -36,4 +40,10 @@ pub fn payloads_are_read_as_their_rows()
 /// The payload of a row of an event has as many bytes as the sizes of the event's fields come to.
 pub fn payloads_have_their_size()
     ensures { PayloadHasItsSize }
+{}
+
+/// Two pairs are equal exactly where they are the same value, and a clone is the same value.
+pub fn equal_pairs_are_the_same()
+    ensures equal { (a : PairValue) (b : PairValue) → IsTrue (⟦<Pair as PartialEq>⟧.eq a b) ↔ (a ≡ b) }
+    ensures clone { (a : PairValue) (c : PairValue) → ⟦<Pair as Clone>⟧.is_clone a c → c ≡ a }
 {}
