@@ -1,6 +1,6 @@
 -- A filter as the program keeps and evaluates it. That its value is the truth of the filter's tree is the law
 -- `filters_hold_as_their_trees`.
-use Rattle.std.specs.Prelude.{pos, Bool, true, false, not, ◌&&◌, ◌||◌, nat_lt, if◌then◌else◌, List, [], ◌∷◌, ◌++◌, length, take, reverse, Option, None, Some, unwrap_or, slice_get}
+use Rattle.std.specs.Prelude.{pos, Bool, true, false, not, ◌&&◌, ◌||◌, nat_lt, if◌then◌else◌, List, [], ◌∷◌, ◌++◌, length, reverse, Option, None, Some, unwrap_or, slice_get}
 use Rattle.trace_format.specs.declared.event.Field.{Field}
 use Rattle.trace_format.specs.Cells.{Datum, Whole, Bytes, datum_of}
 use Rattle.trace_filter.specs.declared.token.Comparison.{Comparison}
@@ -144,4 +144,4 @@ at_start = record { frame = fresh; outer = [] }
 
 -- what the program's frames stand for
 abbrev pub state_of : Frames → State
-state_of f = record { frame = f.current; outer = reverse (take f.depth f.outer) }
+state_of f = record { frame = f.current; outer = reverse f.outer.items }

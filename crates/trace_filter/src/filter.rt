@@ -72,7 +72,7 @@ impl Filter {
         if trimmed.len() > LONGEST {
             return Err(FilterFault::TooMany);
         }
-        match read_syntax(alloc, body, text.len())? {
+        match read_syntax(body, text.len()) {
             Verdict::Fine => {}
             Verdict::TooDeep => return Err(FilterFault::TooMany),
             Verdict::WrongAt(at) => return Err(FilterFault::FilterSyntax { at }),

@@ -1,12 +1,14 @@
 //! Truth values of a filter's parts, as they are found from left to right.
 
-ghost use Rattle.std.specs.Prelude.{◌≡◌, ◌≤◌, true, false, not, reverse, take};
+ghost use Rattle.std.specs.Prelude.{◌≡◌, true, false, not};
+
+use arrayvec::ArrayVec;
 
 /// At most so many `(` are open at one place.
 const DEEPEST: usize = 16;
 
 /// What was found inside one `(`.
-#[derive(Clone, Copy, Debug)]
+#[derive(Clone, Copy, Debug, Default)]
 pub(crate) struct Frame {
     /// Whether an alternative before this one holds.
     any: bool,
@@ -48,12 +50,11 @@ impl Frame {
 }
 
 /// What was found inside the innermost `(`, and inside those outside it.
-#[derive(Clone, Copy, Debug)]
+#[derive(Debug, Drop)]
 pub(crate) struct Frames {
     current: Frame,
-    outer: [Frame; DEEPEST],
-    depth: usize,
-    ghost shallow: { depth ≤ 16 },
+    /// Innermost last.
+    outer: ArrayVec<Frame, DEEPEST>,
 }
 
 impl Frames {
@@ -64,8 +65,7 @@ impl Frames {
     {
         Frames {
             current: Frame::new(),
-            outer: [Frame::new(); DEEPEST],
-            depth: 0,
+            outer: ArrayVec::new(),
         }
     }
 
@@ -73,9 +73,7 @@ impl Frames {
     pub(crate) fn open(&mut self)
         ensures { state_of self.new ≡ opened self.old.current (state_of self.old).outer }
     {
-        if self.depth < DEEPEST {
-            self.outer[self.depth] = self.current;
-            self.depth += 1;
+        if self.outer.try_push(self.current).is_ok() {
             self.current = Frame::new();
         }
     }
@@ -84,9 +82,8 @@ impl Frames {
     pub(crate) fn close(&mut self)
         ensures { state_of self.new ≡ closed self.old.current (state_of self.old).outer }
     {
-        if self.depth > 0 {
-            self.depth -= 1;
-            self.current = self.outer[self.depth].with(self.current.total());
+        if let Some(before) = self.outer.pop() {
+            self.current = before.with(self.current.total());
         }
     }
 

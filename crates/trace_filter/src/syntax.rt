@@ -1,16 +1,19 @@
 //! The syntax of filters, read token by token.
 
-ghost use Rattle.std.specs.Prelude.{◌≡◌, ◌≤◌, ◌<◌, ◌+◌, ◌∷◌, List, ℕ, Bool, true, false, length, reverse, sum, IfOk, Some, None};
+ghost use Rattle.std.specs.Prelude.{◌≡◌, ◌≤◌, ◌<◌, ◌+◌, ◌∷◌, List, ℕ, Bool, true, false, length, reverse, sum, Some, None};
 ghost use Rattle.trace_filter.specs.Grammar.{open_count};
 ghost use Rattle.trace_filter.specs.Tokens.{spots_from};
 ghost use Rattle.trace_filter.specs.Syntax.{start, reading};
 
 use crate::token::{Token, next_token};
-use std::alloc::{AllocError, Global};
+use arrayvec::ArrayVec;
 use std::marker::Model;
 
 /// At most so many `!` and `(` are open at one place.
 const DEEPEST: usize = 16;
+
+/// So many are open where the first too many was read.
+const TOO_MANY: usize = DEEPEST + 1;
 
 /// What may stand next in a filter.
 #[derive(Clone, Copy, Debug, PartialEq, Eq)]
@@ -42,7 +45,7 @@ pub(crate) struct Reader {
     /// How many `!` are open inside the innermost open `(`.
     bangs: usize,
     /// For each open `(`, innermost last, how many `!` are open before it.
-    outer: Vec<usize>,
+    outer: ArrayVec<usize, TOO_MANY>,
 }
 
 impl Model for Reader {
@@ -58,26 +61,26 @@ impl Reader {
     ghost use Rattle.trace_filter.specs.Syntax.{step, may_end as ends, Takes};
     ghost use Rattle.trace_filter.specs.Seen.{token_of};
 
-    fn new(alloc: Global) -> Reader
+    fn new() -> Reader
         ensures { result ≡ start }
     {
         Reader {
             due: Due::Operand,
             bangs: 0,
-            outer: Vec::new(alloc),
+            outer: ArrayVec::new(),
         }
     }
 
     /// Takes one more token, and says whether it may stand there.
     #[tactic(auto, unfolding(crate::specs::Syntax::step))]
-    fn take(&mut self, token: Token) -> Result<bool, AllocError>
+    fn take(&mut self, token: Token) -> bool
         requires { open_count self.old.opened ≤ 16 }
-        ensures { IfOk result (λ fits. Takes (step self.old (token_of token.entry)) fits self.new) }
+        ensures { Takes (step self.old (token_of token.entry)) result self.new }
     {
         match (self.due, token) {
             (Due::Operand, Token::Bang) => self.bangs += 1,
             (Due::Operand, Token::Open) => {
-                self.outer.push(self.bangs)?;
+                self.outer.push(self.bangs);
                 self.bangs = 0;
             }
             (Due::Operand, Token::Name(_)) => self.due = Due::Operator,
@@ -89,13 +92,13 @@ impl Reader {
             (Due::Joint, Token::Both | Token::Either) => self.due = Due::Operand,
             (Due::Joint, Token::Close) => {
                 if self.outer.pop().is_none() {
-                    return Ok(false);
+                    return false;
                 }
                 self.bangs = 0;
             }
-            _ => return Ok(false),
+            _ => return false,
         }
-        Ok(true)
+        true
     }
 
     /// How many `!` and `(` are open.
@@ -123,25 +126,25 @@ fn total(counts: &[usize]) -> usize
 }
 
 /// What the tokens of a text come to, which is the front of one of so many bytes.
-pub(crate) fn read_syntax(alloc: Global, text: &[u8], len: usize) -> Result<Verdict, AllocError>
-    ensures { IfOk result (λ verdict. verdict ≡ reading start (spots_from false 0 0 text.now) len) }
+pub(crate) fn read_syntax(text: &[u8], len: usize) -> Verdict
+    ensures { result ≡ reading start (spots_from false 0 0 text.now) len }
 {
-    let mut reader = Reader::new(alloc);
+    let mut reader = Reader::new();
     let mut from = 0;
     let mut value_due = false;
     while let Some(spot) = next_token(text, from, value_due) {
-        if !reader.take(spot.token)? {
-            return Ok(Verdict::WrongAt(spot.at));
+        if !reader.take(spot.token) {
+            return Verdict::WrongAt(spot.at);
         }
         if reader.depth() > DEEPEST {
-            return Ok(Verdict::TooDeep);
+            return Verdict::TooDeep;
         }
         from = spot.end;
         value_due = spot.token.is_comparison();
     }
     if reader.may_end() {
-        Ok(Verdict::Fine)
+        Verdict::Fine
     } else {
-        Ok(Verdict::WrongAt(len))
+        Verdict::WrongAt(len)
     }
 }

@@ -7,10 +7,10 @@ use Rattle.trace_filter.proofs.Sums.{sum-reverse}
 use Rattle.trace_filter.proofs.syntax.Reader.depth.Goals as goal
 
 pub total-requires : goal.total-requires
-total-requires c = omega (arith, ap (λ (s : Standing). open_count s.opened) c.self.view_is, sum-reverse c.self.inside.outer.items, ap sum c.deref.ensures.value, c.requires)
+total-requires c = omega (arith, ap (λ (s : Standing). open_count s.opened) c.self.view_is, sum-reverse c.self.inside.outer.items, ap sum c.deref.ensures.0, c.requires)
 
 pub overflow_add-result-2 : goal.overflow_add-result-2
-overflow_add-result-2 c = omega (arith, ap (λ (s : Standing). open_count s.opened) c.self.view_is, sum-reverse c.self.inside.outer.items, length-reverse c.self.inside.outer.items, ap sum c.deref.ensures.value, c.total.ensures, c.requires)
+overflow_add-result-2 c = omega (arith, ap (λ (s : Standing). open_count s.opened) c.self.view_is, sum-reverse c.self.inside.outer.items, length-reverse c.self.inside.outer.items, ap sum c.deref.ensures.0, c.total.ensures, c.requires)
 
 pub returns : goal.returns
-returns c = omega (arith, ap (λ (s : Standing). open_count s.opened) c.self.view_is, sum-reverse c.self.inside.outer.items, length-reverse c.self.inside.outer.items, ap sum c.deref.ensures.value, c.total.ensures)
+returns c = omega (arith, ap (λ (s : Standing). open_count s.opened) c.self.view_is, sum-reverse c.self.inside.outer.items, length-reverse c.self.inside.outer.items, ap sum c.deref.ensures.0, c.total.ensures)
