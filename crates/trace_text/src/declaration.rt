@@ -8,25 +8,25 @@ use std::alloc::{AllocError, Global};
 use trace_format::{EventDef, Field};
 
 /// Appends fields that follow another one.
-fn push_further_fields(alloc: Global, out: &mut Vec<u8>, fields: &[Field]) -> Result<(), AllocError>
+fn push_further_fields(out: &mut Vec<u8>, fields: &[Field]) -> Result<(), AllocError>
     ensures { OnOk result (out.new.items ≡ out.old.items ++ texts.further_fields fields.now) }
 {
     for field in fields {
         out.extend_from_slice(b"; ".as_slice())?;
-        push_field(alloc, out, field)?;
+        push_field(out, field)?;
     }
     Ok(())
 }
 
 /// Appends fields with `; ` between each two.
-fn push_fields(alloc: Global, out: &mut Vec<u8>, fields: &[Field]) -> Result<(), AllocError>
+fn push_fields(out: &mut Vec<u8>, fields: &[Field]) -> Result<(), AllocError>
     ensures { OnOk result (out.new.items ≡ out.old.items ++ texts.fields_text fields.now) }
 {
     let Some((first, further)) = fields.split_first() else {
         return Ok(());
     };
-    push_field(alloc, out, first)?;
-    push_further_fields(alloc, out, further)
+    push_field(out, first)?;
+    push_further_fields(out, further)
 }
 
 /// Appends an event's line of `synthetic_events` ("Synthetic events" of histogram.rst): its name, and its fields as they are declared.
@@ -40,7 +40,7 @@ pub fn declaration_text(alloc: Global, def: &EventDef, out: &mut Vec<u8>) -> Res
     let mut text = Vec::new(alloc);
     text.extend_from_slice(def.name())?;
     text.extend_from_slice(b" ".as_slice())?;
-    push_fields(alloc, &mut text, def.fields())?;
+    push_fields(&mut text, def.fields())?;
     text.extend_from_slice(b"\n".as_slice())?;
     out.extend_from_slice(&text)
 }

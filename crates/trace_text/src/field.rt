@@ -4,29 +4,29 @@ ghost use Rattle.std.specs.Prelude.{◌≡◌, ◌++◌, OnOk};
 ghost use Rattle.trace_format.specs.Definitions.{length_suffix};
 ghost use Rattle.trace_text.specs.FieldText as texts;
 
-use crate::append::push_decimal;
-use std::alloc::{AllocError, Global};
+use crate::append::push_number;
+use std::alloc::AllocError;
 use trace_format::{Field, Kind};
 
 /// Appends a field as it is declared: its type with single blanks, its name, and behind the name of a text its length in brackets.
 #[tactic(auto, unfolding(crate::specs::FieldText::field_text))]
-pub(crate) fn push_field(alloc: Global, out: &mut Vec<u8>, field: &Field) -> Result<(), AllocError>
+pub(crate) fn push_field(out: &mut Vec<u8>, field: &Field) -> Result<(), AllocError>
     ensures { OnOk result (out.new.items ≡ out.old.items ++ texts.field_text field.now) }
 {
     out.extend_from_slice(field.kind.type_name())?;
     out.extend_from_slice(b" ".as_slice())?;
     out.extend_from_slice(field.name.as_bytes())?;
-    push_length(alloc, out, field.kind)
+    push_length(out, field.kind)
 }
 
 /// Appends the length of a text in brackets, and of a number nothing.
-fn push_length(alloc: Global, out: &mut Vec<u8>, kind: Kind) -> Result<(), AllocError>
+fn push_length(out: &mut Vec<u8>, kind: Kind) -> Result<(), AllocError>
     ensures { OnOk result (out.new.items ≡ out.old.items ++ length_suffix kind) }
 {
     let Kind::Char(length) = kind else {
         return Ok(());
     };
     out.extend_from_slice(b"[".as_slice())?;
-    push_decimal(alloc, out, u128::from(length))?;
+    push_number(out, length)?;
     out.extend_from_slice(b"]".as_slice())
 }

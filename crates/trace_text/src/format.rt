@@ -3,7 +3,7 @@
 ghost use Rattle.std.specs.Prelude.{◌≡◌, ◌++◌, OnOk, OnErr};
 ghost use Rattle.trace_text.specs.FormatText as texts;
 
-use crate::append::push_decimal;
+use crate::append::push_number;
 use crate::field::push_field;
 use std::alloc::{AllocError, Global};
 use trace_format::{EventDef, Field};
@@ -26,7 +26,6 @@ fn push_sign(out: &mut Vec<u8>, signed: bool) -> Result<(), AllocError>
 /// Appends where a field lies in a record, and how: its first byte, its bytes, and whether it is signed.
 #[tactic(auto, unfolding(crate::specs::FormatText::place_line))]
 fn push_place(
-    alloc: Global,
     out: &mut Vec<u8>,
     declared: &[u8],
     offset: u128,
@@ -38,9 +37,9 @@ fn push_place(
     out.extend_from_slice(b"\tfield:".as_slice())?;
     out.extend_from_slice(declared)?;
     out.extend_from_slice(b";\toffset:".as_slice())?;
-    push_decimal(alloc, out, offset)?;
+    push_number(out, offset)?;
     out.extend_from_slice(b";\tsize:".as_slice())?;
-    push_decimal(alloc, out, size as u128)?;
+    push_number(out, size)?;
     out.extend_from_slice(b";\tsigned:".as_slice())?;
     push_sign(out, signed)?;
     out.extend_from_slice(b";\n".as_slice())
@@ -57,9 +56,9 @@ fn push_field_line(
     ensures { OnOk result (out.new.items ≡ out.old.items ++ texts.field_line offset field.now) }
 {
     let mut declared = Vec::new(alloc);
-    push_field(alloc, &mut declared, field)?;
+    push_field(&mut declared, field)?;
     let kind = field.kind;
-    push_place(alloc, out, &declared, offset, kind.size(), kind.is_signed())
+    push_place(out, &declared, offset, kind.size(), kind.is_signed())
 }
 
 /// Appends the lines of fields that lie one behind the other in a record.
@@ -76,10 +75,10 @@ fn push_field_lines(alloc: Global, out: &mut Vec<u8>, fields: &[Field]) -> Resul
 
 /// Appends the line of the pid, which stands in each record's head.
 #[tactic(auto, unfolding(crate::specs::FormatText::common_pid_line))]
-fn push_common_pid_line(alloc: Global, out: &mut Vec<u8>) -> Result<(), AllocError>
+fn push_common_pid_line(out: &mut Vec<u8>) -> Result<(), AllocError>
     ensures { OnOk result (out.new.items ≡ out.old.items ++ texts.common_pid_line) }
 {
-    push_place(alloc, out, b"s32 common_pid".as_slice(), 8, 4, true)
+    push_place(out, b"s32 common_pid".as_slice(), 8, 4, true)
 }
 
 /// Appends the text of `events/synthetic/NAME/format` ("Event formats" of events.rst): the event's name and number, then a line for the pid
@@ -101,9 +100,9 @@ pub fn format_text(
     text.extend_from_slice(b"name: ".as_slice())?;
     text.extend_from_slice(def.name())?;
     text.extend_from_slice(b"\nID: ".as_slice())?;
-    push_decimal(alloc, &mut text, u128::from(id))?;
+    push_number(&mut text, id)?;
     text.extend_from_slice(b"\nformat:\n".as_slice())?;
-    push_common_pid_line(alloc, &mut text)?;
+    push_common_pid_line(&mut text)?;
     text.extend_from_slice(b"\n".as_slice())?;
     push_field_lines(alloc, &mut text, def.fields())?;
     out.extend_from_slice(&text)

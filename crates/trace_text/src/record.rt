@@ -5,7 +5,7 @@ ghost use Rattle.trace_format.specs.Cells.{datum_of};
 ghost use Rattle.trace_format.specs.Decoding.{row_from};
 ghost use Rattle.trace_text.specs.RecordText as texts;
 
-use crate::append::{push_decimal, push_signed};
+use crate::append::push_number;
 use std::alloc::{AllocError, Global};
 use trace_format::{Catalog, EventDef, Field, Row, Value};
 use trace_record::{Head, payload_in, read_head};
@@ -24,59 +24,44 @@ fn push_three_digits(out: &mut Vec<u8>, n: u32) -> Result<(), AllocError>
 
 /// Appends who wrote a record, where and when.
 #[tactic(auto, unfolding(crate::specs::RecordText::line_start))]
-fn push_line_start(
-    alloc: Global,
-    out: &mut Vec<u8>,
-    cpu: u32,
-    head: &Head,
-) -> Result<(), AllocError>
+fn push_line_start(out: &mut Vec<u8>, cpu: u32, head: &Head) -> Result<(), AllocError>
     ensures { OnOk result (out.new.items ≡ out.old.items ++ texts.line_start cpu head.now) }
 {
-    push_signed(alloc, out, i128::from(head.pid))?;
+    push_number(out, head.pid)?;
     out.extend_from_slice(b" [".as_slice())?;
     push_three_digits(out, cpu)?;
     out.extend_from_slice(b"] ".as_slice())?;
-    push_decimal(alloc, out, u128::from(head.ts))?;
+    push_number(out, head.ts)?;
     out.extend_from_slice(b": ".as_slice())
 }
 
 /// Appends a number in decimal, or a text as it is.
-fn push_value(alloc: Global, out: &mut Vec<u8>, value: &Value) -> Result<(), AllocError>
+fn push_value(out: &mut Vec<u8>, value: &Value) -> Result<(), AllocError>
     ensures { OnOk result (out.new.items ≡ out.old.items ++ texts.value_text (datum_of value.now)) }
 {
     match value {
-        Value::Num(number) => push_signed(alloc, out, *number),
+        Value::Num(number) => push_number(out, *number),
         Value::Text(text) => out.extend_from_slice(text),
     }
 }
 
 /// Appends a field and its value.
 #[tactic(auto, unfolding(crate::specs::RecordText::cell_text))]
-fn push_cell(
-    alloc: Global,
-    out: &mut Vec<u8>,
-    field: &Field,
-    value: &Value,
-) -> Result<(), AllocError>
+fn push_cell(out: &mut Vec<u8>, field: &Field, value: &Value) -> Result<(), AllocError>
     ensures { OnOk result (out.new.items ≡ out.old.items ++ texts.cell_text field.now (datum_of value.now)) }
 {
     out.extend_from_slice(b" ".as_slice())?;
     out.extend_from_slice(field.name.as_bytes())?;
     out.extend_from_slice(b"=".as_slice())?;
-    push_value(alloc, out, value)
+    push_value(out, value)
 }
 
 /// Appends fields, each with its value.
-fn push_cells(
-    alloc: Global,
-    out: &mut Vec<u8>,
-    fields: &[Field],
-    values: &[Value],
-) -> Result<(), AllocError>
+fn push_cells(out: &mut Vec<u8>, fields: &[Field], values: &[Value]) -> Result<(), AllocError>
     ensures { OnOk result (out.new.items ≡ out.old.items ++ texts.cells_text fields.now (map datum_of values.now)) }
 {
     for (field, value) in fields.iter().zip(values) {
-        push_cell(alloc, out, field, value)?;
+        push_cell(out, field, value)?;
     }
     Ok(())
 }
@@ -84,7 +69,6 @@ fn push_cells(
 /// Appends the line of a row.
 #[tactic(auto, unfolding(crate::specs::RecordText::row_line))]
 fn push_row_line(
-    alloc: Global,
     out: &mut Vec<u8>,
     cpu: u32,
     head: &Head,
@@ -93,10 +77,10 @@ fn push_row_line(
 ) -> Result<(), AllocError>
     ensures { OnOk result (out.new.items ≡ out.old.items ++ texts.row_line cpu head.now def.now row.now.values) }
 {
-    push_line_start(alloc, out, cpu, head)?;
+    push_line_start(out, cpu, head)?;
     out.extend_from_slice(def.name())?;
     out.extend_from_slice(b":".as_slice())?;
-    push_cells(alloc, out, def.fields(), row.values())?;
+    push_cells(out, def.fields(), row.values())?;
     out.extend_from_slice(b"\n".as_slice())
 }
 
@@ -112,7 +96,7 @@ fn push_event_line(
     ensures { OnOk result (out.new.items ≡ out.old.items ++ texts.line_of_row cpu head.now def.now (row_from def.now payload.now)) }
 {
     match Row::decode(alloc, def, payload)? {
-        Some(row) => push_row_line(alloc, out, cpu, head, def, &row),
+        Some(row) => push_row_line(out, cpu, head, def, &row),
         None => Ok(()),
     }
 }
