@@ -1,3 +1,4 @@
 pub mod PlaceLemmas
 pub mod RecordLemmas
 pub mod ProcessLemmas
+pub mod FrontLemmas

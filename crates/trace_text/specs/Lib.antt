@@ -5,3 +5,4 @@ pub mod DeclarationText
 pub mod RecordText
 pub mod TraceText
 pub mod Laws
+pub mod Fronts

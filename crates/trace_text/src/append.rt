@@ -1,6 +1,6 @@
 //! Numbers as texts of bytes.
 
-ghost use Rattle.std.specs.Prelude.{◌≡◌, ◌++◌, OnOk};
+ghost use Rattle.std.specs.Prelude.{◌≡◌, ◌++◌, OnOk, OnErr};
 ghost use Rattle.std.specs.Fmt.{decimal};
 
 use itoa::{Buffer, Integer};
@@ -8,7 +8,8 @@ use std::alloc::{AllocError, Global};
 
 /// Appends a number in decimal, one below 0 with its sign.
 pub(crate) fn push_number<N: Integer>(out: &mut Vec<u8>, n: N) -> Result<(), AllocError>
-    ensures { OnOk result (out.new.items ≡ out.old.items ++ N.text n) }
+    ensures text { OnOk result (out.new.items ≡ out.old.items ++ N.text n) }
+    ensures kept { OnErr result (out.new.items ≡ out.old.items) }
 {
     out.extend_from_slice(Buffer::new().format(n).as_bytes())
 }

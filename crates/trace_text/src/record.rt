@@ -3,6 +3,7 @@
 ghost use Rattle.std.specs.Prelude.{◌≡◌, ◌++◌, map, OnOk, OnErr};
 ghost use Rattle.trace_format.specs.Cells.{datum_of};
 ghost use Rattle.trace_format.specs.Decoding.{row_from};
+ghost use Rattle.trace_text.specs.Fronts.{BeginWith};
 ghost use Rattle.trace_text.specs.RecordText as texts;
 
 use crate::append::push_number;
@@ -11,8 +12,10 @@ use trace_format::{Catalog, EventDef, Field, Row, Value};
 use trace_record::{Head, payload_in, read_head};
 
 /// Appends a number below 1,000 in three digits.
+#[tactic(auto, using(crate::proofs::FrontLemmas::appending))]
 fn push_three_digits(out: &mut Vec<u8>, n: u32) -> Result<(), AllocError>
-    ensures { OnOk result (out.new.items ≡ out.old.items ++ texts.three_digits n) }
+    ensures text { OnOk result (out.new.items ≡ out.old.items ++ texts.three_digits n) }
+    ensures kept { OnErr result (BeginWith out.old.items out.new.items) }
 {
     let digits = [
         b'0' + (n / 100 % 10) as u8,
@@ -23,9 +26,10 @@ fn push_three_digits(out: &mut Vec<u8>, n: u32) -> Result<(), AllocError>
 }
 
 /// Appends who wrote a record, where and when.
-#[tactic(auto, unfolding(crate::specs::RecordText::line_start))]
+#[tactic(auto, using(crate::proofs::FrontLemmas::appending), unfolding(crate::specs::RecordText::line_start))]
 fn push_line_start(out: &mut Vec<u8>, cpu: u32, head: &Head) -> Result<(), AllocError>
-    ensures { OnOk result (out.new.items ≡ out.old.items ++ texts.line_start cpu head.now) }
+    ensures text { OnOk result (out.new.items ≡ out.old.items ++ texts.line_start cpu head.now) }
+    ensures kept { OnErr result (BeginWith out.old.items out.new.items) }
 {
     push_number(out, head.pid)?;
     out.extend_from_slice(b" [".as_slice())?;
@@ -36,8 +40,10 @@ fn push_line_start(out: &mut Vec<u8>, cpu: u32, head: &Head) -> Result<(), Alloc
 }
 
 /// Appends a number in decimal, or a text as it is.
+#[tactic(auto, using(crate::proofs::FrontLemmas::appending))]
 fn push_value(out: &mut Vec<u8>, value: &Value) -> Result<(), AllocError>
-    ensures { OnOk result (out.new.items ≡ out.old.items ++ texts.value_text (datum_of value.now)) }
+    ensures text { OnOk result (out.new.items ≡ out.old.items ++ texts.value_text (datum_of value.now)) }
+    ensures kept { OnErr result (BeginWith out.old.items out.new.items) }
 {
     match value {
         Value::Num(number) => push_number(out, *number),
@@ -46,9 +52,10 @@ fn push_value(out: &mut Vec<u8>, value: &Value) -> Result<(), AllocError>
 }
 
 /// Appends a field and its value.
-#[tactic(auto, unfolding(crate::specs::RecordText::cell_text))]
+#[tactic(auto, using(crate::proofs::FrontLemmas::appending), unfolding(crate::specs::RecordText::cell_text))]
 fn push_cell(out: &mut Vec<u8>, field: &Field, value: &Value) -> Result<(), AllocError>
-    ensures { OnOk result (out.new.items ≡ out.old.items ++ texts.cell_text field.now (datum_of value.now)) }
+    ensures text { OnOk result (out.new.items ≡ out.old.items ++ texts.cell_text field.now (datum_of value.now)) }
+    ensures kept { OnErr result (BeginWith out.old.items out.new.items) }
 {
     out.extend_from_slice(b" ".as_slice())?;
     out.extend_from_slice(field.name.as_bytes())?;
@@ -57,8 +64,10 @@ fn push_cell(out: &mut Vec<u8>, field: &Field, value: &Value) -> Result<(), Allo
 }
 
 /// Appends fields, each with its value.
+#[tactic(auto, using(crate::proofs::FrontLemmas::appending))]
 fn push_cells(out: &mut Vec<u8>, fields: &[Field], values: &[Value]) -> Result<(), AllocError>
-    ensures { OnOk result (out.new.items ≡ out.old.items ++ texts.cells_text fields.now (map datum_of values.now)) }
+    ensures text { OnOk result (out.new.items ≡ out.old.items ++ texts.cells_text fields.now (map datum_of values.now)) }
+    ensures kept { OnErr result (BeginWith out.old.items out.new.items) }
 {
     for (field, value) in fields.iter().zip(values) {
         push_cell(out, field, value)?;
@@ -67,7 +76,7 @@ fn push_cells(out: &mut Vec<u8>, fields: &[Field], values: &[Value]) -> Result<(
 }
 
 /// Appends the line of a row.
-#[tactic(auto, unfolding(crate::specs::RecordText::row_line))]
+#[tactic(auto, using(crate::proofs::FrontLemmas::appending), unfolding(crate::specs::RecordText::row_line))]
 fn push_row_line(
     out: &mut Vec<u8>,
     cpu: u32,
@@ -75,7 +84,8 @@ fn push_row_line(
     def: &EventDef,
     row: &Row,
 ) -> Result<(), AllocError>
-    ensures { OnOk result (out.new.items ≡ out.old.items ++ texts.row_line cpu head.now def.now row.now.values) }
+    ensures text { OnOk result (out.new.items ≡ out.old.items ++ texts.row_line cpu head.now def.now row.now.values) }
+    ensures kept { OnErr result (BeginWith out.old.items out.new.items) }
 {
     push_line_start(out, cpu, head)?;
     out.extend_from_slice(def.name())?;
@@ -85,6 +95,7 @@ fn push_row_line(
 }
 
 /// Appends the line of a record of an event.
+#[tactic(auto, using(crate::proofs::FrontLemmas::appending))]
 fn push_event_line(
     alloc: Global,
     out: &mut Vec<u8>,
@@ -93,7 +104,8 @@ fn push_event_line(
     def: &EventDef,
     payload: &[u8],
 ) -> Result<(), AllocError>
-    ensures { OnOk result (out.new.items ≡ out.old.items ++ texts.line_of_row cpu head.now def.now (row_from def.now payload.now)) }
+    ensures text { OnOk result (out.new.items ≡ out.old.items ++ texts.line_of_row cpu head.now def.now (row_from def.now payload.now)) }
+    ensures kept { OnErr result (BeginWith out.old.items out.new.items) }
 {
     match Row::decode(alloc, def, payload)? {
         Some(row) => push_row_line(out, cpu, head, def, &row),
@@ -102,7 +114,7 @@ fn push_event_line(
 }
 
 /// Appends the line of a record.
-#[tactic(auto, unfolding(crate::specs::RecordText::record_line))]
+#[tactic(auto, using(crate::proofs::FrontLemmas::appending), unfolding(crate::specs::RecordText::record_line))]
 fn push_record_line(
     alloc: Global,
     out: &mut Vec<u8>,
@@ -110,7 +122,8 @@ fn push_record_line(
     cpu: u32,
     rec: &[u8],
 ) -> Result<(), AllocError>
-    ensures { OnOk result (out.new.items ≡ out.old.items ++ texts.record_line catalog.now cpu rec.now) }
+    ensures text { OnOk result (out.new.items ≡ out.old.items ++ texts.record_line catalog.now cpu rec.now) }
+    ensures kept { OnErr result (BeginWith out.old.items out.new.items) }
 {
     let Some(head) = read_head(rec) else {
         return Ok(());
@@ -128,6 +141,7 @@ fn push_record_line(
 /// with no head, of no such event, or with no row of it have no line.
 ///
 /// It is refused only if it runs out of memory, and `out` is then as it was.
+#[tactic(auto, using(crate::proofs::FrontLemmas::appending))]
 pub fn record_text(
     alloc: Global,
     catalog: &Catalog,
@@ -138,7 +152,10 @@ pub fn record_text(
     ensures text { OnOk result (out.new.items ≡ out.old.items ++ texts.record_line catalog.now cpu rec.now) }
     ensures refused { OnErr result (out.new.items ≡ out.old.items) }
 {
-    let mut text = Vec::new(alloc);
-    push_record_line(alloc, &mut text, catalog, cpu, rec)?;
-    out.extend_from_slice(&text)
+    let before = out.len();
+    let written = push_record_line(alloc, out, catalog, cpu, rec);
+    if written.is_err() {
+        out.truncate(before);
+    }
+    written
 }
