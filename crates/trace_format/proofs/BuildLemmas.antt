@@ -14,7 +14,7 @@ use Rattle.trace_lex.specs.Numbers.{number_of}
 use Rattle.trace_format.specs.Kinds.{least, greatest}
 use Rattle.trace_format.specs.Definitions.{Definition}
 use Rattle.trace_format.specs.Cells.{Datum, Holds, is_printable, kinds_of}
-use Rattle.trace_format.specs.Rows.{number_in, value_of, first_wrong, first_missing, pair_named, given, row_unless, row_of, IsBuilt, IsBadRow, IsMissing}
+use Rattle.trace_format.specs.Rows.{number_in, value_of, first_wrong, first_missing, pair_named, given, row_unless, row_of, IsBuilt, IsBadRow}
 use Rattle.trace_lex.proofs.Options.{if_some, and_then_some}
 
 -- what a text gives may be held
@@ -64,6 +64,6 @@ module _ (definition : Definition) (pairs : List Pair) where
   refused_wrong (BadRow field) name is h = row_wrong name h ∙ ap Err (sym is)
   refused_wrong Memory name is h = tt
 
-  pub refused_missing : (fault : RowFault) → first_wrong definition.fields [] pairs ≡ None → IsMissing fault (first_missing definition.fields pairs) → IsBuilt (Err fault) (row_of definition pairs)
-  refused_missing (BadRow field) right is = row_missing field right is
-  refused_missing Memory right is = tt
+  pub refused_missing : (fault : RowFault) (name : List ℕ) → IsBadRow fault name → first_wrong definition.fields [] pairs ≡ None → first_missing definition.fields pairs ≡ Some name → IsBuilt (Err fault) (row_of definition pairs)
+  refused_missing (BadRow field) name is right h = row_missing name right h ∙ ap Err (sym is)
+  refused_missing Memory name is right h = tt

@@ -4,6 +4,7 @@ pub mod FieldNames
 pub mod FreshNames
 pub mod Lengths
 pub mod MapLemmas
+pub mod NewFields
 pub mod PairLemmas
 pub mod PartLemmas
 pub mod Patterns

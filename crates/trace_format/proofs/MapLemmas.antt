@@ -21,7 +21,7 @@ find-append test (x ∷ xs) ys h = by (test x) h (find-append test xs ys)
     by false h' others = others h'
 
 -- a pair that no pair before has the name of is the pair of its name
-own_pair : (before after : List Pair) (pair : Pair) → is_some (pair_named before pair.name) ≡ false → pair_named (before ++ pair ∷ after) pair.name ≡ Some pair
+pub own_pair : (before after : List Pair) (pair : Pair) → is_some (pair_named before pair.name) ≡ false → pair_named (before ++ pair ∷ after) pair.name ≡ Some pair
 own_pair before after pair h =
     find-append (λ (p : Pair). bytes_eq p.name pair.name) before (pair ∷ after) h
     ∙ ap (λ t. if t then Some pair else pair_named after pair.name) ((bytes_eq-Decides pair.name pair.name).1 refl)

@@ -1,6 +1,6 @@
 -- Rows as pairs of field names and texts give them, as functions. That these are what `Pairs` says is stated in `Laws`, as `RowIsGiven` and
 -- `RefusalIsGiven`.
-use Rattle.std.specs.Prelude.{◌≡◌, ℕ, ℤ, int_le, Bool, not, ◌&&◌, nat_lt, if◌then◌else◌, bytes_eq, List, [], ◌∷◌, ◌++◌, length, find, filter_map, Option, None, Some, is_some, option_and_then, Result, Ok, Err}
+use Rattle.std.specs.Prelude.{◌≡◌, ℕ, ℤ, int_le, Bool, true, not, ◌&&◌, nat_lt, if◌then◌else◌, bytes_eq, List, [], ◌∷◌, ◌++◌, length, find, filter_map, Option, None, Some, is_some, option_and_then, Result, Ok, Err}
 use Rattle.std.specs.List.{list_all}
 use Rattle.trace_format.specs.declared.fault.RowFault.{RowFault}
 use Rattle.trace_format.specs.declared.fault.RowFault.TheVariants.{BadRow, Memory}
@@ -33,6 +33,15 @@ pair_value fields pair = option_and_then (λ field. value_of field.kind pair.val
 -- the pair of a name
 abbrev pub pair_named : List Pair → List ℕ → Option Pair
 pair_named pairs name = find (λ pair. bytes_eq pair.name name) pairs
+
+-- the field that a pair names, if none before it names it
+abbrev pub new_field : List Field → List Pair → Pair → Option Field
+new_field fields before pair = if is_some (pair_named before pair.name) then None else field_named fields pair.name
+
+-- whether each pair names such a field
+abbrev pub all_new : List Field → List Pair → List Pair → Bool
+all_new fields before [] = true
+all_new fields before (pair ∷ pairs) = is_some (new_field fields before pair) && all_new fields (before ++ pair ∷ []) pairs
 
 -- a pair is right behind others where it names a field that none of them names, and its text is a value of that field
 abbrev pub is_right : List Field → List Pair → Pair → Bool
@@ -71,8 +80,3 @@ IsBuilt (Err Memory) built = Unit {0}
 abbrev pub IsBadRow : RowFault → List ℕ → Type 0
 IsBadRow (BadRow name) field = name ≡ field
 IsBadRow Memory field = Unit {0}
-
--- a refusal at the field that is missing, or for memory
-abbrev pub IsMissing : RowFault → Option (List ℕ) → Type 0
-IsMissing (BadRow name) missing = missing ≡ Some name
-IsMissing Memory missing = Unit {0}

@@ -1,8 +1,8 @@
 //! The values that pairs of names and texts give to fields.
 
-ghost use Rattle.std.specs.Prelude.{◌≡◌, [], None, map, filter_map, IfErr, IfOk, is_some, option_map, option_copied};
+ghost use Rattle.std.specs.Prelude.{◌≡◌, [], None, map, filter_map, IfOk, IfSome, IfNone, IsSome, is_some, option_map, option_copied};
 ghost use Rattle.trace_format.specs.Cells.{Datum, datum_of};
-ghost use Rattle.trace_format.specs.Rows.{field_named, pair_named, is_right, first_wrong, first_missing, given, IsBadRow, IsMissing};
+ghost use Rattle.trace_format.specs.Rows.{field_named, pair_named, new_field as new_field_of, all_new, is_right, first_wrong, first_missing, given, IsBadRow};
 
 use crate::event::Field;
 use crate::fault::RowFault;
@@ -25,14 +25,36 @@ fn pair_of<'a>(pairs: &'a [Pair], name: &[u8]) -> Option<&'a Pair>
     pairs.iter().find(|pair| pair.name.as_bytes() == name)
 }
 
+/// The field that a pair names, if no pair before it names it.
+fn new_field<'a>(fields: &'a [Field], before: &[Pair], pair: &Pair) -> Option<&'a Field>
+    ensures { option_copied result ≡ new_field_of fields.now before.now pair.now }
+{
+    if pair_of(before, pair.name.as_bytes()).is_some() {
+        return None;
+    }
+    field_of(fields, pair.name.as_bytes())
+}
+
+/// Whether each pair names a field that no pair before it names.
+pub(crate) fn are_new(fields: &[Field], pairs: &[Pair]) -> bool
+    ensures { result ≡ all_new fields.now [] pairs.now }
+{
+    for (i, pair) in pairs.iter().enumerate() {
+        if new_field(fields, &pairs[..i], pair).is_none() {
+            return false;
+        }
+    }
+    true
+}
+
 /// Whether a pair may stand behind others.
 fn is_right_pair(fields: &[Field], before: &[Pair], pair: &Pair) -> bool
     ensures { result ≡ is_right fields.now before.now pair.now }
 {
-    let Some(field) = field_of(fields, pair.name.as_bytes()) else {
-        return false;
-    };
-    is_value(field.kind, pair.value.as_bytes()) && pair_of(before, pair.name.as_bytes()).is_none()
+    match new_field(fields, before, pair) {
+        Some(field) => is_value(field.kind, pair.value.as_bytes()),
+        None => false,
+    }
 }
 
 /// The name of the first pair that is wrong.
@@ -47,12 +69,30 @@ pub(crate) fn wrong_pair<'a>(fields: &[Field], pairs: &'a [Pair]) -> Option<&'a 
     None
 }
 
+/// Whether the pairs give a value to a field.
+fn is_given(pairs: &[Pair], field: &Field) -> bool
+    ensures { result ≡ is_some (given pairs.now field.now) }
+{
+    match pair_of(pairs, field.name.as_bytes()) {
+        Some(pair) => is_value(field.kind, pair.value.as_bytes()),
+        None => false,
+    }
+}
+
+/// The name of the first field that no pair gives a value.
+pub(crate) fn missing_field<'a>(fields: &'a [Field], pairs: &[Pair]) -> Option<&'a [u8]>
+    ensures { option_copied result ≡ first_missing fields.now pairs.now }
+{
+    for field in fields {
+        if !is_given(pairs, field) {
+            return Some(field.name.as_bytes());
+        }
+    }
+    None
+}
+
 /// The value that the pairs give to a field.
-pub(crate) fn given_value(
-    alloc: Global,
-    pairs: &[Pair],
-    field: &Field,
-) -> Result<Option<Value>, AllocError>
+fn given_value(alloc: Global, pairs: &[Pair], field: &Field) -> Result<Option<Value>, AllocError>
     ensures { IfOk result (λ found. option_map datum_of found ≡ given pairs.now field.now) }
 {
     match pair_of(pairs, field.name.as_bytes()) {
@@ -61,23 +101,24 @@ pub(crate) fn given_value(
     }
 }
 
-/// The values that the pairs give to fields, in order.
+/// The values that the pairs give to fields, in order, if they give each field one.
 pub(crate) fn given_values(
     alloc: Global,
     fields: &[Field],
     pairs: &[Pair],
-) -> Result<Vec<Value>, RowFault>
-    ensures values { IfOk result (λ v. (first_missing fields.now pairs.now ≡ None) × (map datum_of v.items ≡ filter_map (given pairs.now) fields.now)) }
-    ensures missing { IfErr result (λ fault. IsMissing fault (first_missing fields.now pairs.now)) }
+) -> Result<Option<Vec<Value>>, AllocError>
+    ensures all { IfOk result (λ found. IfSome found (λ v. first_missing fields.now pairs.now ≡ None)) }
+    ensures values { IfOk result (λ found. IfSome found (λ v. map datum_of v.items ≡ filter_map (given pairs.now) fields.now)) }
+    ensures missing { IfOk result (λ found. IfNone found (IsSome (first_missing fields.now pairs.now))) }
 {
     let mut values = Vec::new(alloc);
     for field in fields {
         let Some(value) = given_value(alloc, pairs, field)? else {
-            return Err(bad_row(alloc, field.name.as_bytes()));
+            return Ok(None);
         };
         values.push(value)?;
     }
-    Ok(values)
+    Ok(Some(values))
 }
 
 /// The refusal at a field.

@@ -1,10 +1,11 @@
 //! Rows: the values of an event's fields.
 
-ghost use Rattle.std.specs.Prelude.{◌≡◌, ◌≤◌, ◌↔◌, List, ℕ, IfOk, IfErr, IfSome, OnErr, Some, None, Ok, length, map};
+ghost use Rattle.std.specs.Prelude.{◌≡◌, ◌≤◌, ◌↔◌, List, ℕ, [], IfOk, IfErr, IfSome, IsSome, OnErr, Some, None, Ok, Err, length, map};
+ghost use Rattle.trace_format.specs.Rows.{first_wrong, first_missing, row_of, IsBuilt};
 
 use crate::event::{EventDef, Field};
 use crate::fault::RowFault;
-use crate::given::{bad_row, given_values, wrong_pair};
+use crate::given::{are_new, bad_row, given_values, missing_field, wrong_pair};
 use crate::kind::Kind;
 use crate::pair::Pair;
 use crate::payload::{decode_values, encode_values};
@@ -33,7 +34,6 @@ impl Model for Row {
 impl Row {
     ghost use Rattle.trace_format.specs.Cells.{Cells, datum_of, IsRow, IsRowOf, StandByName, payload_of, size_of_all};
     ghost use Rattle.trace_format.specs.Definitions.{IsDefinition};
-    ghost use Rattle.trace_format.specs.Rows.{row_of, IsBuilt};
     ghost use Rattle.trace_format.specs.Pairs.{Give, IsRefusedRow};
     ghost use Rattle.trace_format.specs.Decoding.{row_from};
 
@@ -63,10 +63,12 @@ impl Row {
         ensures row { IfOk result (IsRowOf def.now) }
         ensures exact { IsBuilt result (row_of def.now pairs.now) }
     {
-        if let Some(name) = wrong_pair(def.fields(), pairs) {
-            return Err(bad_row(alloc, name));
+        let Some(values) = given_values(alloc, def.fields(), pairs)? else {
+            return Err(refusal(alloc, def, pairs));
+        };
+        if !are_new(def.fields(), pairs) {
+            return Err(refusal(alloc, def, pairs));
         }
-        let values = given_values(alloc, def.fields(), pairs)?;
         let kinds = kinds_of(alloc, def.fields())?;
         Ok(Row { kinds, values })
     }
@@ -102,6 +104,20 @@ impl Row {
         ensures row { IsRow self.now }
     {
         self.values.as_slice()
+    }
+}
+
+/// Why pairs give no row of an event: the first that is wrong, else the first field that is missing.
+fn refusal(alloc: Global, def: &EventDef, pairs: &[Pair]) -> RowFault
+    requires { first_wrong def.now.fields [] pairs.now ≡ None → IsSome (first_missing def.now.fields pairs.now) }
+    ensures { IsBuilt (Err result) (row_of def.now pairs.now) }
+{
+    if let Some(name) = wrong_pair(def.fields(), pairs) {
+        return bad_row(alloc, name);
+    }
+    match missing_field(def.fields(), pairs) {
+        Some(name) => bad_row(alloc, name),
+        None => unreachable!(),
     }
 }
 
