@@ -1,7 +1,7 @@
 -- One more token opens one more at most.
 use Rattle.std.proofs.Common.{◌≡◌, ℕ, ◌+◌, ◌≤◌, Bool, true, false, List, [], ◌∷◌, length, ap, arith}
 use Rattle.std.specs.List.{sum}
-use Rattle.trace_filter.specs.Tokens.{Token, Open, Close, Bang, Both, Either, Compare, Name, Value, Illegible}
+use Rattle.trace_filter.specs.Tokens.{Token, Open, Close, Bang, AndAnd, OrOr, Compare, Name, Value, Illegible}
 use Rattle.trace_filter.specs.Grammar.{behind, open_count}
 use Rattle.trace_filter.specs.Syntax.{Standing, step, Takes}
 use Rattle.trace_filter.proofs.Sums.{sum-cons}
@@ -12,8 +12,8 @@ behind_count bangs outer Open = omega (arith, sum-cons bangs outer)
 behind_count bangs [] Close = omega arith
 behind_count bangs (b ∷ outer) Close = omega (arith, sum-cons b outer)
 behind_count bangs outer Bang = omega arith
-behind_count bangs outer Both = omega arith
-behind_count bangs outer Either = omega arith
+behind_count bangs outer AndAnd = omega arith
+behind_count bangs outer OrOr = omega arith
 behind_count bangs outer (Compare by) = omega arith
 behind_count bangs outer (Name name) = omega arith
 behind_count bangs outer (Value literal) = omega arith

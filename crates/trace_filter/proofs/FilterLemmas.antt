@@ -210,15 +210,15 @@ module _ (definition : Definition) (text : List ℕ) where
   no_fault_in fine fits = misfit_found fine ∙ fits
 
   pub tested_subjects : ComesTo text Fine → misfit_of definition text ≡ None
-      → subjects_tested (moves_from definition.fields subjects.Pid comparisons.Equal (tokens_of (spots_of text))) ≡ subjects_in definition.fields (tokens_of (spots_of text))
-  tested_subjects fine fits = tested_is definition.fields subjects.Pid comparisons.Equal (tokens_of (spots_of text)) (fine_in_tests fine) (all_fit definition.fields subjects.Pid (spots_of text) (no_fault_in fine fits))
+      → subjects_tested (moves_from definition.fields subjects.Pid comparisons.Eq (tokens_of (spots_of text))) ≡ subjects_in definition.fields (tokens_of (spots_of text))
+  tested_subjects fine fits = tested_is definition.fields subjects.Pid comparisons.Eq (tokens_of (spots_of text)) (fine_in_tests fine) (all_fit definition.fields subjects.Pid (spots_of text) (no_fault_in fine fits))
 
-  module _ (items : List ℕ) (moves : List Move) (items_is : items ≡ trimmed text) (moves_is : moves ≡ moves_from definition.fields subjects.Pid comparisons.Equal (tokens_of (spots_of text))) where
+  module _ (items : List ℕ) (moves : List Move) (items_is : items ≡ trimmed text) (moves_is : moves ≡ moves_from definition.fields subjects.Pid comparisons.Eq (tokens_of (spots_of text))) where
     -- the steps are those of the trimmed text
-    pub moves_kept : moves ≡ moves_about (subjects_tested moves) comparisons.Equal (tokens_of (spots_of items))
+    pub moves_kept : moves ≡ moves_about (subjects_tested moves) comparisons.Eq (tokens_of (spots_of items))
     moves_kept =
         let same : tokens_of (spots_of text) ≡ tokens_of (spots_of items) = sym (trimmed_tokens text) ∙ ap (λ t. tokens_of (spots_of t)) (sym items_is) in
-        moves_is ∙ about_is definition.fields subjects.Pid comparisons.Equal (tokens_of (spots_of text)) ∙ (λ i. moves_about (subjects_tested (sym moves_is i)) comparisons.Equal (same i))
+        moves_is ∙ about_is definition.fields subjects.Pid comparisons.Eq (tokens_of (spots_of text)) ∙ (λ i. moves_about (subjects_tested (sym moves_is i)) comparisons.Eq (same i))
 
     pub filter_made : length (trimmed text) ≤ 1024 → reading start (spots_of text) (length text) ≡ Fine → first_fault definition.fields subjects.Pid (spots_of text) ≡ None → answer_of definition text ≡ Ok (record { text = items; subjects = subjects_tested moves })
     unfolding answer_of
@@ -278,21 +278,21 @@ module _ (definition : Definition) (text : List ℕ) where
 
 module _ (definition : Definition) (written : List ℕ) (filter : Parsed) (row : Cells) (emission : Emission) (same : emission.values ≡ row.values)
     (is : IsFilterOf definition written filter) (is_row : IsRowOf definition row)
-    (moves : List Move) (tested : subjects_tested moves ≡ filter.subjects) (kept : moves ≡ moves_about (subjects_tested moves) comparisons.Equal (tokens_of (spots_of filter.text)))
+    (moves : List Move) (tested : subjects_tested moves ≡ filter.subjects) (kept : moves ≡ moves_about (subjects_tested moves) comparisons.Eq (tokens_of (spots_of filter.text)))
     (result : Bool) (result_is : result ≡ evaluated emission at_start moves) where
-  moves_are : moves ≡ moves_from definition.fields subjects.Pid comparisons.Equal (tokens_of (spots_of written))
+  moves_are : moves ≡ moves_from definition.fields subjects.Pid comparisons.Eq (tokens_of (spots_of written))
   moves_are =
       let tokens : tokens_of (spots_of filter.text) ≡ tokens_of (spots_of written) = ap (λ t. tokens_of (spots_of t)) is.text ∙ trimmed_tokens written in
-      let about : subjects_tested moves ≡ subjects_tested (moves_from definition.fields subjects.Pid comparisons.Equal (tokens_of (spots_of written))) = tested ∙ is.subjects ∙ sym (tested_subjects definition written is.is_filter.syntax is.is_filter.fits) in
-      kept ∙ (λ i. moves_about (about i) comparisons.Equal (tokens i)) ∙ sym (about_is definition.fields subjects.Pid comparisons.Equal (tokens_of (spots_of written)))
+      let about : subjects_tested moves ≡ subjects_tested (moves_from definition.fields subjects.Pid comparisons.Eq (tokens_of (spots_of written))) = tested ∙ is.subjects ∙ sym (tested_subjects definition written is.is_filter.syntax is.is_filter.fits) in
+      kept ∙ (λ i. moves_about (about i) comparisons.Eq (tokens i)) ∙ sym (about_is definition.fields subjects.Pid comparisons.Eq (tokens_of (spots_of written)))
 
   pub each_holds : (tree : Expr) → Spells (tokens_of (spots_of written)) tree → IsTrue result ↔ Holds definition.fields emission tree
   each_holds tree spelled =
       let fits = subst (AllFit definition.fields subjects.Pid) (sym spelled) (all_fit definition.fields subjects.Pid (spots_of written) (no_fault_in definition written is.is_filter.syntax is.is_filter.fits)) in
       let shallow = subst (λ t. depth_of t ≤ 16) (sym spelled) is.is_filter.syntax.shallow in
-      let value = value_is definition.fields emission (tests_decide definition row emission is.defined is_row same) tree subjects.Pid comparisons.Equal fits shallow in
-      let there : result ≡ evaluated emission at_start (moves_from definition.fields subjects.Pid comparisons.Equal (tokens_of (spots_of written))) = result_is ∙ ap (evaluated emission at_start) moves_are in
-      let whole : result ≡ evaluated emission at_start (moves_from definition.fields subjects.Pid comparisons.Equal (expr_tokens tree)) = there ∙ ap (λ t. evaluated emission at_start (moves_from definition.fields subjects.Pid comparisons.Equal t)) (sym spelled) in
+      let value = value_is definition.fields emission (tests_decide definition row emission is.defined is_row same) tree subjects.Pid comparisons.Eq fits shallow in
+      let there : result ≡ evaluated emission at_start (moves_from definition.fields subjects.Pid comparisons.Eq (tokens_of (spots_of written))) = result_is ∙ ap (evaluated emission at_start) moves_are in
+      let whole : result ≡ evaluated emission at_start (moves_from definition.fields subjects.Pid comparisons.Eq (expr_tokens tree)) = there ∙ ap (λ t. evaluated emission at_start (moves_from definition.fields subjects.Pid comparisons.Eq t)) (sym spelled) in
       ((λ h. value.0 (sym whole ∙ h)), (λ h. whole ∙ value.1 h))
 
   pub some_passes : IsTrue result ↔ Passes definition written emission
@@ -303,7 +303,7 @@ module _ (definition : Definition) (written : List ℕ) (filter : Parsed) (row :
 -- ---- a filter's value as one function
 
 pub value_of_filter : (filter : Parsed) (emission : Emission)
-    → evaluated emission at_start (moves_about filter.subjects comparisons.Equal (tokens_of (spots_of filter.text))) ≡ holds_of filter emission
+    → evaluated emission at_start (moves_about filter.subjects comparisons.Eq (tokens_of (spots_of filter.text))) ≡ holds_of filter emission
 unfolding holds_of
 value_of_filter filter emission = refl
 
@@ -311,14 +311,14 @@ pub holds_as_its_tree : (definition : Definition) (text : List ℕ) (row : Cells
     → emission.values ≡ row.values → IsTrue (holds_of (parsed_of definition text) emission) ↔ Passes definition text emission
 holds_as_its_tree definition text row emission filter defined is_row same =
     let tokens = tokens_of (spots_of text) in
-    let moves = moves_from definition.fields subjects.Pid comparisons.Equal tokens in
+    let moves = moves_from definition.fields subjects.Pid comparisons.Eq tokens in
     let tested : subjects_tested moves ≡ subjects_in definition.fields tokens = tested_subjects definition text filter.syntax filter.fits in
     let trimmed_same : tokens_of (spots_of (trimmed text)) ≡ tokens = trimmed_tokens text in
-    let kept : moves ≡ moves_about (subjects_tested moves) comparisons.Equal (tokens_of (spots_of (trimmed text))) =
-    about_is definition.fields subjects.Pid comparisons.Equal tokens ∙ ap (λ ts. moves_about (subjects_tested moves) comparisons.Equal ts) (sym trimmed_same) in
+    let kept : moves ≡ moves_about (subjects_tested moves) comparisons.Eq (tokens_of (spots_of (trimmed text))) =
+    about_is definition.fields subjects.Pid comparisons.Eq tokens ∙ ap (λ ts. moves_about (subjects_tested moves) comparisons.Eq ts) (sym trimmed_same) in
     let value : holds_of (parsed_of definition text) emission ≡ evaluated emission at_start moves =
     sym (value_of_filter (parsed_of definition text) emission)
-    ∙ ap (λ ss. evaluated emission at_start (moves_about ss comparisons.Equal (tokens_of (spots_of (trimmed text))))) (sym tested)
+    ∙ ap (λ ss. evaluated emission at_start (moves_about ss comparisons.Eq (tokens_of (spots_of (trimmed text))))) (sym tested)
     ∙ ap (evaluated emission at_start) (sym kept) in
     some_passes definition text (parsed_of definition text) row emission same (record { defined = defined; is_filter = filter; text = refl; subjects = refl }) is_row moves tested kept
     (holds_of (parsed_of definition text) emission) value

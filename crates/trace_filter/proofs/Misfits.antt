@@ -7,7 +7,7 @@ use Rattle.trace_filter.specs.declared.token.Comparison.{Comparison}
 use Rattle.trace_filter.specs.declared.fault.FilterFault.TheVariants.{FilterSyntax, NoSuchField, WrongOperator}
 use Rattle.trace_filter.specs.declared.test.Subject.{Subject}
 use Rattle.trace_filter.specs.declared.test.Subject.TheVariants.{Pid, Cpu}
-use Rattle.trace_filter.specs.Tokens.{Literal, Token, Open, Close, Bang, Both, Either, Compare, Name, Value, Illegible, Spot, tokens_of}
+use Rattle.trace_filter.specs.Tokens.{Literal, Token, Open, Close, Bang, AndAnd, OrOr, Compare, Name, Value, Illegible, Spot, tokens_of}
 use Rattle.trace_filter.specs.Fields.{is_text_kind, field_has_text, is_text_named, takes_at, fits_at, unless, or_later, test_fault, first_misfit}
 use Rattle.trace_filter.specs.Places.{is_text, subject_at, subject_from, subject_named, unless_named, named_or, first_fault}
 use Rattle.trace_filter.proofs.TestedMoves.{InTests}
@@ -65,8 +65,8 @@ module _ (fields : List Field) where
   last_token Open at subject h = refl
   last_token Close at subject h = refl
   last_token Bang at subject h = refl
-  last_token Both at subject h = refl
-  last_token Either at subject h = refl
+  last_token AndAnd at subject h = refl
+  last_token OrOr at subject h = refl
   last_token (Compare by) at subject h = absurd h
   last_token (Name name) at subject h = absurd h
   last_token (Value literal) at subject h = absurd h
@@ -76,8 +76,8 @@ module _ (fields : List Field) where
   two_tokens Open at next next_at later subject h = later subject h
   two_tokens Close at next next_at later subject h = later subject h
   two_tokens Bang at next next_at later subject h = later subject h
-  two_tokens Both at next next_at later subject h = later subject h
-  two_tokens Either at next next_at later subject h = later subject h
+  two_tokens AndAnd at next next_at later subject h = later subject h
+  two_tokens OrOr at next next_at later subject h = later subject h
   two_tokens (Compare by) at next next_at later subject h = absurd h
   two_tokens (Name name) at (Compare by) next_at later subject h = absurd h
   two_tokens (Name name) at _ next_at later subject h = absurd h
@@ -89,8 +89,8 @@ module _ (fields : List Field) where
   more_tokens Open at next next_at third third_at rest later latest subject h = later subject h
   more_tokens Close at next next_at third third_at rest later latest subject h = later subject h
   more_tokens Bang at next next_at third third_at rest later latest subject h = later subject h
-  more_tokens Both at next next_at third third_at rest later latest subject h = later subject h
-  more_tokens Either at next next_at third third_at rest later latest subject h = later subject h
+  more_tokens AndAnd at next next_at third third_at rest later latest subject h = later subject h
+  more_tokens OrOr at next next_at third third_at rest later latest subject h = later subject h
   more_tokens (Compare by) at next next_at third third_at rest later latest subject h = absurd h
   more_tokens (Name name) at (Compare by) next_at (Value literal) third_at rest later latest subject h = one_test name at by next_at literal third_at rest subject h latest
   more_tokens (Name name) at _ next_at _ third_at rest later latest subject h = absurd h

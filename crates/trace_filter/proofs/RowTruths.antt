@@ -37,14 +37,14 @@ never : (P : Type 0) → (P → ⊥) → (false ≡ true) ↔ P
 never P n = ((λ h. absurd (wrong h)), (λ p. absurd (n p)))
 
 texts_decide : (by : Comparison) (a b : List ℕ) → length a < 256 → (text_test by a b ≡ true) ↔ TextsCompare by a b
-texts_decide comparison.Equal a b h = ((bytes_eq-Decides a b).0, (bytes_eq-Decides a b).1)
-texts_decide comparison.NotEqual a b h = not_decides (a ≡ b) (bytes_eq a b) ((bytes_eq-Decides a b).0, (bytes_eq-Decides a b).1)
-texts_decide comparison.AtMost a b h = never ⊥ (λ p. p)
-texts_decide comparison.AtLeast a b h = never ⊥ (λ p. p)
-texts_decide comparison.Below a b h = never ⊥ (λ p. p)
-texts_decide comparison.Above a b h = never ⊥ (λ p. p)
-texts_decide comparison.CommonBit a b h = never ⊥ (λ p. p)
-texts_decide comparison.Like a b h =
+texts_decide comparison.Eq a b h = ((bytes_eq-Decides a b).0, (bytes_eq-Decides a b).1)
+texts_decide comparison.Ne a b h = not_decides (a ≡ b) (bytes_eq a b) ((bytes_eq-Decides a b).0, (bytes_eq-Decides a b).1)
+texts_decide comparison.Le a b h = never ⊥ (λ p. p)
+texts_decide comparison.Ge a b h = never ⊥ (λ p. p)
+texts_decide comparison.Lt a b h = never ⊥ (λ p. p)
+texts_decide comparison.Gt a b h = never ⊥ (λ p. p)
+texts_decide comparison.BitAnd a b h = never ⊥ (λ p. p)
+texts_decide comparison.Glob a b h =
     let glob = is_match-Decides (parts_of b) a in
     ((λ t. glob.0 (and_parts (nat_lt (length a) 256) (is_match (parts_of b) a) t).1), (λ m. and_from (nat_lt (length a) 256) (is_match (parts_of b) a) (lt-ltb (length a) 256 h) (glob.1 m)))
 
@@ -59,14 +59,14 @@ no_bits : (a b : ℤ) → ((bit_and (pattern_of a) (pattern_of b) == 0) ≡ true
 no_bits a b = ((λ h. eqb→eq (bit_and (pattern_of a) (pattern_of b)) 0 (passes (bit_and (pattern_of a) (pattern_of b) == 0) h)), (λ h. eq-eqb (bit_and (pattern_of a) (pattern_of b)) 0 h))
 
 numbers_decide : (by : Comparison) (a b : ℤ) → (number_test by a b ≡ true) ↔ NumbersCompare by a b
-numbers_decide comparison.Equal a b = ((Decides-int_eq a b).0, (Decides-int_eq a b).1)
-numbers_decide comparison.NotEqual a b = not_decides (a ≡ b) (int_eq a b) ((Decides-int_eq a b).0, (Decides-int_eq a b).1)
-numbers_decide comparison.AtMost a b = at_most a b
-numbers_decide comparison.AtLeast a b = at_most b a
-numbers_decide comparison.Below a b = not_decides (b ≤ℤ a) (int_le b a) (at_most b a)
-numbers_decide comparison.Above a b = not_decides (a ≤ℤ b) (int_le a b) (at_most a b)
-numbers_decide comparison.CommonBit a b = not_decides (bit_and (pattern_of a) (pattern_of b) ≡ 0) (bit_and (pattern_of a) (pattern_of b) == 0) (no_bits a b)
-numbers_decide comparison.Like a b = never ⊥ (λ p. p)
+numbers_decide comparison.Eq a b = ((Decides-int_eq a b).0, (Decides-int_eq a b).1)
+numbers_decide comparison.Ne a b = not_decides (a ≡ b) (int_eq a b) ((Decides-int_eq a b).0, (Decides-int_eq a b).1)
+numbers_decide comparison.Le a b = at_most a b
+numbers_decide comparison.Ge a b = at_most b a
+numbers_decide comparison.Lt a b = not_decides (b ≤ℤ a) (int_le b a) (at_most b a)
+numbers_decide comparison.Gt a b = not_decides (a ≤ℤ b) (int_le a b) (at_most a b)
+numbers_decide comparison.BitAnd a b = not_decides (bit_and (pattern_of a) (pattern_of b) ≡ 0) (bit_and (pattern_of a) (pattern_of b) == 0) (no_bits a b)
+numbers_decide comparison.Glob a b = never ⊥ (λ p. p)
 
 -- ---- values of a type
 

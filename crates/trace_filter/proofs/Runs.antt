@@ -2,7 +2,7 @@
 use Rattle.std.proofs.Common.{◌≡◌, ℕ, ◌+◌, List, [], ◌∷◌, ◌++◌, Option, None, Some, option_and_then, refl, sym, ap, ◌∙◌, append_assoc, append-nil}
 use Rattle.trace_filter.specs.declared.syntax.Due.{Due}
 use Rattle.trace_filter.specs.declared.syntax.Due.TheVariants as due
-use Rattle.trace_filter.specs.Tokens.{Token, Close, Both, Either}
+use Rattle.trace_filter.specs.Tokens.{Token, Close, AndAnd, OrOr}
 use Rattle.trace_filter.specs.Grammar.{Expr, AllOf, Or, Conj, Only, And, Unary, Not, Group, Test, expr_tokens, conj_tokens, unary_tokens, IsWhole, Begins, Opened, behind}
 use Rattle.trace_filter.specs.Syntax.{Standing, step, start}
 use Rattle.trace_filter.proofs.Options.{and_then_some}
@@ -29,11 +29,11 @@ mutual
 
   expr_runs : (e : Expr) (outer : List ℕ) (rest : List Token) → run (standing_at due.Operand 0 outer) (expr_tokens e ++ rest) ≡ run (standing_at due.Joint 0 outer) rest
   expr_runs (AllOf c) outer rest = conj_runs c outer rest
-  expr_runs (Or e c) outer rest = ap (run (standing_at due.Operand 0 outer)) (append_assoc (expr_tokens e) (Either ∷ conj_tokens c) rest) ∙ expr_runs e outer (Either ∷ (conj_tokens c ++ rest)) ∙ conj_runs c outer rest
+  expr_runs (Or e c) outer rest = ap (run (standing_at due.Operand 0 outer)) (append_assoc (expr_tokens e) (OrOr ∷ conj_tokens c) rest) ∙ expr_runs e outer (OrOr ∷ (conj_tokens c ++ rest)) ∙ conj_runs c outer rest
 
   conj_runs : (c : Conj) (outer : List ℕ) (rest : List Token) → run (standing_at due.Operand 0 outer) (conj_tokens c ++ rest) ≡ run (standing_at due.Joint 0 outer) rest
   conj_runs (Only u) outer rest = unary_runs u 0 outer rest
-  conj_runs (And c u) outer rest = ap (run (standing_at due.Operand 0 outer)) (append_assoc (conj_tokens c) (Both ∷ unary_tokens u) rest) ∙ conj_runs c outer (Both ∷ (unary_tokens u ++ rest)) ∙ unary_runs u 0 outer rest
+  conj_runs (And c u) outer rest = ap (run (standing_at due.Operand 0 outer)) (append_assoc (conj_tokens c) (AndAnd ∷ unary_tokens u) rest) ∙ conj_runs c outer (AndAnd ∷ (unary_tokens u ++ rest)) ∙ unary_runs u 0 outer rest
 
   unary_runs : (u : Unary) (bangs : ℕ) (outer : List ℕ) (rest : List Token) → run (standing_at due.Operand bangs outer) (unary_tokens u ++ rest) ≡ run (standing_at due.Joint 0 outer) rest
   unary_runs (Not u) bangs outer rest = unary_runs u (bangs + 1) outer rest

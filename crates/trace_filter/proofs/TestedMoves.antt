@@ -5,7 +5,7 @@ use Rattle.trace_format.specs.declared.event.Field.{Field}
 use Rattle.trace_filter.specs.declared.token.Comparison.{Comparison}
 use Rattle.trace_filter.specs.declared.test.Subject.{Subject}
 use Rattle.trace_filter.specs.declared.fault.FilterFault.TheVariants.{NoSuchField}
-use Rattle.trace_filter.specs.Tokens.{Token, Open, Close, Bang, Both, Either, Compare, Name, Value, Illegible}
+use Rattle.trace_filter.specs.Tokens.{Token, Open, Close, Bang, AndAnd, OrOr, Compare, Name, Value, Illegible}
 use Rattle.trace_filter.specs.Grammar.{Expr, AllOf, Or, Conj, Only, And, Unary, Not, Group, Test, expr_tokens, conj_tokens, unary_tokens}
 use Rattle.trace_filter.specs.Places.{is_text, subject_named, subjects_in, named_or}
 use Rattle.trace_filter.specs.Steps.{Opens, Closes, Inverts, AndThen, OrElse, Checks, datum_at, moves_from, moves_about, subjects_tested}
@@ -17,8 +17,8 @@ InTests [] = Unit {0}
 InTests (Open ∷ tokens) = InTests tokens
 InTests (Close ∷ tokens) = InTests tokens
 InTests (Bang ∷ tokens) = InTests tokens
-InTests (Both ∷ tokens) = InTests tokens
-InTests (Either ∷ tokens) = InTests tokens
+InTests (AndAnd ∷ tokens) = InTests tokens
+InTests (OrOr ∷ tokens) = InTests tokens
 InTests (Compare by ∷ tokens) = ⊥
 InTests (Name name ∷ Compare by ∷ Value literal ∷ tokens) = InTests tokens
 InTests (Name name ∷ tokens) = ⊥
@@ -28,11 +28,11 @@ InTests (Illegible ∷ tokens) = ⊥
 mutual
   expr_in_tests : (e : Expr) (rest : List Token) → InTests rest → InTests (expr_tokens e ++ rest)
   expr_in_tests (AllOf c) rest h = conj_in_tests c rest h
-  expr_in_tests (Or e c) rest h = subst InTests (sym (append_assoc (expr_tokens e) (Either ∷ conj_tokens c) rest)) (expr_in_tests e (Either ∷ (conj_tokens c ++ rest)) (conj_in_tests c rest h))
+  expr_in_tests (Or e c) rest h = subst InTests (sym (append_assoc (expr_tokens e) (OrOr ∷ conj_tokens c) rest)) (expr_in_tests e (OrOr ∷ (conj_tokens c ++ rest)) (conj_in_tests c rest h))
 
   conj_in_tests : (c : Conj) (rest : List Token) → InTests rest → InTests (conj_tokens c ++ rest)
   conj_in_tests (Only u) rest h = unary_in_tests u rest h
-  conj_in_tests (And c u) rest h = subst InTests (sym (append_assoc (conj_tokens c) (Both ∷ unary_tokens u) rest)) (conj_in_tests c (Both ∷ (unary_tokens u ++ rest)) (unary_in_tests u rest h))
+  conj_in_tests (And c u) rest h = subst InTests (sym (append_assoc (conj_tokens c) (AndAnd ∷ unary_tokens u) rest)) (conj_in_tests c (AndAnd ∷ (unary_tokens u ++ rest)) (unary_in_tests u rest h))
 
   unary_in_tests : (u : Unary) (rest : List Token) → InTests rest → InTests (unary_tokens u ++ rest)
   unary_in_tests (Not u) rest h = unary_in_tests u rest h
@@ -49,8 +49,8 @@ module _ (fields : List Field) where
   tested_is subject by (Open ∷ tokens) h fit = tested_is subject by tokens h fit.1
   tested_is subject by (Close ∷ tokens) h fit = tested_is subject by tokens h fit.1
   tested_is subject by (Bang ∷ tokens) h fit = tested_is subject by tokens h fit.1
-  tested_is subject by (Both ∷ tokens) h fit = tested_is subject by tokens h fit.1
-  tested_is subject by (Either ∷ tokens) h fit = tested_is subject by tokens h fit.1
+  tested_is subject by (AndAnd ∷ tokens) h fit = tested_is subject by tokens h fit.1
+  tested_is subject by (OrOr ∷ tokens) h fit = tested_is subject by tokens h fit.1
   tested_is subject by (Compare c ∷ tokens) h fit = absurd h
   tested_is subject by (Name name ∷ Compare c ∷ Value literal ∷ tokens) h fit =
       let found = unless_some (subject_named fields name) (NoSuchField 0) fit.0 in
@@ -67,8 +67,8 @@ module _ (fields : List Field) where
   about_is subject by (Open ∷ tokens) = ap (λ moves. Opens ∷ moves) (about_is subject by tokens)
   about_is subject by (Close ∷ tokens) = ap (λ moves. Closes ∷ moves) (about_is subject by tokens)
   about_is subject by (Bang ∷ tokens) = ap (λ moves. Inverts ∷ moves) (about_is subject by tokens)
-  about_is subject by (Both ∷ tokens) = ap (λ moves. AndThen ∷ moves) (about_is subject by tokens)
-  about_is subject by (Either ∷ tokens) = ap (λ moves. OrElse ∷ moves) (about_is subject by tokens)
+  about_is subject by (AndAnd ∷ tokens) = ap (λ moves. AndThen ∷ moves) (about_is subject by tokens)
+  about_is subject by (OrOr ∷ tokens) = ap (λ moves. OrElse ∷ moves) (about_is subject by tokens)
   about_is subject by (Compare c ∷ tokens) = about_is subject c tokens
   about_is subject by (Name name ∷ tokens) = about_is (named_or (subject_named fields name) subject) by tokens
   about_is subject by (Value literal ∷ tokens) = ap (λ moves. Checks subject by (datum_at (is_text subject) literal) ∷ moves) (about_is subject by tokens)

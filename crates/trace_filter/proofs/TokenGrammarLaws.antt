@@ -106,14 +106,14 @@ symbol Closing rest h = record { first = 41; front = []; text = refl; unblank = 
 symbol Negation rest h = record { first = 33; front = []; text = refl; unblank = refl; unnamed = refl; unquoted = refl; piece = cond-false (begins_with 61 rest) _ _ h }
 symbol Conjunction rest h = record { first = 38; front = 38 ∷ []; text = refl; unblank = refl; unnamed = refl; unquoted = refl; piece = refl }
 symbol Disjunction rest h = record { first = 124; front = 124 ∷ []; text = refl; unblank = refl; unnamed = refl; unquoted = refl; piece = refl }
-symbol (Comparing comparison.Equal) rest h = record { first = 61; front = 61 ∷ []; text = refl; unblank = refl; unnamed = refl; unquoted = refl; piece = refl }
-symbol (Comparing comparison.NotEqual) rest h = record { first = 33; front = 61 ∷ []; text = refl; unblank = refl; unnamed = refl; unquoted = refl; piece = refl }
-symbol (Comparing comparison.AtMost) rest h = record { first = 60; front = 61 ∷ []; text = refl; unblank = refl; unnamed = refl; unquoted = refl; piece = refl }
-symbol (Comparing comparison.AtLeast) rest h = record { first = 62; front = 61 ∷ []; text = refl; unblank = refl; unnamed = refl; unquoted = refl; piece = refl }
-symbol (Comparing comparison.Below) rest h = record { first = 60; front = []; text = refl; unblank = refl; unnamed = refl; unquoted = refl; piece = cond-false (begins_with 61 rest) _ _ h }
-symbol (Comparing comparison.Above) rest h = record { first = 62; front = []; text = refl; unblank = refl; unnamed = refl; unquoted = refl; piece = cond-false (begins_with 61 rest) _ _ h }
-symbol (Comparing comparison.CommonBit) rest h = record { first = 38; front = []; text = refl; unblank = refl; unnamed = refl; unquoted = refl; piece = cond-false (begins_with 38 rest) _ _ h }
-symbol (Comparing comparison.Like) rest h = record { first = 126; front = []; text = refl; unblank = refl; unnamed = refl; unquoted = refl; piece = refl }
+symbol (Comparing comparison.Eq) rest h = record { first = 61; front = 61 ∷ []; text = refl; unblank = refl; unnamed = refl; unquoted = refl; piece = refl }
+symbol (Comparing comparison.Ne) rest h = record { first = 33; front = 61 ∷ []; text = refl; unblank = refl; unnamed = refl; unquoted = refl; piece = refl }
+symbol (Comparing comparison.Le) rest h = record { first = 60; front = 61 ∷ []; text = refl; unblank = refl; unnamed = refl; unquoted = refl; piece = refl }
+symbol (Comparing comparison.Ge) rest h = record { first = 62; front = 61 ∷ []; text = refl; unblank = refl; unnamed = refl; unquoted = refl; piece = refl }
+symbol (Comparing comparison.Lt) rest h = record { first = 60; front = []; text = refl; unblank = refl; unnamed = refl; unquoted = refl; piece = cond-false (begins_with 61 rest) _ _ h }
+symbol (Comparing comparison.Gt) rest h = record { first = 62; front = []; text = refl; unblank = refl; unnamed = refl; unquoted = refl; piece = cond-false (begins_with 61 rest) _ _ h }
+symbol (Comparing comparison.BitAnd) rest h = record { first = 38; front = []; text = refl; unblank = refl; unnamed = refl; unquoted = refl; piece = cond-false (begins_with 38 rest) _ _ h }
+symbol (Comparing comparison.Glob) rest h = record { first = 126; front = []; text = refl; unblank = refl; unnamed = refl; unquoted = refl; piece = refl }
 
 sign_leads : (due : Bool) (sign : Sign) (rest : List ℕ) → IsLexemeBefore due rest (Signed sign) → Leads due (sign_text sign) rest (sign_token sign)
 unfolding piece_of
@@ -156,13 +156,13 @@ module _ (b : ℕ) (bs : List ℕ) where
   sign_or_misfit =
       test (b == 40) _ _ (one _ Opening 40 tt refl)
       (λ _. test (b == 41) _ _ (one _ Closing 41 tt refl)
-      (λ _. test (b == 33) _ _ (λ e. test (begins_with 61 bs) _ _ (two _ (Comparing comparison.NotEqual) 33 61 (λ _. tt) refl e) (λ f. one _ Negation 33 f refl e))
-      (λ _. test (b == 38) _ _ (λ e. test (begins_with 38 bs) _ _ (two _ Conjunction 38 38 (λ _. tt) refl e) (λ f. one _ (Comparing comparison.CommonBit) 38 f refl e))
-      (λ _. test (b == 60) _ _ (λ e. test (begins_with 61 bs) _ _ (two _ (Comparing comparison.AtMost) 60 61 (λ _. tt) refl e) (λ f. one _ (Comparing comparison.Below) 60 f refl e))
-      (λ _. test (b == 61) _ _ (λ e. test (begins_with 61 bs) _ _ (two _ (Comparing comparison.Equal) 61 61 (λ _. tt) refl e) (λ f. no_sign refl))
-      (λ _. test (b == 62) _ _ (λ e. test (begins_with 61 bs) _ _ (two _ (Comparing comparison.AtLeast) 62 61 (λ _. tt) refl e) (λ f. one _ (Comparing comparison.Above) 62 f refl e))
+      (λ _. test (b == 33) _ _ (λ e. test (begins_with 61 bs) _ _ (two _ (Comparing comparison.Ne) 33 61 (λ _. tt) refl e) (λ f. one _ Negation 33 f refl e))
+      (λ _. test (b == 38) _ _ (λ e. test (begins_with 38 bs) _ _ (two _ Conjunction 38 38 (λ _. tt) refl e) (λ f. one _ (Comparing comparison.BitAnd) 38 f refl e))
+      (λ _. test (b == 60) _ _ (λ e. test (begins_with 61 bs) _ _ (two _ (Comparing comparison.Le) 60 61 (λ _. tt) refl e) (λ f. one _ (Comparing comparison.Lt) 60 f refl e))
+      (λ _. test (b == 61) _ _ (λ e. test (begins_with 61 bs) _ _ (two _ (Comparing comparison.Eq) 61 61 (λ _. tt) refl e) (λ f. no_sign refl))
+      (λ _. test (b == 62) _ _ (λ e. test (begins_with 61 bs) _ _ (two _ (Comparing comparison.Ge) 62 61 (λ _. tt) refl e) (λ f. one _ (Comparing comparison.Gt) 62 f refl e))
       (λ _. test (b == 124) _ _ (λ e. test (begins_with 124 bs) _ _ (two _ Disjunction 124 124 (λ _. tt) refl e) (λ f. no_sign refl))
-      (λ _. test (b == 126) _ _ (one _ (Comparing comparison.Like) 126 tt refl)
+      (λ _. test (b == 126) _ _ (one _ (Comparing comparison.Glob) 126 tt refl)
       (λ _. no_sign refl)))))))))
 
 -- ---- names and values
@@ -338,14 +338,14 @@ has_a_byte (Legible (Signed Closing)) = omega arith
 has_a_byte (Legible (Signed Negation)) = omega arith
 has_a_byte (Legible (Signed Conjunction)) = omega arith
 has_a_byte (Legible (Signed Disjunction)) = omega arith
-has_a_byte (Legible (Signed (Comparing comparison.Equal))) = omega arith
-has_a_byte (Legible (Signed (Comparing comparison.NotEqual))) = omega arith
-has_a_byte (Legible (Signed (Comparing comparison.AtMost))) = omega arith
-has_a_byte (Legible (Signed (Comparing comparison.AtLeast))) = omega arith
-has_a_byte (Legible (Signed (Comparing comparison.Below))) = omega arith
-has_a_byte (Legible (Signed (Comparing comparison.Above))) = omega arith
-has_a_byte (Legible (Signed (Comparing comparison.CommonBit))) = omega arith
-has_a_byte (Legible (Signed (Comparing comparison.Like))) = omega arith
+has_a_byte (Legible (Signed (Comparing comparison.Eq))) = omega arith
+has_a_byte (Legible (Signed (Comparing comparison.Ne))) = omega arith
+has_a_byte (Legible (Signed (Comparing comparison.Le))) = omega arith
+has_a_byte (Legible (Signed (Comparing comparison.Ge))) = omega arith
+has_a_byte (Legible (Signed (Comparing comparison.Lt))) = omega arith
+has_a_byte (Legible (Signed (Comparing comparison.Gt))) = omega arith
+has_a_byte (Legible (Signed (Comparing comparison.BitAnd))) = omega arith
+has_a_byte (Legible (Signed (Comparing comparison.Glob))) = omega arith
 has_a_byte (Legible (Run first more)) = omega arith
 has_a_byte (Legible (Bare first more)) = omega arith
 has_a_byte (Legible (Within quote inside)) = omega arith

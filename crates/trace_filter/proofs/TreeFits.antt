@@ -6,7 +6,7 @@ use Rattle.trace_format.specs.declared.event.Field.{Field}
 use Rattle.trace_filter.specs.declared.token.Comparison.{Comparison}
 use Rattle.trace_filter.specs.declared.fault.FilterFault.{FilterFault}
 use Rattle.trace_filter.specs.declared.fault.FilterFault.TheVariants.{TooMany, FilterSyntax, NoSuchField, WrongOperator, Memory}
-use Rattle.trace_filter.specs.Tokens.{Literal, Token, Open, Close, Bang, Both, Either, Compare, Name, Value, Illegible, Spot, tokens_of}
+use Rattle.trace_filter.specs.Tokens.{Literal, Token, Open, Close, Bang, AndAnd, OrOr, Compare, Name, Value, Illegible, Spot, tokens_of}
 use Rattle.trace_filter.specs.Grammar.{Expr, AllOf, Or, Conj, Only, And, Unary, Not, Group, Test, expr_tokens, conj_tokens, unary_tokens, Spells}
 use Rattle.trace_filter.specs.Fields.{is_text_named, takes_at, fits_at, unless, or_later, test_fault, first_misfit}
 use Rattle.trace_filter.specs.Fits.{OneTest, tests_of, conj_tests, unary_tests, TestFits, EachTestFits, HasFault, TestPlaces, test_places, IsAt, IsFirstMisfit}
@@ -21,8 +21,8 @@ tests_in [] = []
 tests_in (Open ∷ tokens) = tests_in tokens
 tests_in (Close ∷ tokens) = tests_in tokens
 tests_in (Bang ∷ tokens) = tests_in tokens
-tests_in (Both ∷ tokens) = tests_in tokens
-tests_in (Either ∷ tokens) = tests_in tokens
+tests_in (AndAnd ∷ tokens) = tests_in tokens
+tests_in (OrOr ∷ tokens) = tests_in tokens
 tests_in (Name name ∷ Compare by ∷ Value literal ∷ tokens) = record { name = name; comparison = by; literal = literal } ∷ tests_in tokens
 tests_in (token ∷ tokens) = []
 
@@ -30,13 +30,13 @@ mutual
   expr_tests_in : (e : Expr) (rest : List Token) → tests_in (expr_tokens e ++ rest) ≡ tests_of e ++ tests_in rest
   expr_tests_in (AllOf c) rest = conj_tests_in c rest
   expr_tests_in (Or e c) rest =
-      ap tests_in (append_assoc (expr_tokens e) (Either ∷ conj_tokens c) rest) ∙ expr_tests_in e (Either ∷ (conj_tokens c ++ rest))
+      ap tests_in (append_assoc (expr_tokens e) (OrOr ∷ conj_tokens c) rest) ∙ expr_tests_in e (OrOr ∷ (conj_tokens c ++ rest))
       ∙ ap (λ tests. tests_of e ++ tests) (conj_tests_in c rest) ∙ sym (append_assoc (tests_of e) (conj_tests c) (tests_in rest))
 
   conj_tests_in : (c : Conj) (rest : List Token) → tests_in (conj_tokens c ++ rest) ≡ conj_tests c ++ tests_in rest
   conj_tests_in (Only u) rest = unary_tests_in u rest
   conj_tests_in (And c u) rest =
-      ap tests_in (append_assoc (conj_tokens c) (Both ∷ unary_tokens u) rest) ∙ conj_tests_in c (Both ∷ (unary_tokens u ++ rest))
+      ap tests_in (append_assoc (conj_tokens c) (AndAnd ∷ unary_tokens u) rest) ∙ conj_tests_in c (AndAnd ∷ (unary_tokens u ++ rest))
       ∙ ap (λ tests. conj_tests c ++ tests) (unary_tests_in u rest) ∙ sym (append_assoc (conj_tests c) (unary_tests u) (tests_in rest))
 
   unary_tests_in : (u : Unary) (rest : List Token) → tests_in (unary_tokens u ++ rest) ≡ unary_tests u ++ tests_in rest
@@ -102,8 +102,8 @@ module _ (fields : List Field) where
   last_token Open at later h = later h
   last_token Close at later h = later h
   last_token Bang at later h = later h
-  last_token Both at later h = later h
-  last_token Either at later h = later h
+  last_token AndAnd at later h = later h
+  last_token OrOr at later h = later h
   last_token (Compare by) at later h = absurd h
   last_token (Name name) at later h = absurd h
   last_token (Value literal) at later h = absurd h
@@ -113,8 +113,8 @@ module _ (fields : List Field) where
   two_tokens Open at next next_at later h = later h
   two_tokens Close at next next_at later h = later h
   two_tokens Bang at next next_at later h = later h
-  two_tokens Both at next next_at later h = later h
-  two_tokens Either at next next_at later h = later h
+  two_tokens AndAnd at next next_at later h = later h
+  two_tokens OrOr at next next_at later h = later h
   two_tokens (Compare by) at next next_at later h = absurd h
   two_tokens (Name name) at (Compare by) next_at later h = absurd h
   two_tokens (Name name) at _ next_at later h = absurd h
@@ -126,8 +126,8 @@ module _ (fields : List Field) where
   more_tokens Open at next next_at third third_at rest later latest h = later h
   more_tokens Close at next next_at third third_at rest later latest h = later h
   more_tokens Bang at next next_at third third_at rest later latest h = later h
-  more_tokens Both at next next_at third third_at rest later latest h = later h
-  more_tokens Either at next next_at third third_at rest later latest h = later h
+  more_tokens AndAnd at next next_at third third_at rest later latest h = later h
+  more_tokens OrOr at next next_at third third_at rest later latest h = later h
   more_tokens (Compare by) at next next_at third third_at rest later latest h = absurd h
   more_tokens (Name name) at (Compare by) next_at (Value literal) third_at rest later latest h = one_test name at by next_at literal third_at rest (latest h)
   more_tokens (Name name) at _ next_at _ third_at rest later latest h = absurd h

@@ -1,6 +1,6 @@
 -- A tree can be read back from its tokens, so no other tree has them.
 use Rattle.std.proofs.Common.{◌≡◌, ℕ, zero, suc, List, [], ◌∷◌, ◌++◌, Option, None, Some, refl, sym, ap, ◌∙◌, append_assoc, append-nil}
-use Rattle.trace_filter.specs.Tokens.{Token, Open, Close, Bang, Both, Either, Compare, Name, Value}
+use Rattle.trace_filter.specs.Tokens.{Token, Open, Close, Bang, AndAnd, OrOr, Compare, Name, Value}
 use Rattle.trace_filter.specs.Grammar.{Expr, AllOf, Or, Conj, Only, And, Unary, Not, Group, Test, expr_tokens, conj_tokens, unary_tokens, Spells}
 use Rattle.trace_filter.proofs.Options.{some_is}
 use Rattle.trace_filter.proofs.Trees.{Level, expr_of, conj_of, not_of, closed_conj}
@@ -21,8 +21,8 @@ abbrev mutual
 
   -- behind an operand
   joint_read : Option Expr → Conj → List Level → List Token → Option Expr
-  joint_read e c outer (Both ∷ tokens) = operand_read (level_of e (Some c)) outer tokens
-  joint_read e c outer (Either ∷ tokens) = operand_read (level_of (Some (expr_of e c)) None) outer tokens
+  joint_read e c outer (AndAnd ∷ tokens) = operand_read (level_of e (Some c)) outer tokens
+  joint_read e c outer (OrOr ∷ tokens) = operand_read (level_of (Some (expr_of e c)) None) outer tokens
   joint_read e c (level ∷ outer) (Close ∷ tokens) = joint_read level.alternatives (closed_conj level (Group (expr_of e c))) outer tokens
   joint_read e c [] [] = Some (expr_of e c)
   joint_read e c outer tokens = None
@@ -49,16 +49,16 @@ mutual
   expr_read : (e : Expr) (outer : List Level) (rest : List Token) → operand_read (level_of None None) outer (expr_tokens e ++ rest) ≡ joint_read (first_of e) (last_of e) outer rest
   expr_read (AllOf c) outer rest = conj_read c None outer rest
   expr_read (Or e c) outer rest =
-      ap (operand_read (level_of None None) outer) (append_assoc (expr_tokens e) (Either ∷ conj_tokens c) rest)
-      ∙ expr_read e outer (Either ∷ (conj_tokens c ++ rest))
+      ap (operand_read (level_of None None) outer) (append_assoc (expr_tokens e) (OrOr ∷ conj_tokens c) rest)
+      ∙ expr_read e outer (OrOr ∷ (conj_tokens c ++ rest))
       ∙ ap (λ whole. operand_read (level_of (Some whole) None) outer (conj_tokens c ++ rest)) (put_together e)
       ∙ conj_read c (Some e) outer rest
 
   conj_read : (c : Conj) (alternatives : Option Expr) (outer : List Level) (rest : List Token) → operand_read (level_of alternatives None) outer (conj_tokens c ++ rest) ≡ joint_read alternatives c outer rest
   conj_read (Only u) alternatives outer rest = unary_read u (level_of alternatives None) outer rest
   conj_read (And c u) alternatives outer rest =
-      ap (operand_read (level_of alternatives None) outer) (append_assoc (conj_tokens c) (Both ∷ unary_tokens u) rest)
-      ∙ conj_read c alternatives outer (Both ∷ (unary_tokens u ++ rest))
+      ap (operand_read (level_of alternatives None) outer) (append_assoc (conj_tokens c) (AndAnd ∷ unary_tokens u) rest)
+      ∙ conj_read c alternatives outer (AndAnd ∷ (unary_tokens u ++ rest))
       ∙ unary_read u (level_of alternatives (Some c)) outer rest
 
   unary_read : (u : Unary) (level : Level) (outer : List Level) (rest : List Token) → operand_read level outer (unary_tokens u ++ rest) ≡ joint_read level.alternatives (closed_conj level u) outer rest

@@ -6,7 +6,7 @@ use Rattle.trace_filter.specs.declared.token.Comparison.{Comparison}
 use Rattle.trace_filter.specs.declared.token.Comparison.TheVariants as comparison
 use Rattle.trace_filter.specs.declared.syntax.Due.{Due}
 use Rattle.trace_filter.specs.declared.syntax.Due.TheVariants as due
-use Rattle.trace_filter.specs.Tokens.{Literal, Word, Token, Open, Close, Bang, Both, Either, Compare, Name, Value}
+use Rattle.trace_filter.specs.Tokens.{Literal, Word, Token, Open, Close, Bang, AndAnd, OrOr, Compare, Name, Value}
 use Rattle.trace_filter.specs.Grammar.{Expr, AllOf, Or, Conj, Only, And, Unary, Not, Group, Test, expr_tokens, conj_tokens, unary_tokens, IsWhole, Begins, is_written}
 use Rattle.trace_filter.specs.Syntax.{Standing, step, next_due, moved, start}
 use Rattle.trace_filter.proofs.Options.{some_is, and_then_some}
@@ -21,11 +21,11 @@ pub record Level : Type 0 where
 
 abbrev pub before_conj : Option Expr → List Token
 before_conj None = []
-before_conj (Some e) = expr_tokens e ++ Either ∷ []
+before_conj (Some e) = expr_tokens e ++ OrOr ∷ []
 
 abbrev pub before_unary : Option Conj → List Token
 before_unary None = []
-before_unary (Some c) = conj_tokens c ++ Both ∷ []
+before_unary (Some c) = conj_tokens c ++ AndAnd ∷ []
 
 abbrev pub bang_tokens : ℕ → List Token
 bang_tokens zero = []
@@ -54,7 +54,7 @@ expr_of (Some e) c = Or e c
 
 expr_of-tokens : (e : Option Expr) (c : Conj) → expr_tokens (expr_of e c) ≡ before_conj e ++ conj_tokens c
 expr_of-tokens None c = refl
-expr_of-tokens (Some e) c = sym (append_assoc (expr_tokens e) (Either ∷ []) (conj_tokens c))
+expr_of-tokens (Some e) c = sym (append_assoc (expr_tokens e) (OrOr ∷ []) (conj_tokens c))
 
 abbrev pub conj_of : Option Conj → Unary → Conj
 conj_of None u = Only u
@@ -62,7 +62,7 @@ conj_of (Some c) u = And c u
 
 conj_of-tokens : (c : Option Conj) (u : Unary) → conj_tokens (conj_of c u) ≡ before_unary c ++ unary_tokens u
 conj_of-tokens None u = refl
-conj_of-tokens (Some c) u = sym (append_assoc (conj_tokens c) (Both ∷ []) (unary_tokens u))
+conj_of-tokens (Some c) u = sym (append_assoc (conj_tokens c) (AndAnd ∷ []) (unary_tokens u))
 
 abbrev pub not_of : ℕ → Unary → Unary
 not_of zero u = u
@@ -170,27 +170,27 @@ operand bangs outer front u s = record {
   spelled = ap (λ t. t ++ unary_tokens u) s.spelled ∙ closed_tokens (stack s.levels) s.level u;
 }
 
-one_both : (bangs : ℕ) (outer : List ℕ) (tokens : List Token) → BehindOperand bangs outer tokens → InLevel bangs outer (tokens ++ Both ∷ [])
+one_both : (bangs : ℕ) (outer : List ℕ) (tokens : List Token) → BehindOperand bangs outer tokens → InLevel bangs outer (tokens ++ AndAnd ∷ [])
 one_both bangs outer tokens s = record {
   levels = s.levels;
   level = record { alternatives = s.alternatives; factors = Some s.last; bangs = 0 };
   bangs_is = s.bangs_is;
   outer_is = s.outer_is;
-  spelled = ap (λ t. t ++ Both ∷ []) s.spelled ∙ around (stack s.levels) (before_conj s.alternatives) (conj_tokens s.last) (Both ∷ []);
+  spelled = ap (λ t. t ++ AndAnd ∷ []) s.spelled ∙ around (stack s.levels) (before_conj s.alternatives) (conj_tokens s.last) (AndAnd ∷ []);
 }
   where
     around : (a b c d : List Token) → a ++ (b ++ c) ++ d ≡ a ++ (b ++ (c ++ d ++ []))
     around a b c d = simp (append_assoc, append-nil)
 
-one_either : (bangs : ℕ) (outer : List ℕ) (tokens : List Token) → BehindOperand bangs outer tokens → InLevel bangs outer (tokens ++ Either ∷ [])
+one_either : (bangs : ℕ) (outer : List ℕ) (tokens : List Token) → BehindOperand bangs outer tokens → InLevel bangs outer (tokens ++ OrOr ∷ [])
 one_either bangs outer tokens s = record {
   levels = s.levels;
   level = record { alternatives = Some (expr_of s.alternatives s.last); factors = None; bangs = 0 };
   bangs_is = s.bangs_is;
   outer_is = s.outer_is;
-  spelled = ap (λ t. t ++ Either ∷ []) s.spelled
-      ∙ ap (λ t. stack s.levels ++ t ++ Either ∷ []) (sym (expr_of-tokens s.alternatives s.last))
-      ∙ around (stack s.levels) (expr_tokens (expr_of s.alternatives s.last)) (Either ∷ []);
+  spelled = ap (λ t. t ++ OrOr ∷ []) s.spelled
+      ∙ ap (λ t. stack s.levels ++ t ++ OrOr ∷ []) (sym (expr_of-tokens s.alternatives s.last))
+      ∙ around (stack s.levels) (expr_tokens (expr_of s.alternatives s.last)) (OrOr ∷ []);
 }
   where
     around : (a b c : List Token) → a ++ b ++ c ≡ a ++ (b ++ c ++ [])
@@ -222,8 +222,8 @@ stands_at due.Operator bangs outer (Compare by) tokens next s h = to next (token
     (record { front = s.front; before = s.before; name = s.name; by = by; spelled = ap (λ t. t ++ Compare by ∷ []) s.spelled ∙ append_assoc s.front (Name s.name ∷ []) (Compare by ∷ []) })
 stands_at due.Value bangs outer (Value literal) tokens next s h = to next (tokens ++ Value literal ∷ []) due.Joint 0 outer h
     (subst (BehindOperand 0 outer) (sym (ap (λ t. t ++ Value literal ∷ []) s.spelled ∙ append_assoc s.front (Name s.name ∷ Compare s.by ∷ []) (Value literal ∷ []))) (operand bangs outer s.front (Test s.name s.by literal) s.before))
-stands_at due.Joint bangs outer Both tokens next s h = to next (tokens ++ Both ∷ []) due.Operand bangs outer h (one_both bangs outer tokens s)
-stands_at due.Joint bangs outer Either tokens next s h = to next (tokens ++ Either ∷ []) due.Operand bangs outer h (one_either bangs outer tokens s)
+stands_at due.Joint bangs outer AndAnd tokens next s h = to next (tokens ++ AndAnd ∷ []) due.Operand bangs outer h (one_both bangs outer tokens s)
+stands_at due.Joint bangs outer OrOr tokens next s h = to next (tokens ++ OrOr ∷ []) due.Operand bangs outer h (one_either bangs outer tokens s)
 stands_at due.Joint bangs [] Close tokens next s h = absurd (cc)
 stands_at due.Joint bangs (b ∷ outer) Close tokens next s h = to next (tokens ++ Close ∷ []) due.Joint 0 outer h (one_close bangs b outer tokens s)
 stands_at due.Operand bangs outer token tokens next s h = absurd (cc)
@@ -282,8 +282,8 @@ begins_value bangs outer tokens s =
 
 begins_operator : (bangs : ℕ) (outer : List ℕ) (tokens : List Token) → BehindName bangs outer tokens → Begins tokens
 begins_operator bangs outer tokens s =
-    begins_shorter tokens (Compare comparison.Equal) refl (begins_value bangs outer (tokens ++ Compare comparison.Equal ∷ [])
-    (record { front = s.front; before = s.before; name = s.name; by = comparison.Equal; spelled = ap (λ t. t ++ Compare comparison.Equal ∷ []) s.spelled ∙ append_assoc s.front (Name s.name ∷ []) (Compare comparison.Equal ∷ []) }))
+    begins_shorter tokens (Compare comparison.Eq) refl (begins_value bangs outer (tokens ++ Compare comparison.Eq ∷ [])
+    (record { front = s.front; before = s.before; name = s.name; by = comparison.Eq; spelled = ap (λ t. t ++ Compare comparison.Eq ∷ []) s.spelled ∙ append_assoc s.front (Name s.name ∷ []) (Compare comparison.Eq ∷ []) }))
 
 begins_operand : (bangs : ℕ) (outer : List ℕ) (tokens : List Token) → InLevel bangs outer tokens → Begins tokens
 begins_operand bangs outer tokens s =

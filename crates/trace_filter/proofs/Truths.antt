@@ -7,7 +7,7 @@ use Rattle.trace_filter.specs.declared.test.Subject.{Subject}
 use Rattle.trace_filter.specs.declared.frames.Frame.{Frame}
 use Rattle.trace_filter.specs.declared.fault.FilterFault.{FilterFault}
 use Rattle.trace_filter.specs.declared.fault.FilterFault.TheVariants.{FilterSyntax, NoSuchField, WrongOperator}
-use Rattle.trace_filter.specs.Tokens.{Literal, Token, Open, Close, Bang, Both, Either, Compare, Name, Value, Illegible, Spot, tokens_of}
+use Rattle.trace_filter.specs.Tokens.{Literal, Token, Open, Close, Bang, AndAnd, OrOr, Compare, Name, Value, Illegible, Spot, tokens_of}
 use Rattle.trace_filter.specs.Grammar.{Expr, AllOf, Or, Conj, Only, And, Unary, Not, Group, Test, expr_tokens, conj_tokens, unary_tokens, deepest}
 use Rattle.trace_filter.specs.Fields.{takes_at, fits_at, unless, or_later}
 use Rattle.trace_filter.specs.Places.{is_text, unless_named, fault_at, subject_named, named_or, subject_behind, first_fault}
@@ -61,8 +61,8 @@ module _ (fields : List Field) where
   shallow_moves subject by bangs [] (Close ∷ tokens) h = shallow_moves subject by 0 [] tokens (omega arith)
   shallow_moves subject by bangs (b ∷ outer) (Close ∷ tokens) h = shallow_moves subject by 0 outer tokens (omega arith)
   shallow_moves subject by bangs outer (Bang ∷ tokens) h = shallow_moves subject by (bangs + 1) outer tokens (omega arith)
-  shallow_moves subject by bangs outer (Both ∷ tokens) h = shallow_moves subject by bangs outer tokens (omega arith)
-  shallow_moves subject by bangs outer (Either ∷ tokens) h = shallow_moves subject by bangs outer tokens (omega arith)
+  shallow_moves subject by bangs outer (AndAnd ∷ tokens) h = shallow_moves subject by bangs outer tokens (omega arith)
+  shallow_moves subject by bangs outer (OrOr ∷ tokens) h = shallow_moves subject by bangs outer tokens (omega arith)
   shallow_moves subject by bangs outer (Compare c ∷ tokens) h = shallow_moves subject c bangs outer tokens (omega arith)
   shallow_moves subject by bangs outer (Name name ∷ tokens) h = shallow_moves (named_or (subject_named fields name) subject) by bangs outer tokens (omega arith)
   shallow_moves subject by bangs outer (Value literal ∷ tokens) h = shallow_moves subject by 0 outer tokens (omega arith)
@@ -90,8 +90,8 @@ no_fault : (fields : List Field) (subject : Subject) (token : Token) (at place :
 no_fault fields subject Open at place h = refl
 no_fault fields subject Close at place h = refl
 no_fault fields subject Bang at place h = refl
-no_fault fields subject Both at place h = refl
-no_fault fields subject Either at place h = refl
+no_fault fields subject AndAnd at place h = refl
+no_fault fields subject OrOr at place h = refl
 no_fault fields subject Illegible at place h = refl
 no_fault fields subject (Compare by) at place h = ap (λ b. unless b (WrongOperator place)) (unless_true (takes_at (is_text subject) by) (WrongOperator at) h)
 no_fault fields subject (Value literal) at place h = ap (λ b. unless b (FilterSyntax place)) (unless_true (fits_at (is_text subject) literal) (FilterSyntax at) h)
@@ -181,8 +181,8 @@ module _ (fields : List Field) (emission : Emission) where
           let one = conj_value c rest subject by fit in
           record { any = false; all = one.holds; decides = one.decides; last = one.last; last_by = one.last_by; fit = one.fit; gives = λ outer. one.gives false true outer }
       expr_value (Or e c) rest subject by fit =
-          let cut = append_assoc (expr_tokens e) (Either ∷ conj_tokens c) rest in
-          let one = expr_value e (Either ∷ (conj_tokens c ++ rest)) subject by (subst (AllFit fields subject) cut fit) in
+          let cut = append_assoc (expr_tokens e) (OrOr ∷ conj_tokens c) rest in
+          let one = expr_value e (OrOr ∷ (conj_tokens c ++ rest)) subject by (subst (AllFit fields subject) cut fit) in
           let two = conj_value c rest one.last one.last_by one.fit.1 in
           record {
             any = one.any || one.all;
@@ -199,8 +199,8 @@ module _ (fields : List Field) (emission : Emission) where
           let one = unary_value u rest subject by fit in
           record { holds = one.holds; decides = one.decides; last = one.last; last_by = one.last_by; fit = one.fit; gives = λ any all outer. one.gives (record { any = any; all = all; odd = false }) outer }
       conj_value (And c u) rest subject by fit =
-          let cut = append_assoc (conj_tokens c) (Both ∷ unary_tokens u) rest in
-          let one = conj_value c (Both ∷ (unary_tokens u ++ rest)) subject by (subst (AllFit fields subject) cut fit) in
+          let cut = append_assoc (conj_tokens c) (AndAnd ∷ unary_tokens u) rest in
+          let one = conj_value c (AndAnd ∷ (unary_tokens u ++ rest)) subject by (subst (AllFit fields subject) cut fit) in
           let two = unary_value u rest one.last one.last_by one.fit.1 in
           record {
             holds = one.holds && two.holds;

@@ -28,22 +28,22 @@ is_text_named fields name = if bytes_eq name (codes "common_pid") then Some fals
 
 -- texts are compared by `==`, `!=` and `~`; numbers by all but `~`
 abbrev pub takes_at : Bool → Comparison → Bool
-takes_at true comparison.Equal = true
-takes_at true comparison.NotEqual = true
-takes_at true comparison.AtMost = false
-takes_at true comparison.AtLeast = false
-takes_at true comparison.Below = false
-takes_at true comparison.Above = false
-takes_at true comparison.CommonBit = false
-takes_at true comparison.Like = true
-takes_at false comparison.Equal = true
-takes_at false comparison.NotEqual = true
-takes_at false comparison.AtMost = true
-takes_at false comparison.AtLeast = true
-takes_at false comparison.Below = true
-takes_at false comparison.Above = true
-takes_at false comparison.CommonBit = true
-takes_at false comparison.Like = false
+takes_at true comparison.Eq = true
+takes_at true comparison.Ne = true
+takes_at true comparison.Le = false
+takes_at true comparison.Ge = false
+takes_at true comparison.Lt = false
+takes_at true comparison.Gt = false
+takes_at true comparison.BitAnd = false
+takes_at true comparison.Glob = true
+takes_at false comparison.Eq = true
+takes_at false comparison.Ne = true
+takes_at false comparison.Le = true
+takes_at false comparison.Ge = true
+takes_at false comparison.Lt = true
+takes_at false comparison.Gt = true
+takes_at false comparison.BitAnd = true
+takes_at false comparison.Glob = false
 
 -- a text field takes any value, a number only a bare word that is a NUMBER
 abbrev pub fits_at : Bool → Literal → Bool

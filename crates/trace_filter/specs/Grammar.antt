@@ -8,7 +8,7 @@ use Rattle.trace_filter.specs.declared.token.Comparison.{Comparison}
 use Rattle.trace_filter.specs.declared.syntax.Verdict.{Verdict}
 use Rattle.trace_filter.specs.declared.syntax.Verdict.TheVariants.{Fine, TooDeep, WrongAt}
 use Rattle.trace_lex.specs.Prefixes.{is_not}
-use Rattle.trace_filter.specs.Tokens.{Literal, Word, Quoted, Token, Open, Close, Bang, Both, Either, Compare, Name, Value, Illegible, is_word_byte, Spot, tokens_of}
+use Rattle.trace_filter.specs.Tokens.{Literal, Word, Quoted, Token, Open, Close, Bang, AndAnd, OrOr, Compare, Name, Value, Illegible, is_word_byte, Spot, tokens_of}
 
 mutual
   -- some conjunctions with `||` between them
@@ -29,11 +29,11 @@ mutual
 abbrev mutual
   pub expr_tokens : Expr → List Token
   expr_tokens (AllOf c) = conj_tokens c
-  expr_tokens (Or e c) = expr_tokens e ++ Either ∷ conj_tokens c
+  expr_tokens (Or e c) = expr_tokens e ++ OrOr ∷ conj_tokens c
 
   pub conj_tokens : Conj → List Token
   conj_tokens (Only u) = unary_tokens u
-  conj_tokens (And c u) = conj_tokens c ++ Both ∷ unary_tokens u
+  conj_tokens (And c u) = conj_tokens c ++ AndAnd ∷ unary_tokens u
 
   pub unary_tokens : Unary → List Token
   unary_tokens (Not u) = Bang ∷ unary_tokens u
@@ -48,8 +48,8 @@ abbrev pub is_written : Token → Bool
 is_written Open = true
 is_written Close = true
 is_written Bang = true
-is_written Both = true
-is_written Either = true
+is_written AndAnd = true
+is_written OrOr = true
 is_written (Compare comparison) = true
 is_written (Name bytes) = is_name bytes
 is_written (Value (Word bytes)) = is_word bytes
@@ -89,8 +89,8 @@ abbrev pub behind : Opened → Token → Opened
 behind opened Open = record { bangs = 0; outer = opened.bangs ∷ opened.outer }
 behind opened Close = record { bangs = 0; outer = outside opened.outer }
 behind opened Bang = record { bangs = opened.bangs + 1; outer = opened.outer }
-behind opened Both = opened
-behind opened Either = opened
+behind opened AndAnd = opened
+behind opened OrOr = opened
 behind opened (Compare comparison) = opened
 behind opened (Name bytes) = opened
 behind opened (Value literal) = record { bangs = 0; outer = opened.outer }

@@ -9,7 +9,7 @@ use Rattle.trace_filter.specs.declared.fault.FilterFault.{FilterFault}
 use Rattle.trace_filter.specs.declared.fault.FilterFault.TheVariants.{TooMany, FilterSyntax, NoSuchField, WrongOperator, Memory}
 use Rattle.trace_filter.specs.declared.test.Subject.{Subject}
 use Rattle.trace_filter.specs.declared.test.Subject.TheVariants.{Pid, Cpu, NumberField, TextField}
-use Rattle.trace_filter.specs.Tokens.{Token, Open, Close, Bang, Both, Either, Compare, Name, Value, Illegible, Spot}
+use Rattle.trace_filter.specs.Tokens.{Token, Open, Close, Bang, AndAnd, OrOr, Compare, Name, Value, Illegible, Spot}
 use Rattle.trace_filter.specs.Fields.{takes_at, fits_at, unless, or_later}
 
 -- the field at a place
@@ -34,8 +34,8 @@ subjects_in fields [] = []
 subjects_in fields (Open ∷ tokens) = subjects_in fields tokens
 subjects_in fields (Close ∷ tokens) = subjects_in fields tokens
 subjects_in fields (Bang ∷ tokens) = subjects_in fields tokens
-subjects_in fields (Both ∷ tokens) = subjects_in fields tokens
-subjects_in fields (Either ∷ tokens) = subjects_in fields tokens
+subjects_in fields (AndAnd ∷ tokens) = subjects_in fields tokens
+subjects_in fields (OrOr ∷ tokens) = subjects_in fields tokens
 subjects_in fields (Compare by ∷ tokens) = subjects_in fields tokens
 subjects_in fields (Name name ∷ tokens) = option_to_list (subject_named fields name) ++ subjects_in fields tokens
 subjects_in fields (Value literal ∷ tokens) = subjects_in fields tokens
@@ -56,8 +56,8 @@ abbrev pub fault_at : List Field → Subject → Token → ℕ → Option Filter
 fault_at fields subject Open at = None
 fault_at fields subject Close at = None
 fault_at fields subject Bang at = None
-fault_at fields subject Both at = None
-fault_at fields subject Either at = None
+fault_at fields subject AndAnd at = None
+fault_at fields subject OrOr at = None
 fault_at fields subject (Compare by) at = unless (takes_at (is_text subject) by) (WrongOperator at)
 fault_at fields subject (Name name) at = unless_named (subject_named fields name) (NoSuchField at)
 fault_at fields subject (Value literal) at = unless (fits_at (is_text subject) literal) (FilterSyntax at)
@@ -72,8 +72,8 @@ abbrev pub subject_behind : List Field → Subject → Token → Subject
 subject_behind fields subject Open = subject
 subject_behind fields subject Close = subject
 subject_behind fields subject Bang = subject
-subject_behind fields subject Both = subject
-subject_behind fields subject Either = subject
+subject_behind fields subject AndAnd = subject
+subject_behind fields subject OrOr = subject
 subject_behind fields subject (Compare by) = subject
 subject_behind fields subject (Name name) = named_or (subject_named fields name) subject
 subject_behind fields subject (Value literal) = subject

@@ -6,7 +6,7 @@ use Rattle.trace_filter.specs.declared.token.Token as token
 use Rattle.trace_filter.specs.declared.token.Token.TheVariants as tokens
 use Rattle.trace_filter.specs.declared.token.Piece as pieces
 use Rattle.trace_filter.specs.declared.token.Spot as spots
-use Rattle.trace_filter.specs.Tokens.{Literal, Word, Quoted, Token, Open, Close, Bang, Both, Either, Compare, Name, Value, Illegible, Piece, is_comparison, spots_from}
+use Rattle.trace_filter.specs.Tokens.{Literal, Word, Quoted, Token, Open, Close, Bang, AndAnd, OrOr, Compare, Name, Value, Illegible, Piece, is_comparison, spots_from}
 
 abbrev pub literal_of : literal.Literal → Literal
 literal_of (literals.Word bytes) = Word bytes.now
@@ -16,8 +16,8 @@ abbrev pub token_of : token.Token → Token
 token_of tokens.Open = Open
 token_of tokens.Close = Close
 token_of tokens.Bang = Bang
-token_of tokens.Both = Both
-token_of tokens.Either = Either
+token_of tokens.AndAnd = AndAnd
+token_of tokens.OrOr = OrOr
 token_of (tokens.Compare comparison) = Compare comparison
 token_of (tokens.Name bytes) = Name bytes.now
 token_of (tokens.Value literal) = Value (literal_of literal)

@@ -10,7 +10,7 @@ use Rattle.trace_filter.specs.declared.steps.Step as step
 use Rattle.trace_filter.specs.declared.steps.Step.TheVariants as steps
 use Rattle.trace_filter.specs.declared.frames.Frame.{Frame}
 use Rattle.trace_filter.specs.declared.frames.Frames.{Frames}
-use Rattle.trace_filter.specs.Tokens.{Literal, Token, Open, Close, Bang, Both, Either, Compare, Name, Value, Illegible}
+use Rattle.trace_filter.specs.Tokens.{Literal, Token, Open, Close, Bang, AndAnd, OrOr, Compare, Name, Value, Illegible}
 use Rattle.trace_filter.specs.Places.{is_text, subject_behind}
 use Rattle.trace_filter.specs.Truth.{Emission, literal_number, literal_bytes}
 use Rattle.trace_filter.specs.Tests.{datum_test}
@@ -28,9 +28,9 @@ pub data Move : Type 0 where
 abbrev pub move_of : step.Step → Move
 move_of steps.Open = Opens
 move_of steps.Close = Closes
-move_of steps.Bang = Inverts
-move_of steps.Both = AndThen
-move_of steps.Either = OrElse
+move_of steps.Not = Inverts
+move_of steps.And = AndThen
+move_of steps.Or = OrElse
 move_of (steps.Test t) = Checks t.subject t.comparison (datum_of t.value)
 
 abbrev pub datum_at : Bool → Literal → Datum
@@ -42,8 +42,8 @@ abbrev pub moves_of : Subject → Comparison → Token → List Move
 moves_of subject by Open = Opens ∷ []
 moves_of subject by Close = Closes ∷ []
 moves_of subject by Bang = Inverts ∷ []
-moves_of subject by Both = AndThen ∷ []
-moves_of subject by Either = OrElse ∷ []
+moves_of subject by AndAnd = AndThen ∷ []
+moves_of subject by OrOr = OrElse ∷ []
 moves_of subject by (Compare c) = []
 moves_of subject by (Name name) = []
 moves_of subject by (Value literal) = Checks subject by (datum_at (is_text subject) literal) ∷ []
@@ -53,8 +53,8 @@ abbrev pub comparison_behind : Comparison → Token → Comparison
 comparison_behind by Open = by
 comparison_behind by Close = by
 comparison_behind by Bang = by
-comparison_behind by Both = by
-comparison_behind by Either = by
+comparison_behind by AndAnd = by
+comparison_behind by OrOr = by
 comparison_behind by (Compare c) = c
 comparison_behind by (Name name) = by
 comparison_behind by (Value literal) = by
@@ -70,8 +70,8 @@ moves_about subjects by [] = []
 moves_about subjects by (Open ∷ tokens) = Opens ∷ moves_about subjects by tokens
 moves_about subjects by (Close ∷ tokens) = Closes ∷ moves_about subjects by tokens
 moves_about subjects by (Bang ∷ tokens) = Inverts ∷ moves_about subjects by tokens
-moves_about subjects by (Both ∷ tokens) = AndThen ∷ moves_about subjects by tokens
-moves_about subjects by (Either ∷ tokens) = OrElse ∷ moves_about subjects by tokens
+moves_about subjects by (AndAnd ∷ tokens) = AndThen ∷ moves_about subjects by tokens
+moves_about subjects by (OrOr ∷ tokens) = OrElse ∷ moves_about subjects by tokens
 moves_about subjects by (Compare c ∷ tokens) = moves_about subjects c tokens
 moves_about subjects by (Name name ∷ tokens) = moves_about subjects by tokens
 moves_about [] by (Value literal ∷ tokens) = moves_about [] by tokens

@@ -2,7 +2,7 @@
 use Rattle.std.specs.Prelude.{◌≡◌, ℕ, Bool, true, false, nat_lt, if◌then◌else◌, List, [], ◌∷◌, Option, None, Some, option_map}
 use Rattle.trace_filter.specs.declared.syntax.Due.{Due}
 use Rattle.trace_filter.specs.declared.syntax.Due.TheVariants as due
-use Rattle.trace_filter.specs.Tokens.{Token, Open, Close, Bang, Both, Either, Compare, Name, Value, Illegible, Spot}
+use Rattle.trace_filter.specs.Tokens.{Token, Open, Close, Bang, AndAnd, OrOr, Compare, Name, Value, Illegible, Spot}
 use Rattle.trace_filter.specs.declared.syntax.Verdict.{Verdict}
 use Rattle.trace_filter.specs.declared.syntax.Verdict.TheVariants.{Fine, TooDeep, WrongAt}
 use Rattle.trace_filter.specs.Grammar.{Opened, behind, open_count, nothing_open}
@@ -22,8 +22,8 @@ next_due due.Operand outer Open = Some due.Operand
 next_due due.Operand outer Bang = Some due.Operand
 next_due due.Operand outer (Name bytes) = Some due.Operator
 next_due due.Operand outer Close = None
-next_due due.Operand outer Both = None
-next_due due.Operand outer Either = None
+next_due due.Operand outer AndAnd = None
+next_due due.Operand outer OrOr = None
 next_due due.Operand outer (Compare comparison) = None
 next_due due.Operand outer (Value literal) = None
 next_due due.Operand outer Illegible = None
@@ -31,8 +31,8 @@ next_due due.Operator outer (Compare comparison) = Some due.Value
 next_due due.Operator outer Open = None
 next_due due.Operator outer Close = None
 next_due due.Operator outer Bang = None
-next_due due.Operator outer Both = None
-next_due due.Operator outer Either = None
+next_due due.Operator outer AndAnd = None
+next_due due.Operator outer OrOr = None
 next_due due.Operator outer (Name bytes) = None
 next_due due.Operator outer (Value literal) = None
 next_due due.Operator outer Illegible = None
@@ -40,13 +40,13 @@ next_due due.Value outer (Value literal) = Some due.Joint
 next_due due.Value outer Open = None
 next_due due.Value outer Close = None
 next_due due.Value outer Bang = None
-next_due due.Value outer Both = None
-next_due due.Value outer Either = None
+next_due due.Value outer AndAnd = None
+next_due due.Value outer OrOr = None
 next_due due.Value outer (Compare comparison) = None
 next_due due.Value outer (Name bytes) = None
 next_due due.Value outer Illegible = None
-next_due due.Joint outer Both = Some due.Operand
-next_due due.Joint outer Either = Some due.Operand
+next_due due.Joint outer AndAnd = Some due.Operand
+next_due due.Joint outer OrOr = Some due.Operand
 next_due due.Joint outer Close = if is_inside outer then Some due.Joint else None
 next_due due.Joint outer Open = None
 next_due due.Joint outer Bang = None

@@ -9,25 +9,25 @@ use Rattle.trace_filter.specs.Globs.{parts_of}
 use Rattle.trace_filter.specs.Marks.{is_match}
 
 abbrev pub number_test : Comparison → ℤ → ℤ → Bool
-number_test comparison.Equal a b = int_eq a b
-number_test comparison.NotEqual a b = not (int_eq a b)
-number_test comparison.AtMost a b = int_le a b
-number_test comparison.AtLeast a b = int_le b a
-number_test comparison.Below a b = not (int_le b a)
-number_test comparison.Above a b = not (int_le a b)
-number_test comparison.CommonBit a b = not (bit_and (pattern_of a) (pattern_of b) == 0)
-number_test comparison.Like a b = false
+number_test comparison.Eq a b = int_eq a b
+number_test comparison.Ne a b = not (int_eq a b)
+number_test comparison.Le a b = int_le a b
+number_test comparison.Ge a b = int_le b a
+number_test comparison.Lt a b = not (int_le b a)
+number_test comparison.Gt a b = not (int_le a b)
+number_test comparison.BitAnd a b = not (bit_and (pattern_of a) (pattern_of b) == 0)
+number_test comparison.Glob a b = false
 
 -- a matched text has under 256 bytes, as all texts of rows have
 abbrev pub text_test : Comparison → List ℕ → List ℕ → Bool
-text_test comparison.Equal a b = bytes_eq a b
-text_test comparison.NotEqual a b = not (bytes_eq a b)
-text_test comparison.AtMost a b = false
-text_test comparison.AtLeast a b = false
-text_test comparison.Below a b = false
-text_test comparison.Above a b = false
-text_test comparison.CommonBit a b = false
-text_test comparison.Like a b = nat_lt (length a) 256 && is_match (parts_of b) a
+text_test comparison.Eq a b = bytes_eq a b
+text_test comparison.Ne a b = not (bytes_eq a b)
+text_test comparison.Le a b = false
+text_test comparison.Ge a b = false
+text_test comparison.Lt a b = false
+text_test comparison.Gt a b = false
+text_test comparison.BitAnd a b = false
+text_test comparison.Glob a b = nat_lt (length a) 256 && is_match (parts_of b) a
 
 abbrev pub datum_test : Comparison → Datum → Datum → Bool
 datum_test by (Whole a) (Whole b) = number_test by a b

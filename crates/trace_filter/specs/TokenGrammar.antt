@@ -5,7 +5,7 @@ use Rattle.trace_lex.specs.Names.{is_name, is_name_byte}
 use Rattle.trace_filter.specs.declared.token.Comparison.{Comparison}
 use Rattle.trace_filter.specs.declared.token.Comparison.TheVariants as comparison
 use Rattle.trace_lex.specs.Blanks.{is_blank}
-use Rattle.trace_filter.specs.Tokens.{Word, Quoted, Token, Open, Close, Bang, Both, Either, Compare, Name, Value, Illegible, is_quote, is_word_byte, begins_with, is_comparison, Spot}
+use Rattle.trace_filter.specs.Tokens.{Word, Quoted, Token, Open, Close, Bang, AndAnd, OrOr, Compare, Name, Value, Illegible, is_quote, is_word_byte, begins_with, is_comparison, Spot}
 
 -- a token that is always written alike
 pub data Sign : Type 0 where
@@ -18,14 +18,14 @@ pub data Sign : Type 0 where
 
 -- `==`, `!=`, `<=`, `>=`, `<`, `>`, `&`, `~`
 abbrev pub comparison_text : Comparison → List ℕ
-comparison_text comparison.Equal = 61 ∷ 61 ∷ []
-comparison_text comparison.NotEqual = 33 ∷ 61 ∷ []
-comparison_text comparison.AtMost = 60 ∷ 61 ∷ []
-comparison_text comparison.AtLeast = 62 ∷ 61 ∷ []
-comparison_text comparison.Below = 60 ∷ []
-comparison_text comparison.Above = 62 ∷ []
-comparison_text comparison.CommonBit = 38 ∷ []
-comparison_text comparison.Like = 126 ∷ []
+comparison_text comparison.Eq = 61 ∷ 61 ∷ []
+comparison_text comparison.Ne = 33 ∷ 61 ∷ []
+comparison_text comparison.Le = 60 ∷ 61 ∷ []
+comparison_text comparison.Ge = 62 ∷ 61 ∷ []
+comparison_text comparison.Lt = 60 ∷ []
+comparison_text comparison.Gt = 62 ∷ []
+comparison_text comparison.BitAnd = 38 ∷ []
+comparison_text comparison.Glob = 126 ∷ []
 
 -- `(`, `)`, `!`, `&&`, `||`, or a comparison
 abbrev pub sign_text : Sign → List ℕ
@@ -40,16 +40,16 @@ abbrev pub sign_token : Sign → Token
 sign_token Opening = Open
 sign_token Closing = Close
 sign_token Negation = Bang
-sign_token Conjunction = Both
-sign_token Disjunction = Either
+sign_token Conjunction = AndAnd
+sign_token Disjunction = OrOr
 sign_token (Comparing comparison) = Compare comparison
 
 -- signs are read longest first: `!`, `<` and `>` don't stand before a `=` (61), nor `&` before a `&` (38)
 abbrev pub IsLongest : Sign → List ℕ → Type 0
 IsLongest Negation bytes = begins_with 61 bytes ≡ false
-IsLongest (Comparing comparison.Below) bytes = begins_with 61 bytes ≡ false
-IsLongest (Comparing comparison.Above) bytes = begins_with 61 bytes ≡ false
-IsLongest (Comparing comparison.CommonBit) bytes = begins_with 38 bytes ≡ false
+IsLongest (Comparing comparison.Lt) bytes = begins_with 61 bytes ≡ false
+IsLongest (Comparing comparison.Gt) bytes = begins_with 61 bytes ≡ false
+IsLongest (Comparing comparison.BitAnd) bytes = begins_with 38 bytes ≡ false
 IsLongest _ bytes = Unit {0}
 
 -- whether there is a first byte, of a kind

@@ -17,8 +17,8 @@ pub data Token : Type 0 where
   Open : Token
   Close : Token
   Bang : Token
-  Both : Token
-  Either : Token
+  AndAnd : Token
+  OrOr : Token
   Compare : Comparison → Token
   Name : List ℕ → Token
   Value : Literal → Token
@@ -62,13 +62,13 @@ longest b bs long short = if begins_with b bs then record { token = long; more =
 abbrev pub symbol_piece : ℕ → List ℕ → Piece
 symbol_piece b bs = if b == 40 then record { token = Open; more = 0 }
     else if b == 41 then record { token = Close; more = 0 }
-    else if b == 33 then longest 61 bs (Compare comparison.NotEqual) Bang
-    else if b == 38 then longest 38 bs Both (Compare comparison.CommonBit)
-    else if b == 60 then longest 61 bs (Compare comparison.AtMost) (Compare comparison.Below)
-    else if b == 61 then longest 61 bs (Compare comparison.Equal) Illegible
-    else if b == 62 then longest 61 bs (Compare comparison.AtLeast) (Compare comparison.Above)
-    else if b == 124 then longest 124 bs Either Illegible
-    else if b == 126 then record { token = Compare comparison.Like; more = 0 }
+    else if b == 33 then longest 61 bs (Compare comparison.Ne) Bang
+    else if b == 38 then longest 38 bs AndAnd (Compare comparison.BitAnd)
+    else if b == 60 then longest 61 bs (Compare comparison.Le) (Compare comparison.Lt)
+    else if b == 61 then longest 61 bs (Compare comparison.Eq) Illegible
+    else if b == 62 then longest 61 bs (Compare comparison.Ge) (Compare comparison.Gt)
+    else if b == 124 then longest 124 bs OrOr Illegible
+    else if b == 126 then record { token = Compare comparison.Glob; more = 0 }
     else record { token = Illegible; more = 0 }
 
 -- the token that begins with the byte b before bs; a value is read only where one is due
@@ -81,8 +81,8 @@ abbrev pub is_comparison : Token → Bool
 is_comparison Open = false
 is_comparison Close = false
 is_comparison Bang = false
-is_comparison Both = false
-is_comparison Either = false
+is_comparison AndAnd = false
+is_comparison OrOr = false
 is_comparison (Compare c) = true
 is_comparison (Name bs) = false
 is_comparison (Value v) = false

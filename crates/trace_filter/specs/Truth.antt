@@ -16,25 +16,25 @@ pattern_of (negsuc n) = 2 ^ 64 - 1 - n % 2 ^ 64
 
 -- how two numbers compare, as whole numbers of any size; for `&`, whether their patterns share a bit
 abbrev pub NumbersCompare : Comparison → ℤ → ℤ → Type 0
-NumbersCompare comparison.Equal a b = a ≡ b
-NumbersCompare comparison.NotEqual a b = a ≡ b → ⊥
-NumbersCompare comparison.AtMost a b = a ≤ℤ b
-NumbersCompare comparison.AtLeast a b = b ≤ℤ a
-NumbersCompare comparison.Below a b = b ≤ℤ a → ⊥
-NumbersCompare comparison.Above a b = a ≤ℤ b → ⊥
-NumbersCompare comparison.CommonBit a b = bit_and (pattern_of a) (pattern_of b) ≡ 0 → ⊥
-NumbersCompare comparison.Like a b = ⊥
+NumbersCompare comparison.Eq a b = a ≡ b
+NumbersCompare comparison.Ne a b = a ≡ b → ⊥
+NumbersCompare comparison.Le a b = a ≤ℤ b
+NumbersCompare comparison.Ge a b = b ≤ℤ a
+NumbersCompare comparison.Lt a b = b ≤ℤ a → ⊥
+NumbersCompare comparison.Gt a b = a ≤ℤ b → ⊥
+NumbersCompare comparison.BitAnd a b = bit_and (pattern_of a) (pattern_of b) ≡ 0 → ⊥
+NumbersCompare comparison.Glob a b = ⊥
 
 -- how two texts compare: byte for byte; for `~`, the second as a pattern of all of the first
 abbrev pub TextsCompare : Comparison → List ℕ → List ℕ → Type 0
-TextsCompare comparison.Equal a b = a ≡ b
-TextsCompare comparison.NotEqual a b = a ≡ b → ⊥
-TextsCompare comparison.AtMost a b = ⊥
-TextsCompare comparison.AtLeast a b = ⊥
-TextsCompare comparison.Below a b = ⊥
-TextsCompare comparison.Above a b = ⊥
-TextsCompare comparison.CommonBit a b = ⊥
-TextsCompare comparison.Like a b = Matches (parts_of b) a
+TextsCompare comparison.Eq a b = a ≡ b
+TextsCompare comparison.Ne a b = a ≡ b → ⊥
+TextsCompare comparison.Le a b = ⊥
+TextsCompare comparison.Ge a b = ⊥
+TextsCompare comparison.Lt a b = ⊥
+TextsCompare comparison.Gt a b = ⊥
+TextsCompare comparison.BitAnd a b = ⊥
+TextsCompare comparison.Glob a b = Matches (parts_of b) a
 
 abbrev pub literal_bytes : Literal → List ℕ
 literal_bytes (Word bytes) = bytes

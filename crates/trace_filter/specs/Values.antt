@@ -7,4 +7,4 @@ use Rattle.trace_filter.specs.Filters.{Parsed}
 use Rattle.trace_filter.specs.Steps.{moves_about, evaluated, at_start}
 
 unfoldable pub holds_of : Parsed → Emission → Bool
-holds_of filter emission = evaluated emission at_start (moves_about filter.subjects comparisons.Equal (tokens_of (spots_of filter.text)))
+holds_of filter emission = evaluated emission at_start (moves_about filter.subjects comparisons.Eq (tokens_of (spots_of filter.text)))

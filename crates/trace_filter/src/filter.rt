@@ -33,7 +33,7 @@ impl Model for Filter {
     ghost view = { λ f. record { text = f.text.items; subjects = subjects_tested (map move_of f.steps.items) } };
 
     // The steps are those of the text, with tests of these subjects.
-    ghost invariant = { λ f. map move_of f.steps.items ≡ moves_about (subjects_tested (map move_of f.steps.items)) comparisons.Equal (tokens_of (spots_of f.text.items)) };
+    ghost invariant = { λ f. map move_of f.steps.items ≡ moves_about (subjects_tested (map move_of f.steps.items)) comparisons.Eq (tokens_of (spots_of f.text.items)) };
 }
 
 impl Filter {

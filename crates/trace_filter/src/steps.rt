@@ -27,9 +27,9 @@ pub(crate) struct Test {
 pub(crate) enum Step {
     Open,
     Close,
-    Bang,
-    Both,
-    Either,
+    Not,
+    And,
+    Or,
     Test(Test),
 }
 
@@ -69,9 +69,9 @@ impl Frames {
         match step {
             Step::Open => self.open(),
             Step::Close => self.close(),
-            Step::Bang => self.invert(),
-            Step::Both => {}
-            Step::Either => self.or_else(),
+            Step::Not => self.invert(),
+            Step::And => {}
+            Step::Or => self.or_else(),
             Step::Test(test) => self.test(test.holds(values, cpu, pid)),
         }
     }
@@ -92,12 +92,12 @@ impl Compiler {
 
     fn new(alloc: Global) -> Compiler
         ensures subject { result.subject ≡ subjects.Pid }
-        ensures comparison { result.comparison ≡ comparisons.Equal }
+        ensures comparison { result.comparison ≡ comparisons.Eq }
         ensures steps { result.steps.items ≡ [] }
     {
         Compiler {
             subject: Subject::Pid,
-            comparison: Comparison::Equal,
+            comparison: Comparison::Eq,
             steps: Vec::new(alloc),
         }
     }
@@ -119,9 +119,9 @@ impl Compiler {
         let step = match token {
             Token::Open => Step::Open,
             Token::Close => Step::Close,
-            Token::Bang => Step::Bang,
-            Token::Both => Step::Both,
-            Token::Either => Step::Either,
+            Token::Bang => Step::Not,
+            Token::AndAnd => Step::And,
+            Token::OrOr => Step::Or,
             Token::Compare(comparison) => {
                 if !self.subject.takes(comparison) {
                     return Err(FilterFault::WrongOperator { at });
@@ -160,7 +160,7 @@ pub(crate) fn compile(
     fields: &[Field],
 ) -> Result<Vec<Step>, FilterFault>
     ensures fits { OnOk result (first_fault fields.now subjects.Pid (spots_from false 0 0 text.now) ≡ None) }
-    ensures steps { IfOk result (λ steps. map move_of steps.items ≡ moves_from fields.now subjects.Pid comparisons.Equal (tokens_of (spots_from false 0 0 text.now))) }
+    ensures steps { IfOk result (λ steps. map move_of steps.items ≡ moves_from fields.now subjects.Pid comparisons.Eq (tokens_of (spots_from false 0 0 text.now))) }
     ensures refused { IfErr result (IsToldAs (first_fault fields.now subjects.Pid (spots_from false 0 0 text.now))) }
 {
     let mut compiler = Compiler::new(alloc);

@@ -89,7 +89,7 @@ impl Reader {
                 self.bangs = 0;
                 self.due = Due::Joint;
             }
-            (Due::Joint, Token::Both | Token::Either) => self.due = Due::Operand,
+            (Due::Joint, Token::AndAnd | Token::OrOr) => self.due = Due::Operand,
             (Due::Joint, Token::Close) => {
                 if self.outer.pop().is_none() {
                     return false;

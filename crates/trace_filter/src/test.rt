@@ -77,10 +77,10 @@ impl Subject {
         if self.is_text() {
             matches!(
                 comparison,
-                Comparison::Equal | Comparison::NotEqual | Comparison::Like
+                Comparison::Eq | Comparison::Ne | Comparison::Glob
             )
         } else {
-            !matches!(comparison, Comparison::Like)
+            !matches!(comparison, Comparison::Glob)
         }
     }
 
@@ -110,14 +110,14 @@ fn compare_numbers(comparison: Comparison, left: i128, right: i128) -> bool
     ensures { result ≡ number_test comparison left right }
 {
     match comparison {
-        Comparison::Equal => left == right,
-        Comparison::NotEqual => left != right,
-        Comparison::AtMost => left <= right,
-        Comparison::AtLeast => right <= left,
-        Comparison::Below => left < right,
-        Comparison::Above => right < left,
-        Comparison::CommonBit => pattern(left) & pattern(right) != 0,
-        Comparison::Like => false,
+        Comparison::Eq => left == right,
+        Comparison::Ne => left != right,
+        Comparison::Le => left <= right,
+        Comparison::Ge => right <= left,
+        Comparison::Lt => left < right,
+        Comparison::Gt => right < left,
+        Comparison::BitAnd => pattern(left) & pattern(right) != 0,
+        Comparison::Glob => false,
     }
 }
 
@@ -125,9 +125,9 @@ fn compare_texts(comparison: Comparison, left: &[u8], right: &[u8]) -> bool
     ensures { result ≡ text_test comparison left.now right.now }
 {
     match comparison {
-        Comparison::Equal => left == right,
-        Comparison::NotEqual => left != right,
-        Comparison::Like => left.len() < TEXT_END && matches(right, left),
+        Comparison::Eq => left == right,
+        Comparison::Ne => left != right,
+        Comparison::Glob => left.len() < TEXT_END && matches(right, left),
         _ => false,
     }
 }

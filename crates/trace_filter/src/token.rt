@@ -11,16 +11,16 @@ use trace_lex::{blanks_len, is_blank, is_name, is_name_byte, len_before, rest_of
 /// How a test compares a field's value with a written one.
 #[derive(Clone, Copy, Debug, PartialEq, Eq)]
 pub(crate) enum Comparison {
-    Equal,
-    NotEqual,
-    AtMost,
-    AtLeast,
-    Below,
-    Above,
+    Eq,
+    Ne,
+    Le,
+    Ge,
+    Lt,
+    Gt,
     /// `&`: the two patterns have a common bit.
-    CommonBit,
+    BitAnd,
     /// `~`: the text matches a glob.
-    Like,
+    Glob,
 }
 
 /// A value as written.
@@ -36,8 +36,8 @@ pub(crate) enum Token<'a> {
     Open,
     Close,
     Bang,
-    Both,
-    Either,
+    AndAnd,
+    OrOr,
     Compare(Comparison),
     Name(&'a [u8]),
     Value(Literal<'a>),
@@ -186,23 +186,13 @@ fn symbol_piece(first: u8, rest: &[u8]) -> Piece<'static>
     match first {
         b'(' => single(Token::Open),
         b')' => single(Token::Close),
-        b'!' => longest(b'=', rest, compare(Comparison::NotEqual), Token::Bang),
-        b'&' => longest(b'&', rest, Token::Both, compare(Comparison::CommonBit)),
-        b'<' => longest(
-            b'=',
-            rest,
-            compare(Comparison::AtMost),
-            compare(Comparison::Below),
-        ),
-        b'=' => longest(b'=', rest, compare(Comparison::Equal), Token::Illegible),
-        b'>' => longest(
-            b'=',
-            rest,
-            compare(Comparison::AtLeast),
-            compare(Comparison::Above),
-        ),
-        b'|' => longest(b'|', rest, Token::Either, Token::Illegible),
-        b'~' => single(compare(Comparison::Like)),
+        b'!' => longest(b'=', rest, compare(Comparison::Ne), Token::Bang),
+        b'&' => longest(b'&', rest, Token::AndAnd, compare(Comparison::BitAnd)),
+        b'<' => longest(b'=', rest, compare(Comparison::Le), compare(Comparison::Lt)),
+        b'=' => longest(b'=', rest, compare(Comparison::Eq), Token::Illegible),
+        b'>' => longest(b'=', rest, compare(Comparison::Ge), compare(Comparison::Gt)),
+        b'|' => longest(b'|', rest, Token::OrOr, Token::Illegible),
+        b'~' => single(compare(Comparison::Glob)),
         _ => single(Token::Illegible),
     }
 }

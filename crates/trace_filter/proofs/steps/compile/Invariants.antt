@@ -11,7 +11,7 @@ abbrev pub invariant-loop-spot : goal.invariant-loop-spot
 invariant-loop-spot l = record {
   within : l.from ≤ length l.text;
   fault : first_fault l.fields l.compiler.subject (spots_from l.value_due 0 l.from (drop l.from l.text)) ≡ first_fault l.fields subjects.Pid (spots_from false 0 0 l.text);
-  steps : map move_of l.compiler.steps.items ++ moves_from l.fields l.compiler.subject l.compiler.comparison (tokens_of (spots_from l.value_due 0 l.from (drop l.from l.text))) ≡ moves_from l.fields subjects.Pid comparisons.Equal (tokens_of (spots_from false 0 0 l.text));
+  steps : map move_of l.compiler.steps.items ++ moves_from l.fields l.compiler.subject l.compiler.comparison (tokens_of (spots_from l.value_due 0 l.from (drop l.from l.text))) ≡ moves_from l.fields subjects.Pid comparisons.Eq (tokens_of (spots_from false 0 0 l.text));
 }
 
 abbrev pub decreases-loop-spot : goal.decreases-loop-spot

@@ -14,7 +14,7 @@ returns-clause-truth c = λ definition written is is_row.
     let moves : List Move = map move_of c.self.inside.steps.items in
     let found : c.evaluate.result ≡ evaluated (record { values = map datum_of c.values.result.now; cpu = c.args.cpu; pid = c.args.pid }) at_start (map move_of c.deref.result.now) = search rules in
     some_passes definition written c.args.self.now c.args.row.now emission refl is is_row
-    moves (ap (λ (f : Parsed). f.subjects) c.self.view_is) (c.self.invariant ∙ ap (λ (f : Parsed). moves_about (subjects_tested moves) comparisons.Equal (tokens_of (spots_of f.text))) c.self.view_is)
+    moves (ap (λ (f : Parsed). f.subjects) c.self.view_is) (c.self.invariant ∙ ap (λ (f : Parsed). moves_about (subjects_tested moves) comparisons.Eq (tokens_of (spots_of f.text))) c.self.view_is)
     c.evaluate.result
     (found ∙ (λ i. evaluated (record { values = c.values.ensures.values i; cpu = c.args.cpu; pid = c.args.pid }) at_start (map move_of (c.deref.ensures.value i))))
 
@@ -24,7 +24,7 @@ returns-clause-each c = λ definition written is is_row.
     let moves : List Move = map move_of c.self.inside.steps.items in
     let found : c.evaluate.result ≡ evaluated (record { values = map datum_of c.values.result.now; cpu = c.args.cpu; pid = c.args.pid }) at_start (map move_of c.deref.result.now) = search rules in
     each_holds definition written c.args.self.now c.args.row.now emission refl is is_row
-    moves (ap (λ (f : Parsed). f.subjects) c.self.view_is) (c.self.invariant ∙ ap (λ (f : Parsed). moves_about (subjects_tested moves) comparisons.Equal (tokens_of (spots_of f.text))) c.self.view_is)
+    moves (ap (λ (f : Parsed). f.subjects) c.self.view_is) (c.self.invariant ∙ ap (λ (f : Parsed). moves_about (subjects_tested moves) comparisons.Eq (tokens_of (spots_of f.text))) c.self.view_is)
     c.evaluate.result
     (found ∙ (λ i. evaluated (record { values = c.values.ensures.values i; cpu = c.args.cpu; pid = c.args.pid }) at_start (map move_of (c.deref.ensures.value i))))
 
@@ -33,5 +33,5 @@ returns-clause-exact c =
     let emission : Emission = record { values = c.args.row.now.values; cpu = c.args.cpu; pid = c.args.pid } in
     let found : c.evaluate.result ≡ evaluated (record { values = map datum_of c.values.result.now; cpu = c.args.cpu; pid = c.args.pid }) at_start (map move_of c.deref.result.now) = search rules in
     found ∙ (λ i. evaluated (record { values = c.values.ensures.values i; cpu = c.args.cpu; pid = c.args.pid }) at_start (map move_of (c.deref.ensures.value i)))
-    ∙ ap (evaluated emission at_start) (c.self.invariant ∙ ap (λ (f : Parsed). moves_about f.subjects comparisons.Equal (tokens_of (spots_of f.text))) c.self.view_is)
+    ∙ ap (evaluated emission at_start) (c.self.invariant ∙ ap (λ (f : Parsed). moves_about f.subjects comparisons.Eq (tokens_of (spots_of f.text))) c.self.view_is)
     ∙ value_of_filter c.args.self.now emission

@@ -14,15 +14,15 @@ use Rattle.trace_filter.proofs.filter.Filter.read.Goals as goal
 pub invariant_of-result : goal.invariant_of-result
 invariant_of-result c =
     let items_is : c.in_ok-from_slice.field-0.items ≡ trimmed c.args.text.now = c.in_ok-from_slice.ensures.items ∙ c.trim-trimmed.ensures in
-    let moves_is : map move_of c.in_ok-steps.steps.items ≡ moves_from c.args.def.now.fields subjects.Pid comparisons.Equal (tokens_of (spots_of c.args.text.now)) =
-    c.in_ok-steps.ensures.steps ∙ (λ i. moves_from (c.fields.ensures.fields i) subjects.Pid comparisons.Equal (tokens_of (spots_from false 0 0 (c.trim_end-body.ensures i)))) in
+    let moves_is : map move_of c.in_ok-steps.steps.items ≡ moves_from c.args.def.now.fields subjects.Pid comparisons.Eq (tokens_of (spots_of c.args.text.now)) =
+    c.in_ok-steps.ensures.steps ∙ (λ i. moves_from (c.fields.ensures.fields i) subjects.Pid comparisons.Eq (tokens_of (spots_from false 0 0 (c.trim_end-body.ensures i)))) in
     moves_kept c.args.def.now c.args.text.now c.in_ok-from_slice.field-0.items (map move_of c.in_ok-steps.steps.items) items_is moves_is
 
 pub returns-clause-exact : goal.returns-clause-exact
 returns-clause-exact c =
     let items_is : c.in_ok-from_slice.field-0.items ≡ trimmed c.args.text.now = c.in_ok-from_slice.ensures.items ∙ c.trim-trimmed.ensures in
-    let moves_is : map move_of c.in_ok-steps.steps.items ≡ moves_from c.args.def.now.fields subjects.Pid comparisons.Equal (tokens_of (spots_of c.args.text.now)) =
-    c.in_ok-steps.ensures.steps ∙ (λ i. moves_from (c.fields.ensures.fields i) subjects.Pid comparisons.Equal (tokens_of (spots_from false 0 0 (c.trim_end-body.ensures i)))) in
+    let moves_is : map move_of c.in_ok-steps.steps.items ≡ moves_from c.args.def.now.fields subjects.Pid comparisons.Eq (tokens_of (spots_of c.args.text.now)) =
+    c.in_ok-steps.ensures.steps ∙ (λ i. moves_from (c.fields.ensures.fields i) subjects.Pid comparisons.Eq (tokens_of (spots_from false 0 0 (c.trim_end-body.ensures i)))) in
     let short : length (trimmed c.args.text.now) ≤ 1024 = omega (arith, c.if-trimmed-gt-LONGEST.false, ap length (c.trim-trimmed.ensures)) in
     let fine : reading start (spots_of c.args.text.now) (length c.args.text.now) ≡ Fine =
     ap (λ w. reading start (spots_from false 0 0 w) (length c.args.text.now)) (sym c.trim_end-body.ensures) ∙ sym c.read_syntax.ensures ∙ c.in-Fine.is in
