@@ -2,5 +2,5 @@ pub mod TokenLemmas
 pub mod GrammarLaws
 pub mod LineLemmas
 pub mod DeviceLemmas
-pub mod SessionLemmas
+pub mod ScriptLemmas
 pub mod Turns

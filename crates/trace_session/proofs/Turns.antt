@@ -4,10 +4,9 @@ use Rattle.std.proofs.lemmas.List.{append-nil, take_at, length_push}
 use Rattle.std.proofs.lemmas.List.Folds.{list_any-append}
 use Rattle.std.specs.List.{concat, list_any}
 use Rattle.std.specs.Io.KnownBytes.{Appends}
-use Rattle.trace_command.specs.Requests.{Request}
 use Rattle.trace_command.specs.declared.command.Config.{Config}
 use Rattle.trace_session.specs.Devices.{AppendsFront, AppendsWhole}
-use Rattle.trace_session.specs.Sessions.{lines_of, lines_left, turn_of, is_fault, is_refusal, outcomes_of, text_of, texts_from, status_of, session, IsWhole}
+use Rattle.trace_session.specs.Sessions.{Progress, beginning, lines_of, lines_left, turn_of, is_fault, is_refusal, outcomes_of, text_of, texts_from, status_of, session, IsWhole}
 use Rattle.trace_session.specs.declared.render.Outcome.{Outcome}
 use Rattle.trace_session.specs.declared.status.Status.{Status}
 use Rattle.trace_session.specs.declared.status.Status.TheVariants as statuses
@@ -32,23 +31,23 @@ texts_from-append number (x ∷ xs) ys =
 -- ---- where a session stands
 
 -- these lines came to these outcomes, none of them a fault, and their texts were written
-pub record Stands (config : Config) (script : List ℕ) (before now : Option (List ℕ)) (past : List Request) (left : Option (List ℕ)) (number : ℕ) (status : Status) : Type 0 where
+pub record Stands (config : Config) (script : List ℕ) (before now : Option (List ℕ)) (progress : Progress) (left : Option (List ℕ)) (number : ℕ) (status : Status) : Type 0 where
   pub done : List (Option Outcome)
-  pub outcomes : outcomes_of config [] (lines_of script) ≡ done ++ outcomes_of config past (lines_left left)
+  pub outcomes : outcomes_of config beginning (lines_of script) ≡ done ++ outcomes_of config progress (lines_left left)
   pub faultless : list_any is_fault done ≡ false
   pub count : number ≡ 1 + length done
   pub told : status ≡ status_of done
   pub written : Appends before now (concat (texts_from 1 done))
 
-pub begins : (config : Config) (script : List ℕ) (before : Option (List ℕ)) (past : List Request) → past ≡ [] → Stands config script before before past (Some script) 1 statuses.Done
-begins config script before past e =
-    record { done = []; outcomes = ap (λ (p : List Request). outcomes_of config p (lines_of script)) (sym e); faultless = refl; count = refl; told = refl; written = Appends_nothing before }
+pub begins : (config : Config) (script : List ℕ) (before : Option (List ℕ)) (progress : Progress) → progress ≡ beginning → Stands config script before before progress (Some script) 1 statuses.Done
+begins config script before progress e =
+    record { done = []; outcomes = ap (λ (p : Progress). outcomes_of config p (lines_of script)) (sym e); faultless = refl; count = refl; told = refl; written = Appends_nothing before }
 
 -- what becomes of a line and of those behind it
-outcomes_step : (config : Config) (past : List Request) (text line : List ℕ) (after : Option (List ℕ)) → lines_of text ≡ line ∷ lines_left after
-    → outcomes_of config past (lines_of text)
-    ≡ (turn_of config past line).outcome ∷ (if is_fault (turn_of config past line).outcome then [] else outcomes_of config (turn_of config past line).past (lines_left after))
-outcomes_step config past text line after e = ap (outcomes_of config past) e
+outcomes_step : (config : Config) (progress : Progress) (text line : List ℕ) (after : Option (List ℕ)) → lines_of text ≡ line ∷ lines_left after
+    → outcomes_of config progress (lines_of text)
+    ≡ (turn_of config progress line).outcome ∷ (if is_fault (turn_of config progress line).outcome then [] else outcomes_of config (turn_of config progress line).progress (lines_left after))
+outcomes_step config progress text line after e = ap (outcomes_of config progress) e
 
 -- the texts of the lines so far, and that of one more
 texts_push : (done : List (Option Outcome)) (number : ℕ) (outcome : Option Outcome) → number ≡ 1 + length done → concat (texts_from 1 done) ++ text_of number outcome ≡ concat (texts_from 1 (done ++ outcome ∷ []))
@@ -94,27 +93,27 @@ fault_is false false line e h = absurd (cc)
 regrouped : (told front rest more : List ℕ) → told ++ (front ++ rest ++ more) ≡ told ++ front ++ (rest ++ more)
 regrouped told front rest more = ap (λ (text : List ℕ). told ++ text) (append_assoc front rest more) ∙ sym (append_assoc told front (rest ++ more))
 
-module _ (config : Config) (script : List ℕ) (before now new : Option (List ℕ)) (past : List Request) (text line : List ℕ) (after : Option (List ℕ)) (number : ℕ) (status : Status)
-    (s : Stands config script before now past (Some text) number status) (e : lines_of text ≡ line ∷ lines_left after) where
+module _ (config : Config) (script : List ℕ) (before now new : Option (List ℕ)) (progress : Progress) (text line : List ℕ) (after : Option (List ℕ)) (number : ℕ) (status : Status)
+    (s : Stands config script before now progress (Some text) number status) (e : lines_of text ≡ line ∷ lines_left after) where
   -- what becomes of the script
-  all_outcomes : outcomes_of config [] (lines_of script)
-      ≡ s.done ++ ((turn_of config past line).outcome ∷ (if is_fault (turn_of config past line).outcome then [] else outcomes_of config (turn_of config past line).past (lines_left after)))
-  all_outcomes = s.outcomes ∙ ap (λ (os : List (Option Outcome)). s.done ++ os) (outcomes_step config past text line after e)
+  all_outcomes : outcomes_of config beginning (lines_of script)
+      ≡ s.done ++ ((turn_of config progress line).outcome ∷ (if is_fault (turn_of config progress line).outcome then [] else outcomes_of config (turn_of config progress line).progress (lines_left after)))
+  all_outcomes = s.outcomes ∙ ap (λ (os : List (Option Outcome)). s.done ++ os) (outcomes_step config progress text line after e)
 
   -- a line that is no fault
-  pub keeps : (next : List Request) (line_is later : Status) → (turn_of config past line).past ≡ next → line_is ≡ status_of ((turn_of config past line).outcome ∷ []) → line_is ≢ statuses.Fault
+  pub keeps : (next : Progress) (line_is later : Status) → (turn_of config progress line).progress ≡ next → line_is ≡ status_of ((turn_of config progress line).outcome ∷ []) → line_is ≢ statuses.Fault
       → (line_is ≡ statuses.Refused → later ≡ statuses.Refused) → (line_is ≢ statuses.Refused → later ≡ status)
-      → Appends now new (text_of number (turn_of config past line).outcome) → Stands config script before new next after (number + 1) later
+      → Appends now new (text_of number (turn_of config progress line).outcome) → Stands config script before new next after (number + 1) later
   keeps next line_is later f g no_fault refused other more =
-      let turn = turn_of config past line in
+      let turn = turn_of config progress line in
       let o = turn.outcome in
       let goes_on = no_fault_is (is_fault o) (is_refusal o) line_is g no_fault in
       record {
         done = s.done ++ o ∷ [];
         outcomes =
             all_outcomes
-            ∙ (ap (λ (b : Bool). s.done ++ (o ∷ (if b then [] else outcomes_of config turn.past (lines_left after)))) goes_on
-            ∙ (ap (λ (p : List Request). s.done ++ (o ∷ outcomes_of config p (lines_left after))) f
+            ∙ (ap (λ (b : Bool). s.done ++ (o ∷ (if b then [] else outcomes_of config turn.progress (lines_left after)))) goes_on
+            ∙ (ap (λ (p : Progress). s.done ++ (o ∷ outcomes_of config p (lines_left after))) f
             ∙ sym (append_assoc s.done (o ∷ []) (outcomes_of config next (lines_left after)))));
         faultless =
             list_any-append is_fault s.done (o ∷ []) ∙ (ap (λ (b : Bool). b || (is_fault o || false)) s.faultless ∙ ap (λ (b : Bool). b || false) goes_on);
@@ -126,15 +125,15 @@ module _ (config : Config) (script : List ℕ) (before now new : Option (List �
       }
 
   -- a line that is a fault
-  pub at_fault : (line_is : Status) → line_is ≡ status_of ((turn_of config past line).outcome ∷ []) → line_is ≡ statuses.Fault → Appends now new (text_of number (turn_of config past line).outcome)
+  pub at_fault : (line_is : Status) → line_is ≡ status_of ((turn_of config progress line).outcome ∷ []) → line_is ≡ statuses.Fault → Appends now new (text_of number (turn_of config progress line).outcome)
       → (statuses.Fault ≡ (session config script).status) × Appends before new (concat (session config script).texts)
   unfolding session
   at_fault line_is g fault more =
-      let turn = turn_of config past line in
+      let turn = turn_of config progress line in
       let o = turn.outcome in
       let ends = fault_is (is_fault o) (is_refusal o) line_is g fault in
-      let all : outcomes_of config [] (lines_of script) ≡ s.done ++ o ∷ [] =
-      all_outcomes ∙ ap (λ (b : Bool). s.done ++ (o ∷ (if b then [] else outcomes_of config turn.past (lines_left after)))) ends in
+      let all : outcomes_of config beginning (lines_of script) ≡ s.done ++ o ∷ [] =
+      all_outcomes ∙ ap (λ (b : Bool). s.done ++ (o ∷ (if b then [] else outcomes_of config turn.progress (lines_left after)))) ends in
       let faulty : list_any is_fault (s.done ++ o ∷ []) ≡ true =
       list_any-append is_fault s.done (o ∷ []) ∙ (ap (λ (b : Bool). b || (is_fault o || false)) s.faultless ∙ ap (λ (b : Bool). b || false) ends) in (
         sym (ap status_of all
@@ -148,20 +147,20 @@ module _ (config : Config) (script : List ℕ) (before now new : Option (List �
   pub at_memory : Appends now new [] → AppendsWhole before new (session config script).texts
   unfolding session
   at_memory more =
-      let all : take (length s.done) (texts_from 1 (outcomes_of config [] (lines_of script))) ≡ texts_from 1 s.done =
-      ap (λ (os : List (Option Outcome)). take (length s.done) (texts_from 1 os)) s.outcomes ∙ texts_front s.done (outcomes_of config past (lines_of text)) in (
+      let all : take (length s.done) (texts_from 1 (outcomes_of config beginning (lines_of script))) ≡ texts_from 1 s.done =
+      ap (λ (os : List (Option Outcome)). take (length s.done) (texts_from 1 os)) s.outcomes ∙ texts_front s.done (outcomes_of config progress (lines_of text)) in (
         length s.done,
         subst (λ (t : List ℕ). Appends before new t) (append-nil (concat (texts_from 1 s.done)) ∙ ap concat (sym all))
             (Appends_append before now new (concat (texts_from 1 s.done)) [] s.written more),
       )
 
   -- a write failed
-  pub at_device : AppendsFront now new (text_of number (turn_of config past line).outcome) → AppendsFront before new (concat (session config script).texts)
+  pub at_device : AppendsFront now new (text_of number (turn_of config progress line).outcome) → AppendsFront before new (concat (session config script).texts)
   unfolding session
   at_device more =
-      let turn = turn_of config past line in
+      let turn = turn_of config progress line in
       let o = turn.outcome in
-      let others : List (Option Outcome) = if is_fault o then [] else outcomes_of config turn.past (lines_left after) in
+      let others : List (Option Outcome) = if is_fault o then [] else outcomes_of config turn.progress (lines_left after) in
       let told = concat (texts_from 1 s.done) in
       let others_told = concat (texts_from (1 + length s.done + 1) others) in (
         told ++ more.0,
@@ -175,11 +174,11 @@ module _ (config : Config) (script : List ℕ) (before now new : Option (List �
       )
 
 -- no line is left
-pub at_end : (config : Config) (script : List ℕ) (before now : Option (List ℕ)) (past : List Request) (number : ℕ) (status : Status) → Stands config script before now past None number status
+pub at_end : (config : Config) (script : List ℕ) (before now : Option (List ℕ)) (progress : Progress) (number : ℕ) (status : Status) → Stands config script before now progress None number status
     → (status ≡ (session config script).status) × Appends before now (concat (session config script).texts)
 unfolding session
-at_end config script before now past number status s =
-    let all : outcomes_of config [] (lines_of script) ≡ s.done = s.outcomes ∙ append-nil s.done in
+at_end config script before now progress number status s =
+    let all : outcomes_of config beginning (lines_of script) ≡ s.done = s.outcomes ∙ append-nil s.done in
     (s.told ∙ ap status_of (sym all), subst (λ (t : List ℕ). Appends before now t) (ap (λ (os : List (Option Outcome)). concat (texts_from 1 os)) (sym all)) s.written)
 
 -- the status of lines is that of a whole session

@@ -1,9 +1,10 @@
 -- What a session writes for a script, and its status.
-use Rattle.std.specs.Prelude.{ℕ, ◌+◌, ◌==◌, Bool, true, false, if◌then◌else◌, List, [], ◌∷◌, length, Option, Some, None, Result, Ok, Err}
+use Rattle.std.specs.Prelude.{ℕ, ◌+◌, ◌==◌, Bool, true, false, if◌then◌else◌, List, [], ◌∷◌, ◌++◌, length, Option, Some, None, Result, Ok, Err}
 use Rattle.std.specs.List.{slice_split, list_any}
-use Rattle.trace_history.specs.History.{answer}
-use Rattle.trace_command.specs.Requests.{Request, request_of}
+use Rattle.trace_history.specs.History.{answer_to}
+use Rattle.trace_command.specs.declared.command.Command.{Command}
 use Rattle.trace_command.specs.declared.command.Config.{Config}
+use Rattle.trace_command.specs.declared.command.Entry.{Entry}
 use Rattle.trace_command.specs.declared.command.Reply.{Reply}
 use Rattle.trace_command.specs.declared.refusal.Refusal.{Refusal}
 use Rattle.trace_session.specs.Lines.{line_of}
@@ -30,25 +31,43 @@ abbrev pub bytes_left : Option (List ℕ) → ℕ
 bytes_left None = 0
 bytes_left (Some rest) = length rest + 1
 
--- what became of a line, if it said anything, and the requests that are done now, newest first
+-- how far a session has come: the entries done so far, oldest first, and how many commands were asked, done or refused
+pub record Progress : Type 0 where
+  pub entries : List Entry
+  pub asked : ℕ
+
+-- with these entries, and this many commands asked
+abbrev pub so_far : List Entry → ℕ → Progress
+so_far entries asked = record { entries = entries; asked = asked }
+
+-- what became of a line, if it said anything, and how far the session has come with it
 pub record Turn : Type 0 where
   pub outcome : Option Outcome
-  pub past : List Request
+  pub progress : Progress
 
--- a request is done, or refused and given up
-abbrev pub answered : List Request → Request → Result Reply Refusal → Turn
-answered past request (Ok reply) = record { outcome = Some (outcomes.Replied reply); past = request ∷ past }
-answered past request (Err refusal) = record { outcome = Some (outcomes.Refused refusal); past = past }
+-- the entry that a command becomes when it is done: its ticket is the number of commands asked before it, and its caller's number is 0
+abbrev pub entry_of : Progress → Command → Entry
+entry_of before command = record { ticket = before.asked; by = 0; command = command }
 
--- a line that was read: a command is answered after the requests done so far
-abbrev pub taken : Config → List Request → Result Line ScriptFault → Turn
-taken config past (Ok Blank) = record { outcome = None; past = past }
-taken config past (Ok (Ask command)) = answered past (request_of command) (answer config past (request_of command))
-taken config past (Err fault) = record { outcome = Some (outcomes.Fault fault); past = past }
+-- a command is done, and becomes the last entry; or it is refused, and leaves the entries as they are
+abbrev pub answered : Progress → Command → Result Reply Refusal → Turn
+answered before command (Ok reply) =
+    record {
+      outcome = Some (outcomes.Replied reply);
+      progress = so_far (before.entries ++ entry_of before command ∷ []) (before.asked + 1);
+    }
+answered before command (Err refusal) =
+    record { outcome = Some (outcomes.Refused refusal); progress = so_far before.entries (before.asked + 1) }
 
--- a line, after the requests done so far
-unfoldable pub turn_of : Config → List Request → List ℕ → Turn
-turn_of config past line = taken config past (line_of line)
+-- a line that was read: a command gets the answer that the entries done so far give it
+abbrev pub taken : Config → Progress → Result Line ScriptFault → Turn
+taken config before (Ok Blank) = record { outcome = None; progress = before }
+taken config before (Ok (Ask command)) = answered before command (answer_to config before.entries command)
+taken config before (Err fault) = record { outcome = Some (outcomes.Fault fault); progress = before }
+
+-- a line, after what was asked so far
+unfoldable pub turn_of : Config → Progress → List ℕ → Turn
+turn_of config before line = taken config before (line_of line)
 
 -- a fault ends the session
 abbrev pub is_fault : Option Outcome → Bool
@@ -59,18 +78,12 @@ abbrev pub is_refusal : Option Outcome → Bool
 is_refusal (Some (outcomes.Refused refusal)) = true
 is_refusal _ = false
 
--- a command was asked
-abbrev pub is_asked : Option Outcome → Bool
-is_asked (Some (outcomes.Replied reply)) = true
-is_asked (Some (outcomes.Refused refusal)) = true
-is_asked _ = false
-
 -- what becomes of the lines in turn, up to the first fault
-abbrev pub outcomes_of : Config → List Request → List (List ℕ) → List (Option Outcome)
-outcomes_of config past [] = []
-outcomes_of config past (line ∷ lines) =
-    let turn = turn_of config past line in
-    turn.outcome ∷ (if is_fault turn.outcome then [] else outcomes_of config turn.past lines)
+abbrev pub outcomes_of : Config → Progress → List (List ℕ) → List (Option Outcome)
+outcomes_of config before [] = []
+outcomes_of config before (line ∷ lines) =
+    let turn = turn_of config before line in
+    turn.outcome ∷ (if is_fault turn.outcome then [] else outcomes_of config turn.progress lines)
 
 -- what is written for the line of this number
 abbrev pub text_of : ℕ → Option Outcome → List ℕ
@@ -91,10 +104,14 @@ pub record Session : Type 0 where
   pub texts : List (List ℕ)
   pub status : Status
 
--- the session of a script: its lines in turn, numbered from 1, after no request
+-- before its first line a session has no entry, and nothing was asked
+abbrev pub beginning : Progress
+beginning = so_far [] 0
+
+-- the session of a script: its lines in turn, numbered from 1
 unfoldable pub session : Config → List ℕ → Session
 session config script =
-    let outcomes = outcomes_of config [] (lines_of script) in
+    let outcomes = outcomes_of config beginning (lines_of script) in
     record { texts = texts_from 1 outcomes; status = status_of outcomes }
 
 -- all was asked: the session came to its end, or to a fault

@@ -5,16 +5,21 @@ mod device;
 mod fault;
 mod line;
 mod number;
+mod output;
 mod render;
+mod script;
 mod session;
 mod status;
+mod stop;
 #[cfg(test)]
 mod tests;
 mod token;
+mod turn;
 
 pub use device::{Input, Output, Sink, Source};
 pub use fault::ScriptFault;
 pub use line::writes_are_as_written;
-pub use session::{MOST_SCRIPT_BYTES, run_session};
+pub use script::MOST_SCRIPT_BYTES;
+pub use session::run_session;
 pub use status::Status;
 pub use token::tokens_are_as_written;

@@ -1,7 +1,6 @@
 use Rattle.std.proofs.Common.{◌≡◌, ◌+◌, ◌<◌, ◌≤◌, length, All}
 use Rattle.std.specs.Option.{option_copied}
-use Rattle.trace_history.specs.History.{past_of}
-use Rattle.trace_session.specs.Sessions.{bytes_left}
+use Rattle.trace_session.specs.Sessions.{so_far, bytes_left}
 use Rattle.trace_session.proofs.Turns.{Stands}
 use Rattle.trace_session.proofs.session.do_lines.Given as goal
 
@@ -10,9 +9,9 @@ invariant-loop-rest g l =
     let contents = g.W.Sink.contents in
     let failures = g.W.Sink.failures in
     record {
-      stands : Stands l.fn.book.config l.script (contents l.fn.writer) (contents l.writer) (past_of l.book.entries) (option_copied l.rest) l.number l.status;
-      tickets : All (λ entry. entry.ticket < l.next_ticket) l.book.entries;
-      few : l.next_ticket < l.number;
+      stands : Stands l.fn.book.config l.script (contents l.fn.writer) (contents l.writer) (so_far l.book.entries l.asked) (option_copied l.rest) l.number l.status;
+      tickets : All (λ entry. entry.ticket < l.asked) l.book.entries;
+      few : l.asked < l.number;
       room : l.number + bytes_left (option_copied l.rest) ≤ length l.script + 2;
       config : l.book.config ≡ l.fn.book.config;
       unfailed : failures l.writer ≡ failures l.fn.writer;

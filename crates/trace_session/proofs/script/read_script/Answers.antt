@@ -1,7 +1,7 @@
 use Rattle.std.proofs.Common.{◌∙◌}
 use Rattle.std.proofs.lemmas.Result.{err_from_is_err_and}
 use Rattle.trace_session.proofs.DeviceLemmas.{ConsumesAtMost_append}
-use Rattle.trace_session.proofs.session.read_script.Goals as goal
+use Rattle.trace_session.proofs.script.read_script.Goals as goal
 
 pub returns-in_err-read_more-clause-memory : goal.returns-in_err-read_more-clause-memory
 returns-in_err-read_more-clause-memory g c h =

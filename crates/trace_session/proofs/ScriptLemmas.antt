@@ -1,19 +1,11 @@
--- Lines and requests, one behind the other.
+-- The lines of a script.
 use Rattle.std.proofs.Common.{◌≡◌, ℕ, ◌+◌, ◌-◌, ◌==◌, ◌≤◌, Bool, true, false, not, cond, ltb, List, [], ◌∷◌, ◌++◌, length, take, drop, position, Some, None, refl, ap, sym, ◌∙◌, arith}
-use Rattle.std.proofs.lemmas.List.{reverse-append, take_rest}
+use Rattle.std.proofs.lemmas.List.{take_rest}
 use Rattle.std.proofs.lemmas.List.Splits.{slice_split_first}
 use borrow.Author.Tests.{ltb-true, ltb-false}
 use Rattle.std.proofs.lemmas.Option.{cond_some}
 use Rattle.std.specs.List.{onto_first, position_or_len}
-use Rattle.trace_history.specs.History.{past_of, requests_of}
-use Rattle.trace_command.specs.Requests.{request_of}
-use Rattle.trace_command.specs.declared.command.Entry.{Entry}
 use Rattle.trace_session.specs.Sessions.{lines_of}
-
--- an entry that is done is the newest request
-pub past_after : (old new : List Entry) (entry : Entry) → new ≡ old ++ entry ∷ [] → past_of new ≡ request_of entry.command ∷ past_of old
-unfolding past_of
-past_after old new entry e = ap (λ (entries : List Entry). past_of entries) e ∙ ap requests_of (reverse-append old (entry ∷ []))
 
 no_newline_step : (t : Bool) (b : ℕ) (bs : List ℕ) (n : ℕ) (parts : List (List ℕ)) → length (b ∷ bs) ≤ cond (not t) (1 + n) 0 → (length bs ≤ n → parts ≡ bs ∷ [])
     → cond t ([] ∷ parts) (onto_first b parts) ≡ (b ∷ bs) ∷ []
@@ -43,8 +35,3 @@ line_alone text e =
     let p : ℕ → Bool = λ b. b == 10 in
     let h = none_where (ltb (position_or_len p text) (length text)) (position_or_len p text) e in
     no_newline text (omega (arith, ltb-false _ _ h))
-
--- before the first entry nothing was done
-pub past_of_none : (entries : List Entry) → entries ≡ [] → past_of entries ≡ []
-unfolding past_of
-past_of_none entries e = ap (λ (es : List Entry). past_of es) e

@@ -1,6 +1,6 @@
 use Rattle.std.proofs.Common.{◌≡◌, ◌≤◌, length}
 use Rattle.std.specs.Io.KnownBytes.{Consumes}
-use Rattle.trace_session.proofs.session.read_script.Given as goal
+use Rattle.trace_session.proofs.script.read_script.Given as goal
 
 abbrev pub invariant-loop : goal.invariant-loop
 invariant-loop g l =
