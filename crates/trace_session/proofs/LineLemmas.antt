@@ -7,7 +7,8 @@ use Rattle.std.specs.Option.{option_map}
 use Rattle.trace_format.specs.declared.pair.Pair.{Pair}
 use Rattle.trace_command.specs.declared.command.Command.{Command}
 use Rattle.trace_command.specs.declared.command.Command.TheVariants.{Write}
-use Rattle.trace_session.specs.Lines.{write_behind, write_of, IsWriteOf}
+use Rattle.trace_session.specs.Commands.{IsWriteOf}
+use Rattle.trace_session.specs.Lines.{write_behind, write_of}
 use Rattle.trace_session.specs.declared.fault.ScriptFault.{ScriptFault}
 use Rattle.trace_session.specs.declared.token.Token.{Token}
 use Rattle.trace_session.specs.declared.token.Token.TheVariants.{Word, Redirect}

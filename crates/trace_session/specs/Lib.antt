@@ -2,6 +2,7 @@ pub mod Outcomes
 pub mod Tokens
 pub mod Grammar
 pub mod Lines
+pub mod Commands
 pub mod Rendering
 pub mod Devices
 pub mod Sessions

@@ -8,7 +8,7 @@ use Rattle.trace_lex.specs.Blanks.{is_blank}
 use Rattle.trace_lex.specs.Decimals.{decimal_number, up_to}
 use Rattle.trace_format.specs.declared.pair.Pair.{Pair}
 use Rattle.trace_command.specs.declared.command.Command.{Command}
-use Rattle.trace_command.specs.declared.command.Command.TheVariants.{Emit, Write, Read}
+use Rattle.trace_command.specs.declared.command.Command.TheVariants.{Emit, Mkdir, Rmdir, Write, Read}
 use Rattle.trace_session.specs.Outcomes.{or_fault, ◌>>=◌}
 use Rattle.trace_session.specs.Tokens.{tokens_of}
 use Rattle.trace_session.specs.declared.line.Line.{Line}
@@ -49,12 +49,16 @@ emission_of (Word cpu ∷ Word pid ∷ Word event ∷ pair ∷ more) =
     >>= λ pid. Ok (Emit event cpu pid pairs)
 emission_of _ = Err WrongWords
 
--- behind the redirection stands a path and nothing else
-abbrev pub redirected_to : Bool → List ℕ → List Token → Result Command ScriptFault
-redirected_to append text (Word path ∷ []) = Ok (Write path append text)
-redirected_to append text _ = Err WrongWords
+-- one word and nothing else
+abbrev pub only_word : List Token → Result (List ℕ) ScriptFault
+only_word (Word word ∷ []) = Ok word
+only_word _ = Err WrongWords
 
--- words, a redirection and a path; these words stand before them
+-- a path follows the redirection, and nothing else
+abbrev pub redirected_to : Bool → List ℕ → List Token → Result Command ScriptFault
+redirected_to append text tokens = only_word tokens >>= λ path. Ok (Write path append text)
+
+-- words, a redirection and a path, after these words
 abbrev pub write_behind : List (List ℕ) → List Token → Result Command ScriptFault
 write_behind words [] = Err WrongWords
 write_behind words (Word word ∷ tokens) = write_behind (words ++ word ∷ []) tokens
@@ -64,23 +68,22 @@ write_behind words (Redirect append ∷ tokens) = redirected_to append (join_wit
 unfoldable pub write_of : List Token → Result Command ScriptFault
 write_of tokens = write_behind [] tokens
 
--- these tokens are words, a redirection and a path, and the command writes the words, joined by one space, to the path
-pub record IsWriteOf (tokens : List Token) (command : Command) : Type 0 where
-  pub words : List (List ℕ)
-  pub append : Bool
-  pub path : List ℕ
-  pub written : tokens ≡ map Word words ++ Redirect append ∷ Word path ∷ []
-  pub meaning : command ≡ Write path append (join_with_byte 32 words)
-
 -- `cat PATH`: to its end
 unfoldable pub read_of : List Token → Result Command ScriptFault
-read_of (Word path ∷ []) = Ok (Read path None)
-read_of _ = Err WrongWords
+read_of tokens = only_word tokens >>= λ path. Ok (Read path None)
 
 -- `take N PATH`: at most N records
 unfoldable pub take_of : List Token → Result Command ScriptFault
 take_of (Word count ∷ Word path ∷ []) = or_fault BadNumber (number_up_to (2 ^ 64 - 1) count) >>= λ limit. Ok (Read path (Some limit))
 take_of _ = Err WrongWords
+
+-- `mkdir PATH`: an instance made
+unfoldable pub mkdir_of : List Token → Result Command ScriptFault
+mkdir_of tokens = only_word tokens >>= λ path. Ok (Mkdir path)
+
+-- `rmdir PATH`: an instance removed
+unfoldable pub rmdir_of : List Token → Result Command ScriptFault
+rmdir_of tokens = only_word tokens >>= λ path. Ok (Rmdir path)
 
 -- the command of this name
 unfoldable pub named_command : List ℕ → List Token → Result Command ScriptFault
@@ -88,7 +91,9 @@ named_command name tokens =
     if bytes_eq name (codes "emit") then emission_of tokens
     else (if bytes_eq name (codes "echo") then write_of tokens
     else (if bytes_eq name (codes "cat") then read_of tokens
-    else (if bytes_eq name (codes "take") then take_of tokens else Err UnknownCommand)))
+    else (if bytes_eq name (codes "take") then take_of tokens
+    else (if bytes_eq name (codes "mkdir") then mkdir_of tokens
+    else (if bytes_eq name (codes "rmdir") then rmdir_of tokens else Err UnknownCommand)))))
 
 -- the first token names the command
 unfoldable pub command_of : List Token → Result Command ScriptFault

@@ -1,6 +1,7 @@
 //! Scripts for a tracer: lines read as commands, replies rendered as bytes, and a whole session from a reader to a writer.
 #![tactic(auto)]
 
+mod command;
 mod device;
 mod fault;
 mod line;
@@ -16,9 +17,9 @@ mod tests;
 mod token;
 mod turn;
 
+pub use command::writes_are_as_written;
 pub use device::{Input, Output, Sink, Source};
 pub use fault::ScriptFault;
-pub use line::writes_are_as_written;
 pub use script::MOST_SCRIPT_BYTES;
 pub use session::run_session;
 pub use status::Status;

@@ -15,7 +15,8 @@ fn reading(alloc: Global, line: &[u8]) -> &'static str {
         Ok(Line::Ask(Command::Write { .. })) => "write",
         Ok(Line::Ask(Command::Read { limit: None, .. })) => "read",
         Ok(Line::Ask(Command::Read { .. })) => "take",
-        Ok(Line::Ask(_)) => "another command",
+        Ok(Line::Ask(Command::Mkdir(_))) => "mkdir",
+        Ok(Line::Ask(Command::Rmdir(_))) => "rmdir",
         Err(LineError::Fault(ScriptFault::LineTooLong)) => "LineTooLong",
         Err(LineError::Fault(ScriptFault::BadByte)) => "BadByte",
         Err(LineError::Fault(ScriptFault::UnclosedQuote)) => "UnclosedQuote",
@@ -29,7 +30,7 @@ fn reading(alloc: Global, line: &[u8]) -> &'static str {
 
 #[test]
 fn lines_are_read(rt: HostRuntime) {
-    let table: [(&str, &str); 43] = [
+    let table: [(&str, &str); 51] = [
         ("", "nothing"),
         (" \t ", "nothing"),
         (" # cat 'x", "nothing"),
@@ -41,14 +42,22 @@ fn lines_are_read(rt: HostRuntime) {
         ("'#' x", "UnknownCommand"),
         ("'' cat", "UnknownCommand"),
         ("> x", "UnknownCommand"),
-        ("mkdir instances/a", "UnknownCommand"),
         ("parallel", "UnknownCommand"),
+        ("thread", "UnknownCommand"),
+        ("end", "UnknownCommand"),
         ("cat", "WrongWords"),
         ("cat a b", "WrongWords"),
         ("cat > a", "WrongWords"),
         ("cat a>b", "WrongWords"),
         ("cat ''", "read"),
         ("c'a't\ta", "read"),
+        ("mkdir", "WrongWords"),
+        ("mkdir a b", "WrongWords"),
+        ("mkdir a > b", "WrongWords"),
+        ("mkdir instances/a", "mkdir"),
+        ("rmdir", "WrongWords"),
+        ("rmdir > a", "WrongWords"),
+        ("rmdir 'a b'", "rmdir"),
         ("take 1", "WrongWords"),
         ("take x a b", "WrongWords"),
         ("take x trace_pipe", "BadNumber"),

@@ -1,5 +1,5 @@
 use Rattle.trace_session.proofs.LineLemmas.{write_written, write_read}
-use Rattle.trace_session.proofs.line.writes_are_as_written.Goals as goal
+use Rattle.trace_session.proofs.command.writes_are_as_written.Goals as goal
 
 pub returns-clause-written : goal.returns-clause-written
 returns-clause-written c = write_written

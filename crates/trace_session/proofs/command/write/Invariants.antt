@@ -1,7 +1,7 @@
 use Rattle.std.proofs.Common.{◌≡◌, ℕ, List, [], length, drop}
 use Rattle.std.specs.List.{join_with_byte}
 use Rattle.trace_session.specs.Lines.{write_behind}
-use Rattle.trace_session.proofs.line.write.Given as goal
+use Rattle.trace_session.proofs.command.write.Given as goal
 
 abbrev pub invariant-loop-index : goal.invariant-loop-index
 invariant-loop-index l =

@@ -1,7 +1,7 @@
 use Rattle.std.proofs.Common.{◌≡◌, ◌++◌, drop}
 use Rattle.std.specs.Option.{option_map}
 use Rattle.trace_session.specs.Lines.{pairs_of}
-use Rattle.trace_session.proofs.line.pairs.Given as goal
+use Rattle.trace_session.proofs.command.pairs.Given as goal
 
 abbrev pub invariant-loop-token : goal.invariant-loop-token
 invariant-loop-token l =
