@@ -165,6 +165,20 @@ impl Command {
         })
     }
 
+    /// What `mkdir PATH` asks: an instance made.
+    pub fn mkdir(alloc: Global, path: &[u8]) -> Result<Command, AllocError>
+        ensures { IfOk result (λ command. command ≡ Command.Mkdir path.now) }
+    {
+        Ok(Command::Mkdir(Text::from_slice(alloc, path)?))
+    }
+
+    /// What `rmdir PATH` asks: an instance removed.
+    pub fn rmdir(alloc: Global, path: &[u8]) -> Result<Command, AllocError>
+        ensures { IfOk result (λ command. command ≡ Command.Rmdir path.now) }
+    {
+        Ok(Command::Rmdir(Text::from_slice(alloc, path)?))
+    }
+
     /// An emission of the event of this name on a CPU, in a process.
     pub fn emit(
         alloc: Global,

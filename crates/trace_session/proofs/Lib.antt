@@ -1,6 +1,7 @@
 pub mod TokenLemmas
 pub mod GrammarLaws
-pub mod LineLemmas
+pub mod CommandLemmas
+pub mod CommandLaws
 pub mod DeviceLemmas
 pub mod ScriptLemmas
 pub mod Turns

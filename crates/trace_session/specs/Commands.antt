@@ -1,5 +1,5 @@
 -- The commands of a script: which words and redirections each of them is written of.
-use Rattle.std.specs.Prelude.{◌≡◌, ◌≢◌, ℕ, ℤ, ◌-◌, ◌^◌, Bool, List, [], ◌∷◌, ◌++◌, map, Option, Some, None, codes}
+use Rattle.std.specs.Prelude.{◌≡◌, ◌≢◌, ℕ, ℤ, ◌-◌, ◌^◌, Bool, List, [], ◌∷◌, ◌++◌, map, Some, None, codes}
 use Rattle.std.specs.List.{AllByRecursion, join_with_byte}
 use Rattle.trace_format.specs.declared.pair.Pair.{Pair}
 use Rattle.trace_command.specs.declared.command.Command.{Command}

@@ -5,7 +5,7 @@ use Rattle.trace_command.specs.Refusals.{number_of, name_of}
 use Rattle.trace_command.specs.declared.command.Reply.{Reply}
 use Rattle.trace_command.specs.declared.command.Reply.TheVariants.{Done, Text}
 use Rattle.trace_command.specs.declared.refusal.Refusal.{Refusal}
-use Rattle.trace_command.specs.declared.refusal.Refusal.TheVariants.{NoSuchFile, NotReadable, NotWritable, BadValue, NoSuchEvent, EventExists, BadDefinition, TooBig, FilterSyntax, NoSuchField, WrongOperator, HistSyntax, BadSize, TriggerExists, NoSuchTrigger, TooMany, InstanceExists, NoSuchInstance, Busy, NoSuchCpu, BadRow, HistoryFull, Memory, Worn}
+use Rattle.trace_command.specs.declared.refusal.Refusal.TheVariants.{BadDefinition, FilterSyntax, NoSuchField, WrongOperator, HistSyntax, BadRow}
 use Rattle.trace_session.specs.declared.fault.ScriptFault.{ScriptFault}
 use Rattle.trace_session.specs.declared.fault.ScriptFault.TheVariants.{LineTooLong, BadByte, UnclosedQuote, UnknownCommand, WrongWords, BadNumber, BlockOutOfPlace, TooManyThreads}
 use Rattle.trace_session.specs.declared.render.Outcome.{Outcome}

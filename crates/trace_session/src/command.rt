@@ -4,7 +4,7 @@ ghost use Rattle.std.specs.Prelude.{◌≡◌, List, Ok, ◌==◌, ◌++◌, ◌
 ghost use Rattle.trace_command.specs.declared.command.Command.{Command};
 ghost use Rattle.trace_session.specs.declared.token.Token.{Token};
 ghost use Rattle.trace_session.specs.Outcomes.{Gives, or_fault};
-ghost use Rattle.trace_session.specs.Commands.{IsWriteOf};
+ghost use Rattle.trace_session.specs.Commands.{IsWriteOf, IsCommandOf};
 ghost use Rattle.trace_session.specs.Lines.{pair_of, pairs_of, emission_of, only_word, redirected_to, write_of, read_of, take_of, mkdir_of, rmdir_of, named_command, command_of};
 ghost use Rattle.trace_session.specs.declared.fault.ScriptFault.TheVariants.{WrongWords};
 
@@ -215,4 +215,10 @@ pub(crate) fn command(alloc: Global, tokens: &[Token]) -> Result<Command, LineEr
 pub fn writes_are_as_written()
     ensures written { (tokens : List Token) (command : Command) → write_of tokens ≡ Ok command → IsWriteOf tokens command }
     ensures read { (tokens : List Token) (command : Command) → IsWriteOf tokens command → write_of tokens ≡ Ok command }
+{}
+
+/// The grammar of commands: tokens ask for a command exactly where they are written as that command is. So they ask for one at most.
+pub fn commands_are_as_written()
+    ensures written { (tokens : List Token) (command : Command) → command_of tokens ≡ Ok command → IsCommandOf tokens command }
+    ensures read { (tokens : List Token) (command : Command) → IsCommandOf tokens command → command_of tokens ≡ Ok command }
 {}

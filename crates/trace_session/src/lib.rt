@@ -17,7 +17,7 @@ mod tests;
 mod token;
 mod turn;
 
-pub use command::writes_are_as_written;
+pub use command::{commands_are_as_written, writes_are_as_written};
 pub use device::{Input, Output, Sink, Source};
 pub use fault::ScriptFault;
 pub use script::MOST_SCRIPT_BYTES;

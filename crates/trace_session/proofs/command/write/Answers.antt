@@ -2,7 +2,7 @@ use Rattle.std.proofs.Common.{◌+◌, [], ◌∷◌, ◌++◌, drop, ap, sym, �
 use Rattle.std.proofs.lemmas.List.{at_drop_more, length_push}
 use Rattle.trace_session.specs.Lines.{write_behind}
 use Rattle.trace_session.specs.declared.token.Token.{Token}
-use Rattle.trace_session.proofs.LineLemmas.{join-push}
+use Rattle.trace_session.proofs.CommandLemmas.{join-push}
 use Rattle.trace_session.proofs.command.write.Goals as goal
 
 pub loop-index-preserved : goal.loop-index-preserved

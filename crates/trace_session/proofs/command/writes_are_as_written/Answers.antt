@@ -1,4 +1,4 @@
-use Rattle.trace_session.proofs.LineLemmas.{write_written, write_read}
+use Rattle.trace_session.proofs.CommandLemmas.{write_written, write_read}
 use Rattle.trace_session.proofs.command.writes_are_as_written.Goals as goal
 
 pub returns-clause-written : goal.returns-clause-written

@@ -1,4 +1,4 @@
--- Steps of the loops that read a line's words.
+-- Steps of the loops that read a command, and what `echo` writes.
 use Rattle.std.proofs.Common.{◌≡◌, ℕ, suc, arith, ◌==◌, if◌then◌else◌, List, [], ◌∷◌, ◌++◌, length, map, Bool, Option, Some, None, Result, Ok, refl, ap, sym, ◌∙◌, append_assoc}
 use Rattle.std.proofs.lemmas.List.{append-nil}
 use Rattle.std.proofs.lemmas.Bool.Decides.{nat_tests}
