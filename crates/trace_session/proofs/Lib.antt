@@ -2,6 +2,7 @@ pub mod TokenLemmas
 pub mod GrammarLaws
 pub mod CommandLemmas
 pub mod CommandLaws
+pub mod LineLaws
 pub mod DeviceLemmas
 pub mod ScriptLemmas
 pub mod Turns

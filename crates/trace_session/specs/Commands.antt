@@ -1,10 +1,11 @@
--- The commands of a script: which words and redirections each of them is written of.
-use Rattle.std.specs.Prelude.{◌≡◌, ◌≢◌, ℕ, ℤ, ◌-◌, ◌^◌, Bool, List, [], ◌∷◌, ◌++◌, map, Some, None, codes}
-use Rattle.std.specs.List.{AllByRecursion, join_with_byte}
+-- The commands of a script: which words and redirections each of them is written of, and which line asks for it.
+use Rattle.std.specs.Prelude.{◌≡◌, ◌≢◌, ◌≤◌, ℕ, ℤ, ◌-◌, ◌^◌, Bool, true, false, List, [], ◌∷◌, ◌++◌, length, map, Some, None, codes}
+use Rattle.std.specs.List.{AllByRecursion, list_all, join_with_byte}
 use Rattle.trace_format.specs.declared.pair.Pair.{Pair}
 use Rattle.trace_command.specs.declared.command.Command.{Command}
 use Rattle.trace_command.specs.declared.command.Command.TheVariants.{Emit, Mkdir, Rmdir, Write, Read}
-use Rattle.trace_session.specs.Lines.{number_up_to, process_id}
+use Rattle.trace_session.specs.Grammar.{IsWritten}
+use Rattle.trace_session.specs.Lines.{number_up_to, process_id, is_line_byte, says_nothing}
 use Rattle.trace_session.specs.declared.token.Token.{Token}
 use Rattle.trace_session.specs.declared.token.Token.TheVariants.{Word, Redirect}
 
@@ -62,3 +63,12 @@ pub data IsCommandOf (tokens : List Token) (command : Command) : Type 0 where
   ATake : (rest : List Token) → tokens ≡ Word (codes "take") ∷ rest → IsTakeOf rest command → IsCommandOf tokens command
   AMkdir : (rest : List Token) → tokens ≡ Word (codes "mkdir") ∷ rest → IsOfPath Mkdir rest command → IsCommandOf tokens command
   ARmdir : (rest : List Token) → tokens ≡ Word (codes "rmdir") ∷ rest → IsOfPath Rmdir rest command → IsCommandOf tokens command
+
+-- the line has at most 4,096 bytes, each of them printed or a tab, is neither blank nor a comment, and is written of the command's tokens
+pub record AsksFor (line : List ℕ) (command : Command) : Type 0 where
+  pub short : length line ≤ 4096
+  pub bytes : list_all is_line_byte line ≡ true
+  pub says : says_nothing line ≡ false
+  pub tokens : List Token
+  pub written : IsWritten line tokens
+  pub asked : IsCommandOf tokens command

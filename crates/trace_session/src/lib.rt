@@ -20,6 +20,7 @@ mod turn;
 pub use command::{commands_are_as_written, writes_are_as_written};
 pub use device::{Input, Output, Sink, Source};
 pub use fault::ScriptFault;
+pub use line::lines_are_as_written;
 pub use script::MOST_SCRIPT_BYTES;
 pub use session::run_session;
 pub use status::Status;

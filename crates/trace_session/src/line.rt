@@ -1,7 +1,9 @@
 //! A line of a script, read as what it asks for.
 
-ghost use Rattle.std.specs.Prelude.{◌≡◌};
+ghost use Rattle.std.specs.Prelude.{◌≡◌, ℕ, List};
 ghost use Rattle.std.specs.List.{list_all};
+ghost use Rattle.trace_command.specs.declared.command.Command.{Command};
+ghost use Rattle.trace_session.specs.Commands.{AsksFor};
 ghost use Rattle.trace_session.specs.Outcomes.{Gives};
 ghost use Rattle.trace_session.specs.Lines.{is_line_byte, says_nothing, spoken, line_of};
 
@@ -69,3 +71,9 @@ pub(crate) fn prepare(alloc: Global, line: &[u8]) -> Result<Line, LineError>
     }
     spoken(alloc, line)
 }
+
+/// The grammar of a line: it asks for a command exactly if it is written so. So it asks for one at most.
+pub fn lines_are_as_written()
+    ensures written { (line : List ℕ) (command : Command) → line_of line ≡ Ok (Line.Ask command) → AsksFor line command }
+    ensures read { (line : List ℕ) (command : Command) → AsksFor line command → line_of line ≡ Ok (Line.Ask command) }
+{}
