@@ -31,7 +31,7 @@ join-push (x ∷ y ∷ words) word =
     ∙ (regrouped x (join_with_byte 32 (y ∷ words)) (32 ∷ []) word
     ∙ ap (λ (space : List ℕ). x ++ (32 ∷ join_with_byte 32 (y ∷ words)) ++ space ++ word) (sym (later_space (suc (length words))))))
 
--- pairs found one behind the other
+-- pairs found one after the other
 pub pairs-append : (xs : List Pair) (y : Pair) (rest : Option (List Pair)) → option_map (λ more. (xs ++ y ∷ []) ++ more) rest ≡ option_map (λ more. xs ++ more) (option_map (λ more. y ∷ more) rest)
 pairs-append xs y None = refl
 pairs-append xs y (Some more) = ap Some (append_assoc xs (y ∷ []) more)
@@ -49,7 +49,7 @@ unfolding write_of
 write_read tokens command w =
     ap (write_behind []) w.written ∙ (words_joined [] w.words w.append w.path ∙ ap Ok (sym w.meaning))
 
--- what was written behind these words
+-- what was written after these words
 record WriteBehind (front : List (List ℕ)) (tokens : List Token) (command : Command) : Type 0 where
   words : List (List ℕ)
   append : Bool

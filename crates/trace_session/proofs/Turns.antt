@@ -1,4 +1,4 @@
--- Where a session stands between two lines, and how it goes on and ends.
+-- Where a session is between two lines, and how it goes on and ends.
 use Rattle.std.proofs.Common.{◌≡◌, ℕ, suc, ◌+◌, Bool, true, false, cond, ◌||◌, ◌≢◌, if◌then◌else◌, List, [], ◌∷◌, ◌++◌, length, take, Option, Some, None, refl, ap, sym, subst, ◌∙◌, arith, append_assoc}
 use Rattle.std.proofs.lemmas.List.{append-nil, take_at, length_push}
 use Rattle.std.proofs.lemmas.List.Folds.{list_any-append}
@@ -28,7 +28,7 @@ texts_from-append number (x ∷ xs) ys =
     let next : number + 1 + length xs ≡ number + length (x ∷ xs) = omega arith in
     ap (λ (rest : List (List ℕ)). text_of number x ∷ rest) (texts_from-append (number + 1) xs ys ∙ ap (λ (n : ℕ). texts_from (number + 1) xs ++ texts_from n ys) next)
 
--- ---- where a session stands
+-- ---- where a session is
 
 -- these lines came to these outcomes, none of them a fault, and their texts were written
 pub record Stands (config : Config) (script : List ℕ) (before now : Option (List ℕ)) (progress : Progress) (left : Option (List ℕ)) (number : ℕ) (status : Status) : Type 0 where
@@ -43,7 +43,7 @@ pub begins : (config : Config) (script : List ℕ) (before : Option (List ℕ)) 
 begins config script before progress e =
     record { done = []; outcomes = ap (λ (p : Progress). outcomes_of config p (lines_of script)) (sym e); faultless = refl; count = refl; told = refl; written = Appends_nothing before }
 
--- what becomes of a line and of those behind it
+-- what becomes of a line and of those after it
 outcomes_step : (config : Config) (progress : Progress) (text line : List ℕ) (after : Option (List ℕ)) → lines_of text ≡ line ∷ lines_left after
     → outcomes_of config progress (lines_of text)
     ≡ (turn_of config progress line).outcome ∷ (if is_fault (turn_of config progress line).outcome then [] else outcomes_of config (turn_of config progress line).progress (lines_left after))

@@ -32,7 +32,7 @@ process_id (b ∷ bs) =
 
 -- ---- commands
 
--- a pair: its first `=` parts the name from the value
+-- a pair: its first `=` separates the name from the value
 unfoldable pub pair_of : List ℕ → Option Pair
 pair_of word = option_map (λ at. record { name = take at word; value = drop (at + 1) word }) (position (λ b. b == 61) word)
 

@@ -17,7 +17,7 @@ use Rattle.trace_session.specs.declared.render.Outcome.TheVariants as outcomes
 use Rattle.trace_session.specs.declared.status.Status.{Status}
 use Rattle.trace_session.specs.declared.status.Status.TheVariants as statuses
 
--- the lines of a script; a newline ends a line, and behind the last one stands an empty line, which says nothing
+-- the lines of a script; a newline ends a line, and an empty line, which says nothing, follows the last one
 abbrev pub lines_of : List ℕ → List (List ℕ)
 lines_of script = slice_split (λ b. b == 10) script
 
@@ -99,7 +99,7 @@ texts_from number (outcome ∷ outcomes) = text_of number outcome ∷ texts_from
 abbrev pub status_of : List (Option Outcome) → Status
 status_of outcomes = if list_any is_fault outcomes then statuses.Fault else (if list_any is_refusal outcomes then statuses.Refused else statuses.Done)
 
--- what a session writes, a text for each line, and its status
+-- what a session writes, a string for each line, and its status
 pub record Session : Type 0 where
   pub texts : List (List ℕ)
   pub status : Status

@@ -23,7 +23,7 @@ fn first_equals(word: &[u8]) -> Option<usize>
     word.iter().position(|byte| *byte == b'=')
 }
 
-/// The pair that a word writes: its first `=` parts the name from the value.
+/// The pair that a word writes: its first `=` separates the name from the value.
 #[tactic(auto, unfolding(crate::specs::Lines::pair_of))]
 fn pair(alloc: Global, word: &[u8]) -> Result<Pair, LineError>
     ensures { Gives (λ pair. pair) result (or_fault WrongWords (pair_of word.now)) }
@@ -82,7 +82,7 @@ fn emission(alloc: Global, tokens: &[Token]) -> Result<Command, LineError>
     })
 }
 
-/// Appends a word to those before it, behind a space where it isn't the first.
+/// Appends a word to those before it, after a space where it is not the first.
 fn append_word(text: &mut Vec<u8>, index: usize, word: &[u8]) -> Result<(), AllocError>
     ensures { OnOk result (text.new.items ≡ text.old.items ++ (if index == 0 then [] else 32 ∷ []) ++ word.now) }
 {
@@ -211,7 +211,7 @@ pub(crate) fn command(alloc: Global, tokens: &[Token]) -> Result<Command, LineEr
     }
 }
 
-/// What `echo` writes: the words before its redirection, joined by one space, to the path behind it; and it writes nothing else.
+/// What `echo` writes: the words before its redirection, joined by one space, to the path after it; and it writes nothing else.
 pub fn writes_are_as_written()
     ensures written { (tokens : List Token) (command : Command) → write_of tokens ≡ Ok command → IsWriteOf tokens command }
     ensures read { (tokens : List Token) (command : Command) → IsWriteOf tokens command → write_of tokens ≡ Ok command }

@@ -11,7 +11,7 @@ use crate::stop::Stop;
 use std::alloc::Global;
 use trace_command::Reply;
 
-/// Writes some bytes from the front of a text that isn't empty, and gives their number.
+/// Writes some bytes from the front of a string that is not empty, and gives their number.
 fn write_some<W: Sink>(writer: &mut W, text: &[u8]) -> Result<usize, Stop>
     requires { 0 < length text.now }
     ensures bytes { IfOk result (λ count. (0 < count) × (count ≤ length text.now)
@@ -27,7 +27,7 @@ fn write_some<W: Sink>(writer: &mut W, text: &[u8]) -> Result<usize, Stop>
     }
 }
 
-/// Writes a text.
+/// Writes a string.
 #[tactic(auto, using(crate::proofs::DeviceLemmas::Appends_append))]
 fn write_all<W: Sink>(writer: &mut W, text: &[u8]) -> Result<(), Stop>
     ensures bytes { OnOk result (Appends (W.contents writer.old) (W.contents writer.new) text.now) }

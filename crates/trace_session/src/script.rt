@@ -71,14 +71,14 @@ pub(crate) fn read_script<R: Source>(alloc: Global, reader: &mut R) -> Result<Ve
     unreachable!()
 }
 
-/// Where the first newline of a text is.
+/// Where the first newline of a string is.
 fn first_newline(text: &[u8]) -> Option<usize>
     ensures { result ≡ position (λ b. b == 10) text.now }
 {
     text.iter().position(|byte| *byte == b'\n')
 }
 
-/// The first line of a text, and what follows its newline, if it has one.
+/// The first line of a string, and what follows its newline, if it has one.
 #[tactic(auto, using(crate::proofs::ScriptLemmas::line_at, crate::proofs::ScriptLemmas::line_alone))]
 pub(crate) fn first_line(text: &[u8]) -> (&[u8], Option<&[u8]>)
     ensures lines { lines_of text.now ≡ result.0.now ∷ lines_left (option_copied result.1) }
