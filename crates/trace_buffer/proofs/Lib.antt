@@ -1,0 +1,9 @@
+pub mod Rings
+pub mod TakenFrom
+pub mod NextReads
+pub mod Consumed
+pub mod Merges
+pub mod Lists
+pub mod MergeLaws
+pub mod PipeLaws
+pub mod Bounds

@@ -1,0 +1,28 @@
+//! The rings of 1 to 8 CPUs, one ring for each ("The Generic Ring Buffer" of ring-buffer-design.rst): records are put on a CPU and read from
+//! one CPU or from all.
+//!
+//! A buffer's contracts speak of a list of ring events for each CPU that it stands for, as those of `page_ring` speak of one list. There are two
+//! orders of the records of several CPUs. `merged` shows all kept records by time. `preview_any` and `take_any` read in pipe order: the next
+//! record is the earliest of the CPUs' first ones. Where each CPU's records rise in time, the two are the same.
+#![tactic(auto)]
+
+mod buffer;
+mod cursor;
+pub mod laws;
+mod merge;
+mod taken;
+#[cfg(test)]
+mod tests;
+mod times;
+
+ghost use Rattle.std.specs.Prelude.{◌≡◌};
+
+pub use buffer::Buffer;
+pub use taken::Taken;
+
+/// How many CPUs a buffer may have.
+pub fn most_cpus() -> u32
+    ensures { result ≡ 8 }
+{
+    8
+}
