@@ -2,3 +2,4 @@ pub mod PlaceLemmas
 pub mod RecordLemmas
 pub mod ProcessLemmas
 pub mod FrontLemmas
+pub mod BufferLemmas

@@ -6,3 +6,4 @@ pub mod RecordText
 pub mod TraceText
 pub mod Laws
 pub mod Fronts
+pub mod BufferText

@@ -20,3 +20,15 @@ pub(crate) fn push_decimal(_alloc: Global, out: &mut Vec<u8>, n: u128) -> Result
 {
     push_number(out, n)
 }
+
+/// Appends a whole text. A vector with nothing in it takes the text over, with no copy.
+pub(crate) fn append_text(out: &mut Vec<u8>, text: Vec<u8>) -> Result<(), AllocError>
+    ensures text { OnOk result (out.new.items ≡ out.old.items ++ text.items) }
+    ensures refused { OnErr result (out.new.items ≡ out.old.items) }
+{
+    if out.is_empty() {
+        *out = text;
+        return Ok(());
+    }
+    out.extend_from_slice(&text)
+}

@@ -11,6 +11,9 @@ mod format;
 pub mod laws;
 #[cfg(test)]
 mod limits;
+mod pipe;
+#[cfg(test)]
+mod reads;
 mod record;
 mod stats;
 #[cfg(test)]
@@ -19,6 +22,7 @@ mod trace;
 
 pub use declaration::declaration_text;
 pub use format::format_text;
+pub use pipe::{lost_text, pipe_text};
 pub use record::record_text;
 pub use stats::stats_text;
-pub use trace::{lost_text, trace_head_text};
+pub use trace::{trace_head_text, trace_text};

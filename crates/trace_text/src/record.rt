@@ -115,7 +115,7 @@ fn push_event_line(
 
 /// Appends the line of a record.
 #[tactic(auto, using(crate::proofs::FrontLemmas::appending), unfolding(crate::specs::RecordText::record_line))]
-fn push_record_line(
+pub(crate) fn push_record_line(
     alloc: Global,
     out: &mut Vec<u8>,
     catalog: &Catalog,

@@ -105,12 +105,12 @@ const RECORDS: [(u32, &[u8], &str); 8] = [
 ];
 
 /// A vector in which a text stands already.
-fn begun(alloc: Global) -> Result<Vec<u8>, Fail> {
+pub(crate) fn begun(alloc: Global) -> Result<Vec<u8>, Fail> {
     Ok(Vec::from_slice(alloc, b"> ")?)
 }
 
 /// Whether a text was appended, and nothing else was changed.
-fn is_appended(out: &[u8], text: &str) -> bool {
+pub(crate) fn is_appended(out: &[u8], text: &str) -> bool {
     match out.split_first_chunk::<2>() {
         Some((front, back)) => front.as_slice() == b"> ".as_slice() && back == text.as_bytes(),
         None => false,
