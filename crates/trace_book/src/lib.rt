@@ -2,17 +2,13 @@
 #![tactic(auto)]
 
 mod book;
-mod change;
-mod emission;
 mod instance;
-mod make;
+mod pipe_text;
 mod prepare;
-mod read;
-mod resolve;
 mod row;
 mod state;
-mod text;
-mod write;
+#[cfg(test)]
+mod tests;
 
 pub use book::Book;
 pub use instance::Instance;

@@ -110,13 +110,10 @@ shown refusal = codes "N" ++ decimal (number_of refusal) ++ codes " " ++ name_of
 
 -- ---- answers
 
--- the refusals that are found before a command takes any memory: no such file, instance, CPU or event, an
--- instance that is there already, a file that can't be read or written, and a
+-- the refusals that are found before a command takes any memory: no such file, CPU or event, a file that can't be read or written, and a
 -- wrong value. A declaration, a row, a filter and the room in the history may be looked at only after memory was taken.
 abbrev pub is_found_early : Refusal → Bool
 is_found_early NoSuchFile = true
-is_found_early NoSuchInstance = true
-is_found_early InstanceExists = true
 is_found_early NoSuchCpu = true
 is_found_early NoSuchEvent = true
 is_found_early NotReadable = true
