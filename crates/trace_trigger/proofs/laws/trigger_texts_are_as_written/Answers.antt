@@ -1,0 +1,17 @@
+use Rattle.trace_trigger.proofs.TextLaws.{nothing_is_blanks, attach_is_written, remove_is_written, bad_is_unwritten, filter_fault_is_moved}
+use Rattle.trace_trigger.proofs.laws.trigger_texts_are_as_written.Goals as goal
+
+pub returns-clause-nothing : goal.returns-clause-nothing
+returns-clause-nothing c = λ definition text. nothing_is_blanks definition text
+
+pub returns-clause-attach : goal.returns-clause-attach
+returns-clause-attach c = λ definition text trigger. attach_is_written definition text trigger
+
+pub returns-clause-remove : goal.returns-clause-remove
+returns-clause-remove c = λ definition text. remove_is_written definition text
+
+pub returns-clause-bad : goal.returns-clause-bad
+returns-clause-bad c = λ definition text. bad_is_unwritten definition text
+
+pub returns-clause-filter : goal.returns-clause-filter
+returns-clause-filter c = λ definition text removes count condition fault. filter_fault_is_moved definition text removes count condition fault

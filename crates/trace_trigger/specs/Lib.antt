@@ -1,0 +1,3 @@
+pub mod TriggerTexts
+pub mod TriggerGrammar
+pub mod Laws

@@ -1,0 +1,137 @@
+-- Trigger texts: what is said by a text that is written to an event's `trigger` file (events.rst, "Event triggers", "snapshot"; ftrace.rst,
+-- "Snapshot"): nothing, or an optional `!`, a word, and after it perhaps `if` and a filter.
+use Rattle.std.specs.Prelude.{◌≡◌, ℕ, unwrap_or, ◌+◌, ◌-◌, ◌^◌, ◌≤◌, Bool, not, ◌&&◌, ◌==◌, nat_lt, if◌then◌else◌, bytes_eq, codes, List, [], ◌∷◌, length, take, drop, Option, None, Some, Result, Ok, Err}
+use Rattle.std.specs.List.{prefix_len, list_all}
+use Rattle.trace_lex.specs.Blanks.{is_blank}
+use Rattle.trace_lex.specs.Decimals.{decimal_number, up_to}
+use Rattle.trace_format.specs.Definitions.{Definition}
+use Rattle.trace_filter.specs.Filters.{Parsed, answer_of}
+use Rattle.trace_filter.specs.declared.fault.FilterFault.{FilterFault}
+use Rattle.trace_filter.specs.declared.fault.FilterFault.TheVariants as filter
+use Rattle.trace_trigger.specs.declared.fault.TriggerFault.{TriggerFault}
+use Rattle.trace_trigger.specs.declared.fault.TriggerFault.TheVariants.{BadText, TooMany, FilterSyntax, NoSuchField, WrongOperator, Memory}
+use Rattle.trace_trigger.specs.declared.trigger.SnapshotTrigger.{SnapshotTrigger}
+use Rattle.trace_trigger.specs.declared.trigger.TriggerText.{TriggerText}
+use Rattle.trace_trigger.specs.declared.trigger.TriggerText.TheVariants.{Nothing, Attach, Remove}
+
+-- ---- how a text is cut
+
+-- what follows a beginning, if the text begins so
+abbrev pub after : List ℕ → List ℕ → Option (List ℕ)
+after beginning text = if bytes_eq (take (length beginning) text) beginning then Some (drop (length beginning) text) else None
+
+abbrev pub is_unblank : ℕ → Bool
+is_unblank b = not (is_blank b)
+
+-- the first word is all that comes before the first blank
+abbrev pub word_of : List ℕ → List ℕ
+word_of text = take (prefix_len is_unblank text) text
+
+abbrev pub after_word : List ℕ → List ℕ
+after_word text = drop (prefix_len is_unblank text) text
+
+abbrev pub after_blanks : List ℕ → List ℕ
+after_blanks text = drop (prefix_len is_blank text) text
+
+-- ---- the word
+
+-- from 1 to 2^32 - 1
+abbrev pub count_from : Option ℕ → Result (Option ℕ) TriggerFault
+count_from None = Err BadText
+count_from (Some n) = if nat_lt 0 n then Ok (Some n) else Err BadText
+
+-- nothing, or a `:` (58) and a decimal number
+abbrev pub count_after : Option (List ℕ) → Result (Option ℕ) TriggerFault
+count_after None = Err BadText
+count_after (Some []) = Ok None
+count_after (Some (b ∷ digits)) = if b == 58 then count_from (up_to (2 ^ 32 - 1) (decimal_number digits)) else Err BadText
+
+-- how often a trigger of this word takes a snapshot: `snapshot` without end, `snapshot:N` at most N times
+unfoldable pub count_of : List ℕ → Result (Option ℕ) TriggerFault
+count_of word = count_after (after (codes "snapshot") word)
+
+-- ---- what follows the word
+
+-- blanks, and what is not blank
+abbrev pub condition_after : Option (List ℕ) → Result (Option (List ℕ)) TriggerFault
+condition_after None = Err BadText
+condition_after (Some text) = if nat_lt 0 (prefix_len is_blank text) && nat_lt 0 (length (after_blanks text)) then Ok (Some (after_blanks text)) else Err BadText
+
+-- the text of a filter, if there is one: nothing but blanks, or blanks, `if`, blanks and that text
+unfoldable pub condition_of : List ℕ → Result (Option (List ℕ)) TriggerFault
+condition_of text = if list_all is_blank text then Ok None else condition_after (after (codes "if") (after_blanks text))
+
+-- ---- the filter
+
+-- a filter's fault, at places that count from so many bytes before the filter
+abbrev pub moved : ℕ → FilterFault → TriggerFault
+moved before filter.TooMany = TooMany
+moved before (filter.FilterSyntax at) = FilterSyntax (before + at)
+moved before (filter.NoSuchField at) = NoSuchField (before + at)
+moved before (filter.WrongOperator at) = WrongOperator (before + at)
+moved before filter.Memory = Memory
+
+abbrev pub filter_read : ℕ → Result Parsed FilterFault → Result (Option Parsed) TriggerFault
+filter_read before (Ok read) = Ok (Some read)
+filter_read before (Err fault) = Err (moved before fault)
+
+-- the filter of a text that ends with the filter's text
+abbrev pub filter_of : Definition → List ℕ → Option (List ℕ) → Result (Option Parsed) TriggerFault
+filter_of definition text None = Ok None
+filter_of definition text (Some condition) = filter_read (length text - length condition) (answer_of definition condition)
+
+-- ---- the whole text
+
+infixl 10 ◌>>=◌
+-- what is read, and then what follows from it; the first fault is told
+abbrev pub ◌>>=◌ : {A B : Type 0} → Result A TriggerFault → (A → Result B TriggerFault) → Result B TriggerFault
+(Ok value) >>= next = next value
+(Err fault) >>= next = Err fault
+
+-- a trigger, of a text that ends with the bytes after a `!`, or that has no `!`
+unfoldable pub trigger_of : Definition → List ℕ → List ℕ → Result SnapshotTrigger TriggerFault
+trigger_of definition text body =
+    count_of (word_of body) >>= λ count. condition_of (after_word body) >>= λ condition. filter_of definition text condition
+    >>= λ only_if. Ok (record { count = count; filter = only_if })
+
+abbrev pub said_after : Definition → List ℕ → Option (List ℕ) → Result TriggerText TriggerFault
+said_after definition text None = trigger_of definition text text >>= λ trigger. Ok (Attach trigger)
+said_after definition text (Some body) = trigger_of definition text body >>= λ trigger. Ok Remove
+
+-- what a text says of an event's triggers, or why it is refused
+unfoldable pub said_of : Definition → List ℕ → Result TriggerText TriggerFault
+said_of definition text = if list_all is_blank text then Ok Nothing else said_after definition text (after (codes "!") text)
+
+-- ---- what the calls answer
+
+-- what a call answers is this, unless memory was refused
+abbrev pub IsAnswered : {A : Type 0} → Result A TriggerFault → Result A TriggerFault → Type 0
+IsAnswered (Ok value) answer = answer ≡ Ok value
+IsAnswered (Err BadText) answer = answer ≡ Err BadText
+IsAnswered (Err TooMany) answer = answer ≡ Err TooMany
+IsAnswered (Err (FilterSyntax at)) answer = answer ≡ Err (FilterSyntax at)
+IsAnswered (Err (NoSuchField at)) answer = answer ≡ Err (NoSuchField at)
+IsAnswered (Err (WrongOperator at)) answer = answer ≡ Err (WrongOperator at)
+IsAnswered (Err Memory) answer = Unit {0}
+
+-- the text without a `!` at its beginning
+abbrev pub body_of : List ℕ → List ℕ
+body_of text = unwrap_or (after (codes "!") text) text
+
+-- a filter is written
+abbrev pub IsFilterWritten : Result (Option (List ℕ)) TriggerFault → Type 0
+IsFilterWritten (Ok (Some condition)) = Unit {0}
+IsFilterWritten (Ok None) = ⊥
+IsFilterWritten (Err fault) = ⊥
+
+-- a text has a filter to read, the one part that takes memory
+abbrev pub HasFilter : List ℕ → Type 0
+HasFilter text = IsFilterWritten (condition_of (after_word (body_of text)))
+
+-- a filter's fault has its place in a text of this length
+abbrev pub IsWithin : ℕ → FilterFault → Type 0
+IsWithin len filter.TooMany = Unit {0}
+IsWithin len (filter.FilterSyntax at) = at ≤ len
+IsWithin len (filter.NoSuchField at) = at ≤ len
+IsWithin len (filter.WrongOperator at) = at ≤ len
+IsWithin len filter.Memory = Unit {0}

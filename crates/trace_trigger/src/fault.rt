@@ -1,0 +1,45 @@
+//! Why a text is no trigger of an event.
+
+ghost use Rattle.std.specs.Prelude.{◌≡◌, ◌+◌, ◌<◌, ◌^◌, ◌-◌};
+ghost use Rattle.trace_trigger.specs.TriggerTexts.{moved, IsWithin};
+
+use thiserror::Error;
+use trace_filter::FilterFault;
+
+/// Why a text was refused as a trigger. Places count bytes from 0 in the whole text.
+#[derive(Debug, Drop, Error)]
+pub enum TriggerFault {
+    /// No trigger is written so.
+    #[error("no trigger is written so")]
+    BadText,
+    /// The filter has over 1,024 bytes without the blanks at both ends, or over 16 `!` and `(` are open at one place.
+    #[error("the filter is too long or nested too deep")]
+    TooMany,
+    /// The first token with which no filter goes on, the end of a text where more was to come, or a value that is no number.
+    #[error("syntax error at byte {at}")]
+    FilterSyntax { at: usize },
+    /// The event has no field of this name.
+    #[error("no such field at byte {at}")]
+    NoSuchField { at: usize },
+    /// The field can't be compared so.
+    #[error("wrong operator at byte {at}")]
+    WrongOperator { at: usize },
+    #[error("out of memory")]
+    Memory,
+}
+
+impl TriggerFault {
+    /// The fault of a filter whose text begins at this byte.
+    pub(crate) fn of_filter(before: usize, fault: FilterFault) -> TriggerFault
+        requires { IsWithin (2 ^ 64 - 1 - before) fault }
+        ensures { result ≡ moved before fault }
+    {
+        match fault {
+            FilterFault::TooMany => TriggerFault::TooMany,
+            FilterFault::FilterSyntax { at } => TriggerFault::FilterSyntax { at: before + at },
+            FilterFault::NoSuchField { at } => TriggerFault::NoSuchField { at: before + at },
+            FilterFault::WrongOperator { at } => TriggerFault::WrongOperator { at: before + at },
+            FilterFault::Memory => TriggerFault::Memory,
+        }
+    }
+}

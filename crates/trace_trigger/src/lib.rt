@@ -1,0 +1,12 @@
+//! Texts that are written to an event's `trigger` file.
+#![tactic(auto)]
+
+mod fault;
+pub mod laws;
+mod parts;
+#[cfg(test)]
+mod tests;
+mod trigger;
+
+pub use fault::TriggerFault;
+pub use trigger::{SnapshotTrigger, TriggerText};

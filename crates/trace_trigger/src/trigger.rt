@@ -1,0 +1,97 @@
+//! Triggers of an event, as texts write them.
+
+ghost use Rattle.std.specs.Prelude.{◌≡◌, ◌≢◌, ◌≤◌, Ok, Err, IfSome, IsSome, length};
+ghost use Rattle.std.specs.Option.{option_copied};
+ghost use Rattle.trace_trigger.specs.TriggerTexts.{IsAnswered, IsFilterWritten, HasFilter, after_word, condition_of, filter_of, trigger_of, said_of};
+
+use crate::fault::TriggerFault;
+use crate::parts::{condition_of, count_of, cut_word, is_blank_text};
+use std::alloc::Global;
+use trace_filter::Filter;
+use trace_format::EventDef;
+
+/// A trigger that takes a snapshot for each emission of its event that its filter passes (events.rst, "Event triggers", "snapshot"): at most
+/// `count` times, or without end.
+#[derive(Debug, Drop)]
+pub struct SnapshotTrigger {
+    pub count: Option<u32>,
+    pub filter: Option<Filter>,
+}
+
+/// What a text says that is written to an event's `trigger` file.
+#[derive(Debug, Drop)]
+pub enum TriggerText {
+    /// Nothing is attached or removed: the text has nothing but blanks.
+    Nothing,
+    /// A trigger is to be attached.
+    Attach(SnapshotTrigger),
+    /// The event's snapshot trigger is to be removed, whatever its count and its filter.
+    Remove,
+}
+
+impl TriggerText {
+    /// What a text says: nothing, or an optional `!` and `snapshot` or `snapshot:N`, N from 1 to 2^32 - 1, and after it perhaps `if` and a
+    /// filter of the event. A text with `!` is read whole, so its filter too may be refused.
+    #[tactic(auto, unfolding(crate::specs::TriggerTexts::said_of))]
+    pub fn parse(alloc: Global, text: &[u8], event: &EventDef) -> Result<TriggerText, TriggerFault>
+        // It is what the definition gives, unless memory is refused.
+        ensures exact { IsAnswered result (said_of event.now text.now) }
+        // That a text is written wrong is told even where memory would be refused.
+        ensures early { said_of event.now text.now ≡ Err TriggerFault.BadText → result ≡ Err TriggerFault.BadText }
+        // Memory is taken for a filter alone.
+        ensures memory { result ≡ Err TriggerFault.Memory → HasFilter text.now }
+    {
+        if is_blank_text(text) {
+            return Ok(TriggerText::Nothing);
+        }
+        match text.strip_prefix(b"!".as_slice()) {
+            Some(body) => {
+                let _removed = read_trigger(alloc, text, body, event)?;
+                Ok(TriggerText::Remove)
+            }
+            None => Ok(TriggerText::Attach(read_trigger(alloc, text, text, event)?)),
+        }
+    }
+}
+
+/// The trigger of a text, of which `body` is all, or what follows a `!`.
+#[tactic(auto, unfolding(crate::specs::TriggerTexts::trigger_of))]
+fn read_trigger(
+    alloc: Global,
+    text: &[u8],
+    body: &[u8],
+    event: &EventDef,
+) -> Result<SnapshotTrigger, TriggerFault>
+    requires { length body.now ≤ length text.now }
+    ensures exact { IsAnswered result (trigger_of event.now text.now body.now) }
+    ensures early { trigger_of event.now text.now body.now ≡ Err TriggerFault.BadText → result ≡ Err TriggerFault.BadText }
+    ensures memory { result ≡ Err TriggerFault.Memory → IsFilterWritten (condition_of (after_word body.now)) }
+{
+    let (word, rest) = cut_word(body);
+    let count = count_of(word)?;
+    let condition = condition_of(rest)?;
+    let filter = read_filter(alloc, text, condition, event)?;
+    Ok(SnapshotTrigger { count, filter })
+}
+
+/// The filter, whose text is the end of the whole text.
+
+fn read_filter(
+    alloc: Global,
+    text: &[u8],
+    condition: Option<&[u8]>,
+    event: &EventDef,
+) -> Result<Option<Filter>, TriggerFault>
+    requires { IfSome condition (λ filter. length filter.now ≤ length text.now) }
+    ensures exact { IsAnswered result (filter_of event.now text.now (option_copied condition.entry)) }
+    ensures later { result ≢ Err TriggerFault.BadText }
+    ensures memory { result ≡ Err TriggerFault.Memory → IsSome condition.entry }
+{
+    let Some(condition) = condition else {
+        return Ok(None);
+    };
+    match Filter::parse(alloc, condition, event) {
+        Ok(filter) => Ok(Some(filter)),
+        Err(fault) => Err(TriggerFault::of_filter(text.len() - condition.len(), fault)),
+    }
+}
