@@ -1,14 +1,12 @@
 -- Histories with one entry more.
-use Rattle.std.proofs.Common.{◌≡◌, suc, ◌-◌, ◌<◌, ◌≤◌, ◌^◌, Bool, true, false, nat_lt, ltb, List, [], ◌∷◌, ◌++◌, length, reverse, All, IsOk, Result, Ok, Err, refl, ap, subst, ◌∙◌, arith}
+use Rattle.std.proofs.Common.{◌≡◌, suc, ◌-◌, ◌<◌, ◌≤◌, Bool, true, false, nat_lt, ltb, List, [], ◌∷◌, ◌++◌, length, reverse, All, IsOk, Result, Ok, Err, refl, ap, subst, ◌∙◌, arith}
 use Rattle.std.proofs.lemmas.Bool.{lt-ltb}
 use Rattle.std.proofs.lemmas.Bool.Decides.{nat_tests}
-use Rattle.std.proofs.lemmas.List.{reverse-append, length-reverse, length-map, get_or-reverse}
-use Rattle.page_ring.specs.Shown as shown
-use Rattle.trace_command.specs.Configs.{IsInRange}
+use Rattle.std.proofs.lemmas.List.{reverse-append, length-reverse, get_or-reverse}
 use Rattle.trace_command.specs.Requests.{Request, request_of}
 use Rattle.trace_history.specs.History.{answer, answer_with_room, unless_full, requests_of, past_of, IsEntry, IsLegal}
 use Rattle.trace_command.specs.Refusals.{OrMemory, IsFoundEarly}
-use Rattle.trace_book.specs.States.{StandsFor, IsPrepared, IsUsable}
+use Rattle.trace_book.specs.States.{IsPrepared}
 use Rattle.trace_command.specs.declared.command.Config.{Config}
 use Rattle.trace_command.specs.declared.command.Entry.{Entry}
 use Rattle.trace_command.specs.declared.command.Reply.{Reply}
@@ -96,36 +94,3 @@ late-done g past request reply given early = subst IsFoundEarly given (early-wit
 pub refused-early : (g : Config) (past : List Request) (request : Request) (state : State) (refusal : Refusal)
     → IsPrepared g past request state (Err refusal) → IsFoundEarly (answer g past request) → answer g past request ≡ Err refusal
 refused-early g past request state refusal prepared early = answer-refused g past request refusal (prepared.1 (early-with_room g past request early))
-
-pub usable-from_stands : (g : Config) (state : State) (past : List Request) → IsInRange g → StandsFor g state past → length past ≤ 2 ^ 32 → IsUsable state
-usable-from_stands g state past in_range stands few = record {
-  early = omega (arith, stands.early);
-  wide = omega (arith, stands.page_bytes, in_range.some_bytes);
-  few_events = rw stands.events stands.few_events;
-  fit = rw (stands.events, stands.page_bytes) stands.fit;
-  switches = rw (stands.enabled, stands.events) (length-map _ _);
-  filters = rw (stands.filters, stands.events) (length-map _ _);
-  distinct = rw stands.events stands.distinct;
-}
-
--- a new book's state stands for no request
-pub stands-new : (g : Config) (state : State) → state.catalog ≡ [] → state.top.enabled ≡ [] → state.top.filters ≡ [] → state.top.overwrite ≡ true → state.clock ≡ 0 → shown.StandsFor state.top.ring []
-    → state.top.ring.pages ≡ g.pages → state.top.ring.page_bytes ≡ g.page_bytes → shown.offered state.top.ring ≡ 0 → StandsFor g state (past_of [])
-unfolding past_of
-stands-new g state events enabled filters overwrite clock ring pages page_bytes offered = record {
-  events = events;
-  few_events = omega arith;
-  fit = tt;
-  distinct = tt;
-  filters = filters;
-  unfiltered = λ name none. refl;
-  enabled = enabled;
-  unknown = λ name none. refl;
-  overwrite = overwrite;
-  clock = clock;
-  early = omega arith;
-  ring = ring;
-  pages = pages;
-  page_bytes = page_bytes;
-  offered = omega (arith, offered);
-}

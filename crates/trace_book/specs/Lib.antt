@@ -1,5 +1,10 @@
 pub mod Instances
+pub mod Changes
+pub mod Rows
 pub mod States
+pub mod Files
+pub mod Found
+pub mod Commands
+pub mod Emissions
 pub mod BookSeen
 pub mod Books
-pub mod Switches

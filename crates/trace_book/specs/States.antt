@@ -1,42 +1,34 @@
 -- When what a book keeps agrees with the requests that were done, and what a change does to it.
-use Rattle.std.specs.Prelude.{◌≡◌, ℕ, ◌^◌, ℤ, slice_index_or, slice_set, replicate, unwrap_or, Vec, ◌+◌, ◌<◌, ◌≤◌, Bool, true, false, ◌&&◌, is_some, List, [], ◌∷◌, ◌++◌, length, map, IsSome, IsOk, Option, Some, None, Result, Ok, Err, if◌then◌else◌, codes, ⊤}
-use Rattle.std.specs.List.{AllByRecursion}
-use Rattle.std.specs.Option.{option_to_list, option_map}
-use Rattle.std.specs.Global.{Global}
+use Rattle.std.specs.Prelude.{◌≡◌, ℕ, ◌+◌, ◌<◌, ◌≤◌, ◌^◌, true, false, List, [], ◌∷◌, ◌++◌, length, map, take, drop, slice_index_or, All, IsOk, Option, Some, None, Result, Ok, Err, ⊤}
+use Rattle.std.specs.List.{AllByRecursion, IsDistinct}
 use Rattle.std.specs.Str.{bytes_eq}
-use Rattle.page_ring.specs.Events as ring
 use Rattle.trace_record.specs.Record.{IsRecord}
-use Rattle.page_ring.specs.Account.{readings_of}
-use Rattle.page_ring.specs.Shown as shown
-use Rattle.trace_filter.specs.Filters.{Parsed, parsed_of}
-use Rattle.trace_filter.specs.Values.{holds_of}
+use Rattle.page_ring.specs.Events as ring
+use Rattle.trace_buffer.specs.Buffers as buffers
+use Rattle.trace_buffer.specs.Families.{with_events}
 use Rattle.trace_format.specs.Catalogs.{id_for, IsEvent, AreEvents}
-use Rattle.trace_format.specs.Cells.{Cells, record_size_of}
 use Rattle.trace_format.specs.Definitions.{Definition}
 use Rattle.trace_command.specs.Refusals.{IsRefusal}
-use Rattle.trace_history.specs.Declarations.{IsFit}
 use Rattle.trace_command.specs.Requests.{Request}
-use Rattle.trace_history.specs.Settings.{NumberedEvent, event_named, declares, declared_events, switches, is_enabled, clears_filter, can_take, written_filter, sets_filter, filter_of, kept_filter, sets_overwrite, overwrites, ticks, now_of}
-use Rattle.trace_history.specs.Rings.{record_bytes, up_to_limit, consumed, put_of, clears, ring_events}
-use Rattle.trace_book.specs.Switches.{with_switch}
-use Rattle.trace_history.specs.History.{answer_with_room, filter_answer}
-use Rattle.trace_history.specs.TraceFiles.{pipe_text}
 use Rattle.trace_command.specs.declared.command.Config.{Config}
-use Rattle.trace_command.specs.declared.command.Reply.{Reply}
-use Rattle.trace_command.specs.declared.command.Reply.TheVariants.{Done, Text}
 use Rattle.trace_command.specs.declared.refusal.Refusal.{Refusal}
-use Rattle.trace_command.specs.declared.refusal.Refusal.TheVariants.{BadValue, Memory}
-use Rattle.trace_book.specs.declared.state.State.{State}
-use Rattle.trace_book.specs.declared.state.Found.{Found}
-use Rattle.trace_book.specs.declared.state.Change.{Change}
-use Rattle.trace_book.specs.declared.state.Change.TheVariants.{Nothing, Declare, Switch, SwitchAll, SetFilter, SetFilters, SetOverwrite, Clear, Take, Emit}
-use Rattle.trace_book.specs.declared.state.FilterChange.{FilterChange}
-use Rattle.trace_book.specs.declared.state.FilterChange.TheVariants as filter
+use Rattle.trace_history.specs.Declarations.{IsFit}
+use Rattle.trace_history.specs.Settings.{event_named, declares, declared_events, filter_of, instance_names, is_enabled, is_same, made, makes, now_of, removed, ticks}
+use Rattle.trace_history.specs.Rings.{Emitted, emitted, emitted_bytes, is_recorded}
+use Rattle.trace_history.specs.History.{answer_with_room}
+use Rattle.trace_book.specs.Instances.{InstanceSeen, InstanceStandsFor}
+use Rattle.trace_book.specs.Changes.{IsEffect, IsApplied, IsLawful}
+use Rattle.trace_book.specs.declared.change.Change.{Change}
+use Rattle.trace_book.specs.declared.change.Change.TheVariants.{Declare, Make, Remove, Instance, Emit}
+use Rattle.trace_book.specs.declared.change.InstanceChange.TheVariants.{Keep}
+use Rattle.trace_book.specs.declared.change.Pending.{Pending}
+use Rattle.trace_book.specs.declared.state.Named.{Named}
 use Rattle.trace_book.specs.declared.state.Prepared.{Prepared}
+use Rattle.trace_book.specs.declared.state.State.{State}
 
--- an event that was found, with its id
-abbrev pub numbered : Found → NumberedEvent
-numbered found = record { id = found.index + 1; event = found.event.now }
+-- the names of the instances, of which the top one has none
+abbrev pub names_of : List Named → List (Option (List ℕ))
+names_of instances = map (λ (n : Named). n.name) instances
 
 -- each part of the state is what the requests say of it
 pub record StandsFor (g : Config) (state : State) (past : List Request) : Type 0 where
@@ -44,202 +36,191 @@ pub record StandsFor (g : Config) (state : State) (past : List Request) : Type 0
   pub few_events : length (declared_events past) ≤ 64
   pub fit : AllByRecursion (IsFit g.page_bytes) (declared_events past)
   pub distinct : AreEvents [] (declared_events past)
-  pub enabled : state.top.enabled ≡ map (λ event. is_enabled event.name past) (declared_events past)
-  pub unknown : (name : List ℕ) → event_named name past ≡ None → is_enabled name past ≡ false
-  pub filters : state.top.filters ≡ map (kept_filter past) (declared_events past)
-  pub unfiltered : (name : List ℕ) → event_named name past ≡ None → filter_of name past ≡ None
-  pub overwrite : state.top.overwrite ≡ overwrites past
+  pub unknown : (name : Option (List ℕ)) (event : List ℕ) → event_named event past ≡ None → is_enabled name event past ≡ false
+  pub unfiltered : (name : Option (List ℕ)) (event : List ℕ) → event_named event past ≡ None → filter_of name event past ≡ None
   pub clock : state.clock ≡ now_of past
   pub early : state.clock ≤ length past
-  pub ring : shown.StandsFor state.top.ring (ring_events g 0 past)
-  pub pages : state.top.ring.pages ≡ g.pages
-  pub page_bytes : state.top.ring.page_bytes ≡ g.page_bytes
-  pub offered : shown.offered state.top.ring ≤ length past
+  pub names : names_of state.instances.items ≡ None ∷ map (λ (name : List ℕ). Some name) (instance_names past)
+  pub few_instances : length (instance_names past) ≤ 7
+  pub distinct_names : IsDistinct bytes_eq (instance_names past)
+  pub each : All (λ (n : Named). InstanceStandsFor g n.name past n.instance) state.instances.items
 
--- ---- what a change leaves, without the request
+-- what every instance of a book has, where so many events are declared
+pub record IsUsableInstance (g : Config) (events : ℕ) (i : InstanceSeen) : Type 0 where
+  pub enabled : length i.enabled ≡ events
+  pub filters : length i.filters ≡ events
+  pub cpus : buffers.cpus i.buffer ≡ g.cpus
+  pub pages : i.buffer.pages ≡ g.pages
+  pub page_bytes : i.buffer.page_bytes ≡ g.page_bytes
 
-abbrev pub declared_by : Change → Option Definition
-declared_by (Declare event) = Some event
-declared_by _ = None
+-- what every state of a book has, so that a command can be prepared without its past
+pub record IsUsable (g : Config) (state : State) : Type 0 where
+  pub early : state.clock ≤ 2 ^ 32
+  pub few_events : length state.catalog ≤ 64
+  pub fit : AllByRecursion (IsFit g.page_bytes) state.catalog
+  pub distinct : AreEvents [] state.catalog
+  pub some_instance : 1 ≤ length state.instances.items
+  pub few_instances : length state.instances.items ≤ 8
+  pub top : (d : Named) → (slice_index_or state.instances.items 0 d).name ≡ None
+  pub distinct_names : IsDistinct is_same (names_of state.instances.items)
+  pub each : All (λ (n : Named). IsUsableInstance g (length state.catalog) n.instance) state.instances.items
 
-abbrev pub switched_by : List ℕ → List Request → Change → Option Bool
-switched_by event past (Switch name flag) = if bytes_eq event name then Some flag else None
-switched_by event past (SwitchAll flag) = if is_some (event_named event past) then Some flag else None
-switched_by event past _ = None
+-- ---- what a change does
 
--- the event that a change switches
-abbrev pub addressed_by : Change → Option (List ℕ)
-addressed_by (Switch name flag) = Some name
-addressed_by _ = None
+-- the same events, clock and instances
+pub record IsUnchanged (old new : State) : Type 0 where
+  pub catalog : new.catalog ≡ old.catalog
+  pub clock : new.clock ≡ old.clock
+  pub instances : new.instances.items ≡ old.instances.items
 
-abbrev pub ticks_by : Change → ℕ
-ticks_by (Emit written) = 1
-ticks_by _ = 0
+-- an instance with one more event, which is disabled and has no filter
+abbrev pub with_event : InstanceSeen → InstanceSeen
+with_event i = record i { enabled = i.enabled ++ false ∷ []; filters = i.filters ++ None ∷ [] }
 
-abbrev pub overwrite_by : Change → Option Bool
-overwrite_by (SetOverwrite flag) = Some flag
-overwrite_by _ = None
+-- the record is written if the instance is armed
+pub record IsWritten (pending : Pending) (old new : InstanceSeen) : Type 0 where
+  pub enabled : new.enabled ≡ old.enabled
+  pub filters : new.filters ≡ old.filters
+  pub overwrite : new.overwrite ≡ old.overwrite
+  pub tracing : new.tracing ≡ old.tracing
+  pub written : old.armed ≡ true → (family : List (List ring.Event)) → buffers.StandsFor old.buffer family
+      → buffers.StandsFor new.buffer (with_events pending.cpu (ring.Put pending.bytes.items old.overwrite ∷ []) family)
+  pub quiet : old.armed ≡ false → (family : List (List ring.Event)) → buffers.StandsFor old.buffer family → buffers.StandsFor new.buffer family
+  pub cpus : buffers.cpus new.buffer ≡ buffers.cpus old.buffer
+  pub pages : new.buffer.pages ≡ old.buffer.pages
+  pub page_bytes : new.buffer.page_bytes ≡ old.buffer.page_bytes
+  pub offers : (most : ℕ) → AllByRecursion (λ n. n ≤ most) (buffers.offers old.buffer)
+      → AllByRecursion (λ n. n ≤ most + 1) (buffers.offers new.buffer)
 
-abbrev pub clears_by : Change → Bool
-clears_by Clear = true
-clears_by _ = false
+-- each instance has its name still, and this came of it
+pub record EachCame (R : InstanceSeen → InstanceSeen → Type 0) (old new : List Named) : Type 0 where
+  pub many : length new ≡ length old
+  pub names : (k : ℕ) (d : Named) → k < length old → (slice_index_or new k d).name ≡ (slice_index_or old k d).name
+  pub came : (k : ℕ) (d : Named) → k < length old → R (slice_index_or old k d).instance (slice_index_or new k d).instance
 
-abbrev pub takes_by : Change → ℕ
-takes_by (Take count) = count
-takes_by _ = 0
-
-abbrev pub puts_by : Bool → Change → List ring.Event
-puts_by overwrite (Emit (Some bytes)) = ring.Put bytes.items overwrite ∷ []
-puts_by overwrite _ = []
-
--- the events of the ring after a change
-abbrev pub ring_after : Change → Bool → List ring.Event → List ring.Event
-ring_after change overwrite events =
-    if clears_by change then [] else events ++ puts_by overwrite change ++ replicate (takes_by change) ring.Take
-
--- the switches after a change
-abbrev pub flags_after : Change → List Definition → List Bool → List Bool
-flags_after (Declare event) events flags = flags ++ false ∷ []
-flags_after (Switch name flag) events flags = with_switch name flag events flags
-flags_after (SwitchAll flag) events flags = replicate (length flags) flag
-flags_after _ events flags = flags
-
--- a filter after a change of it
-abbrev pub changed_filter : FilterChange → Option Parsed → Option Parsed
-changed_filter filter.Keep old = old
-changed_filter filter.Drop old = None
-changed_filter (filter.Set new) old = Some new
-
--- whether the event gets a filter
-abbrev pub is_set : FilterChange → Bool
-is_set filter.Keep = false
-is_set filter.Drop = false
-is_set (filter.Set new) = true
-
--- the filters after a change of each
-abbrev pub changed_filters : List FilterChange → List (Option Parsed) → List (Option Parsed)
-changed_filters [] filters = filters
-changed_filters (change ∷ changes) [] = []
-changed_filters (change ∷ changes) (old ∷ filters) = changed_filter change old ∷ changed_filters changes filters
-
--- the filters of the events that were declared before a change
-abbrev pub filters_after : Change → List (Option Parsed) → List (Option Parsed)
-filters_after (SetFilter index new) filters = slice_set filters index new
-filters_after (SetFilters changes) filters = changed_filters changes.items filters
-filters_after _ filters = filters
-
--- an event that a change declares has none
-abbrev pub filters_with : Change → List (Option Parsed) → List (Option Parsed)
-filters_with (Declare event) filters = filters ++ None ∷ []
-filters_with _ filters = filters
-
--- how many records of the one CPU's ring are kept after this past
-abbrev pub kept_count : Config → List Request → ℕ
-kept_count g past = length (readings_of g.pages g.page_bytes (ring_events g 0 past))
-
--- a change says of a request all that the definitions say of it, after this past
-pub record IsChangeOf (g : Config) (past : List Request) (request : Request) (change : Change) : Type 0 where
-  pub declares : declares request ≡ declared_by change
-  pub fresh : (event : Definition) → declared_by change ≡ Some event
-      → (event_named event.name past ≡ None) × (length (declared_events past) < 64) × IsFit g.page_bytes event × IsEvent (declared_events past) event
-  pub switches : (event : List ℕ) → switches event past request ≡ switched_by event past change
-  pub addressed : (name : List ℕ) → addressed_by change ≡ Some name → IsSome (event_named name past)
-  pub filters : map (kept_filter (request ∷ past)) (declared_events past) ≡ filters_after change (map (kept_filter past) (declared_events past))
-  pub unfiltered : (name : List ℕ) → event_named name past ≡ None → sets_filter name past request ≡ None
-  pub overwrite : sets_overwrite request ≡ overwrite_by change
-  pub ticks : ticks request ≡ ticks_by change
-  pub clears : clears 0 request ≡ clears_by change
-  pub puts : put_of 0 past request ≡ puts_by (overwrites past) change
-  pub takes : consumed 0 request (kept_count g past) ≡ takes_by change
-
--- what was grown for a change is there
-abbrev pub IsReady : State → Change → Type 0
-IsReady state (Declare event) = IsOk (id_for state.catalog event state.top.ring.page_bytes) × (length state.top.enabled < 64) × (length state.top.filters < 64)
-IsReady state (Switch name flag) = length state.catalog ≡ length state.top.enabled
-IsReady state (SetFilter index new) = index < length state.top.filters
-IsReady state (SetFilters changes) = length changes.items ≡ length state.top.filters
-IsReady state (Emit (Some bytes)) =
-    IsRecord bytes.items × (length bytes.items ≤ state.top.ring.page_bytes) × (length bytes.items ≤ state.top.ring.ready)
-IsReady state _ = ⊤
+-- this came of the instance at a place, and the others are as they were
+pub record OneCame (R : InstanceSeen → InstanceSeen → Type 0) (place : ℕ) (old new : List Named) : Type 0 where
+  pub many : length new ≡ length old
+  pub names : (k : ℕ) (d : Named) → k < length old → (slice_index_or new k d).name ≡ (slice_index_or old k d).name
+  pub came : (d : Named) → R (slice_index_or old place d).instance (slice_index_or new place d).instance
+  pub others : (k : ℕ) (d : Named) → k < length old → (k ≡ place → ⊥) → slice_index_or new k d ≡ slice_index_or old k d
 
 -- a change was made
-pub record IsStep (old new : State) (change : Change) : Type 0 where
-  pub events : new.catalog ≡ old.catalog ++ option_to_list (declared_by change)
-  pub enabled : new.top.enabled ≡ flags_after change old.catalog old.top.enabled
-  pub filters : new.top.filters ≡ filters_with change (filters_after change old.top.filters)
-  pub overwrite : new.top.overwrite ≡ unwrap_or (overwrite_by change) old.top.overwrite
-  pub clock : new.clock ≡ old.clock + ticks_by change
-  pub ring : (events : List ring.Event) → shown.StandsFor old.top.ring events → shown.StandsFor new.top.ring (ring_after change old.top.overwrite events)
-  pub pages : new.top.ring.pages ≡ old.top.ring.pages
-  pub page_bytes : new.top.ring.page_bytes ≡ old.top.ring.page_bytes
-  pub offered : shown.offered new.top.ring ≤ shown.offered old.top.ring + ticks_by change
+abbrev pub IsStep : State → State → Change → Type 0
+IsStep old new (Declare event) =
+    (new.catalog ≡ old.catalog ++ event ∷ []) × (new.clock ≡ old.clock)
+    × EachCame (λ i j. j ≡ with_event i) old.instances.items new.instances.items
+IsStep old new (Make named) =
+    (new.catalog ≡ old.catalog) × (new.clock ≡ old.clock) × (new.instances.items ≡ old.instances.items ++ named ∷ [])
+IsStep old new (Remove place) =
+    (new.catalog ≡ old.catalog) × (new.clock ≡ old.clock)
+    × (new.instances.items ≡ take place old.instances.items ++ drop (place + 1) old.instances.items)
+IsStep old new (Instance place change) =
+    (new.catalog ≡ old.catalog) × (new.clock ≡ old.clock) × OneCame (IsApplied change) place old.instances.items new.instances.items
+IsStep old new (Emit None) =
+    (new.catalog ≡ old.catalog) × (new.clock ≡ old.clock + 1) × (new.instances ≡ old.instances)
+IsStep old new (Emit (Some pending)) =
+    (new.catalog ≡ old.catalog) × (new.clock ≡ old.clock + 1) × EachCame (IsWritten pending) old.instances.items new.instances.items
+
+-- ---- when a change is what a request says
+
+-- a request that declares nothing, makes and removes no instance and moves no clock
+pub record IsPlain (request : Request) : Type 0 where
+  pub declares : declares request ≡ None
+  pub made : made request ≡ None
+  pub removed : removed request ≡ None
+  pub ticks : ticks request ≡ 0
+
+-- an event that can be declared
+pub record IsFresh (g : Config) (past : List Request) (event : Definition) : Type 0 where
+  pub unknown : event_named event.name past ≡ None
+  pub few : length (declared_events past) < 64
+  pub fit : IsFit g.page_bytes event
+  pub is_event : IsEvent (declared_events past) event
+
+-- the request declares this event and changes nothing else
+pub record IsDeclared (g : Config) (past : List Request) (request : Request) (event : Definition) : Type 0 where
+  pub declares : declares request ≡ Some event
+  pub made : made request ≡ None
+  pub removed : removed request ≡ None
+  pub ticks : ticks request ≡ 0
+  pub fresh : IsFresh g past event
+  pub effect : (name : Option (List ℕ)) → IsEffect g name past request Keep
+
+-- the request makes this instance
+pub record IsMade (g : Config) (past : List Request) (request : Request) (named : Named) : Type 0 where
+  pub declares : declares request ≡ None
+  pub name : List ℕ
+  pub called : named.name ≡ Some name
+  pub made : made request ≡ Some name
+  pub removed : removed request ≡ None
+  pub ticks : ticks request ≡ 0
+  pub few : length (instance_names past) < 7
+  pub new : All (λ other. bytes_eq other name ≡ false) (instance_names past)
+  pub stands : InstanceStandsFor g (Some name) (request ∷ past) named.instance
+  pub effect : (other : Option (List ℕ)) → makes other request ≡ false → IsEffect g other past request Keep
+
+-- the request removes the instance at this place
+pub record IsRemoved (g : Config) (past : List Request) (request : Request) (place : ℕ) : Type 0 where
+  pub declares : declares request ≡ None
+  pub name : List ℕ
+  pub made : made request ≡ None
+  pub removed : removed request ≡ Some name
+  pub ticks : ticks request ≡ 0
+  pub inside : place < 1 + length (instance_names past)
+  pub there : slice_index_or (None ∷ map (λ (n : List ℕ). Some n) (instance_names past)) place None ≡ Some name
+  pub effect : (other : Option (List ℕ)) → IsEffect g other past request Keep
+
+-- the request changes the instance of this name so, and no other
+pub record IsChanged (g : Config) (past : List Request) (request : Request) (name : Option (List ℕ)) : Type 0 where
+  pub plain : IsPlain request
+  pub others : (other : Option (List ℕ)) → is_same other name ≡ false → IsEffect g other past request Keep
+
+-- the request emits this row, and what was prepared for it is its record, if some instance records it
+pub record IsEmission (g : Config) (past : List Request) (request : Request) (instances : List Named) (pending : Option Pending) : Type 0 where
+  pub declares : declares request ≡ None
+  pub made : made request ≡ None
+  pub removed : removed request ≡ None
+  pub ticks : ticks request ≡ 1
+  pub e : Emitted
+  pub emitted : emitted past request ≡ Some e
+  pub armed : All (λ (n : Named). n.instance.armed ≡ is_recorded n.name past e) instances
+  pub bytes : (p : Pending) → pending ≡ Some p → (p.bytes.items ≡ emitted_bytes e) × (p.cpu ≡ e.cpu)
+  pub none : pending ≡ None → All (λ (n : Named). n.instance.armed ≡ false) instances
+
+-- a change says of a request all that the definitions say of it, after this past, in this state
+abbrev pub IsChangeOf : Config → State → List Request → Request → Change → Type 0
+IsChangeOf g state past request (Declare event) = IsDeclared g past request event
+IsChangeOf g state past request (Make named) = IsMade g past request named
+IsChangeOf g state past request (Remove place) = IsRemoved g past request place
+IsChangeOf g state past request (Instance place change) =
+    (d : Named) → IsChanged g past request (slice_index_or state.instances.items place d).name
+    × IsEffect g (slice_index_or state.instances.items place d).name past request change
+IsChangeOf g state past request (Emit pending) = IsEmission g past request state.instances.items pending
+
+-- an instance has room for the record, where it is armed
+abbrev pub HasRoom : Pending → InstanceSeen → Type 0
+HasRoom pending i = (pending.cpu < buffers.cpus i.buffer)
+    × (i.armed ≡ true → length pending.bytes.items ≤ slice_index_or (buffers.readies i.buffer) pending.cpu 0)
+
+-- each ring was offered few records
+abbrev pub HasFew : InstanceSeen → Type 0
+HasFew i = AllByRecursion (λ n. n < 2 ^ 32) (buffers.offers i.buffer)
+
+-- a change can be made, and what was grown for it is there
+abbrev pub IsReady : Config → State → Change → Type 0
+IsReady g state (Declare event) = (length state.catalog < 64) × IsOk (id_for state.catalog event g.page_bytes)
+IsReady g state (Make named) = ⊤
+IsReady g state (Remove place) = place < length state.instances.items
+IsReady g state (Instance place change) = (place < length state.instances.items)
+    × ((d : Named) → IsLawful (slice_index_or state.instances.items place d).instance change)
+IsReady g state (Emit None) = ⊤
+IsReady g state (Emit (Some pending)) =
+    IsRecord pending.bytes.items × (length pending.bytes.items ≤ g.page_bytes)
+    × All (λ (n : Named). HasRoom pending n.instance) state.instances.items
 
 -- what was prepared for a request, or why it is refused
 abbrev pub IsPrepared : Config → List Request → Request → State → Result Prepared Refusal → Type 0
 IsPrepared g past request state (Ok prepared) =
-    (answer_with_room g past request ≡ Ok prepared.reply) × IsChangeOf g past request prepared.change × IsReady state prepared.change
+    (answer_with_room g past request ≡ Ok prepared.reply) × IsChangeOf g state past request prepared.change × IsReady g state prepared.change
 IsPrepared g past request state (Err refusal) = IsRefusal refusal (answer_with_room g past request)
-
--- what every state of a book has, so that a command can be prepared without its past
-pub record IsUsable (state : State) : Type 0 where
-  pub early : state.clock ≤ 2 ^ 32
-  pub wide : 64 ≤ state.top.ring.page_bytes
-  pub few_events : length state.catalog ≤ 64
-  pub fit : AllByRecursion (IsFit state.top.ring.page_bytes) state.catalog
-  pub switches : length state.top.enabled ≡ length state.catalog
-  pub filters : length state.top.filters ≡ length state.catalog
-  pub distinct : AreEvents [] state.catalog
-
--- whether a kept filter holds of an emission
-unfoldable pub kept_holds : Option Parsed → Cells → ℕ → ℤ → Bool
-kept_holds None row cpu pid = true
-kept_holds (Some kept) row cpu pid = holds_of kept (record { values = row.values; cpu = cpu; pid = pid })
-
--- the record that an emission writes, where its event is enabled and its filter holds
-abbrev pub written_record : State → ℕ → ℕ → ℤ → Cells → Option (List ℕ)
-written_record state index cpu pid row =
-    if slice_index_or state.top.enabled index false && kept_holds (slice_index_or state.top.filters index None) row cpu pid
-    then Some (record_bytes (state.clock + 1) pid (index + 1) row) else None
-
--- the bytes of a record, if there is one
-abbrev pub bytes_in : Option (Vec ℕ Global) → Option (List ℕ)
-bytes_in written = option_map (λ v. v.items) written
-
--- a reply to a command that changes nothing
-abbrev pub with_nothing : Result Reply Refusal → Result Prepared Refusal
-with_nothing (Ok reply) = Ok (record { change = Nothing; reply = reply })
-with_nothing (Err refusal) = Err refusal
-
--- a write to a trace file
-abbrev pub clearing : Bool → Prepared
-clearing append = record { change = if append then Nothing else Clear; reply = Done }
-
--- a write of whether records may overwrite older ones
-abbrev pub overwriting : Option Bool → Result Prepared Refusal
-overwriting (Some flag) = Ok (record { change = SetOverwrite flag; reply = Done })
-overwriting None = Err BadValue
-
--- a switch of all events
-abbrev pub switching : Option Bool → Result Prepared Refusal
-switching (Some flag) = Ok (record { change = SwitchAll flag; reply = Done })
-switching None = Err BadValue
-
--- the filter of an event that a text writes, or why the event can't take it
-abbrev pub IsWrittenFilter : List ℕ → Definition → Result (Option Parsed) Refusal → Type 0
-IsWrittenFilter text event (Ok kept) = (filter_answer text event ≡ Ok Done) × (kept ≡ option_map (parsed_of event) (written_filter text))
-IsWrittenFilter text event (Err refusal) = IsRefusal refusal (filter_answer text event)
-
--- what a text that is written to the filter of all events changes of one's
-abbrev pub change_of : List ℕ → Definition → FilterChange
-change_of text event = if clears_filter text then filter.Drop else (if can_take text event then filter.Set (parsed_of event text) else filter.Keep)
-
--- the text of a kept filter
-unfoldable pub shown_filter : Option Parsed → List ℕ
-shown_filter None = codes "none\n"
-shown_filter (Some kept) = kept.text ++ codes "\n"
-
--- the text of a pipe read, and how many records it consumes
-abbrev pub IsTaking : Config → List Request → Option ℕ → Result Prepared Refusal → Type 0
-IsTaking g past limit (Ok prepared) =
-    (prepared.reply ≡ Text (pipe_text g past 0 limit)) × (prepared.change ≡ Take (up_to_limit limit (kept_count g past)))
-IsTaking g past limit (Err refusal) = refusal ≡ Memory

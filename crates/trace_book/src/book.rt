@@ -1,17 +1,19 @@
 //! The book: a history of commands, and what it has come to.
 
 ghost use Rattle.std.specs.Prelude.{◌≡◌, ℕ, ◌+◌, ◌^◌, ◌≤◌, ◌<◌, [], ◌∷◌, ◌++◌, All, map, is_none, is_some, IfOk, IfErr, IfSome, OnOk, OnErr, ◌≢◌, true, false};
-ghost use Rattle.page_ring.specs.Shown as shown;
+ghost use Rattle.std.specs.Option.{option_map};
+ghost use Rattle.trace_command.specs.Places.{bytes_now};
 ghost use Rattle.trace_command.specs.Configs.{IsInRange};
 ghost use Rattle.trace_history.specs.History.{answer_to, past_of, IsLegal};
 ghost use Rattle.trace_command.specs.Refusals.{OrMemory, IsFoundEarly};
-ghost use Rattle.trace_history.specs.Rings.{ring_events};
-ghost use Rattle.trace_history.specs.Settings.{declared_events, is_enabled, kept_filter, overwrites, now_of};
+ghost use Rattle.trace_history.specs.Settings.{is_there, now_of};
+ghost use Rattle.trace_book.specs.Instances.{InstanceStandsFor};
+ghost use Rattle.trace_book.specs.States.{StandsFor};
 ghost use Rattle.trace_command.specs.declared.refusal.Refusal.TheVariants as refusal;
 
 use crate::instance::Instance;
-use crate::state::{Prepared, State};
-use std::alloc::Global;
+use crate::state::{Named, Prepared, State};
+use std::alloc::{AllocError, Global};
 use std::marker::Model;
 use trace_command::{Command, Config, Entry, Refusal, Reply};
 use trace_format::Catalog;
@@ -43,6 +45,7 @@ impl Book {
     pub fn new(alloc: Global, config: Config) -> Result<Book, Refusal>
         ensures made { IfOk result (λ book. (book.config ≡ config) × (book.entries ≡ [])) }
         ensures in_range { OnOk result (IsInRange config) }
+        ensures out_of_range { ¬ IsInRange config → IfErr result (λ r. r ≡ refusal.BadValue) }
         ensures refused { IfErr result (λ r. r ≢ refusal.Memory → (r ≡ refusal.BadValue) × ¬ IsInRange config) }
     {
         if !is_in_range(&config) {
@@ -52,18 +55,14 @@ impl Book {
             alloc,
             config,
             entries: Vec::new(alloc),
-            state: State {
-                catalog: Catalog::new(alloc),
-                clock: 0,
-                top: Instance::new(alloc, config.pages, config.page_bytes)?,
-            },
+            state: new_state(alloc, &config)?,
         })
     }
 
     /// Does a command, or refuses it. The answer is the one that the history gives: a command that is done is the next entry of the
     /// history, under this ticket and the number of this caller; one that is refused changes nothing.
-    /// `Memory` may come in place of the answer, where an allocation was refused; but that no such file, CPU or event is there, that a file
-    /// can't be read or written, and that a value is wrong is always told.
+    /// `Memory` may come in place of the answer, where an allocation was refused; but that no such file, instance, CPU or event is
+    /// there, that an instance is there already, that a file can't be read or written, and that a value is wrong is always told.
     pub fn ask(&mut self, ticket: u64, by: u32, command: Command) -> Result<Reply, Refusal>
         requires { All (λ entry. entry.ticket < ticket) self.old.entries }
         ensures reply { OrMemory result (answer_to self.old.config self.old.entries command) }
@@ -103,23 +102,31 @@ impl Book {
         self.state.clock
     }
 
-    /// The instance of this name, or the top one. For now there is no other.
+    /// The instance of this name, or the top one. It is there exactly where the history has it.
     pub fn instance(&self, name: Option<&[u8]>) -> Option<&Instance>
-        ensures there { is_some result ≡ is_none name.entry }
+        ensures there { is_some result ≡ is_there (option_map bytes_now name.entry) (past_of self.now.entries) }
         ensures stands { IfSome result (λ instance.
-            shown.StandsFor instance.now.ring (ring_events self.now.config 0 (past_of self.now.entries))) }
-        ensures settings { IfSome result (λ instance. (instance.now.overwrite ≡ overwrites (past_of self.now.entries))
-            × (instance.now.enabled ≡ map (λ event. is_enabled event.name (past_of self.now.entries)) (declared_events (past_of self.now.entries)))) }
-        ensures filters { IfSome result (λ instance. instance.now.filters
-            ≡ map (kept_filter (past_of self.now.entries)) (declared_events (past_of self.now.entries))) }
-        ensures shape { IfSome result (λ instance. (instance.now.ring.pages ≡ self.now.config.pages)
-            × (instance.now.ring.page_bytes ≡ self.now.config.page_bytes)) }
+            InstanceStandsFor self.now.config (option_map bytes_now name.entry) (past_of self.now.entries) instance.now) }
     {
-        match name {
-            Some(_) => None,
-            None => Some(&self.state.top),
-        }
+        let place = self.state.place_of(name)?;
+        Some(&self.state.instances[place].instance)
     }
+}
+
+// What no request has come to yet: no event, and the top instance.
+fn new_state(alloc: Global, config: &Config) -> Result<State, AllocError>
+    requires { IsInRange config.now }
+    ensures { IfOk result (λ state. StandsFor config.now state []) }
+{
+    let top = Named {
+        name: None,
+        instance: Instance::new(alloc, 0, config.cpus, config.pages, config.page_bytes)?,
+    };
+    Ok(State {
+        catalog: Catalog::new(alloc),
+        clock: 0,
+        instances: vec![in alloc; top]?,
+    })
 }
 
 // Whether each number of a configuration is in its range.
@@ -127,7 +134,7 @@ fn is_in_range(config: &Config) -> bool
     ensures yes { result ≡ true → IsInRange config.now }
     ensures no { result ≡ false → ¬ IsInRange config.now }
 {
-    config.cpus == 1
+    (1..=8).contains(&config.cpus)
         && (2..=1024).contains(&config.pages)
         && (64..=4080).contains(&config.page_bytes)
         && config.page_bytes % 8 == 0

@@ -1,33 +1,39 @@
 //! A trace instance: which events it records, and its rings.
 
-ghost use Rattle.std.specs.Prelude.{◌≡◌, ℕ, ◌+◌, ◌%◌, ◌^◌, ◌≤◌, ◌<◌, Bool, true, false, not, Option, None, List, [], ◌∷◌, ◌++◌, length, map, slice_index_or, slice_set, option_copied, max, replicate, if◌then◌else◌, IfOk, OnOk, OnErr};
-ghost use Rattle.std.specs.Str.{bytes_eq};
+ghost use Rattle.std.specs.Prelude.{◌≡◌, ℕ, ◌+◌, ◌%◌, ◌^◌, ◌≤◌, ◌<◌, Bool, true, false, not, Option, None, List, [], ◌∷◌, ◌++◌, length, slice_index_or, slice_set, option_copied, replicate, IfOk, OnOk, OnErr};
+ghost use Rattle.std.specs.List.{list_all, list_any, AllByRecursion};
 ghost use Rattle.trace_record.specs.Record.{IsRecord};
 ghost use Rattle.page_ring.specs.Events as event;
-ghost use Rattle.page_ring.specs.Account.{stats_of, readings_of};
-ghost use Rattle.page_ring.specs.Shown.{Seen, StandsFor, offered};
-ghost use Rattle.trace_book.specs.Instances.{InstanceSeen};
-ghost use Rattle.std.specs.List.{list_all, list_any};
-ghost use Rattle.trace_book.specs.States.{kept_holds, changed_filters};
-ghost use Rattle.trace_book.specs.Switches.{with_switch};
+ghost use Rattle.trace_buffer.specs.Buffers as buffers;
+ghost use Rattle.trace_buffer.specs.Families.{cpu_stats};
+ghost use Rattle.trace_book.specs.Instances.{InstanceSeen, IsAlike};
+ghost use Rattle.trace_book.specs.Changes as changes;
+ghost use Rattle.trace_book.specs.Changes.{changed_filters};
+ghost use Rattle.trace_book.specs.Rows as rows;
+ghost use Rattle.trace_book.specs.Rows.{kept_holds};
+ghost use Rattle.trace_book.specs.States.{IsWritten, HasRoom, HasFew, with_event};
 
-use crate::state::{FilterChange, event_at};
-use page_ring::{KeptRecords, Ring, RingStats};
+use crate::change::{FilterChange, InstanceChange, Pending};
+use page_ring::RingStats;
 use std::alloc::{AllocError, Global};
 use std::marker::Model;
+use trace_buffer::Buffer;
 use trace_filter::Filter;
-use trace_format::{Catalog, EventDef, Row};
+use trace_format::Row;
 
 /// How many events there may ever be.
 pub(crate) const EVENTS: usize = 64;
 
-/// A trace instance, as in ftrace.rst, "Instances": events are switched for each instance, and each has its own ring for each CPU.
+/// A trace instance, as in ftrace.rst, "Instances": each has switches, filters, options and rings of its own.
 #[derive(Drop)]
 pub struct Instance {
     enabled: Vec<bool>,
     filters: Vec<Option<Filter>>,
     overwrite: bool,
-    ring: Ring,
+    tracing: bool,
+    buffer: Buffer,
+    // Whether the emission that is being prepared will be recorded.
+    armed: bool,
 }
 
 impl Model for Instance {
@@ -36,34 +42,50 @@ impl Model for Instance {
 
     ghost Value = { InstanceSeen };
 
-    ghost view = { λ i. record { enabled = i.enabled.items; filters = i.filters.items; overwrite = i.overwrite; ring = i.ring } };
+    ghost view = { λ i. record { enabled = i.enabled.items; filters = i.filters.items; overwrite = i.overwrite; tracing = i.tracing; buffer = i.buffer; armed = i.armed } };
 
     ghost invariant = { λ i. (vec_len i.enabled ≤ 64) × (64 ≤ vec_capacity i.enabled)
         × (vec_len i.filters ≤ 64) × (64 ≤ vec_capacity i.filters) };
 }
 
 impl Instance {
-    /// An instance with no events, and an empty ring of this shape.
-    pub(crate) fn new(alloc: Global, pages: u32, page_bytes: u32) -> Result<Instance, AllocError>
+    /// An instance with so many events, all disabled and without a filter, and empty rings of this shape.
+    pub(crate) fn new(
+        alloc: Global,
+        events: usize,
+        cpus: u32,
+        pages: u32,
+        page_bytes: u32,
+    ) -> Result<Instance, AllocError>
+        requires events { events ≤ 64 }
+        requires cpus { (1 ≤ cpus) × (cpus ≤ 8) }
         requires pages { (2 ≤ pages) × (pages ≤ 1024) }
         requires page_bytes { (64 ≤ page_bytes) × (page_bytes ≤ 4080) × (page_bytes % 8 ≡ 0) }
-        ensures enabled { IfOk result (λ instance. instance.enabled ≡ []) }
-        ensures filters { IfOk result (λ instance. instance.filters ≡ []) }
+        ensures enabled { IfOk result (λ instance. instance.enabled ≡ replicate events false) }
+        ensures filters { IfOk result (λ instance. instance.filters ≡ replicate events None) }
         ensures overwrite { IfOk result (λ instance. instance.overwrite ≡ true) }
-        ensures stands { IfOk result (λ instance. StandsFor instance.ring []) }
-        ensures pages { IfOk result (λ instance. instance.ring.pages ≡ pages) }
-        ensures page_bytes { IfOk result (λ instance. instance.ring.page_bytes ≡ page_bytes) }
-        ensures offered { IfOk result (λ instance. offered instance.ring ≡ 0) }
+        ensures tracing { IfOk result (λ instance. instance.tracing ≡ true) }
+        ensures stands { IfOk result (λ instance. buffers.StandsFor instance.buffer (replicate cpus [])) }
+        ensures cpus { IfOk result (λ instance. buffers.cpus instance.buffer ≡ cpus) }
+        ensures pages { IfOk result (λ instance. instance.buffer.pages ≡ pages) }
+        ensures page_bytes { IfOk result (λ instance. instance.buffer.page_bytes ≡ page_bytes) }
+        ensures offers { IfOk result (λ instance. buffers.offers instance.buffer ≡ replicate cpus 0) }
     {
-        Ok(Instance {
+        let mut instance = Instance {
             enabled: Vec::with_capacity(alloc, EVENTS)?,
             filters: Vec::with_capacity(alloc, EVENTS)?,
             overwrite: true,
-            ring: Ring::new(alloc, pages, page_bytes)?,
-        })
+            tracing: true,
+            buffer: Buffer::new(alloc, cpus, pages, page_bytes)?,
+            armed: false,
+        };
+        for _event in 0..events {
+            instance.add_event();
+        }
+        Ok(instance)
     }
 
-    /// Whether the event of this number, from 0, is enabled.
+    /// Whether the event at this place is enabled.
     pub(crate) fn is_enabled(&self, event: usize) -> bool
         requires { event < length self.now.enabled }
         ensures { result ≡ slice_index_or self.now.enabled event false }
@@ -85,74 +107,12 @@ impl Instance {
         self.enabled.iter().any(|flag| !*flag)
     }
 
-    /// The filter of the event of this number, from 0.
+    /// The filter of the event at this place.
     pub(crate) fn filter(&self, event: usize) -> Option<&Filter>
         requires { event < length self.now.filters }
         ensures { option_copied result ≡ slice_index_or self.now.filters event None }
     {
         self.filters[event].as_ref()
-    }
-
-    /// Whether an emission of the event of this number passes its filter.
-    #[tactic(auto, unfolding(crate::specs::States::kept_holds))]
-    pub(crate) fn passes(&self, event: usize, row: &Row, cpu: u32, pid: i32) -> bool
-        requires { event < length self.now.filters }
-        ensures { result ≡ kept_holds (slice_index_or self.now.filters event None) row.now cpu pid }
-    {
-        match self.filter(event) {
-            Some(filter) => filter.passes(row, cpu, pid),
-            None => true,
-        }
-    }
-
-    /// Takes in one more event, which is disabled and has no filter.
-    pub(crate) fn add_event(&mut self)
-        requires enabled { length self.old.enabled < 64 }
-        requires filters { length self.old.filters < 64 }
-        ensures { self.new ≡ record self.old { enabled = self.old.enabled ++ false ∷ []; filters = self.old.filters ++ None ∷ [] } }
-    {
-        self.enabled.push_reserved(false);
-        self.filters.push_reserved(None);
-    }
-
-    /// Switches all events.
-    pub(crate) fn switch_all(&mut self, flag: bool)
-        ensures { self.new ≡ record self.old { enabled = replicate (length self.old.enabled) flag } }
-    {
-        self.enabled.fill(flag);
-    }
-
-    /// Sets the filter of the event of this number, from 0.
-    pub(crate) fn set_filter(&mut self, event: usize, filter: Option<Filter>)
-        requires { event < length self.old.filters }
-        ensures { self.new ≡ record self.old { filters = slice_set self.old.filters event filter } }
-    {
-        self.filters[event] = filter;
-    }
-
-    /// Changes the filter of each event.
-    pub(crate) fn set_filters(&mut self, changes: Vec<FilterChange>)
-        requires { length changes.items ≡ length self.old.filters }
-        ensures { self.new ≡ record self.old { filters = changed_filters changes.items self.old.filters } }
-    {
-        change_all(&mut self.filters, changes);
-    }
-
-    /// Switches the event of this name.
-    pub(crate) fn switch(&mut self, events: &Catalog, name: &[u8], flag: bool)
-        requires few { length events.now ≤ 64 }
-        requires long { length events.now ≡ length self.old.enabled }
-        ensures { self.new ≡ record self.old { enabled = with_switch name.now flag events.now self.old.enabled } }
-    {
-        switch_named(&mut self.enabled, events, name, flag);
-    }
-
-    /// Makes room for a record of this length. All that can be seen stays as it was.
-    pub(crate) fn ready(&mut self, len: usize) -> Result<(), AllocError>
-        ensures ok { OnOk result (self.new ≡ record self.old { ring = record self.old.ring { ready = max self.old.ring.ready len } }) }
-        ensures err { OnErr result (self.new ≡ self.old) }
-    {
-        self.ring.ready(len)
     }
 
     /// Whether records may overwrite older ones.
@@ -162,88 +122,112 @@ impl Instance {
         self.overwrite
     }
 
-    /// Sets whether records may overwrite older ones.
-    pub(crate) fn set_overwrite(&mut self, flag: bool)
-        ensures { self.new ≡ record self.old { overwrite = flag } }
+    /// Whether emissions are recorded.
+    pub(crate) fn is_tracing(&self) -> bool
+        ensures { result ≡ self.now.tracing }
     {
-        self.overwrite = flag;
+        self.tracing
     }
 
-    /// Writes a record, over older ones where the ring is full and that is allowed.
-    pub(crate) fn put(&mut self, rec: &[u8])
-        requires is_record { IsRecord rec.now }
-        requires fits { length rec.now ≤ self.old.ring.page_bytes }
-        requires ready { length rec.now ≤ self.old.ring.ready }
-        requires few { offered self.old.ring < 2 ^ 32 }
-        ensures stands { (events : List event.Event) → StandsFor self.old.ring events
-            → StandsFor self.new.ring (events ++ event.Put rec.now self.old.overwrite ∷ []) }
-        ensures enabled { self.new.enabled ≡ self.old.enabled }
-        ensures filters { self.new.filters ≡ self.old.filters }
-        ensures overwrite { self.new.overwrite ≡ self.old.overwrite }
-        ensures pages { self.new.ring.pages ≡ self.old.ring.pages }
-        ensures page_bytes { self.new.ring.page_bytes ≡ self.old.ring.page_bytes }
-        ensures offered { offered self.new.ring ≡ offered self.old.ring + 1 }
+    /// The rings.
+    pub(crate) fn buffer(&self) -> &Buffer
+        ensures { result.now ≡ self.now.buffer }
     {
-        let _put = self.ring.put(rec, self.overwrite);
+        &self.buffer
     }
 
-    /// Consumes so many records, or as many as there are.
-    pub(crate) fn take(&mut self, count: u64)
-        ensures stands { (events : List event.Event) → StandsFor self.old.ring events
-            → StandsFor self.new.ring (events ++ replicate count event.Take) }
-        ensures enabled { self.new.enabled ≡ self.old.enabled }
-        ensures filters { self.new.filters ≡ self.old.filters }
-        ensures overwrite { self.new.overwrite ≡ self.old.overwrite }
-        ensures pages { self.new.ring.pages ≡ self.old.ring.pages }
-        ensures page_bytes { self.new.ring.page_bytes ≡ self.old.ring.page_bytes }
-        ensures offered { offered self.new.ring ≡ offered self.old.ring }
-    {
-        take_all(&mut self.ring, count);
-    }
-
-    /// Empties the ring, statistics too.
-    pub(crate) fn clear(&mut self)
-        ensures stands { StandsFor self.new.ring [] }
-        ensures enabled { self.new.enabled ≡ self.old.enabled }
-        ensures filters { self.new.filters ≡ self.old.filters }
-        ensures overwrite { self.new.overwrite ≡ self.old.overwrite }
-        ensures pages { self.new.ring.pages ≡ self.old.ring.pages }
-        ensures page_bytes { self.new.ring.page_bytes ≡ self.old.ring.page_bytes }
-        ensures offered { offered self.new.ring ≡ 0 }
-    {
-        self.ring.clear();
-    }
-
-    /// The kept records in order, as consuming reads would find them.
-    pub(crate) fn kept(&self) -> KeptRecords<'_>
-        ensures records { (events : List event.Event) → StandsFor self.now.ring events
-            → result ≡ readings_of self.now.ring.pages self.now.ring.page_bytes events }
-        ensures few { length result ≤ 2 ^ 32 }
-    {
-        self.ring.kept()
-    }
-
-    /// What the `stats` file shows of a CPU's ring (ftrace.rst, "The File System"). For now there is one CPU.
+    /// What the `stats` file shows of a CPU's ring (ftrace.rst, "The File System").
     pub fn stats(&self, cpu: u32) -> RingStats
-        requires { cpu < 1 }
-        ensures { (events : List event.Event) → StandsFor self.now.ring events
-            → result ≡ stats_of self.now.ring.pages self.now.ring.page_bytes events }
+        requires { cpu < buffers.cpus self.now.buffer }
+        ensures { (family : List (List event.Event)) → buffers.StandsFor self.now.buffer family
+            → result ≡ cpu_stats self.now.buffer.pages self.now.buffer.page_bytes family cpu }
     {
-        let _cpu = cpu;
-        self.ring.stats()
+        self.buffer.stats(cpu)
     }
-}
 
-// Consumes so many records, or as many as there are.
-fn take_all(ring: &mut Ring, count: u64)
-    ensures stands { (events : List event.Event) → StandsFor ring.old events
-        → StandsFor ring.new (events ++ replicate count event.Take) }
-    ensures pages { ring.new.pages ≡ ring.old.pages }
-    ensures page_bytes { ring.new.page_bytes ≡ ring.old.page_bytes }
-    ensures offered { offered ring.new ≡ offered ring.old }
-{
-    for _i in 0..count {
-        let _lost = ring.take();
+    /// Takes in one more event, which is disabled and has no filter.
+    pub(crate) fn add_event(&mut self)
+        requires enabled { length self.old.enabled < 64 }
+        requires filters { length self.old.filters < 64 }
+        ensures { self.new ≡ with_event self.old }
+    {
+        self.enabled.push_reserved(false);
+        self.filters.push_reserved(None);
+    }
+
+    /// Makes a change.
+    pub(crate) fn apply(&mut self, change: InstanceChange)
+        requires { changes.IsLawful self.old change }
+        ensures { changes.IsApplied change self.old self.new }
+    {
+        match change {
+            InstanceChange::Keep => {}
+            InstanceChange::Switch(event, flag) => self.enabled[event] = flag,
+            InstanceChange::SwitchAll(flag) => self.enabled.fill(flag),
+            InstanceChange::SetFilter(event, filter) => self.filters[event] = filter,
+            InstanceChange::SetFilters(changes) => change_all(&mut self.filters, changes),
+            InstanceChange::SetOverwrite(flag) => self.overwrite = flag,
+            InstanceChange::SetTracing(flag) => self.tracing = flag,
+            InstanceChange::Clear => self.buffer.clear(),
+            InstanceChange::ClearCpu(cpu) => self.buffer.clear_cpu(cpu),
+            InstanceChange::Take(count) => {
+                let _taken = self.buffer.take_any(count);
+            }
+            InstanceChange::TakeCpu(cpu, count) => {
+                let _taken = self.buffer.take_cpu(cpu, count);
+            }
+        }
+    }
+
+    /// Looks whether an emission of the event at this place is recorded, keeps that, and tells it: tracing is on, the event is enabled, and
+    /// its filter passes.
+    #[tactic(auto, unfolding(crate::specs::Rows::kept_holds))]
+    pub(crate) fn arm(&mut self, event: usize, row: &Row, cpu: u32, pid: i32) -> bool
+        requires enabled { event < length self.old.enabled }
+        requires filters { event < length self.old.filters }
+        ensures armed { self.new ≡ record self.old { armed = result } }
+        ensures records { result ≡ rows.records self.old event row.now cpu pid }
+    {
+        self.armed = self.tracing && self.enabled[event] && self.passes(event, row, cpu, pid);
+        self.armed
+    }
+
+    /// Whether an emission of the event at this place passes its filter.
+    #[tactic(auto, unfolding(crate::specs::Rows::kept_holds))]
+    fn passes(&self, event: usize, row: &Row, cpu: u32, pid: i32) -> bool
+        requires { event < length self.now.filters }
+        ensures { result ≡ kept_holds (slice_index_or self.now.filters event None) row.now cpu pid }
+    {
+        match self.filter(event) {
+            Some(filter) => filter.passes(row, cpu, pid),
+            None => true,
+        }
+    }
+
+    /// Makes room for a record of this length, if the instance is armed. All that can be seen stays as it was.
+    pub(crate) fn ready(&mut self, cpu: u32, len: usize) -> Result<(), AllocError>
+        requires { cpu < buffers.cpus self.old.buffer }
+        ensures alike { IsAlike self.old self.new }
+        ensures armed { self.new.armed ≡ self.old.armed }
+        ensures room { OnOk result (self.old.armed ≡ true → len ≤ slice_index_or (buffers.readies self.new.buffer) cpu 0) }
+    {
+        if self.armed {
+            self.buffer.ready(cpu, len)?;
+        }
+        Ok(())
+    }
+
+    /// Writes a record if the instance is armed, over older ones where the ring is full and that is allowed.
+    pub(crate) fn write(&mut self, pending: &Pending)
+        requires is_record { IsRecord pending.now.bytes.items }
+        requires fits { length pending.now.bytes.items ≤ self.old.buffer.page_bytes }
+        requires room { HasRoom pending.now self.old }
+        requires few { HasFew self.old }
+        ensures { IsWritten pending.now self.old self.new }
+    {
+        if self.armed {
+            let _put = self.buffer.put(pending.cpu, &pending.bytes, self.overwrite);
+        }
     }
 }
 
@@ -257,23 +241,4 @@ fn change_all(filters: &mut [Option<Filter>], changes: Vec<FilterChange>)
         change.apply(&mut filters[i]);
         i += 1;
     }
-}
-
-// Sets the flag of the event of this name.
-fn switch_named(enabled: &mut [bool], events: &Catalog, name: &[u8], flag: bool)
-    requires few { length events.now ≤ 64 }
-    requires long { length events.now ≡ length enabled.old }
-    ensures { enabled.new ≡ with_switch name.now flag events.now enabled.old }
-{
-    for i in 0..enabled.len() {
-        let was = enabled[i];
-        enabled[i] = switched(event_at(events, i), name, flag, was);
-    }
-}
-
-// The flag that an event has once the event of this name was switched.
-fn switched(event: &EventDef, name: &[u8], flag: bool, was: bool) -> bool
-    ensures { result ≡ (if bytes_eq event.now.name name.now then flag else was) }
-{
-    if event.name() == name { flag } else { was }
 }

@@ -2,13 +2,19 @@
 #![tactic(auto)]
 
 mod book;
+mod change;
+mod emission;
 mod instance;
-mod pipe_text;
+mod make;
 mod prepare;
+mod read;
+mod resolve;
 mod row;
 mod state;
 #[cfg(test)]
 mod tests;
+mod text;
+mod write;
 
 pub use book::Book;
 pub use instance::Instance;

@@ -1,77 +1,31 @@
 //! What a book's requests have come to: the events, the clock and the instances.
 
-ghost use Rattle.std.specs.Prelude.{◌≡◌, ℕ, ◌+◌, ◌^◌, ◌≤◌, ◌<◌, Bool, true, false, List, [], ◌∷◌, ◌++◌, length, slice_index_or, IfErr, IfSome, OnOk, OnErr};
-ghost use Rattle.std.specs.Option.{option_map};
-ghost use Rattle.page_ring.specs.Shown as shown;
-ghost use Rattle.trace_history.specs.Settings.{event_named_in};
-ghost use Rattle.trace_history.specs.Declarations.{IsPlaceOf};
-ghost use Rattle.trace_book.specs.States as states;
+ghost use Rattle.std.specs.Prelude.{◌≡◌, ℕ, ◌+◌, ◌^◌, ◌≤◌, ◌<◌, List, [], ◌∷◌, ◌++◌, length, take, drop, slice_index_or, All, IfErr, IfSome, OnOk, OnErr, Option, Some, None};
+ghost use Rattle.trace_record.specs.Record.{IsRecord};
 ghost use Rattle.trace_command.specs.declared.refusal.Refusal.TheVariants as refusal;
+ghost use Rattle.trace_book.specs.States as states;
+ghost use Rattle.trace_book.specs.declared.state.Named.{Named};
+ghost use Rattle.trace_book.specs.Changes.{IsApplied, IsLawful};
 
+use crate::change::{Change, InstanceChange, Pending};
 use crate::instance::Instance;
 use trace_command::{Config, Refusal, Reply};
-use trace_filter::Filter;
-use trace_format::{Catalog, EventDef};
+use trace_format::Catalog;
 use trace_lex::Text;
 
-/// The declared events, the clock, and the top instance.
+/// An instance under its name; the top one has none.
+#[derive(Drop)]
+pub(crate) struct Named {
+    pub name: Option<Text>,
+    pub instance: Instance,
+}
+
+/// The declared events, the clock, and the instances: first the top one, then the others in the order in which they were made.
 #[derive(Drop)]
 pub(crate) struct State {
     pub catalog: Catalog,
     pub clock: u64,
-    pub top: Instance,
-}
-
-/// What a command that is done changes.
-#[derive(Drop)]
-pub(crate) enum Change {
-    Nothing,
-    /// One more event.
-    Declare(EventDef),
-    /// The event of this name is switched.
-    Switch(Text, bool),
-    /// All events are switched.
-    SwitchAll(bool),
-    /// The event of this number, from 0, gets this filter, or none.
-    SetFilter(usize, Option<Filter>),
-    /// Each event's filter is changed.
-    SetFilters(Vec<FilterChange>),
-    /// Records may overwrite older ones, or not.
-    SetOverwrite(bool),
-    /// The ring is emptied.
-    Clear,
-    /// So many records are consumed.
-    Take(u64),
-    /// The clock ticks, and the record is written, if there is one: there is where the event is enabled and its filter holds.
-    Emit(Option<Vec<u8>>),
-}
-
-/// What becomes of an event's filter.
-#[derive(Drop)]
-pub(crate) enum FilterChange {
-    Keep,
-    Drop,
-    Set(Filter),
-}
-
-impl FilterChange {
-    /// Whether the event gets a filter.
-    pub(crate) fn sets(&self) -> bool
-        ensures { result ≡ states.is_set self.now }
-    {
-        matches!(self, FilterChange::Set(_))
-    }
-
-    /// Makes the change.
-    pub(crate) fn apply(self, filter: &mut Option<Filter>)
-        ensures { filter.new ≡ states.changed_filter self filter.old }
-    {
-        match self {
-            FilterChange::Keep => {}
-            FilterChange::Drop => *filter = None,
-            FilterChange::Set(new) => *filter = Some(new),
-        }
-    }
+    pub instances: Vec<Named>,
 }
 
 /// A command that was prepared: what it will change, and its reply.
@@ -81,66 +35,66 @@ pub(crate) struct Prepared {
     pub reply: Reply,
 }
 
-/// An event, and how many were declared before it.
-#[derive(Clone, Copy)]
-pub(crate) struct Found<'a> {
-    pub index: usize,
-    pub event: &'a EventDef,
-}
-
-/// The event of this name.
-pub(crate) fn find<'a>(catalog: &'a Catalog, name: &[u8]) -> Option<Found<'a>>
-    ensures named { option_map states.numbered result ≡ event_named_in catalog.now name.now }
-    ensures place { IfSome result (λ found. IsPlaceOf catalog.now name.now found.index found.event.now) }
-{
-    let id = catalog.find(name)?;
-    let event = catalog.def(id)?;
-    Some(Found {
-        index: usize::from(id) - 1,
-        event,
-    })
-}
-
-/// The event of this number, from 0.
-pub(crate) fn event_at(catalog: &Catalog, index: usize) -> &EventDef
-    requires inside { index < length catalog.now }
-    requires few { length catalog.now ≤ 64 }
-    ensures { result.now ≡ slice_index_or catalog.now index result.now }
-{
-    catalog.def(index as u16 + 1).unwrap()
-}
-
 impl State {
-    /// Makes a change for which all memory is at hand but the catalog's. Where that is refused, nothing is changed.
+    /// Makes a change for which all memory is at hand but that of the lists of events and of instances. If that is refused, nothing is
+    /// changed.
     pub(crate) fn commit(&mut self, config: &Config, change: Change) -> Result<(), Refusal>
-        requires ready { states.IsReady self.old change }
+        requires usable { states.IsUsable config.now self.old }
+        requires ready { states.IsReady config.now self.old change }
         requires early { self.old.clock < 2 ^ 32 }
-        requires few { shown.offered self.old.top.ring < 2 ^ 32 }
-        requires few_events { length self.old.catalog ≤ 64 }
-        requires page_bytes { self.old.top.ring.page_bytes ≡ config.now.page_bytes }
+        requires few { All (λ n. states.HasFew n.instance) self.old.instances.items }
         ensures done { OnOk result (states.IsStep self.old self.new change) }
-        ensures refused { OnErr result (self.new ≡ self.old) }
+        ensures refused { OnErr result (states.IsUnchanged self.old self.new) }
         ensures memory { IfErr result (λ r. r ≡ refusal.Memory) }
     {
         match change {
-            Change::Nothing => {}
             Change::Declare(event) => {
                 self.catalog.add(event, config.page_bytes as usize)?;
-                self.top.add_event();
+                add_event(&mut self.instances);
             }
-            Change::Switch(name, flag) => self.top.switch(&self.catalog, name.as_bytes(), flag),
-            Change::SwitchAll(flag) => self.top.switch_all(flag),
-            Change::SetFilter(index, filter) => self.top.set_filter(index, filter),
-            Change::SetFilters(changes) => self.top.set_filters(changes),
-            Change::SetOverwrite(flag) => self.top.set_overwrite(flag),
-            Change::Clear => self.top.clear(),
-            Change::Take(count) => self.top.take(count),
+            Change::Make(named) => self.instances.push(named)?,
+            Change::Remove(place) => {
+                let _named = self.instances.remove(place);
+            }
+            Change::Instance(place, change) => change_one(&mut self.instances, place, change),
             Change::Emit(None) => self.clock += 1,
-            Change::Emit(Some(record)) => {
+            Change::Emit(Some(pending)) => {
                 self.clock += 1;
-                self.top.put(&record);
+                write_each(&mut self.instances, &pending);
             }
         }
         Ok(())
+    }
+}
+
+// Takes one more event into each instance.
+fn add_event(instances: &mut [Named])
+    requires { All (λ n. (length n.instance.enabled < 64) × (length n.instance.filters < 64)) instances.old }
+    ensures { states.EachCame (λ i j. j ≡ states.with_event i) instances.old instances.new }
+{
+    for i in 0..instances.len() {
+        instances[i].instance.add_event();
+    }
+}
+
+// Changes the instance at a place.
+fn change_one(instances: &mut [Named], place: usize, change: InstanceChange)
+    requires place { place < length instances.old }
+    requires lawful { (d : Named) → IsLawful (slice_index_or instances.old place d).instance change }
+    ensures { states.OneCame (IsApplied change) place instances.old instances.new }
+{
+    instances[place].instance.apply(change);
+}
+
+// Writes the record in each instance that is armed.
+fn write_each(instances: &mut [Named], pending: &Pending)
+    requires is_record { IsRecord pending.now.bytes.items }
+    requires fits { All (λ n. length pending.now.bytes.items ≤ n.instance.buffer.page_bytes) instances.old }
+    requires room { All (λ n. states.HasRoom pending.now n.instance) instances.old }
+    requires few { All (λ n. states.HasFew n.instance) instances.old }
+    ensures { states.EachCame (states.IsWritten pending.now) instances.old instances.new }
+{
+    for i in 0..instances.len() {
+        instances[i].instance.write(pending);
     }
 }

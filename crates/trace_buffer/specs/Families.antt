@@ -1,5 +1,5 @@
--- What happened to the rings of a buffer: a list of ring events for each CPU, CPU 0 first, and what the rings then keep
--- (ring-buffer-design.rst, "The Generic Ring Buffer": each CPU has a ring of its own).
+-- What happened to the rings of a buffer since each was new or cleared: a list of ring events for each CPU, CPU 0 first, and what the rings
+-- then keep (ring-buffer-design.rst, "The Generic Ring Buffer": each CPU has a ring of its own).
 use Rattle.std.specs.Prelude.{ℕ, List, [], ◌++◌, length, sum_by, replicate, slice_index_or, slice_set}
 use Rattle.page_ring.specs.Events.{Event}
 use Rattle.page_ring.specs.Account.{Reading, readings_of, stats_of}

@@ -1,5 +1,5 @@
--- In which order reads show and consume the records of several CPUs (ftrace.rst, "The File System": `trace` shows the CPUs' records
--- interleaved by time, `trace_pipe` consumes them in that order).
+-- In which order reads show and consume the records of several CPUs (ftrace.rst, "The File System"). `trace` shows all kept records by
+-- timestamp; each consuming read takes the earliest of the CPUs' first records. The two orders are one if no ring's timestamps fall.
 use Rattle.std.specs.Prelude.{ℕ, zero, suc, ◌+◌, nat_lt, List, [], ◌∷◌, ◌++◌, map, take, replicate, Option, Some, None, if◌then◌else◌}
 use Rattle.trace_record.specs.Record.{timestamp}
 use Rattle.page_ring.specs.Events.{Event, Take}

@@ -1,9 +1,9 @@
 -- The parts of a path.
-use Rattle.std.proofs.Common.{◌≡◌, ℕ, ◌+◌, ◌<◌, List, [], ◌∷◌, ◌++◌, All, eqb, false, length, get_or, take, drop, refl, sym, ap, ◌∙◌, Option, Some, None, Bor, arith, add-one}
+use Rattle.std.proofs.Common.{◌≡◌, ℕ, ◌+◌, ◌<◌, true, List, [], ◌∷◌, ◌++◌, All, eqb, false, length, get_or, take, drop, refl, sym, ap, ◌∙◌, Option, Some, None, Bor, arith, add-one}
 use Rattle.std.proofs.Math.Seq.{drop-cons}
 use Rattle.std.proofs.lemmas.Grind.{common_steps}
 use Rattle.std.proofs.lemmas.List.Splits.{slice_split_at, slice_split_none, length-slice_split}
-use Rattle.trace_command.specs.Paths.{parts, file_in}
+use Rattle.trace_command.specs.Paths.{Address, address_in, file_in, file_of_instance, instance_in, is_instance, parts}
 use Rattle.trace_command.specs.Places.{parts_of}
 
 -- a list, cut at a place
@@ -32,3 +32,26 @@ pub file_in-five : (a b c d : List ℕ) (rest : Option (Bor (List ℕ))) (below 
     → file_in (a ∷ b ∷ c ∷ d ∷ parts_of rest) ≡ None
 file_in-five a b c d rest below is =
     rw is (more_than_four a b c d (parts below.now) (omega (arith, length-slice_split (λ b. eqb b 47) below.now)))
+
+-- a path has a part
+some_part : (path : List ℕ) → 0 < length (parts path)
+some_part path = omega (arith, length-slice_split (λ b. eqb b 47) path)
+
+instance_in-more : (a b : List ℕ) (ps : List (List ℕ)) → 0 < length ps → instance_in (a ∷ b ∷ ps) ≡ None
+instance_in-more a b [] h = absurd (omega arith)
+instance_in-more a b (p ∷ ps) h = refl
+
+-- more than two parts are no instance's path
+pub instance_in-three : (a b : List ℕ) (rest : Option (Bor (List ℕ))) (below : Bor (List ℕ)) → rest ≡ Some below
+    → instance_in (a ∷ b ∷ parts_of rest) ≡ None
+instance_in-three a b rest below is = rw is (instance_in-more a b (parts below.now) (some_part below.now))
+
+address_in-more : (a b : List ℕ) (ps : List (List ℕ)) → 0 < length ps → is_instance a b ≡ true
+    → address_in (a ∷ b ∷ ps) ≡ record { instance = Some b; file = file_of_instance (file_in ps) }
+address_in-more a b [] h is = absurd (omega arith)
+address_in-more a b (p ∷ ps) h is = rw is refl
+
+-- the rest of a path below an instance
+pub address_in-instance : (a b rest : List ℕ) → is_instance a b ≡ true
+    → address_in (a ∷ b ∷ parts rest) ≡ record { instance = Some b; file = file_of_instance (file_in (parts rest)) }
+address_in-instance a b rest is = address_in-more a b (parts rest) (some_part rest) is

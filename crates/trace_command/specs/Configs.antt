@@ -2,9 +2,10 @@
 use Rattle.std.specs.Prelude.{◌≡◌, ◌%◌, ◌^◌, ◌≤◌}
 use Rattle.trace_command.specs.declared.command.Config.{Config}
 
--- each number is in its range; for now there is one CPU
+-- each number is in its range
 pub record IsInRange (g : Config) : Type 0 where
-  pub one_cpu : g.cpus ≡ 1
+  pub some_cpus : 1 ≤ g.cpus
+  pub few_cpus : g.cpus ≤ 8
   pub some_pages : 2 ≤ g.pages
   pub few_pages : g.pages ≤ 1024
   pub some_bytes : 64 ≤ g.page_bytes

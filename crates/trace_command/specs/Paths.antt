@@ -1,12 +1,12 @@
 -- The files of the tracing tree, and which file a path names.
-use Rattle.std.specs.Prelude.{ℕ, ◌&&◌, not, ◌==◌, if◌then◌else◌, List, [], ◌∷◌, Option, Some, None, take, drop, codes}
+use Rattle.std.specs.Prelude.{ℕ, Bool, ◌&&◌, not, ◌==◌, nat_lt, length, if◌then◌else◌, List, [], ◌∷◌, Option, Some, None, take, drop, codes}
 use Rattle.std.specs.Option.{option_and_then}
 use Rattle.std.specs.List.{slice_split}
 use Rattle.std.specs.Str.{bytes_eq}
 use Rattle.trace_lex.specs.Names.{is_name}
 use Rattle.trace_lex.specs.Decimals.{decimal_number, has_leading_zero}
 
--- what stands between the slashes of a path
+-- what is between the slashes of a path
 abbrev pub parts : List ℕ → List (List ℕ)
 parts path = slice_split (λ b. b == 47) path
 
@@ -20,6 +20,7 @@ pub data File : Type 0 where
   CpuStats : ℕ → File
   Overwrite : File
   TraceOptions : File
+  TracingOn : File
   SyntheticEvents : File
   EventsEnable : File
   EventsFilter : File
@@ -38,7 +39,8 @@ top_file name =
     if bytes_eq name (codes "trace") then Some Trace
     else (if bytes_eq name (codes "trace_pipe") then Some TracePipe
     else (if bytes_eq name (codes "trace_options") then Some TraceOptions
-    else (if bytes_eq name (codes "synthetic_events") then Some SyntheticEvents else None)))
+    else (if bytes_eq name (codes "tracing_on") then Some TracingOn
+    else (if bytes_eq name (codes "synthetic_events") then Some SyntheticEvents else None))))
 
 -- a file of an option
 unfoldable pub option_file : List ℕ → Option File
@@ -81,6 +83,46 @@ file_in (first ∷ second ∷ third ∷ name ∷ []) =
     if bytes_eq first (codes "events") && (bytes_eq second (codes "synthetic") && is_name third) then event_file third name else None
 file_in _ = None
 
--- the file that a path names
-unfoldable pub file_of : List ℕ → Option File
-file_of path = file_in (parts path)
+-- ---- where a path leads
+
+-- the place where the tracing tree is mounted: a path may begin with it
+unfoldable pub mount_point : List ℕ
+mount_point = codes "/sys/kernel/tracing/"
+
+-- a path without the mount point, which is cut off once
+unfoldable pub below_mount_point : List ℕ → List ℕ
+below_mount_point path = if bytes_eq (take (length mount_point) path) mount_point then drop (length mount_point) path else path
+
+-- the parts `instances` and a name, which is one or more bytes
+abbrev pub is_instance : List ℕ → List ℕ → Bool
+is_instance first name = bytes_eq first (codes "instances") && nat_lt 0 (length name)
+
+-- the instance that a path names, none for the top one, and the file there, if the rest of the path names one
+pub record Address : Type 0 where
+  pub instance : Option (List ℕ)
+  pub file : Option File
+
+-- events are declared at the top, and each other file is there in every instance
+abbrev pub file_of_instance : Option File → Option File
+file_of_instance (Some SyntheticEvents) = None
+file_of_instance file = file
+
+-- the address that the parts of a path name
+abbrev pub address_in : List (List ℕ) → Address
+address_in (first ∷ name ∷ part ∷ rest) =
+    if is_instance first name then record { instance = Some name; file = file_of_instance (file_in (part ∷ rest)) }
+    else record { instance = None; file = file_in (first ∷ name ∷ part ∷ rest) }
+address_in path = record { instance = None; file = file_in path }
+
+-- the address that a path names
+unfoldable pub address_of : List ℕ → Address
+address_of path = address_in (parts (below_mount_point path))
+
+-- the name of the instance in `instances/NAME`
+abbrev pub instance_in : List (List ℕ) → Option (List ℕ)
+instance_in (first ∷ name ∷ []) = if is_instance first name then Some name else None
+instance_in _ = None
+
+-- the name of the instance that a path is to make or to remove
+unfoldable pub instance_of : List ℕ → Option (List ℕ)
+instance_of path = instance_in (parts (below_mount_point path))

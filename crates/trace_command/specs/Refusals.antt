@@ -94,7 +94,7 @@ name_of Worn = codes "Worn"
 unfoldable pub shown_name : List ℕ → List ℕ
 shown_name name = if is_utf8 name then name else 239 ∷ 191 ∷ 189 ∷ []
 
--- what is shown behind a refusal's name: a place in the written text, or a field
+-- what is shown after a refusal's name: a place in the written text, or a field
 unfoldable pub shown_detail : Refusal → List ℕ
 shown_detail (BadDefinition at) = codes " at " ++ decimal at
 shown_detail (FilterSyntax at) = codes " at " ++ decimal at
@@ -110,10 +110,12 @@ shown refusal = codes "N" ++ decimal (number_of refusal) ++ codes " " ++ name_of
 
 -- ---- answers
 
--- the refusals that are found before a command takes any memory: no such file, CPU or event, a file that can't be read or written, and a
--- wrong value. A declaration, a row, a filter and the room in the history may be looked at only after memory was taken.
+-- the refusals that are found before a command takes any memory: no such file, instance, CPU or event, an instance that is there already, a
+-- file that can't be read or written, and a wrong value. A declaration, a row, a filter and the room in the history may be looked at only after memory was taken.
 abbrev pub is_found_early : Refusal → Bool
 is_found_early NoSuchFile = true
+is_found_early NoSuchInstance = true
+is_found_early InstanceExists = true
 is_found_early NoSuchCpu = true
 is_found_early NoSuchEvent = true
 is_found_early NotReadable = true

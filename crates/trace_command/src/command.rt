@@ -105,9 +105,9 @@ pub enum Command {
         pid: i32,
         pairs: Pairs,
     },
-    /// Makes the instance of this path. For now this is refused.
+    /// Makes the instance of this path.
     Mkdir(Text),
-    /// Removes the instance of this path. For now this is refused.
+    /// Removes the instance of this path.
     Rmdir(Text),
     /// Writes the text to a file, by `>` or, to append, by `>>`.
     Write {
@@ -216,7 +216,7 @@ pub struct Entry {
 /// What a book is made with.
 #[derive(Clone, Copy, Debug, PartialEq, Eq)]
 pub struct Config {
-    /// The number of CPUs; for now it is 1.
+    /// The number of CPUs, from 1 to 8.
     pub cpus: u32,
     /// The pages of each CPU's ring, from 2 to 1,024.
     pub pages: u32,

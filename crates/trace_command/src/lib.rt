@@ -7,5 +7,5 @@ mod place;
 mod refusal;
 
 pub use command::{Command, Config, Entry, Pairs, Reply};
-pub use place::{Place, place_of};
+pub use place::{Address, Place, address_of, instance_of};
 pub use refusal::Refusal;

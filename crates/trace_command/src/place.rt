@@ -1,10 +1,10 @@
 //! The files that paths name.
 
-ghost use Rattle.std.specs.Prelude.{◌≡◌, [], ◌∷◌};
+ghost use Rattle.std.specs.Prelude.{◌≡◌, [], ◌∷◌, Some, None};
 ghost use Rattle.std.specs.Option.{option_map};
 ghost use Rattle.trace_lex.specs.Decimals.{value_after};
 ghost use Rattle.trace_command.specs.Paths as paths;
-ghost use Rattle.trace_command.specs.Places.{file_at, parts_of, cpu_at};
+ghost use Rattle.trace_command.specs.Places.{address_at, bytes_now, file_at, parts_of, cpu_at};
 
 use trace_lex::{all_digits, has_leading_zero, is_name};
 
@@ -19,6 +19,7 @@ pub enum Place<'a> {
     CpuStats(&'a [u8]),
     Overwrite,
     TraceOptions,
+    TracingOn,
     SyntheticEvents,
     EventsEnable,
     EventsFilter,
@@ -27,7 +28,7 @@ pub enum Place<'a> {
     EventFormat(&'a [u8]),
 }
 
-// What stands before the first slash, and what stands behind it.
+// What is before the first slash, and what is after it.
 fn cut(path: &[u8]) -> (&[u8], Option<&[u8]>)
     ensures { paths.parts path.now ≡ result.0.now ∷ parts_of result.1 }
 {
@@ -39,10 +40,130 @@ fn cut(path: &[u8]) -> (&[u8], Option<&[u8]>)
     (path, None)
 }
 
-/// The file that a path names, if it names one. Whether the CPU or the event is there is not looked at.
-#[tactic(auto, unfolding(crate::specs::Paths::file_of))]
-pub fn place_of(path: &[u8]) -> Option<Place<'_>>
-    ensures { option_map file_at result ≡ paths.file_of path.now }
+/// Where a path leads: to an instance, by its name (none is the top one), and there to a file, if the rest of the path names one.
+#[derive(Clone, Copy, Debug)]
+pub struct Address<'a> {
+    pub instance: Option<&'a [u8]>,
+    pub place: Option<Place<'a>>,
+}
+
+/// The instance and the file that a path names (ftrace.rst, "The File System", "Instances"). Whether the instance, the CPU and the event are
+/// there is not looked at. A path may begin with the mount point `/sys/kernel/tracing/`.
+#[tactic(auto, unfolding(crate::specs::Paths::address_of))]
+pub fn address_of(path: &[u8]) -> Address<'_>
+    ensures { address_at result ≡ paths.address_of path.now }
+{
+    let path = below_mount_point(path);
+    let (first, rest) = cut(path);
+    match rest {
+        None => at_top(top_place(first)),
+        Some(rest) => address_below(first, rest),
+    }
+}
+
+/// The name of the instance that a path is to make or to remove: the NAME of `instances/NAME`.
+#[tactic(auto, unfolding(crate::specs::Paths::instance_of))]
+pub fn instance_of(path: &[u8]) -> Option<&[u8]>
+    ensures { option_map bytes_now result ≡ paths.instance_of path.now }
+{
+    name_of(below_mount_point(path))
+}
+
+fn name_of(path: &[u8]) -> Option<&[u8]>
+    ensures { option_map bytes_now result ≡ paths.instance_in (paths.parts path.now) }
+{
+    let (first, rest) = cut(path);
+    name_below(first, rest?)
+}
+
+fn name_below<'a>(first: &[u8], rest: &'a [u8]) -> Option<&'a [u8]>
+    ensures { option_map bytes_now result ≡ paths.instance_in (first.now ∷ paths.parts rest.now) }
+{
+    let (name, rest) = cut(rest);
+    match rest {
+        None => name_in(first, name),
+        Some(_) => None,
+    }
+}
+
+fn name_in<'a>(first: &[u8], name: &'a [u8]) -> Option<&'a [u8]>
+    ensures { option_map bytes_now result ≡ paths.instance_in (first.now ∷ name.now ∷ []) }
+{
+    if is_instance(first, name) {
+        Some(name)
+    } else {
+        None
+    }
+}
+
+// What is left of a path without the mount point.
+#[tactic(auto, unfolding(crate::specs::Paths::below_mount_point, crate::specs::Paths::mount_point))]
+fn below_mount_point(path: &[u8]) -> &[u8]
+    ensures { result.now ≡ paths.below_mount_point path.now }
+{
+    match path.strip_prefix(b"/sys/kernel/tracing/".as_slice()) {
+        Some(rest) => rest,
+        None => path,
+    }
+}
+
+fn is_instance(first: &[u8], name: &[u8]) -> bool
+    ensures { result ≡ paths.is_instance first.now name.now }
+{
+    first == b"instances".as_slice() && !name.is_empty()
+}
+
+fn at_top(place: Option<Place<'_>>) -> Address<'_>
+    ensures { address_at result ≡ record { instance = None; file = option_map file_at place.entry } }
+{
+    Address {
+        instance: None,
+        place,
+    }
+}
+
+fn address_below<'a>(first: &[u8], rest: &'a [u8]) -> Address<'a>
+    ensures { address_at result ≡ paths.address_in (first.now ∷ paths.parts rest.now) }
+{
+    let (second, rest) = cut(rest);
+    match rest {
+        None => at_top(place_in_two(first, second)),
+        Some(rest) => address_below_two(first, second, rest),
+    }
+}
+
+fn address_below_two<'a>(first: &[u8], second: &'a [u8], rest: &'a [u8]) -> Address<'a>
+    ensures { address_at result ≡ paths.address_in (first.now ∷ second.now ∷ paths.parts rest.now) }
+{
+    if is_instance(first, second) {
+        in_instance(second, place_of(rest))
+    } else {
+        at_top(place_below_two(first, second, rest))
+    }
+}
+
+fn in_instance<'a>(name: &'a [u8], place: Option<Place<'a>>) -> Address<'a>
+    ensures { address_at result ≡ record { instance = Some name.now; file = paths.file_of_instance (option_map file_at place.entry) } }
+{
+    Address {
+        instance: Some(name),
+        place: place_of_instance(place),
+    }
+}
+
+// Events are declared at the top.
+fn place_of_instance(place: Option<Place<'_>>) -> Option<Place<'_>>
+    ensures { option_map file_at result ≡ paths.file_of_instance (option_map file_at place.entry) }
+{
+    match place? {
+        Place::SyntheticEvents => None,
+        other => Some(other),
+    }
+}
+
+// The file that the parts of a path name, if they name one.
+fn place_of(path: &[u8]) -> Option<Place<'_>>
+    ensures { option_map file_at result ≡ paths.file_in (paths.parts path.now) }
 {
     let (first, rest) = cut(path);
     match rest {
@@ -63,6 +184,9 @@ fn top_place(name: &[u8]) -> Option<Place<'_>>
     }
     if name == b"trace_options".as_slice() {
         return Some(Place::TraceOptions);
+    }
+    if name == b"tracing_on".as_slice() {
+        return Some(Place::TracingOn);
     }
     if name == b"synthetic_events".as_slice() {
         return Some(Place::SyntheticEvents);

@@ -213,7 +213,7 @@ fn shown_name(name: &[u8]) -> &str
     }
 }
 
-/// `N7 BadDefinition at 2`, as a script's output has it behind the line's number.
+/// `N7 BadDefinition at 2`, as a script's output has it after the line's number.
 impl Display for Refusal {
     ghost use Rattle.trace_command.specs.Refusals.{shown};
 

@@ -1,16 +1,15 @@
 -- Declared events by name and by number.
-use Rattle.std.proofs.Common.{◌≡◌, ℕ, zero, suc, ◌+◌, ◌-◌, ◌*◌, ◌/◌, ◌<◌, Bool, true, false, cond, ltb, List, [], ◌∷◌, ◌++◌, length, get_or, slice_get, position, bytes_eq, Option, None, Some, option_map, refl, sym, ap, ◌∙◌, subst, arith}
+use Rattle.std.proofs.Common.{◌≡◌, ℕ, zero, suc, ◌+◌, ◌-◌, ◌<◌, Bool, true, false, cond, ltb, List, [], ◌∷◌, ◌++◌, length, get_or, slice_get, position, bytes_eq, Option, None, Some, option_map, refl, sym, ap, ◌∙◌, subst, arith}
 use Rattle.std.specs.List.{AllByRecursion, position_or_len}
 use Rattle.std.proofs.lemmas.Bool.Decides.{nat_tests}
 use Rattle.std.proofs.lemmas.List.Quantifiers.{position-Some}
 use Rattle.std.proofs.lemmas.Option.{get_or_from_slice_get}
 use Rattle.trace_format.specs.Catalogs.{id_of, event_of}
-use Rattle.trace_format.specs.Cells.{record_size_of, payload_size_of}
 use Rattle.trace_format.specs.Definitions.{Definition}
 use Rattle.trace_history.specs.Settings.{NumberedEvent, event_named_in}
 use Rattle.trace_history.specs.Declarations.{IsPlaceOf, IsFit}
 
--- the event of a name among those behind others
+-- the event of a name among those after others
 abbrev pub found_from : ℕ → List ℕ → List Definition → Option NumberedEvent
 found_from id name [] = None
 found_from id name (event ∷ events) = cond (bytes_eq name event.name) (Some (record { id = id; event = event })) (found_from (id + 1) name events)

@@ -1,246 +1,264 @@
 -- Each record that a ring keeps was brought by an emission.
-use Rattle.std.proofs.Common.{◌≡◌, ◌⊎◌, inl, inr, ℕ, zero, suc, ℤ, ◌+◌, ◌==◌, Bool, true, false, ◌&&◌, ◌||◌, if◌then◌else◌, List, [], ◌∷◌, ◌++◌, length, map, replicate, get_or, bytes_eq, All, IsTrue, Option, None, Some, Result, Ok, Err, refl, sym, ap, ◌∙◌, subst, eqb-true}
-use Rattle.std.specs.List.{AllByRecursion}
-use Rattle.std.specs.Option.{option_to_list}
-use Rattle.std.specs.Result.{result_ok}
+use Rattle.std.proofs.Common.{◌≡◌, ◌⊎◌, inl, inr, ℕ, ◌==◌, Bool, true, false, ◌&&◌, ◌||◌, if◌then◌else◌, List, [], ◌∷◌, ◌++◌, length, get_or, bytes_eq, All, Option, None, Some, refl, sym, ap, ◌∙◌, subst, eq-eqb, eqb-true}
+use Rattle.std.specs.List.{AllByRecursion, list_any}
 use Rattle.std.proofs.lemmas.Bool.{or_cases, and_parts}
 use Rattle.std.proofs.lemmas.List.Elements.{All-from_recursion}
 use Rattle.std.proofs.lemmas.Slice.Eq.{bytes_eq-Decides}
-use Rattle.page_ring.specs.Account.{readings_of}
 use Rattle.page_ring.specs.Events as ring
 use Rattle.page_ring.specs.Laws.{puts_pass, KeptWerePut}
-use Rattle.trace_format.specs.Cells.{Cells}
-use Rattle.trace_format.specs.Rows.{row_of}
-use Rattle.trace_format.specs.declared.pair.Pair.{Pair}
-use Rattle.trace_lex.proofs.Options.{if_some, and_then_some}
+use Rattle.trace_buffer.specs.Families.{events_of, with_events, cpu_readings, kept_count}
 use Rattle.trace_text.specs.RecordText.{record_line}
 use Rattle.trace_command.specs.Configs.{IsInRange}
+use Rattle.trace_command.specs.Paths.{File, Trace, CpuTrace, TracePipe, CpuTracePipe}
 use Rattle.trace_history.specs.History.{requests_of, IsLegalNewestFirst}
 use Rattle.trace_history.specs.Laws.{kept_readings, ShowsEmission, KeptRecordsShowEmissions}
-use Rattle.trace_command.specs.Requests.{Request, Emission, request_of}
-use Rattle.trace_history.specs.Rings.{filter_holds, record_of_row, record_of_event, emitted_record, consumed, put_of, clears, ring_events}
-use Rattle.trace_history.specs.Settings.{NumberedEvent, event_named, declared_events, is_enabled, filter_of, overwrites, now_of}
+use Rattle.trace_command.specs.Requests.{Request, Emission, MakeInstance, RemoveInstance, WriteFile, ReadFile, request_of}
+use Rattle.trace_history.specs.Rings.{Emitted, emitted, emitted_bytes, is_recorded, up_to_limit, with_emitted, rings_after_write, rings_after_read, rings_after, rings}
+use Rattle.trace_history.specs.Settings.{is_same, makes, declared_events, overwrites}
 use Rattle.trace_command.specs.declared.command.Config.{Config}
 use Rattle.trace_command.specs.declared.command.Entry.{Entry}
+use Rattle.trace_history.proofs.Families.{with_events-are, with_takes-are, with_cleared-are, replicate-are_none, consumed-are}
 use Rattle.trace_history.proofs.ShownRecords.{records_show_their_rows}
 
 -- ---- what was put
 
--- the record that a request brings to a CPU's ring
-abbrev brought : ℕ → List Request → Request → Option (List ℕ)
-brought cpu past (Emission name event_cpu pid pairs) = if event_cpu == cpu && is_enabled name past then emitted_record past name event_cpu pid pairs else None
-brought cpu past _ = None
-
-put_of-brought : (cpu : ℕ) (past : List Request) (request : Request)
-    → put_of cpu past request ≡ map (λ bytes. ring.Put bytes (overwrites past)) (option_to_list (brought cpu past request))
-put_of-brought cpu past (Emission name event_cpu pid pairs) = by (event_cpu == cpu && is_enabled name past) (emitted_record past name event_cpu pid pairs)
-  where
-    by : (on : Bool) (written : Option (List ℕ))
-        → (if on then map (λ bytes. ring.Put bytes (overwrites past)) (option_to_list written) else [])
-        ≡ map (λ bytes. ring.Put bytes (overwrites past)) (option_to_list (if on then written else None))
-    by true written = refl
-    by false written = refl
-put_of-brought cpu past _ = refl
+-- the record that an emission brings to a CPU's ring of an instance
+abbrev brought_by : Option (List ℕ) → ℕ → List Request → Option Emitted → Option (List ℕ)
+brought_by instance cpu past None = None
+brought_by instance cpu past (Some e) = if e.cpu == cpu && is_recorded instance past e then Some (emitted_bytes e) else None
 
 -- whether bytes are those of a record
 abbrev is_that : List ℕ → Option (List ℕ) → Bool
 is_that bytes None = false
 is_that bytes (Some other) = bytes_eq bytes other
 
--- whether some request brought the bytes
-abbrev was_brought : ℕ → List Request → List ℕ → Bool
-was_brought cpu [] bytes = false
-was_brought cpu (request ∷ past) bytes = is_that bytes (brought cpu past request) || was_brought cpu past bytes
+-- whether some request of the instance's life brought the bytes
+abbrev was_brought : Option (List ℕ) → ℕ → List Request → List ℕ → Bool
+was_brought instance cpu [] bytes = false
+was_brought instance cpu (request ∷ past) bytes =
+    if makes instance request then false
+    else is_that bytes (brought_by instance cpu past (emitted past request)) || was_brought instance cpu past bytes
 
--- each put of a ring's events was brought
-abbrev AreBrought : ℕ → List Request → List ring.Event → Type 0
-AreBrought cpu past events = AllByRecursion (λ (e : ring.Event). puts_pass (was_brought cpu past) e ≡ true) events
+-- a read, or a put that was brought
+abbrev IsBrought : Option (List ℕ) → ℕ → List Request → ring.Event → Type 0
+IsBrought instance cpu past e = puts_pass (was_brought instance cpu past) e ≡ true
 
-append-are : (P : ring.Event → Type 0) (xs ys : List ring.Event) → AllByRecursion P xs → AllByRecursion P ys → AllByRecursion P (xs ++ ys)
-append-are P [] ys all others = others
-append-are P (x ∷ xs) ys all others = (all.0, append-are P xs ys all.1 others)
-
-takes-are : (cpu : ℕ) (past : List Request) (n : ℕ) → AreBrought cpu past (replicate n ring.Take)
-takes-are cpu past zero = tt
-takes-are cpu past (suc n) = (refl, takes-are cpu past n)
+abbrev AreBrought : Option (List ℕ) → ℕ → List Request → List ring.Event → Type 0
+AreBrought instance cpu past events = AllByRecursion (IsBrought instance cpu past) events
 
 or-right : (x y : Bool) → y ≡ true → (x || y) ≡ true
 or-right true y h = refl
 or-right false y h = h
 
-older-are : (cpu : ℕ) (past : List Request) (request : Request) (events : List ring.Event) → AreBrought cpu past events → AreBrought cpu (request ∷ past) events
-older-are cpu past request [] are = tt
-older-are cpu past request (ring.Put bytes overwrite ∷ events) are =
-    (or-right (is_that bytes (brought cpu past request)) (was_brought cpu past bytes) are.0, older-are cpu past request events are.1)
-older-are cpu past request (ring.Take ∷ events) are = (refl, older-are cpu past request events are.1)
+older-are : (instance : Option (List ℕ)) (cpu : ℕ) (past : List Request) (request : Request) (events : List ring.Event) → makes instance request ≡ false
+    → AreBrought instance cpu past events → AreBrought instance cpu (request ∷ past) events
+older-are instance cpu past request [] alive are = tt
+older-are instance cpu past request (ring.Put bytes overwrite ∷ events) alive are = (
+  rw alive (or-right (is_that bytes (brought_by instance cpu past (emitted past request))) (was_brought instance cpu past bytes) are.0),
+  older-are instance cpu past request events alive are.1,
+)
+older-are instance cpu past request (ring.Take ∷ events) alive are = (refl, older-are instance cpu past request events alive are.1)
 
-put-is : (cpu : ℕ) (past : List Request) (request : Request) → AreBrought cpu (request ∷ past) (put_of cpu past request)
-put-is cpu past request = subst (AreBrought cpu (request ∷ past)) (sym (put_of-brought cpu past request)) (by (brought cpu past request) refl)
+-- ---- what each request leaves
+
+emitted-are : (instance : Option (List ℕ)) (cpu : ℕ) (past : List Request) (request : Request) (family : List (List ring.Event))
+    → makes instance request ≡ false → AreBrought instance cpu (request ∷ past) (events_of family cpu)
+    → AreBrought instance cpu (request ∷ past) (events_of (with_emitted instance past (emitted past request) family) cpu)
+emitted-are instance cpu past request family alive all = by (emitted past request) refl
   where
-    by : (written : Option (List ℕ)) → brought cpu past request ≡ written
-        → AreBrought cpu (request ∷ past) (map (λ bytes. ring.Put bytes (overwrites past)) (option_to_list (brought cpu past request)))
-    by None is = rw is tt
-    by (Some bytes) is =
-        let same : bytes_eq bytes bytes ≡ true = (bytes_eq-Decides bytes bytes).1 refl in
-        let here : (is_that bytes (brought cpu past request) || was_brought cpu past bytes) ≡ true = rw (is, same) refl in
-        subst (λ (o : Option (List ℕ)). AreBrought cpu (request ∷ past) (map (λ b. ring.Put b (overwrites past)) (option_to_list o))) (sym is) (here, tt)
+    is_put : (e : Emitted) → emitted past request ≡ Some e → is_recorded instance past e ≡ true → cpu ≡ e.cpu
+        → was_brought instance cpu (request ∷ past) (emitted_bytes e) ≡ true
+    is_put e is on same =
+        let there : (e.cpu == cpu) ≡ true = eq-eqb e.cpu cpu (sym same) in
+        let bytes : bytes_eq (emitted_bytes e) (emitted_bytes e) ≡ true = (bytes_eq-Decides (emitted_bytes e) (emitted_bytes e)).1 refl in
+        rw (alive, is, there, on, bytes) refl
 
-ring-are : (g : Config) (cpu : ℕ) (past : List Request) → AreBrought cpu past (ring_events g cpu past)
-ring-are g cpu [] = tt
-ring-are g cpu (request ∷ past) = by (clears cpu request) (ring-are g cpu past)
+    by_on : (e : Emitted) → emitted past request ≡ Some e → (on : Bool) → is_recorded instance past e ≡ on
+        → AreBrought instance cpu (request ∷ past)
+        (events_of (if on then with_events e.cpu (ring.Put (emitted_bytes e) (overwrites instance past) ∷ []) family else family) cpu)
+    by_on e is true on =
+        with_events-are (IsBrought instance cpu (request ∷ past)) family e.cpu cpu (ring.Put (emitted_bytes e) (overwrites instance past) ∷ []) all
+        (λ same. (is_put e is on same, tt))
+    by_on e is false on = all
+
+    by : (e : Option Emitted) → emitted past request ≡ e
+        → AreBrought instance cpu (request ∷ past) (events_of (with_emitted instance past e family) cpu)
+    by None is = all
+    by (Some e) is = by_on e is (is_recorded instance past e) refl
+
+written-are : (P : ring.Event → Type 0) (append : Bool) (file : Option File) (family : List (List ring.Event)) (cpu : ℕ)
+    → AllByRecursion P (events_of family cpu) → AllByRecursion P (events_of (rings_after_write append file family) cpu)
+written-are P false (Some Trace) family cpu all = replicate-are_none P (length family) cpu
+written-are P false (Some (CpuTrace other)) family cpu all = with_cleared-are P family other cpu all
+written-are P append file family cpu all = all
+
+read-are : (P : ring.Event → Type 0) (g : Config) (limit : Option ℕ) (file : Option File) (family : List (List ring.Event)) (cpu : ℕ) → P ring.Take
+    → AllByRecursion P (events_of family cpu) → AllByRecursion P (events_of (rings_after_read g limit file family) cpu)
+read-are P g limit (Some TracePipe) family cpu take all =
+    consumed-are P g.pages g.page_bytes (up_to_limit limit (kept_count g.pages g.page_bytes family)) family cpu take all
+read-are P g limit (Some (CpuTracePipe other)) family cpu take all =
+    with_takes-are P family other cpu (up_to_limit limit (length (cpu_readings g.pages g.page_bytes family other))) take all
+read-are P g limit file family cpu take all = all
+
+-- of two families one
+either-are : (P : ring.Event → Type 0) (one : Bool) (family other : List (List ring.Event)) (cpu : ℕ) → AllByRecursion P (events_of family cpu)
+    → AllByRecursion P (events_of other cpu) → AllByRecursion P (events_of (if one then family else other) cpu)
+either-are P true family other cpu all others = all
+either-are P false family other cpu all others = others
+
+-- in a life of the instance
+after-are : (g : Config) (instance : Option (List ℕ)) (cpu : ℕ) (past : List Request) (request : Request) (family : List (List ring.Event))
+    → makes instance request ≡ false → AreBrought instance cpu (request ∷ past) (events_of family cpu)
+    → AreBrought instance cpu (request ∷ past) (events_of (rings_after g instance past request family) cpu)
+after-are g instance cpu past (WriteFile other file append text) family alive all =
+    either-are (IsBrought instance cpu (WriteFile other file append text ∷ past)) (is_same instance other) (rings_after_write append file family) family cpu
+    (written-are (IsBrought instance cpu (WriteFile other file append text ∷ past)) append file family cpu all) all
+after-are g instance cpu past (ReadFile other file limit) family alive all =
+    either-are (IsBrought instance cpu (ReadFile other file limit ∷ past)) (is_same instance other) (rings_after_read g limit file family) family cpu
+    (read-are (IsBrought instance cpu (ReadFile other file limit ∷ past)) g limit file family cpu refl all) all
+after-are g instance cpu past (Emission name event_cpu pid pairs) family alive all =
+    emitted-are instance cpu past (Emission name event_cpu pid pairs) family alive all
+after-are g instance cpu past (MakeInstance name) family alive all = rw alive all
+after-are g instance cpu past (RemoveInstance name) family alive all = all
+
+-- where a life begins
+made-are : (g : Config) (instance : Option (List ℕ)) (cpu : ℕ) (past : List Request) (request : Request) (family : List (List ring.Event))
+    → makes instance request ≡ true → AreBrought instance cpu (request ∷ past) (events_of (rings_after g instance past request family) cpu)
+made-are g instance cpu past (MakeInstance name) family new =
+    rw new (replicate-are_none (IsBrought instance cpu (MakeInstance name ∷ past)) g.cpus cpu)
+made-are g instance cpu past _ family new = absurd (cc)
+
+rings-are : (g : Config) (instance : Option (List ℕ)) (cpu : ℕ) (past : List Request) → AreBrought instance cpu past (events_of (rings g instance past) cpu)
+rings-are g instance cpu [] = replicate-are_none (IsBrought instance cpu []) g.cpus cpu
+rings-are g instance cpu (request ∷ past) = by (makes instance request) refl (rings-are g instance cpu past)
   where
-    count : ℕ
-    count = consumed cpu request (length (readings_of g.pages g.page_bytes (ring_events g cpu past)))
-
-    by : (emptied : Bool) → AreBrought cpu past (ring_events g cpu past)
-        → AreBrought cpu (request ∷ past) (if emptied then [] else ring_events g cpu past ++ put_of cpu past request ++ replicate count ring.Take)
-    by true before = tt
-    by false before =
-        let old = older-are cpu past request (ring_events g cpu past) before in
-        append-are _ (ring_events g cpu past ++ put_of cpu past request) (replicate count ring.Take)
-        (append-are _ (ring_events g cpu past) (put_of cpu past request) old (put-is cpu past request)) (takes-are cpu (request ∷ past) count)
+    by : (new : Bool) → makes instance request ≡ new → AreBrought instance cpu past (events_of (rings g instance past) cpu)
+        → AreBrought instance cpu (request ∷ past) (events_of (rings_after g instance past request (rings g instance past)) cpu)
+    by true new before = made-are g instance cpu past request (rings g instance past) new
+    by false alive before =
+        after-are g instance cpu past request (rings g instance past) alive
+        (older-are instance cpu past request (events_of (rings g instance past) cpu) alive before)
 
 -- ---- the emission that brought it
 
--- an emission among the entries
-record IsEmitted (cpu : ℕ) (entries : List Entry) (bytes : List ℕ) : Type 0 where
+-- an emission among the entries, in the instance's life
+record IsEmitted (instance : Option (List ℕ)) (cpu : ℕ) (entries : List Entry) (bytes : List ℕ) : Type 0 where
   later : List Entry
   entry : Entry
   before : List Entry
   cut : entries ≡ later ++ entry ∷ before
-  name : List ℕ
-  pid : ℤ
-  pairs : List Pair
-  emission : request_of entry.command ≡ Emission name cpu pid pairs
-  enabled : is_enabled name (requests_of before) ≡ true
-  written : emitted_record (requests_of before) name cpu pid pairs ≡ Some bytes
+  alive : list_any (makes instance) (requests_of later) ≡ false
+  e : Emitted
+  emission : emitted (requests_of before) (request_of entry.command) ≡ Some e
+  there : e.cpu ≡ cpu
+  recorded : is_recorded instance (requests_of before) e ≡ true
+  written : bytes ≡ emitted_bytes e
 
-is_that-is : (bytes : List ℕ) (written : Option (List ℕ)) → is_that bytes written ≡ true → written ≡ Some bytes
-is_that-is bytes None is = absurd (cc)
-is_that-is bytes (Some other) is = ap Some (sym ((bytes_eq-Decides bytes other).0 is))
-
-here-emitted : (cpu : ℕ) (entry : Entry) (entries : List Entry) (bytes : List ℕ) → brought cpu (requests_of entries) (request_of entry.command) ≡ Some bytes
-    → IsEmitted cpu (entry ∷ entries) bytes
-here-emitted cpu entry entries bytes is = by (request_of entry.command) refl is
+here-emitted : (instance : Option (List ℕ)) (cpu : ℕ) (entry : Entry) (entries : List Entry) (bytes : List ℕ)
+    → is_that bytes (brought_by instance cpu (requests_of entries) (emitted (requests_of entries) (request_of entry.command))) ≡ true
+    → IsEmitted instance cpu (entry ∷ entries) bytes
+here-emitted instance cpu entry entries bytes is = by (emitted (requests_of entries) (request_of entry.command)) refl is
   where
-    past : List Request
-    past = requests_of entries
-
-    by_on : (name : List ℕ) (event_cpu : ℕ) (pid : ℤ) (pairs : List Pair) → request_of entry.command ≡ Emission name event_cpu pid pairs
-        → (on : Bool) → (event_cpu == cpu && is_enabled name past) ≡ on → (if on then emitted_record past name event_cpu pid pairs else None) ≡ Some bytes
-        → IsEmitted cpu (entry ∷ entries) bytes
-    by_on name event_cpu pid pairs emission false test h = absurd (cc)
-    by_on name event_cpu pid pairs emission true test h =
-        let parts = and_parts (event_cpu == cpu) (is_enabled name past) test in
-        let same : event_cpu ≡ cpu = eqb-true event_cpu cpu parts.0 in
+    by_on : (e : Emitted) → emitted (requests_of entries) (request_of entry.command) ≡ Some e → (on : Bool)
+        → (e.cpu == cpu && is_recorded instance (requests_of entries) e) ≡ on → is_that bytes (if on then Some (emitted_bytes e) else None) ≡ true
+        → IsEmitted instance cpu (entry ∷ entries) bytes
+    by_on e emission false test h = absurd (cc)
+    by_on e emission true test h =
+        let parts = and_parts (e.cpu == cpu) (is_recorded instance (requests_of entries) e) test in
         record {
           later = [];
           entry = entry;
           before = entries;
           cut = refl;
-          name = name;
-          pid = pid;
-          pairs = pairs;
-          emission = emission ∙ ap (λ (c : ℕ). Emission name c pid pairs) same;
-          enabled = parts.1;
-          written = ap (λ (c : ℕ). emitted_record past name c pid pairs) (sym same) ∙ h;
+          alive = refl;
+          e = e;
+          emission = emission;
+          there = eqb-true e.cpu cpu parts.0;
+          recorded = parts.1;
+          written = (bytes_eq-Decides bytes (emitted_bytes e)).0 h;
         }
 
-    by : (request : Request) → request_of entry.command ≡ request → brought cpu past request ≡ Some bytes → IsEmitted cpu (entry ∷ entries) bytes
-    by (Emission name event_cpu pid pairs) emission h = by_on name event_cpu pid pairs emission (event_cpu == cpu && is_enabled name past) refl h
-    by _ emission h = absurd (cc)
+    by : (e : Option Emitted) → emitted (requests_of entries) (request_of entry.command) ≡ e
+        → is_that bytes (brought_by instance cpu (requests_of entries) e) ≡ true → IsEmitted instance cpu (entry ∷ entries) bytes
+    by None emission h = absurd (cc)
+    by (Some e) emission h = by_on e emission (e.cpu == cpu && is_recorded instance (requests_of entries) e) refl h
 
-brought-emitted : (cpu : ℕ) (entries : List Entry) (bytes : List ℕ) → was_brought cpu (requests_of entries) bytes ≡ true → IsEmitted cpu entries bytes
-brought-emitted cpu [] bytes is = absurd (cc)
-brought-emitted cpu (entry ∷ entries) bytes is =
-    by (or_cases (is_that bytes (brought cpu (requests_of entries) (request_of entry.command))) (was_brought cpu (requests_of entries) bytes) is)
-    (brought-emitted cpu entries bytes)
+later-emitted : (instance : Option (List ℕ)) (cpu : ℕ) (entry : Entry) (entries : List Entry) (bytes : List ℕ) → makes instance (request_of entry.command) ≡ false
+    → IsEmitted instance cpu entries bytes → IsEmitted instance cpu (entry ∷ entries) bytes
+later-emitted instance cpu entry entries bytes alive found = record {
+  later = entry ∷ found.later;
+  entry = found.entry;
+  before = found.before;
+  cut = ap (λ (es : List Entry). entry ∷ es) found.cut;
+  alive = rw (alive, found.alive) refl;
+  e = found.e;
+  emission = found.emission;
+  there = found.there;
+  recorded = found.recorded;
+  written = found.written;
+}
+
+brought-emitted : (instance : Option (List ℕ)) (cpu : ℕ) (entries : List Entry) (bytes : List ℕ) → was_brought instance cpu (requests_of entries) bytes ≡ true
+    → IsEmitted instance cpu entries bytes
+brought-emitted instance cpu [] bytes is = absurd (cc)
+brought-emitted instance cpu (entry ∷ entries) bytes is =
+    by_life (makes instance (request_of entry.command)) refl is (brought-emitted instance cpu entries bytes)
   where
-    by : (is_that bytes (brought cpu (requests_of entries) (request_of entry.command)) ≡ true) ⊎ (was_brought cpu (requests_of entries) bytes ≡ true)
-        → (was_brought cpu (requests_of entries) bytes ≡ true → IsEmitted cpu entries bytes) → IsEmitted cpu (entry ∷ entries) bytes
-    by (inl here) others = here-emitted cpu entry entries bytes (is_that-is bytes (brought cpu (requests_of entries) (request_of entry.command)) here)
-    by (inr there) others =
-        let found = others there in
-        record {
-          later = entry ∷ found.later;
-          entry = found.entry;
-          before = found.before;
-          cut = ap (λ (es : List Entry). entry ∷ es) found.cut;
-          name = found.name;
-          pid = found.pid;
-          pairs = found.pairs;
-          emission = found.emission;
-          enabled = found.enabled;
-          written = found.written;
-        }
+    here : Bool
+    here = is_that bytes (brought_by instance cpu (requests_of entries) (emitted (requests_of entries) (request_of entry.command)))
+
+    before : Bool
+    before = was_brought instance cpu (requests_of entries) bytes
+
+    by : makes instance (request_of entry.command) ≡ false → (here ≡ true) ⊎ (before ≡ true) → (before ≡ true → IsEmitted instance cpu entries bytes)
+        → IsEmitted instance cpu (entry ∷ entries) bytes
+    by alive (inl this) others = here-emitted instance cpu entry entries bytes this
+    by alive (inr older) others = later-emitted instance cpu entry entries bytes alive (others older)
+
+    by_life : (new : Bool) → makes instance (request_of entry.command) ≡ new → (if new then false else here || before) ≡ true
+        → (before ≡ true → IsEmitted instance cpu entries bytes) → IsEmitted instance cpu (entry ∷ entries) bytes
+    by_life true new h others = absurd (cc)
+    by_life false alive h others = by alive (or_cases here before h) others
 
 -- ---- its line
 
--- what stands behind entries of a legal history is legal
+-- the entries before some entry of a legal history are legal
 legal-before : (g : Config) (later before : List Entry) → IsLegalNewestFirst g (later ++ before) → IsLegalNewestFirst g before
 legal-before g [] before legal = legal
 legal-before g (entry ∷ later) before legal = legal-before g later before legal.3
 
--- a row that was recorded
-record IsRecorded (past : List Request) (name : List ℕ) (cpu : ℕ) (pid : ℤ) (pairs : List Pair) : Type 0 where
-  k : NumberedEvent
-  named : event_named name past ≡ Some k
-  row : Cells
-  built : row_of k.event pairs ≡ Ok row
-  passed : IsTrue (filter_holds k.event (filter_of name past) row cpu pid)
-
-ok-is : (built : Result Cells (List ℕ)) (row : Cells) → result_ok built ≡ Some row → built ≡ Ok row
-ok-is (Ok found) row is = let same : found ≡ row = cc in ap Ok same
-ok-is (Err name) row is = absurd (cc)
-
-recorded : (past : List Request) (name : List ℕ) (cpu : ℕ) (pid : ℤ) (pairs : List Pair) (bytes : List ℕ) → emitted_record past name cpu pid pairs ≡ Some bytes
-    → IsRecorded past name cpu pid pairs
-recorded past name cpu pid pairs bytes is =
-    let event = and_then_some (record_of_event (now_of past + 1) (filter_of name past) cpu pid pairs) (event_named name past) bytes is in
-    let row = and_then_some (record_of_row (now_of past + 1) (filter_of name past) cpu pid event.value) (result_ok (row_of event.value.event pairs)) bytes event.gives in
-    record {
-      k = event.value;
-      named = event.was;
-      row = row.value;
-      built = ok-is (row_of event.value.event pairs) row.value row.was;
-      passed = (if_some (filter_holds event.value.event (filter_of name past) row.value cpu pid) row.gives).0;
-    }
-
-emitted-shows : (g : Config) (entries : List Entry) (cpu : ℕ) (bytes : List ℕ) → IsInRange g → IsLegalNewestFirst g entries → IsEmitted cpu entries bytes
-    → ShowsEmission cpu entries (record_line (declared_events (requests_of entries)) cpu bytes)
-emitted-shows g entries cpu bytes in_range legal found =
+emitted-shows : (g : Config) (entries : List Entry) (instance : Option (List ℕ)) (cpu : ℕ) (bytes : List ℕ) → IsInRange g → IsLegalNewestFirst g entries
+    → IsEmitted instance cpu entries bytes → ShowsEmission instance cpu entries (record_line (declared_events (requests_of entries)) cpu bytes)
+emitted-shows g entries instance cpu bytes in_range legal found =
     record {
       later = found.later;
       entry = found.entry;
       before = found.before;
       cut = found.cut;
-      name = found.name;
-      pid = found.pid;
-      pairs = found.pairs;
+      alive = found.alive;
+      e = found.e;
       emission = found.emission;
-      k = was.k;
-      named = was.named;
-      row = was.row;
-      built = was.built;
-      enabled = found.enabled;
-      passed = was.passed;
+      there = found.there;
+      recorded = found.recorded;
       shown = ap (λ (es : List Entry). record_line (declared_events (requests_of es)) cpu bytes) found.cut
-          ∙ records_show_their_rows g found.entry found.before found.later found.name was.k cpu found.pid found.pairs was.row bytes in_range legal_then found.emission
-          was.named was.built found.written;
+          ∙ ap (record_line (declared_events (requests_of whole)) cpu) found.written
+          ∙ ap (λ (c : ℕ). record_line (declared_events (requests_of whole)) c (emitted_bytes found.e)) (sym found.there)
+          ∙ records_show_their_rows g found.entry found.before found.later found.e in_range legal_then found.emission;
     }
   where
+    whole : List Entry
+    whole = found.later ++ found.entry ∷ found.before
+
     legal_then : IsLegalNewestFirst g (found.entry ∷ found.before)
     legal_then = legal-before g found.later (found.entry ∷ found.before) (subst (IsLegalNewestFirst g) found.cut legal)
 
-    was : IsRecorded (requests_of found.before) found.name cpu found.pid found.pairs
-    was = recorded (requests_of found.before) found.name cpu found.pid found.pairs bytes found.written
-
 pub kept_records_show_emissions : KeptWerePut → KeptRecordsShowEmissions
-kept_records_show_emissions kept_were_put g entries cpu in_range legal = λ i r inside.
+kept_records_show_emissions kept_were_put g entries instance cpu in_range legal = λ i r inside.
     let past = requests_of entries in
-    let test : List ℕ → Bool = was_brought cpu past in
-    let put : All (λ (e : ring.Event). puts_pass test e ≡ true) (ring_events g cpu past) =
-    All-from_recursion (λ (e : ring.Event). puts_pass test e ≡ true) (ring_events g cpu past) (ring-are g cpu past) in
-    let readings = kept_readings g cpu past in
-    emitted-shows g entries cpu (get_or readings i r).rec in_range legal
-    (brought-emitted cpu entries (get_or readings i r).rec (kept_were_put g.pages g.page_bytes (ring_events g cpu past) test put i r inside))
+    let test : List ℕ → Bool = was_brought instance cpu past in
+    let events : List ring.Event = events_of (rings g instance past) cpu in
+    let put : All (λ (e : ring.Event). puts_pass test e ≡ true) events =
+    All-from_recursion (λ (e : ring.Event). puts_pass test e ≡ true) events (rings-are g instance cpu past) in
+    let readings = kept_readings g instance cpu past in
+    emitted-shows g entries instance cpu (get_or readings i r).rec in_range legal
+    (brought-emitted instance cpu entries (get_or readings i r).rec (kept_were_put g.pages g.page_bytes events test put i r inside))

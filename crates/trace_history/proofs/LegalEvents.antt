@@ -13,10 +13,10 @@ use Rattle.trace_format.specs.declared.fault.CatalogFault.TheVariants as catalog
 use Rattle.trace_format.proofs.CatalogLemmas.{found_event, new_event}
 use Rattle.trace_lex.proofs.Options.{and_then_some, map_some}
 use Rattle.trace_format.proofs.Standings.{Stands, stands-start, stands-step, declares as declares_by}
-use Rattle.trace_history.specs.History.{answer, answer_with_room, added_answer, read_declaration_answer, declaration_answer, unless_full, requests_of, IsLegalNewestFirst}
+use Rattle.trace_history.specs.History.{answer, answer_with_room, instance_answer, added_answer, read_declaration_answer, declaration_answer, unless_full, requests_of, IsLegalNewestFirst}
 use Rattle.trace_command.specs.Paths.{SyntheticEvents}
 use Rattle.trace_command.specs.Requests.{Request, WriteFile, request_of}
-use Rattle.trace_history.specs.Settings.{NumberedEvent, event_named, event_named_in, numbered_event, declares, declared_events}
+use Rattle.trace_history.specs.Settings.{NumberedEvent, event_named, event_named_in, is_there, numbered_event, declares, declared_events}
 use Rattle.trace_history.specs.Declarations.{IsFit}
 use Rattle.trace_command.specs.declared.command.Config.{Config}
 use Rattle.trace_command.specs.declared.command.Entry.{Entry}
@@ -41,6 +41,14 @@ done-had_room g past request done = by (answer_with_room g past request) done
             → IsOk (let r : Result Reply Refusal = Ok reply in r) × (length past < g.history_limit)
         by_room true is d' = (refl, ltb-true (length past) g.history_limit is)
         by_room false is d' = absurd (let h = rw is at d' in cc)
+
+-- what an instance was asked was done only where the instance is there
+pub asked-done : (instance : Option (List ℕ)) (past : List Request) (answered : Result Reply Refusal) → IsOk (instance_answer instance past answered) → IsOk answered
+asked-done instance past answered done = by (is_there instance past) done
+  where
+    by : (there : Bool) → IsOk (if there then answered else Err refusal.NoSuchInstance) → IsOk answered
+    by true d = d
+    by false d = absurd (cc)
 
 -- ---- declarations
 
@@ -100,7 +108,8 @@ added-is_new g past event defined done =
 declared-is_new : (g : Config) (past : List Request) (request : Request) (event : Definition) → IsOk (answer_with_room g past request) → declares request ≡ Some event
     → IsNew g past event
 unfolding declaration_answer
-declared-is_new g past (WriteFile (Some SyntheticEvents) append text) event done is = by (definition_of text) refl done is
+declared-is_new g past (WriteFile instance (Some SyntheticEvents) append text) event done is =
+    by (definition_of text) refl (asked-done instance past (declaration_answer g past append text) done) is
   where
     by_busy : (busy : Bool) → IsDefinition event
         → IsOk (if busy then Err refusal.Busy else added_answer (id_for (declared_events past) event g.page_bytes)) → IsNew g past event
@@ -116,7 +125,7 @@ declared-is_new g past _ event done is = absurd (cc)
 
 -- ---- the events of a legal history
 
--- they are few, each may stand behind those before it, and its record fits a page
+-- they are few, each may be declared after those before it, and its record fits a page
 pub record AreLegalEvents (g : Config) (events : List Definition) : Type 0 where
   pub few : length events ≤ 64
   pub are : AreEvents [] events

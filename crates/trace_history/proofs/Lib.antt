@@ -1,5 +1,7 @@
 pub mod EventLists
 pub mod Events
+pub mod Examples
+pub mod Families
 pub mod KeptEmissions
 pub mod LegalEvents
 pub mod PipeReads

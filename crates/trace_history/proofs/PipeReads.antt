@@ -1,39 +1,85 @@
 -- What is kept after pipe reads.
-use Rattle.std.proofs.Common.{◌≡◌, ℕ, ◌==◌, if◌then◌else◌, List, [], ◌++◌, length, replicate, drop, Option, refl, sym, ap, ◌∙◌, arith, append-nil, take-append-drop}
-use Rattle.std.proofs.lemmas.Bool.Decides.{nat_tests}
-use Rattle.page_ring.specs.Account.{Reading, readings_of}
+use Rattle.std.proofs.Common.{◌≡◌, ℕ, zero, suc, ◌≤◌, ◌==◌, Bool, true, false, nat_lt, List, [], ◌∷◌, ◌++◌, length, map, replicate, set, take, None, Some, Option, refl, sym, ap, subst, arith, eq-eqb, eqb-true, ltb-true}
+use Rattle.std.proofs.lemmas.List.{get_or_past, length-set}
+use Rattle.std.proofs.lemmas.Bool.{ltb-false}
+use Rattle.std.proofs.lemmas.Slice.Eq.{bytes_eq-Decides}
+use Rattle.page_ring.specs.Account.{Reading, account, readings_of}
+use Rattle.page_ring.specs.Cut.{cut}
 use Rattle.page_ring.specs.Events.{Event, Take}
-use Rattle.page_ring.specs.Laws.{TakesLeaveTheRest}
-use Rattle.trace_history.specs.Laws.{kept_readings, PipeReadsConsumeWhatTheyShow, WholePipeReadsConsumeWhatTheyShow}
-use Rattle.trace_command.specs.Requests.{Request}
-use Rattle.trace_history.specs.Rings.{up_to_limit, ring_events}
-use Rattle.trace_history.specs.TraceFiles.{taken_readings}
-use Rattle.trace_command.specs.declared.command.Config.{Config}
+use Rattle.trace_buffer.specs.Families.{CpuReading, on_cpu, events_of, cpu_readings, kept_count}
+use Rattle.trace_buffer.specs.Laws.{ReadsConsumeWhatTheyTake, CpuReadsConsumeWhatTheyTake, OtherCpusStay}
+use Rattle.trace_buffer.specs.Orders.{taken_of_cpu, after_cpu_reads}
+use Rattle.trace_history.specs.Laws.{those_of, PipeReadsConsumeWhatTheyShow, WholePipeReadsConsumeWhatTheyShow}
+use Rattle.trace_history.specs.Rings.{up_to_limit, rings}
+use Rattle.trace_history.specs.Settings.{is_same}
 
--- a read puts nothing
-no_put : (events more : List Event) → events ++ [] ++ more ≡ events ++ more
-no_put events more = rw append-nil refl
+-- ---- one CPU's readings among those of all
 
--- what was kept is what is shown and what is left
-shown-left : TakesLeaveTheRest → (g : Config) (cpu : ℕ) (past : List Request) (limit : Option ℕ) (count : ℕ) (left : List Reading)
-    → count ≡ up_to_limit limit (length (kept_readings g cpu past))
-    → left ≡ readings_of g.pages g.page_bytes (ring_events g cpu past ++ [] ++ replicate count Take)
-    → kept_readings g cpu past ≡ taken_readings limit (kept_readings g cpu past) ++ left
-shown-left rest g cpu past limit count left is kept =
-    let readings = kept_readings g cpu past in
-    let left_is : left ≡ drop (up_to_limit limit (length readings)) readings =
-    kept ∙ ap (readings_of g.pages g.page_bytes) (no_put (ring_events g cpu past) (replicate count Take))
-    ∙ rest g.pages g.page_bytes (ring_events g cpu past) count ∙ ap (λ (n : ℕ). drop n readings) is in
-    rw left_is (sym (take-append-drop (up_to_limit limit (length readings)) readings))
+those_of-other : (cpu other : ℕ) (readings : List Reading) → (cpu == other) ≡ false → those_of other (map (on_cpu cpu) readings) ≡ []
+those_of-other cpu other [] apart = refl
+those_of-other cpu other (r ∷ readings) apart = rw apart (those_of-other cpu other readings apart)
 
-same_cpu : (cpu n : ℕ) → (if cpu == cpu then n else 0) ≡ n
-same_cpu cpu n = grind (arith, nat_tests)
+those_of-same : (cpu : ℕ) (readings : List Reading) → those_of cpu (map (on_cpu cpu) readings) ≡ map (on_cpu cpu) readings
+those_of-same cpu [] = refl
+those_of-same cpu (r ∷ readings) =
+    let same : (cpu == cpu) ≡ true = eq-eqb cpu cpu refl in
+    rw same (ap (λ (rest : List CpuReading). on_cpu cpu r ∷ rest) (those_of-same cpu readings))
 
-pub pipe_reads_consume_what_they_show : TakesLeaveTheRest → PipeReadsConsumeWhatTheyShow
-pipe_reads_consume_what_they_show rest g past cpu limit =
-    shown-left rest g cpu past limit (if cpu == cpu then up_to_limit limit (length (kept_readings g cpu past)) else 0) _
-    (same_cpu cpu (up_to_limit limit (length (kept_readings g cpu past)))) refl
+-- ---- reads of one CPU
 
-pub whole_pipe_reads_consume_what_they_show : TakesLeaveTheRest → WholePipeReadsConsumeWhatTheyShow
-whole_pipe_reads_consume_what_they_show rest g past limit =
-    shown-left rest g 0 past limit (up_to_limit limit (length (kept_readings g 0 past))) _ refl refl
+none_kept : (pages page_bytes : ℕ) → readings_of pages page_bytes [] ≡ []
+unfolding readings_of account cut
+none_kept pages page_bytes = refl
+
+take-none : {A : Type 0} (n : ℕ) → let none : List A = [] in take n none ≡ none
+take-none zero = refl
+take-none (suc n) = refl
+
+-- what a CPU's ring kept, what reads of another CPU or of this one take of it, and what it then keeps
+abbrev IsShown : ℕ → ℕ → ℕ → List (List Event) → ℕ → ℕ → Type 0
+IsShown pages page_bytes cpu family reads other =
+    map (on_cpu other) (cpu_readings pages page_bytes family other)
+    ≡ those_of other (taken_of_cpu pages page_bytes cpu reads family)
+    ++ map (on_cpu other) (cpu_readings pages page_bytes (after_cpu_reads cpu reads family) other)
+
+-- there is no ring of this CPU
+none-shown : (pages page_bytes cpu : ℕ) (family : List (List Event)) (reads : ℕ) → length family ≤ cpu → IsShown pages page_bytes cpu family reads cpu
+none-shown pages page_bytes cpu family reads past =
+    let before : events_of family cpu ≡ [] = get_or_past family cpu [] past in
+    let more : List Event = events_of family cpu ++ replicate reads Take in
+    let after : events_of (after_cpu_reads cpu reads family) cpu ≡ [] = get_or_past (set family cpu more) cpu [] (omega (arith, length-set family cpu more)) in
+    rw (after, before, none_kept pages page_bytes, take-none reads) refl
+
+one-shown : CpuReadsConsumeWhatTheyTake → OtherCpusStay → (pages page_bytes cpu : ℕ) (family : List (List Event)) (reads other : ℕ)
+    → IsShown pages page_bytes cpu family reads other
+one-shown consumed stay pages page_bytes cpu family reads other = by (cpu == other) refl
+  where
+    by_inside : (inside : Bool) → nat_lt cpu (length family) ≡ inside → IsShown pages page_bytes cpu family reads cpu
+    by_inside true is =
+        rw (those_of-same cpu (take reads (cpu_readings pages page_bytes family cpu)))
+        (consumed pages page_bytes cpu reads family (ltb-true cpu (length family) is))
+    by_inside false is = none-shown pages page_bytes cpu family reads (ltb-false cpu (length family) is)
+
+    by : (same : Bool) → (cpu == other) ≡ same → IsShown pages page_bytes cpu family reads other
+    by true is = subst (IsShown pages page_bytes cpu family reads) (eqb-true cpu other is) (by_inside (nat_lt cpu (length family)) refl)
+    by false apart =
+        let as_before : events_of (after_cpu_reads cpu reads family) other ≡ events_of family other =
+        stay cpu other reads family (λ e. absurd (let h = eq-eqb cpu other (sym e) in cc)) in
+        rw (those_of-other cpu other (take reads (cpu_readings pages page_bytes family cpu)) apart, as_before) refl
+
+-- ---- the theorems
+
+is_same-self : (instance : Option (List ℕ)) → is_same instance instance ≡ true
+is_same-self None = refl
+is_same-self (Some name) = (bytes_eq-Decides name name).1 refl
+
+pub pipe_reads_consume_what_they_show : CpuReadsConsumeWhatTheyTake → OtherCpusStay → PipeReadsConsumeWhatTheyShow
+pipe_reads_consume_what_they_show consumed stay g past instance cpu other limit =
+    rw (is_same-self instance)
+    (one-shown consumed stay g.pages g.page_bytes cpu (rings g instance past)
+    (up_to_limit limit (length (cpu_readings g.pages g.page_bytes (rings g instance past) cpu))) other)
+
+pub whole_pipe_reads_consume_what_they_show : ReadsConsumeWhatTheyTake → WholePipeReadsConsumeWhatTheyShow
+whole_pipe_reads_consume_what_they_show consumed g past instance cpu limit =
+    rw (is_same-self instance)
+    (consumed g.pages g.page_bytes (up_to_limit limit (kept_count g.pages g.page_bytes (rings g instance past))) cpu (rings g instance past))

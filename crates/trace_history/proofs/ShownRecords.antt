@@ -1,5 +1,5 @@
 -- The lines of the records of a legal history.
-use Rattle.std.proofs.Common.{◌≡◌, ℕ, zero, suc, ℤ, FitsSigned, w32, ◌+◌, ◌*◌, ◌/◌, ◌<◌, ◌≤◌, ◌^◌, List, [], ◌∷◌, ◌++◌, length, filter_map, replicate, slice_get, Option, None, Some, Ok, refl, sym, ap, ◌∙◌, subst, arith, length-append}
+use Rattle.std.proofs.Common.{◌≡◌, ℕ, zero, suc, ℤ, FitsSigned, w32, ◌+◌, ◌*◌, ◌/◌, ◌<◌, ◌≤◌, ◌^◌, List, [], ◌∷◌, ◌++◌, length, filter_map, replicate, slice_get, Option, None, Some, Result, Ok, Err, refl, sym, ap, ◌∙◌, subst, arith, length-append}
 use Rattle.std.specs.List.{AllZip}
 use Rattle.std.specs.Option.{option_to_list}
 use Rattle.std.proofs.lemmas.Option.{get_or_from_slice_get, slice_get_within}
@@ -11,18 +11,16 @@ use Rattle.trace_format.specs.Cells.{Datum, Cells, Holds, IsRowOf, kinds_of, fie
 use Rattle.trace_format.specs.Definitions.{Definition}
 use Rattle.trace_format.specs.Rows.{first_wrong, first_missing, given, row_unless, row_of}
 use Rattle.trace_format.proofs.BuildLemmas.{row_held}
-use Rattle.trace_lex.proofs.Options.{if_some}
 use Rattle.trace_format.proofs.Payloads.{length-field_bytes}
 use Rattle.trace_text.specs.Laws.{IsHeadOf}
-use Rattle.trace_text.specs.RecordText.{record_line}
 use Rattle.trace_text.proofs.RecordLemmas.{record_shows_its_row}
 use Rattle.trace_command.specs.Configs.{IsInRange}
 use Rattle.trace_history.specs.History.{requests_of, IsEntry, IsLegalNewestFirst}
 use Rattle.trace_history.specs.Laws.{RecordsShowTheirRows}
 use Rattle.trace_command.specs.Requests.{Request, Emission, MakeInstance, RemoveInstance, WriteFile, ReadFile, request_of, FitsItsTypes}
-use Rattle.trace_history.specs.Rings.{record_bytes, filter_holds, emitted_record}
+use Rattle.trace_history.specs.Rings.{record_bytes, Emitted, emitted, emitted_event, emitted_row}
 use Rattle.trace_record.specs.Record.{padding}
-use Rattle.trace_history.specs.Settings.{NumberedEvent, event_named, declares, declared_events, filter_of, ticks, now_of}
+use Rattle.trace_history.specs.Settings.{NumberedEvent, event_named, declares, declared_events, ticks, now_of}
 use Rattle.trace_history.specs.Declarations.{IsFit}
 use Rattle.trace_command.specs.declared.command.Config.{Config}
 use Rattle.trace_command.specs.declared.command.Entry.{Entry}
@@ -92,8 +90,8 @@ ticks-le : (request : Request) → ticks request ≤ 1
 ticks-le (Emission event cpu pid pairs) = omega arith
 ticks-le (MakeInstance path) = omega arith
 ticks-le (RemoveInstance path) = omega arith
-ticks-le (WriteFile file append text) = omega arith
-ticks-le (ReadFile file limit) = omega arith
+ticks-le (WriteFile instance file append text) = omega arith
+ticks-le (ReadFile instance file limit) = omega arith
 
 now_of-le : (past : List Request) → now_of past ≤ length past
 now_of-le [] = omega arith
@@ -109,47 +107,70 @@ payload-small g event size in_range fit is = by (payload_size_of event) fit.size
     by : (n : ℕ) → 16 + 8 * ((n + 7) / 8) ≤ g.page_bytes → size ≡ n → size < 2 ^ 16
     by n fits e = omega (arith, in_range.few_bytes)
 
--- ---- the law
+-- ---- emissions
 
--- the bytes of an emission's record
-emitted-is : (past : List Request) (name : List ℕ) (cpu : ℕ) (pid : ℤ) (pairs : List Pair) (k : NumberedEvent) (row : Cells) (bytes : List ℕ)
-    → event_named name past ≡ Some k → row_of k.event pairs ≡ Ok row → emitted_record past name cpu pid pairs ≡ Some bytes
-    → record_bytes (now_of past + 1) pid k.id row ≡ bytes
-emitted-is past name cpu pid pairs k row bytes there built emitted =
-    (if_some (filter_holds k.event (filter_of name past) row cpu pid) (rw (there, built) at emitted)).1
+-- the emission that a request is
+pub record IsEmission (past : List Request) (request : Request) (e : Emitted) : Type 0 where
+  pub name : List ℕ
+  pub pairs : List Pair
+  pub emission : request ≡ Emission name e.cpu e.pid pairs
+  pub named : event_named name past ≡ Some e.k
+  pub built : row_of e.k.event pairs ≡ Ok e.row
+  pub time : e.timestamp ≡ now_of past + 1
+
+pub emission-is : (past : List Request) (request : Request) (e : Emitted) → emitted past request ≡ Some e → IsEmission past request e
+emission-is past (Emission name cpu pid pairs) e is = by_event (event_named name past) refl is
+  where
+    by_row : (k : NumberedEvent) (built : Result Cells (List ℕ)) → event_named name past ≡ Some k → row_of k.event pairs ≡ built
+        → emitted_row (now_of past + 1) cpu pid k built ≡ Some e → IsEmission past (Emission name cpu pid pairs) e
+    by_row k (Err field) named built h = absurd (cc)
+    by_row k (Ok row) named built h =
+        let this : Emitted = record { k = k; row = row; cpu = cpu; pid = pid; timestamp = now_of past + 1 } in
+        let same : this ≡ e = cc in
+        let found : IsEmission past (Emission name cpu pid pairs) this =
+        record { name = name; pairs = pairs; emission = refl; named = named; built = built; time = refl } in
+        subst (IsEmission past (Emission name cpu pid pairs)) same found
+
+    by_event : (found : Option NumberedEvent) → event_named name past ≡ found → emitted_event (now_of past + 1) cpu pid pairs found ≡ Some e
+        → IsEmission past (Emission name cpu pid pairs) e
+    by_event None named h = absurd (cc)
+    by_event (Some k) named h = by_row k (row_of k.event pairs) named refl h
+emission-is past _ e is = absurd (cc)
 
 -- the process of an entry's emission has a number in 32 bits
 pid_of-fits : (entry : Entry) (name : List ℕ) (cpu : ℕ) (pid : ℤ) (pairs : List Pair) → IsEntry entry → request_of entry.command ≡ Emission name cpu pid pairs
     → FitsSigned w32 pid
 pid_of-fits entry name cpu pid pairs fits emission = (subst FitsItsTypes emission fits.2).1
 
+-- ---- the theorem
+
 pub records_show_their_rows : RecordsShowTheirRows
 unfolding record_bytes
-records_show_their_rows g entry before later name k cpu pid pairs row bytes in_range legal emission there built emitted =
-    ap (record_line (declared_events (requests_of (later ++ entry ∷ before))) cpu) (sym (emitted-is past name cpu pid pairs k row bytes there built emitted))
-    ∙ record_shows_its_row (declared_events (requests_of (later ++ entry ∷ before))) cpu k.event row head (replicate (padding (length (payload_of row))) 0) is_row is_head
+records_show_their_rows g entry before later e in_range legal emitted_is =
+    record_shows_its_row (declared_events (requests_of (later ++ entry ∷ before))) e.cpu e.k.event e.row head
+    (replicate (padding (length (payload_of e.row))) 0) is_row is_head
   where
-    past : List Request
-    past = requests_of before
+    is : IsEmission (requests_of before) (request_of entry.command) e
+    is = emission-is (requests_of before) (request_of entry.command) e emitted_is
 
     head : Head
-    head = record { ts = now_of past + 1; pid = pid; event = k.id; payload = length (payload_of row) }
+    head = record { ts = e.timestamp; pid = e.pid; event = e.k.id; payload = length (payload_of e.row) }
 
-    is_row : IsRowOf k.event row
-    is_row = row_of-is_row k.event pairs row built
+    is_row : IsRowOf e.k.event e.row
+    is_row = row_of-is_row e.k.event is.pairs e.row is.built
 
-    at_number : event_of (declared_events past) k.id ≡ Some k.event
-    at_number = (named-is_numbered (declared_events past) name k there).there
+    at_number : event_of (declared_events (requests_of before)) e.k.id ≡ Some e.k.event
+    at_number = (named-is_numbered (declared_events (requests_of before)) is.name e.k is.named).there
 
-    at_number_then : event_of (declared_events (requests_of (later ++ entry ∷ before))) k.id ≡ Some k.event
-    at_number_then = event_of-later later (entry ∷ before) k.id k.event (event_of-later (entry ∷ []) before k.id k.event at_number)
+    at_number_then : event_of (declared_events (requests_of (later ++ entry ∷ before))) e.k.id ≡ Some e.k.event
+    at_number_then = event_of-later later (entry ∷ before) e.k.id e.k.event (event_of-later (entry ∷ []) before e.k.id e.k.event at_number)
 
-    is_head : IsHeadOf (declared_events (requests_of (later ++ entry ∷ before))) k.event row head
+    is_head : IsHeadOf (declared_events (requests_of (later ++ entry ∷ before))) e.k.event e.row head
     is_head = record {
       event = at_number_then;
       payload = refl;
-      event_fits = omega (arith, event_of-small (declared_events past) k.id k.event at_number, (legal-events g before legal.3).few);
-      payload_fits = payload-small g k.event (length (payload_of row)) in_range (event_of-fit g before k.id k.event legal.3 at_number) (length-payload k.event row is_row);
-      ts_fits = omega (arith, now_of-le past, legal-short g before legal.3, in_range.few_entries);
-      pid_fits = pid_of-fits entry name cpu pid pairs legal.0 emission;
+      event_fits = omega (arith, event_of-small (declared_events (requests_of before)) e.k.id e.k.event at_number, (legal-events g before legal.3).few);
+      payload_fits = payload-small g e.k.event (length (payload_of e.row)) in_range (event_of-fit g before e.k.id e.k.event legal.3 at_number) (length-payload e.k.event e.row is_row);
+      ts_fits = omega (arith, is.time, now_of-le (requests_of before), legal-short g before legal.3, in_range.few_entries);
+      pid_fits = pid_of-fits entry is.name e.cpu e.pid is.pairs legal.0 is.emission;
     }

@@ -1,21 +1,23 @@
 -- The filters that events have in a legal history.
-use Rattle.std.proofs.Common.{◌≡◌, ◌⊎◌, inl, inr, ℕ, Bool, true, false, List, [], ◌∷◌, bytes_eq, Option, None, Some, unwrap_or, IsOk, is_ok, Result, Ok, Err, refl, sym, ap, ◌∙◌}
+use Rattle.std.proofs.Common.{◌≡◌, ◌⊎◌, inl, inr, ℕ, Bool, true, false, if◌then◌else◌, List, [], ◌∷◌, bytes_eq, Option, None, Some, unwrap_or, IsOk, is_ok, is_some, Result, Ok, Err, refl, sym, ap, ◌∙◌, subst}
 use Rattle.std.specs.Option.{option_to_list}
 use Rattle.std.proofs.lemmas.Slice.Eq.{bytes_eq-Decides}
 use Rattle.trace_filter.specs.declared.fault.FilterFault.{FilterFault}
 use Rattle.trace_filter.specs.Filters.{Parsed, IsFilter, IsRefused, answer_of}
 use Rattle.trace_filter.proofs.FilterLemmas.{filter_or_refused, refusal_is_answered, holds_as_its_tree}
 use Rattle.trace_format.specs.Definitions.{Definition}
-use Rattle.trace_history.specs.History.{answer_with_room, filter_answer, taken_answer, requests_of, IsLegalNewestFirst}
+use Rattle.trace_lex.proofs.Options.{if_some}
+use Rattle.trace_history.specs.History.{answer_with_room, missing_event, unless_refused, named_filter_answer, filter_answer, taken_answer, requests_of, IsLegalNewestFirst}
 use Rattle.trace_history.specs.Laws.{FiltersAreOfTheirEvents, FiltersHoldAsTheirTrees}
-use Rattle.trace_command.specs.Paths.{EventFilter, EventsFilter}
+use Rattle.trace_command.specs.Paths.{File, EventFilter, EventsFilter}
 use Rattle.trace_command.specs.Requests.{Request, WriteFile, request_of}
 use Rattle.trace_history.specs.Rings.{filter_holds}
-use Rattle.trace_history.specs.Settings.{NumberedEvent, event_named, declares, declared_events, clears_filter, can_take, written_filter, written_to_all, sets_filter, filter_of}
+use Rattle.trace_history.specs.Settings.{NumberedEvent, set_by, is_same, makes, event_named, declares, declared_events, clears_filter, can_take, written_filter, written_to_all, sets_filter, filter_of}
 use Rattle.trace_command.specs.declared.command.Config.{Config}
 use Rattle.trace_command.specs.declared.command.Entry.{Entry}
+use Rattle.trace_command.specs.declared.refusal.Refusal.TheVariants.{NoSuchEvent}
 use Rattle.trace_history.proofs.Events.{named_in-fewer}
-use Rattle.trace_history.proofs.LegalEvents.{done-had_room, named_in-more, named-is_definition}
+use Rattle.trace_history.proofs.LegalEvents.{done-had_room, asked-done, named_in-more, named-is_definition}
 
 -- ---- what a write sets
 
@@ -30,31 +32,56 @@ takes-is_filter text event can = by (filter_or_refused event text)
         let answered : answer_of event text ≡ Err refused.0 = (refusal_is_answered event text refused.0).0 refused.1 in
         absurd (let h = rw answered at can in cc)
 
--- a filter that an event gets is one that it can take
-pub set-is_taken : (g : Config) (past : List Request) (request : Request) (name : List ℕ) (k : NumberedEvent) (text : List ℕ) → IsOk (answer_with_room g past request)
-    → event_named name past ≡ Some k → sets_filter name past request ≡ Some (Some text) → can_take text k.event ≡ true
+-- a request that sets something by a write to a file of an instance
+record IsWrite {A : Type 0} (instance : Option (List ℕ)) (sets : File → List ℕ → Option A) (request : Request) (v : A) : Type 0 where
+  other : Option (List ℕ)
+  file : File
+  append : Bool
+  written : List ℕ
+  is : request ≡ WriteFile other (Some file) append written
+  sets_it : sets file written ≡ Some v
+
+set-is_write : {A : Type 0} (instance : Option (List ℕ)) (sets : File → List ℕ → Option A) (request : Request) (v : A) → set_by instance sets request ≡ Some v
+    → IsWrite instance sets request v
+set-is_write instance sets (WriteFile other (Some file) append written) v is = by (is_same instance other) is
+  where
+    by : (same : Bool) → (if same then sets file written else None) ≡ Some v
+        → IsWrite instance sets (WriteFile other (Some file) append written) v
+    by true h = record { other = other; file = file; append = append; written = written; is = refl; sets_it = h }
+    by false h = absurd (cc)
+set-is_write instance sets _ v is = absurd (cc)
+
+-- what the write of a filter that was done says of its event
+asked-named : (g : Config) (other : Option (List ℕ)) (past : List Request) (append : Bool) (event written name : List ℕ) (found : Option NumberedEvent)
+    → IsOk (answer_with_room g past (WriteFile other (Some (EventFilter event)) append written)) → bytes_eq name event ≡ true → event_named name past ≡ found
+    → IsOk (unless_refused (if is_some found then None else Some NoSuchEvent) (named_filter_answer written found))
+asked-named g other past append event written name found done named is =
+    let same : name ≡ event = (bytes_eq-Decides name event).0 named in
+    let there : event_named event past ≡ found = ap (λ (n : List ℕ). event_named n past) (sym same) ∙ is in
+    let asked : IsOk (unless_refused (missing_event past event) (named_filter_answer written (event_named event past))) =
+    asked-done other past (unless_refused (missing_event past event) (named_filter_answer written (event_named event past))) done in
+    rw there at asked
+
+-- a filter that a write sets for an event is one that the event can take
+taken-by : (g : Config) (other : Option (List ℕ)) (past : List Request) (append : Bool) (file : File) (written name : List ℕ) (k : NumberedEvent) (text : List ℕ)
+    → IsOk (answer_with_room g past (WriteFile other (Some file) append written)) → event_named name past ≡ Some k
+    → sets_filter name past file written ≡ Some (Some text) → can_take text k.event ≡ true
 unfolding filter_answer can_take
-set-is_taken g past (WriteFile (Some (EventFilter event)) append written) name k text done there sets = by_name (bytes_eq name event) refl sets
+taken-by g other past append (EventFilter event) written name k text done there sets =
+    let set = if_some (bytes_eq name event) sets in
+    by_clears (clears_filter written) refl (asked-named g other past append event written name (Some k) done set.0 there) set.1
   where
     by_answer : (answered : Result Parsed FilterFault) → answer_of k.event written ≡ answered → IsOk (taken_answer answered) → is_ok (answer_of k.event written) ≡ true
     by_answer (Ok filter) is d = rw is refl
     by_answer (Err fault) is d = absurd (cc)
 
-    by_clears : (off : Bool) → clears_filter written ≡ off → IsOk (filter_answer written k.event) → Some (written_filter written) ≡ Some (Some text) → can_take text k.event ≡ true
+    by_clears : (off : Bool) → clears_filter written ≡ off → IsOk (filter_answer written k.event) → written_filter written ≡ Some text → can_take text k.event ≡ true
     by_clears true is d s = absurd (let h = rw is at s in cc)
     by_clears false is d s =
-        let h : Some (Some written) ≡ Some (Some text) = rw is at s in
+        let h : Some written ≡ Some text = rw is at s in
         let same : written ≡ text = cc in
         rw (← same) (by_answer (answer_of k.event written) refl (rw is at d))
-
-    by_name : (same : Bool) → bytes_eq name event ≡ same → sets_filter name past (WriteFile (Some (EventFilter event)) append written) ≡ Some (Some text)
-        → can_take text k.event ≡ true
-    by_name false is s = absurd (let h = rw is at s in cc)
-    by_name true is s =
-        let same : name ≡ event = (bytes_eq-Decides name event).0 is in
-        let found : event_named event past ≡ Some k = ap (λ (n : List ℕ). event_named n past) (sym same) ∙ there in
-        by_clears (clears_filter written) refl (rw found at done) (rw is at s)
-set-is_taken g past (WriteFile (Some EventsFilter) append written) name k text done there sets =
+taken-by g other past append EventsFilter written name k text done there sets =
     by (clears_filter written) (can_take written k.event) refl refl (rw there at sets)
   where
     by : (off can : Bool) → clears_filter written ≡ off → can_take written k.event ≡ can → written_to_all written (Some k) ≡ Some (Some text) → can_take text k.event ≡ true
@@ -64,75 +91,106 @@ set-is_taken g past (WriteFile (Some EventsFilter) append written) name k text d
         let h : Some (Some written) ≡ Some (Some text) = rw (is, are) at s in
         let same : written ≡ text = cc in
         rw (← same) are
-set-is_taken g past _ name k text done there sets = absurd (cc)
+taken-by g other past append _ written name k text done there sets = absurd (cc)
 
--- nothing is set for an event that is not declared
-pub set-none : (g : Config) (past : List Request) (request : Request) (name : List ℕ) → IsOk (answer_with_room g past request) → event_named name past ≡ None
-    → sets_filter name past request ≡ None
-set-none g past (WriteFile (Some (EventFilter event)) append written) name done none = by (bytes_eq name event) refl
+-- a write sets none for an event that is not declared
+none-by : (g : Config) (other : Option (List ℕ)) (past : List Request) (append : Bool) (file : File) (written name : List ℕ)
+    → IsOk (answer_with_room g past (WriteFile other (Some file) append written)) → event_named name past ≡ None → sets_filter name past file written ≡ None
+none-by g other past append (EventFilter event) written name done none = by (bytes_eq name event) refl
   where
-    by : (same : Bool) → bytes_eq name event ≡ same → sets_filter name past (WriteFile (Some (EventFilter event)) append written) ≡ None
-    by false is = rw is refl
-    by true is =
-        let same : name ≡ event = (bytes_eq-Decides name event).0 is in
-        let gone : event_named event past ≡ None = ap (λ (n : List ℕ). event_named n past) (sym same) ∙ none in
-        absurd (let h = rw gone at done in cc)
-set-none g past (WriteFile (Some EventsFilter) append written) name done none = rw none refl
-set-none g past _ name done none = refl
+    by : (same : Bool) → bytes_eq name event ≡ same → (if same then Some (written_filter written) else None) ≡ None
+    by false is = refl
+    by true is = absurd (let h = asked-named g other past append event written name None done is none in cc)
+none-by g other past append EventsFilter written name done none = rw none refl
+none-by g other past append _ written name done none = refl
+
+-- the filter that a request sets for an event of an instance
+abbrev filter_set : Option (List ℕ) → List ℕ → List Request → Request → Option (Option (List ℕ))
+filter_set instance name past request = set_by instance (sets_filter name past) request
+
+set-is_taken : (g : Config) (instance : Option (List ℕ)) (past : List Request) (request : Request) (name : List ℕ) (k : NumberedEvent) (text : List ℕ)
+    → IsOk (answer_with_room g past request) → event_named name past ≡ Some k → filter_set instance name past request ≡ Some (Some text)
+    → can_take text k.event ≡ true
+set-is_taken g instance past request name k text done there sets =
+    let write = set-is_write instance (sets_filter name past) request (Some text) sets in
+    taken-by g write.other past write.append write.file write.written name k text
+    (subst (λ (r : Request). IsOk (answer_with_room g past r)) write.is done) there write.sets_it
+
+set-none : (g : Config) (instance : Option (List ℕ)) (past : List Request) (request : Request) (name : List ℕ) → IsOk (answer_with_room g past request)
+    → event_named name past ≡ None → filter_set instance name past request ≡ None
+set-none g instance past (WriteFile other (Some file) append written) name done none = by (is_same instance other)
+  where
+    by : (same : Bool) → (if same then sets_filter name past file written else None) ≡ None
+    by true = none-by g other past append file written name done none
+    by false = refl
+set-none g instance past _ name done none = refl
 
 -- ---- the filter that an event has
 
--- none before it is declared, and then one that it can take
-record IsTaken (name : List ℕ) (past : List Request) : Type 0 where
-  unfiltered : event_named name past ≡ None → filter_of name past ≡ None
-  taken : (k : NumberedEvent) (text : List ℕ) → event_named name past ≡ Some k → filter_of name past ≡ Some text → can_take text k.event ≡ true
+-- the filter after a request that sets one or not, where one stood before: none where a life of the instance begins
+abbrev left : Option (List ℕ) → Bool → Option (Option (List ℕ)) → Option (List ℕ)
+left before new set = if new then None else unwrap_or set before
 
-taken-after : (g : Config) (past : List Request) (request : Request) (name : List ℕ) → IsOk (answer_with_room g past request) → IsTaken name past
-    → IsTaken name (request ∷ past)
-taken-after g past request name done before = record { unfiltered = unfiltered; taken = taken }
+-- none before the event is declared, and then one that it can take
+record IsTaken (instance : Option (List ℕ)) (name : List ℕ) (past : List Request) : Type 0 where
+  unfiltered : event_named name past ≡ None → filter_of instance name past ≡ None
+  taken : (k : NumberedEvent) (text : List ℕ) → event_named name past ≡ Some k → filter_of instance name past ≡ Some text → can_take text k.event ≡ true
+
+taken-after : (g : Config) (instance : Option (List ℕ)) (past : List Request) (request : Request) (name : List ℕ) → IsOk (answer_with_room g past request)
+    → IsTaken instance name past → IsTaken instance name (request ∷ past)
+taken-after g instance past request name done before = record { unfiltered = unfiltered; taken = taken }
   where
     more : List Definition
     more = option_to_list (declares request)
 
-    none_set : event_named name past ≡ None → filter_of name (request ∷ past) ≡ None
-    none_set none =
-        ap (λ (o : Option (Option (List ℕ))). unwrap_or o (filter_of name past)) (set-none g past request name done none) ∙ before.unfiltered none
+    none_left : (new : Bool) → event_named name past ≡ None → left (filter_of instance name past) new (filter_set instance name past request) ≡ None
+    none_left true none = refl
+    none_left false none =
+        ap (λ (o : Option (Option (List ℕ))). unwrap_or o (filter_of instance name past)) (set-none g instance past request name done none)
+        ∙ before.unfiltered none
 
-    unfiltered : event_named name (request ∷ past) ≡ None → filter_of name (request ∷ past) ≡ None
-    unfiltered none = none_set (named_in-fewer name (declared_events past) more none)
+    unfiltered : event_named name (request ∷ past) ≡ None → filter_of instance name (request ∷ past) ≡ None
+    unfiltered none = none_left (makes instance request) (named_in-fewer name (declared_events past) more none)
 
-    taken : (k : NumberedEvent) (text : List ℕ) → event_named name (request ∷ past) ≡ Some k → filter_of name (request ∷ past) ≡ Some text → can_take text k.event ≡ true
+    taken : (k : NumberedEvent) (text : List ℕ) → event_named name (request ∷ past) ≡ Some k → filter_of instance name (request ∷ past) ≡ Some text
+        → can_take text k.event ≡ true
     taken k text there stands = by (event_named name past) refl
       where
-        by_set : (old : NumberedEvent) → event_named name past ≡ Some old → old ≡ k → (set : Option (Option (List ℕ))) → sets_filter name past request ≡ set
-            → unwrap_or set (filter_of name past) ≡ Some text → can_take text k.event ≡ true
+        by_set : (old : NumberedEvent) → event_named name past ≡ Some old → old ≡ k → (set : Option (Option (List ℕ))) → filter_set instance name past request ≡ set
+            → unwrap_or set (filter_of instance name past) ≡ Some text → can_take text k.event ≡ true
         by_set old was same None is s = before.taken k text (was ∙ ap Some same) s
         by_set old was same (Some None) is s = absurd (cc)
         by_set old was same (Some (Some written)) is s =
             let text_same : written ≡ text = cc in
-            set-is_taken g past request name k text done (was ∙ ap Some same) (is ∙ ap (λ (t : List ℕ). Some (Some t)) text_same)
+            set-is_taken g instance past request name k text done (was ∙ ap Some same) (is ∙ ap (λ (t : List ℕ). Some (Some t)) text_same)
+
+        by_life : (old : NumberedEvent) → event_named name past ≡ Some old → old ≡ k → (new : Bool)
+            → left (filter_of instance name past) new (filter_set instance name past request) ≡ Some text → can_take text k.event ≡ true
+        by_life old was same true s = absurd (cc)
+        by_life old was same false s = by_set old was same (filter_set instance name past request) refl s
 
         by : (old : Option NumberedEvent) → event_named name past ≡ old → can_take text k.event ≡ true
-        by None none = absurd (let h : None ≡ Some text = sym (none_set none) ∙ stands in cc)
+        by None none = absurd (let h : None ≡ Some text = sym (none_left (makes instance request) none) ∙ stands in cc)
         by (Some old) was =
             let e : Some old ≡ Some k = sym (named_in-more name (declared_events past) more old was) ∙ there in
             let same : old ≡ k = cc in
-            by_set old was same (sets_filter name past request) refl stands
+            by_life old was same (makes instance request) stands
 
-taken-legal : (g : Config) (entries : List Entry) (name : List ℕ) → IsLegalNewestFirst g entries → IsTaken name (requests_of entries)
-taken-legal g [] name legal = record { unfiltered = λ none. refl; taken = λ k text there stands. absurd (cc) }
-taken-legal g (entry ∷ entries) name legal =
-    taken-after g (requests_of entries) (request_of entry.command) name (done-had_room g (requests_of entries) (request_of entry.command) legal.2).0
-    (taken-legal g entries name legal.3)
+taken-legal : (g : Config) (entries : List Entry) (instance : Option (List ℕ)) (name : List ℕ) → IsLegalNewestFirst g entries
+    → IsTaken instance name (requests_of entries)
+taken-legal g [] instance name legal = record { unfiltered = λ none. refl; taken = λ k text there stands. absurd (cc) }
+taken-legal g (entry ∷ entries) instance name legal =
+    taken-after g instance (requests_of entries) (request_of entry.command) name
+    (done-had_room g (requests_of entries) (request_of entry.command) legal.2).0 (taken-legal g entries instance name legal.3)
 
--- ---- the laws
+-- ---- the theorems
 
 pub standing_filters_are_filters : FiltersAreOfTheirEvents
-standing_filters_are_filters g entries name k text legal there stands =
-    takes-is_filter text k.event ((taken-legal g entries name legal).taken k text there stands)
+standing_filters_are_filters g entries instance name k text legal there stands =
+    takes-is_filter text k.event ((taken-legal g entries instance name legal).taken k text there stands)
 
 pub filters_hold_as_their_trees : FiltersHoldAsTheirTrees
 unfolding filter_holds
-filters_hold_as_their_trees g entries name k text row cpu pid legal there stands is_row =
-    holds_as_its_tree k.event text row (record { values = row.values; cpu = cpu; pid = pid }) (standing_filters_are_filters g entries name k text legal there stands)
-    (named-is_definition g entries name k legal there) is_row refl
+filters_hold_as_their_trees g entries instance name k text row cpu pid legal there stands is_row =
+    holds_as_its_tree k.event text row (record { values = row.values; cpu = cpu; pid = pid })
+    (standing_filters_are_filters g entries instance name k text legal there stands) (named-is_definition g entries name k legal there) is_row refl

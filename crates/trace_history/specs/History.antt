@@ -1,11 +1,12 @@
--- The answer that the requests done so far give a request, and which histories are legal. The newest request stands first.
+-- The answer that the requests done so far give a request, and which histories are legal. The newest request comes first.
 use Rattle.std.specs.Prelude.{ℕ, ◌<◌, ◌^◌, nat_lt, Bool, true, false, not, ◌&&◌, is_some, IsOk, if◌then◌else◌, List, [], ◌∷◌, ◌++◌, length, map, flat_map, reverse, All, Option, Some, None, Result, Ok, Err, codes, ⊤}
-use Rattle.page_ring.specs.Account.{stats_of}
-use Rattle.trace_command.specs.Paths.{File, Trace, CpuTrace, TracePipe, CpuTracePipe, CpuStats, Overwrite, TraceOptions, SyntheticEvents, EventsEnable, EventsFilter, EventEnable, EventFilter, EventFormat}
 use Rattle.std.specs.List.{list_all, list_any}
+use Rattle.trace_buffer.specs.Families.{cpu_stats}
+use Rattle.trace_command.specs.Paths.{File, Trace, CpuTrace, TracePipe, CpuTracePipe, CpuStats, Overwrite, TraceOptions, TracingOn, SyntheticEvents, EventsEnable, EventsFilter, EventEnable, EventFilter, EventFormat}
 use Rattle.trace_filter.specs.declared.fault.FilterFault.{FilterFault}
 use Rattle.trace_filter.specs.Filters.{Parsed, answer_of}
 use Rattle.trace_lex.specs.Blanks.{trimmed}
+use Rattle.trace_lex.specs.Names.{is_name}
 use Rattle.trace_format.specs.Catalogs.{id_for}
 use Rattle.trace_format.specs.Cells.{Cells}
 use Rattle.trace_format.specs.Definitions.{Definition}
@@ -13,21 +14,21 @@ use Rattle.trace_format.specs.Reading.{definition_of}
 use Rattle.trace_format.specs.Rows.{row_of}
 use Rattle.trace_format.specs.declared.fault.CatalogFault.{CatalogFault}
 use Rattle.trace_format.specs.declared.pair.Pair.{Pair}
+use Rattle.trace_text.specs.BufferText.{trace_text, pipe_text}
 use Rattle.trace_text.specs.DeclarationText.{declaration_text}
 use Rattle.trace_text.specs.FormatText.{format_text}
 use Rattle.trace_text.specs.StatsText.{stats_text}
-use Rattle.trace_history.specs.TraceFiles.{trace_text, pipe_text}
 use Rattle.trace_command.specs.Requests.{Request, Emission, MakeInstance, RemoveInstance, WriteFile, ReadFile, request_of, FitsItsTypes}
-use Rattle.trace_history.specs.Settings.{NumberedEvent, event_named, declared_events, written_flag, written_option, is_enabled, clears_filter, can_take, filter_of, overwrites, now_of}
+use Rattle.trace_history.specs.Settings.{NumberedEvent, event_named, declared_events, written_flag, written_option, written_tracing, instance_names, is_there, is_enabled, clears_filter, can_take, filter_of, overwrites, is_tracing, now_of}
 use Rattle.trace_command.specs.Refusals.{refusal_of_catalog, refusal_of_filter}
-use Rattle.trace_history.specs.Rings.{ring_events}
+use Rattle.trace_history.specs.Rings.{rings, pipe_read, cpu_pipe_read}
 use Rattle.trace_command.specs.declared.command.Command.{Command}
 use Rattle.trace_command.specs.declared.command.Config.{Config}
 use Rattle.trace_command.specs.declared.command.Entry.{Entry}
 use Rattle.trace_command.specs.declared.command.Reply.{Reply}
 use Rattle.trace_command.specs.declared.command.Reply.TheVariants.{Done, Text}
 use Rattle.trace_command.specs.declared.refusal.Refusal.{Refusal}
-use Rattle.trace_command.specs.declared.refusal.Refusal.TheVariants.{NoSuchFile, NotReadable, NotWritable, BadValue, NoSuchEvent, BadDefinition, Busy, NoSuchCpu, BadRow, HistoryFull}
+use Rattle.trace_command.specs.declared.refusal.Refusal.TheVariants.{NoSuchFile, NotReadable, NotWritable, BadValue, NoSuchEvent, BadDefinition, TooMany, InstanceExists, NoSuchInstance, Busy, NoSuchCpu, BadRow, HistoryFull}
 
 -- ---- emissions
 
@@ -93,7 +94,12 @@ filter_of_all_answer text (event ∷ events) =
 unfoldable pub option_answer : List ℕ → Result Reply Refusal
 option_answer text = if is_some (written_option text) then Ok Done else Err BadValue
 
--- a write to a file: to a trace any text, to a pipe, to statistics and to a format none
+-- a number that switches recording on or off
+unfoldable pub tracing_answer : List ℕ → Result Reply Refusal
+tracing_answer text = if is_some (written_tracing text) then Ok Done else Err BadValue
+
+-- what a write to a file answers: to a trace any string is done, to a pipe, to statistics and to a format none. It depends on no setting of
+-- the instance.
 abbrev pub write_answer : Config → List Request → Bool → List ℕ → File → Result Reply Refusal
 write_answer g past append text Trace = Ok Done
 write_answer g past append text (CpuTrace cpu) = Ok Done
@@ -102,6 +108,7 @@ write_answer g past append text (CpuTracePipe cpu) = Err NotWritable
 write_answer g past append text (CpuStats cpu) = Err NotWritable
 write_answer g past append text Overwrite = switch_answer text
 write_answer g past append text TraceOptions = option_answer text
+write_answer g past append text TracingOn = tracing_answer text
 write_answer g past append text SyntheticEvents = declaration_answer g past append text
 write_answer g past append text (EventEnable event) = switch_answer text
 write_answer g past append text EventsEnable = switch_answer text
@@ -121,8 +128,20 @@ unfoldable pub flag_text : Bool → List ℕ
 flag_text flag = if flag then codes "1\n" else codes "0\n"
 
 -- the statistics of a CPU's ring
-unfoldable pub cpu_stats_text : Config → List Request → ℕ → List ℕ
-cpu_stats_text g past cpu = stats_text (stats_of g.pages g.page_bytes (ring_events g cpu past)) (now_of past)
+unfoldable pub cpu_stats_text : Config → Option (List ℕ) → List Request → ℕ → List ℕ
+cpu_stats_text g instance past cpu = stats_text (cpu_stats g.pages g.page_bytes (rings g instance past) cpu) (now_of past)
+
+-- the trace of one CPU or of all
+unfoldable pub shown_trace : Config → Option (List ℕ) → List Request → Option ℕ → List ℕ
+shown_trace g instance past cpu = trace_text (declared_events past) g.pages g.page_bytes (rings g instance past) cpu
+
+-- what a read of the pipe of all CPUs shows: the records that it consumes
+unfoldable pub shown_pipe : Config → Option (List ℕ) → List Request → Option ℕ → List ℕ
+shown_pipe g instance past limit = pipe_text (declared_events past) (pipe_read g limit (rings g instance past)).taken
+
+-- and a read of a CPU's pipe
+unfoldable pub shown_cpu_pipe : Config → Option (List ℕ) → List Request → ℕ → Option ℕ → List ℕ
+shown_cpu_pipe g instance past cpu limit = pipe_text (declared_events past) (cpu_pipe_read g cpu limit (rings g instance past)).taken
 
 -- the word of the option
 unfoldable pub option_text : Bool → List ℕ
@@ -152,21 +171,44 @@ abbrev pub format_of_event : Option NumberedEvent → List ℕ
 format_of_event None = []
 format_of_event (Some k) = format_text k.id k.event
 
--- a read of a file: all CPUs are shown as the one that there is for now
-abbrev pub read_answer : Config → List Request → Option ℕ → File → Result Reply Refusal
-read_answer g past limit Trace = whole_text limit (trace_text g past 0)
-read_answer g past limit (CpuTrace cpu) = whole_text limit (trace_text g past cpu)
-read_answer g past limit TracePipe = Ok (Text (pipe_text g past 0 limit))
-read_answer g past limit (CpuTracePipe cpu) = Ok (Text (pipe_text g past cpu limit))
-read_answer g past limit (CpuStats cpu) = whole_text limit (cpu_stats_text g past cpu)
-read_answer g past limit Overwrite = whole_text limit (flag_text (overwrites past))
-read_answer g past limit TraceOptions = whole_text limit (option_text (overwrites past))
-read_answer g past limit SyntheticEvents = whole_text limit (declarations_text past)
-read_answer g past limit (EventEnable event) = whole_text limit (flag_text (is_enabled event past))
-read_answer g past limit EventsEnable = whole_text limit (switches_text (map (λ event. is_enabled event.name past) (declared_events past)))
-read_answer g past limit EventsFilter = Err NotReadable
-read_answer g past limit (EventFilter event) = whole_text limit (filter_text (filter_of event past))
-read_answer g past limit (EventFormat event) = whole_text limit (format_of_event (event_named event past))
+-- a read of a file of an instance
+abbrev pub read_answer : Config → Option (List ℕ) → List Request → Option ℕ → File → Result Reply Refusal
+read_answer g instance past limit Trace = whole_text limit (shown_trace g instance past None)
+read_answer g instance past limit (CpuTrace cpu) = whole_text limit (shown_trace g instance past (Some cpu))
+read_answer g instance past limit TracePipe = Ok (Text (shown_pipe g instance past limit))
+read_answer g instance past limit (CpuTracePipe cpu) = Ok (Text (shown_cpu_pipe g instance past cpu limit))
+read_answer g instance past limit (CpuStats cpu) = whole_text limit (cpu_stats_text g instance past cpu)
+read_answer g instance past limit Overwrite = whole_text limit (flag_text (overwrites instance past))
+read_answer g instance past limit TraceOptions = whole_text limit (option_text (overwrites instance past))
+read_answer g instance past limit TracingOn = whole_text limit (flag_text (is_tracing instance past))
+read_answer g instance past limit SyntheticEvents = whole_text limit (declarations_text past)
+read_answer g instance past limit (EventEnable event) = whole_text limit (flag_text (is_enabled instance event past))
+read_answer g instance past limit EventsEnable =
+    whole_text limit (switches_text (map (λ event. is_enabled instance event.name past) (declared_events past)))
+read_answer g instance past limit EventsFilter = Err NotReadable
+read_answer g instance past limit (EventFilter event) = whole_text limit (filter_text (filter_of instance event past))
+read_answer g instance past limit (EventFormat event) = whole_text limit (format_of_event (event_named event past))
+
+-- ---- instances made and removed
+
+-- how many instances there may be beside the top one
+abbrev pub most_instances : ℕ
+most_instances = 7
+
+-- an instance that is to be made: first its name, then whether it is there, then how many there are
+unfoldable pub named_answer : List Request → List ℕ → Result Reply Refusal
+named_answer past name =
+    if not (is_name name) then Err BadValue
+    else (if is_there (Some name) past then Err InstanceExists
+    else (if nat_lt (length (instance_names past)) most_instances then Ok Done else Err TooMany))
+
+abbrev pub make_answer : List Request → Option (List ℕ) → Result Reply Refusal
+make_answer past None = Err NoSuchFile
+make_answer past (Some name) = named_answer past name
+
+abbrev pub remove_answer : List Request → Option (List ℕ) → Result Reply Refusal
+remove_answer past None = Err NoSuchFile
+remove_answer past (Some name) = if is_there (Some name) past then Ok Done else Err NoSuchInstance
 
 -- ---- the answer
 
@@ -193,15 +235,22 @@ abbrev pub unless_refused : Option Refusal → Result Reply Refusal → Result R
 unless_refused (Some refusal) answered = Err refusal
 unless_refused None answered = answered
 
--- the answer, were there no limit on the history; for now there are no instances to make or remove
+-- a file that is there is answered; a path may name none
+abbrev pub file_answer : Config → List Request → (File → Result Reply Refusal) → Option File → Result Reply Refusal
+file_answer g past answered None = Err NoSuchFile
+file_answer g past answered (Some file) = unless_refused (missing g past file) (answered file)
+
+-- the instance comes before all else
+abbrev pub instance_answer : Option (List ℕ) → List Request → Result Reply Refusal → Result Reply Refusal
+instance_answer instance past answered = if is_there instance past then answered else Err NoSuchInstance
+
+-- the answer, were there no limit on the history
 abbrev pub answer_with_room : Config → List Request → Request → Result Reply Refusal
 answer_with_room g past (Emission name cpu pid pairs) = emission_answer g past name cpu pairs
-answer_with_room g past (MakeInstance path) = Err NoSuchFile
-answer_with_room g past (RemoveInstance path) = Err NoSuchFile
-answer_with_room g past (WriteFile None append text) = Err NoSuchFile
-answer_with_room g past (WriteFile (Some file) append text) = unless_refused (missing g past file) (write_answer g past append text file)
-answer_with_room g past (ReadFile None limit) = Err NoSuchFile
-answer_with_room g past (ReadFile (Some file) limit) = unless_refused (missing g past file) (read_answer g past limit file)
+answer_with_room g past (MakeInstance name) = make_answer past name
+answer_with_room g past (RemoveInstance name) = remove_answer past name
+answer_with_room g past (WriteFile instance file append text) = instance_answer instance past (file_answer g past (write_answer g past append text) file)
+answer_with_room g past (ReadFile instance file limit) = instance_answer instance past (file_answer g past (read_answer g instance past limit) file)
 
 -- what would be done is refused where the history is full
 abbrev pub unless_full : Config → ℕ → Result Reply Refusal → Result Reply Refusal

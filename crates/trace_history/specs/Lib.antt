@@ -1,6 +1,6 @@
 pub mod Settings
 pub mod Declarations
 pub mod Rings
-pub mod TraceFiles
 pub mod History
 pub mod Laws
+pub mod Examples

@@ -1,9 +1,10 @@
-//! What the words of the answers mean in legal histories. Entries stand newest first here: those of a book reversed. Each function does
-//! nothing: its contract is a theorem.
+//! What the words of the answers mean in legal histories, and what they give worked scripts. Entries stand newest first here: those of a book
+//! reversed. Each function does nothing: its contract is a theorem.
 
+ghost use Rattle.trace_history.specs.Examples.{small, IsAnswered, merged_reads, instances, instance_made_again, recording_off, lost_line_after_overrun, precedence_and_kept_filter};
 ghost use Rattle.trace_history.specs.Laws.{FiltersAreOfTheirEvents, FiltersHoldAsTheirTrees, RecordsShowTheirRows, KeptRecordsShowEmissions, PipeReadsConsumeWhatTheyShow, WholePipeReadsConsumeWhatTheyShow};
 
-/// The filter that an event has in a legal history is one of the event, and it holds of an emission as the trees of its text do.
+/// In a legal history the filter that an event has in an instance is one of the event, and it holds of an emission as the trees of its text do.
 pub fn filters_are_of_their_events()
     ensures standing { FiltersAreOfTheirEvents }
     ensures holding { FiltersHoldAsTheirTrees }
@@ -14,18 +15,28 @@ pub fn records_show_their_rows()
     ensures { RecordsShowTheirRows }
 {}
 
-/// With a configuration in range: each record that is kept has the line of an emission of the history, whose event was enabled and whose filter
-/// held.
+/// With a configuration in range: each record that a CPU's ring of an instance keeps has the line of an emission of the history: one on that
+/// CPU, since the instance was made, which the instance recorded: recording was on, the event was enabled and its filter held.
 pub fn kept_records_show_emissions()
     ensures { KeptRecordsShowEmissions }
 {
     page_ring::laws::kept_were_put();
 }
 
-/// A pipe read consumes the records that it shows and no others.
+/// A pipe read consumes the records that it shows and no others, on each CPU, whether it is of one CPU's pipe or of the pipe of all.
 pub fn pipe_reads_consume_what_they_show()
     ensures cpu { PipeReadsConsumeWhatTheyShow }
     ensures all { WholePipeReadsConsumeWhatTheyShow }
 {
-    page_ring::laws::least_is_read();
+    trace_buffer::laws::reads_consume_what_they_take();
 }
+
+/// The definitions can be computed, and they give worked scripts the answers that stand beside them.
+pub fn examples_are_answered()
+    ensures merged { IsAnswered (small 2) merged_reads }
+    ensures instances { IsAnswered (small 1) instances }
+    ensures made_again { IsAnswered (small 1) instance_made_again }
+    ensures recording { IsAnswered (small 1) recording_off }
+    ensures lost { IsAnswered (small 1) lost_line_after_overrun }
+    ensures filters { IsAnswered (small 1) precedence_and_kept_filter }
+{}

@@ -4,7 +4,7 @@ ghost use Rattle.std.specs.Prelude.{◌≡◌, ◌++◌, OnOk, OnErr};
 ghost use Rattle.std.specs.Fmt.{decimal};
 
 use itoa::{Buffer, Integer};
-use std::alloc::{AllocError, Global};
+use std::alloc::AllocError;
 
 /// Appends a number in decimal, one below 0 with its sign.
 pub(crate) fn push_number<N: Integer>(out: &mut Vec<u8>, n: N) -> Result<(), AllocError>
@@ -15,7 +15,7 @@ pub(crate) fn push_number<N: Integer>(out: &mut Vec<u8>, n: N) -> Result<(), All
 }
 
 /// Appends a number from 0 on in decimal.
-pub(crate) fn push_decimal(_alloc: Global, out: &mut Vec<u8>, n: u128) -> Result<(), AllocError>
+pub(crate) fn push_decimal(out: &mut Vec<u8>, n: u128) -> Result<(), AllocError>
     ensures { OnOk result (out.new.items ≡ out.old.items ++ decimal n) }
 {
     push_number(out, n)

@@ -22,7 +22,6 @@ mod trace;
 
 pub use declaration::declaration_text;
 pub use format::format_text;
-pub use pipe::{lost_text, pipe_text};
-pub use record::record_text;
+pub use pipe::pipe_text;
 pub use stats::stats_text;
-pub use trace::{trace_head_text, trace_text};
+pub use trace::trace_text;

@@ -1,6 +1,9 @@
 //! The texts of the widest event, and texts behind much text.
 
 use super::*;
+use crate::pipe::push_lost_line;
+use crate::record::push_record_line;
+use crate::trace::push_trace_head;
 use page_ring::RingStats;
 use std::alloc::Global;
 use std::fmt::Write;
@@ -87,11 +90,11 @@ fn push_each(
     want.push_str(&texts.declaration)?;
     format_text(alloc, 65535, def, out)?;
     want.push_str(&texts.format)?;
-    trace_head_text(alloc, 2, 3, 8, out)?;
+    push_trace_head(out, 2, 3, 8)?;
     want.push_str(TRACE_HEAD)?;
-    lost_text(alloc, 12, 20, out)?;
+    push_lost_line(out, 12, 20)?;
     want.push_str(LOST)?;
-    record_text(alloc, catalog, 255, &texts.rec, out)?;
+    push_record_line(alloc, out, catalog, 255, &texts.rec)?;
     want.push_str(&texts.line)?;
     let stats = RingStats {
         entries: 3,

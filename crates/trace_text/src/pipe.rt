@@ -14,32 +14,19 @@ use std::alloc::{AllocError, Global};
 use trace_buffer::Taken;
 use trace_format::Catalog;
 
-/// Appends the line that says how many records were lost.
+/// Appends the line that says how many records of a CPU were lost; nothing if none was.
 #[tactic(auto, unfolding(crate::specs::TraceText::lost_line))]
-fn push_lost_line(alloc: Global, out: &mut Vec<u8>, cpu: u32, lost: u64) -> Result<(), AllocError>
+pub(crate) fn push_lost_line(out: &mut Vec<u8>, cpu: u32, lost: u64) -> Result<(), AllocError>
     ensures { OnOk result (out.new.items ≡ out.old.items ++ texts.lost_line cpu lost) }
 {
     if lost == 0 {
         return Ok(());
     }
     out.extend_from_slice(b"CPU:".as_slice())?;
-    push_decimal(alloc, out, u128::from(cpu))?;
+    push_decimal(out, u128::from(cpu))?;
     out.extend_from_slice(b" [LOST ".as_slice())?;
-    push_decimal(alloc, out, u128::from(lost))?;
+    push_decimal(out, u128::from(lost))?;
     out.extend_from_slice(b" EVENTS]\n".as_slice())
-}
-
-/// Appends the line of `trace_pipe` before a record of a CPU where records were lost between it and the one consumed before ("The File
-/// System" of ftrace.rst); where none was lost, nothing.
-///
-/// It is refused only if it runs out of memory, and `out` is then as it was.
-pub fn lost_text(alloc: Global, cpu: u32, lost: u64, out: &mut Vec<u8>) -> Result<(), AllocError>
-    ensures text { OnOk result (out.new.items ≡ out.old.items ++ texts.lost_line cpu lost) }
-    ensures refused { OnErr result (out.new.items ≡ out.old.items) }
-{
-    let mut text = Vec::new(alloc);
-    push_lost_line(alloc, &mut text, cpu, lost)?;
-    append_text(out, text)
 }
 
 /// Appends the lines of a record.
@@ -53,7 +40,7 @@ fn push_taken_lines(
     ensures { OnOk result (out.new.items
         ≡ out.old.items ++ files.taken_lines catalog.now (taken_reading taken.now)) }
 {
-    push_lost_line(alloc, out, taken.cpu, taken.lost)?;
+    push_lost_line(out, taken.cpu, taken.lost)?;
     push_record_line(alloc, out, catalog, taken.cpu, taken.rec)
 }
 

@@ -113,7 +113,11 @@ fn push_event_line(
     }
 }
 
-/// Appends the line of a record.
+/// Appends the line of a record in `trace` and `trace_pipe` ("Output format" of ftrace.rst): pid, CPU in three digits, timestamp in ticks of
+/// the clock, event, and each field with its value, in order of declaration.
+///
+/// `rec` is the record's bytes: its head, which names an event of the catalog, the payload of a row of that event, and what fills it up. Bytes
+/// with no head, of no such event, or with no row of it have no line.
 #[tactic(auto, using(crate::proofs::FrontLemmas::appending), unfolding(crate::specs::RecordText::record_line))]
 pub(crate) fn push_record_line(
     alloc: Global,
@@ -132,30 +136,4 @@ pub(crate) fn push_record_line(
         return Ok(());
     };
     push_event_line(alloc, out, cpu, &head, def, payload_in(&head, rec))
-}
-
-/// Appends the line of a record in `trace` and `trace_pipe` ("Output format" of ftrace.rst): pid, CPU in three digits, timestamp in ticks of
-/// the clock, event, and each field with its value, in order of declaration.
-///
-/// `rec` is the record's bytes: its head, which names an event of the catalog, the payload of a row of that event, and what fills it up. Bytes
-/// with no head, of no such event, or with no row of it have no line.
-///
-/// It is refused only if it runs out of memory, and `out` is then as it was.
-#[tactic(auto, using(crate::proofs::FrontLemmas::appending))]
-pub fn record_text(
-    alloc: Global,
-    catalog: &Catalog,
-    cpu: u32,
-    rec: &[u8],
-    out: &mut Vec<u8>,
-) -> Result<(), AllocError>
-    ensures text { OnOk result (out.new.items ≡ out.old.items ++ texts.record_line catalog.now cpu rec.now) }
-    ensures refused { OnErr result (out.new.items ≡ out.old.items) }
-{
-    let before = out.len();
-    let written = push_record_line(alloc, out, catalog, cpu, rec);
-    if written.is_err() {
-        out.truncate(before);
-    }
-    written
 }

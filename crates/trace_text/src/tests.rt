@@ -1,6 +1,9 @@
 //! Worked rows.
 
 use super::*;
+use crate::pipe::push_lost_line;
+use crate::record::push_record_line;
+use crate::trace::push_trace_head;
 use page_ring::RingStats;
 use std::alloc::Global;
 use std::process::Abort;
@@ -165,7 +168,7 @@ fn records(rt: HostRuntime) -> Result<(), Fail> {
     }
     for (cpu, rec, text) in RECORDS {
         let mut out = begun(rt.alloc())?;
-        record_text(rt.alloc(), &catalog, cpu, rec, &mut out)?;
+        push_record_line(rt.alloc(), &mut out, &catalog, cpu, rec)?;
         assert!(rt; is_appended(&out, text), "at {text}");
     }
     laws::record_shows_its_row();
@@ -180,7 +183,7 @@ fn lost(rt: HostRuntime) -> Result<(), Fail> {
         (12, 20, "CPU:12 [LOST 20 EVENTS]\n"),
     ] {
         let mut out = begun(rt.alloc())?;
-        lost_text(rt.alloc(), cpu, lost, &mut out)?;
+        push_lost_line(&mut out, cpu, lost)?;
         assert!(rt; is_appended(&out, text), "at {text}");
     }
     Ok(())
@@ -189,7 +192,7 @@ fn lost(rt: HostRuntime) -> Result<(), Fail> {
 #[test]
 fn trace_heads(rt: HostRuntime) -> Result<(), Fail> {
     let mut out = begun(rt.alloc())?;
-    trace_head_text(rt.alloc(), 2, 36893488147419103230, 8, &mut out)?;
+    push_trace_head(&mut out, 2, 36893488147419103230, 8)?;
     let text =
         "# tracer: nop\n#\n# entries-in-buffer/entries-written: 2/36893488147419103230   #P:8\n#\n";
     assert!(rt; is_appended(&out, text));

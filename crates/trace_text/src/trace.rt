@@ -28,10 +28,10 @@ fn push_trace_title(out: &mut Vec<u8>) -> Result<(), AllocError>
     out.extend_from_slice(b"# tracer: nop\n#\n# entries-in-buffer/entries-written: ".as_slice())
 }
 
-/// Appends the head.
+/// Appends the head of `trace` ("Output format" of ftrace.rst): how many records are kept, how many are kept or were lost to overwriting,
+/// and the number of CPUs.
 #[tactic(auto, unfolding(crate::specs::TraceText::trace_head))]
-fn push_trace_head(
-    alloc: Global,
+pub(crate) fn push_trace_head(
     out: &mut Vec<u8>,
     kept: u128,
     written: u128,
@@ -40,31 +40,12 @@ fn push_trace_head(
     ensures { OnOk result (out.new.items ≡ out.old.items ++ texts.trace_head kept written cpus) }
 {
     push_trace_title(out)?;
-    push_decimal(alloc, out, kept)?;
+    push_decimal(out, kept)?;
     out.extend_from_slice(b"/".as_slice())?;
-    push_decimal(alloc, out, written)?;
+    push_decimal(out, written)?;
     out.extend_from_slice(b"   #P:".as_slice())?;
-    push_decimal(alloc, out, u128::from(cpus))?;
+    push_decimal(out, u128::from(cpus))?;
     out.extend_from_slice(b"\n#\n".as_slice())
-}
-
-/// Appends the head of `trace` ("Output format" of ftrace.rst): how many records are kept, how many are kept or were lost to overwriting,
-/// and the number of CPUs.
-///
-/// It is refused only if it runs out of memory, and `out` is then as it was.
-pub fn trace_head_text(
-    alloc: Global,
-    kept: u64,
-    written: u128,
-    cpus: u32,
-    out: &mut Vec<u8>,
-) -> Result<(), AllocError>
-    ensures text { OnOk result (out.new.items ≡ out.old.items ++ texts.trace_head kept written cpus) }
-    ensures refused { OnErr result (out.new.items ≡ out.old.items) }
-{
-    let mut text = Vec::new(alloc);
-    push_trace_head(alloc, &mut text, u128::from(kept), written, cpus)?;
-    append_text(out, text)
 }
 
 /// How many records the rings keep, and how many were lost to overwriting.
@@ -139,7 +120,7 @@ fn push_trace_of_all(
 {
     let counts = counts_of_all(buffer);
     let written = counts.kept + counts.overrun;
-    push_trace_head(alloc, out, counts.kept, written, buffer.cpus())?;
+    push_trace_head(out, counts.kept, written, buffer.cpus())?;
     let records = buffer.merged()?;
     push_merged(alloc, out, catalog, &records)
 }
@@ -160,7 +141,7 @@ fn push_trace_of_cpu(
     let stats = buffer.stats(cpu);
     let kept = u128::from(stats.entries);
     let written = kept + u128::from(stats.overrun);
-    push_trace_head(alloc, out, kept, written, buffer.cpus())?;
+    push_trace_head(out, kept, written, buffer.cpus())?;
     push_kept(alloc, out, catalog, cpu, buffer.cpu_kept(cpu))
 }
 

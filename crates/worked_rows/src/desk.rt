@@ -19,8 +19,14 @@ pub(crate) enum Step<'a> {
     Write(&'a str, &'a str),
     /// Writes to a file by `>>`.
     Append(&'a str, &'a str),
+    /// Makes the instance of this path.
+    Make(&'a str),
+    /// Removes the instance of this path.
+    Remove(&'a str),
     /// The event `tick` happens on CPU 0 in process 7, with this value for its field `n`.
     Tick(&'a str),
+    /// It happens on this CPU.
+    TickOn(u32, &'a str),
 }
 
 impl Step<'_> {
@@ -36,7 +42,10 @@ impl Step<'_> {
             }),
             Step::Write(path, written) => write(alloc, path, false, written),
             Step::Append(path, written) => write(alloc, path, true, written),
-            Step::Tick(value) => tick(alloc, value),
+            Step::Make(path) => Command::mkdir(alloc, path.as_bytes()),
+            Step::Remove(path) => Command::rmdir(alloc, path.as_bytes()),
+            Step::Tick(value) => tick(alloc, 0, value),
+            Step::TickOn(cpu, value) => tick(alloc, cpu, value),
         }
     }
 }
@@ -53,7 +62,7 @@ fn write(alloc: Global, path: &str, append: bool, written: &str) -> Result<Comma
     })
 }
 
-fn tick(alloc: Global, value: &str) -> Result<Command, AllocError> {
+fn tick(alloc: Global, cpu: u32, value: &str) -> Result<Command, AllocError> {
     let mut pairs = Vec::with_capacity(alloc, 1)?;
     pairs.push(Pair {
         name: text(alloc, "n")?,
@@ -61,7 +70,7 @@ fn tick(alloc: Global, value: &str) -> Result<Command, AllocError> {
     })?;
     Ok(Command::Emit {
         event: text(alloc, "tick")?,
-        cpu: 0,
+        cpu,
         pid: 7,
         pairs: Pairs::from(pairs),
     })

@@ -2,9 +2,13 @@
 #![tactic(auto)]
 
 #[cfg(test)]
+mod cpus;
+#[cfg(test)]
 mod desk;
 #[cfg(test)]
 mod devices;
+#[cfg(test)]
+mod eight_instances;
 #[cfg(test)]
 mod events;
 #[cfg(test)]
@@ -12,9 +16,13 @@ mod fakes;
 #[cfg(test)]
 mod filters;
 #[cfg(test)]
+mod instances;
+#[cfg(test)]
 mod limits;
 #[cfg(test)]
 mod memory;
+#[cfg(test)]
+mod paths;
 #[cfg(test)]
 mod refusals;
 #[cfg(test)]

@@ -218,3 +218,11 @@ fn a_refused_clearing_keeps_the_old_ones(rt: HostRuntime) {
     let write = Step::Write(FILTER_OF_ALL, "0");
     filter_survives(&rt, write, "none\n", "none\n");
 }
+
+#[test]
+fn a_refused_instance_is_not_made(rt: HostRuntime) {
+    let mut desk = prepared_desk(&rt);
+    let before = [(STATS, THREE_COUNTED), (TRACE, THREE)];
+    change_survives(&rt, &mut desk, Step::Make("instances/a"), &before);
+    desk.shows(&rt, Step::Read("instances/a/tracing_on"), "1\n");
+}

@@ -1,5 +1,5 @@
 use Rattle.std.proofs.Common.{◌≡◌, ◌+◌, ◌++◌, length, take, drop}
-use Rattle.trace_book.specs.States.{changed_filters}
+use Rattle.trace_book.specs.Changes.{changed_filters}
 use Rattle.trace_book.proofs.instance.change_all.Given as goal
 
 abbrev pub invariant-loop-change : goal.invariant-loop-change

@@ -4,14 +4,16 @@ use Rattle.trace_history.specs.History.{past_of}
 use Rattle.trace_book.specs.BookSeen.{BookSeen}
 use Rattle.trace_command.specs.declared.command.Entry.{Entry}
 use Rattle.trace_command.specs.declared.command.Reply.{Reply}
-use Rattle.trace_book.proofs.Histories.{usable-from_stands, length-past_of, past_of-push, answer-done, answer-full, refused-reply, refused-early, late-done, IsLegal-push}
-use Rattle.trace_book.proofs.Steps.{stands_after}
+use Rattle.trace_book.proofs.Alike.{state_alike-stands, unchanged-stands}
+use Rattle.trace_book.proofs.Usable.{few_from_stands, usable_from_stands}
+use Rattle.trace_book.proofs.Histories.{length-past_of, past_of-push, answer-done, answer-full, refused-reply, refused-early, late-done, IsLegal-push}
+use Rattle.trace_book.proofs.Stands.{stands_after}
 use Rattle.trace_book.proofs.book.Book.ask.Goals as goal
 
 pub prepare-requires-clause-usable : goal.prepare-requires-clause-usable
 prepare-requires-clause-usable c =
     let book = c.self.inside in
-    usable-from_stands book.config book.state (past_of book.entries.items) c.self.invariant.in_range c.self.invariant.stands
+    usable_from_stands book.config book.state (past_of book.entries.items) c.self.invariant.in_range c.self.invariant.stands
     (omega (arith, length-past_of book.entries.items, c.self.invariant.few))
 
 pub invariant_of-self : goal.invariant_of-self
@@ -19,7 +21,7 @@ invariant_of-self c = record {
   in_range = c.self.invariant.in_range;
   few = c.self.invariant.few;
   legal = c.self.invariant.legal;
-  stands = c.prepare.ensures.stands _ _ c.self.invariant.stands;
+  stands = state_alike-stands _ _ _ _ c.prepare.ensures.alike c.self.invariant.stands;
 }
 
 pub returns-in_err-change-clause-reply : goal.returns-in_err-change-clause-reply
@@ -43,7 +45,7 @@ invariant_of-self-then-len-self c = record {
   in_range = c.self.invariant.in_range;
   few = c.self.invariant.few;
   legal = c.self.invariant.legal;
-  stands = c.prepare.ensures.stands _ _ c.self.invariant.stands;
+  stands = state_alike-stands _ _ _ _ c.prepare.ensures.alike c.self.invariant.stands;
 }
 
 pub returns-then-len-self-clause-reply : goal.returns-then-len-self-clause-reply
@@ -74,20 +76,31 @@ invariant_of-self-in_err-reserve c = record {
   in_range = c.self.invariant.in_range;
   few = rw c.reserve.ensures.items c.self.invariant.few;
   legal = rw c.reserve.ensures.items c.self.invariant.legal;
-  stands = rw c.reserve.ensures.items (c.prepare.ensures.stands _ _ c.self.invariant.stands);
+  stands = rw c.reserve.ensures.items (state_alike-stands _ _ _ _ c.prepare.ensures.alike c.self.invariant.stands);
 }
 
 pub commit-requires-clause-early : goal.commit-requires-clause-early
 commit-requires-clause-early c =
     let book = c.self.inside in
-    let stands = c.prepare.ensures.stands book.config (past_of book.entries.items) c.self.invariant.stands in
+    let stands = state_alike-stands book.config _ _ (past_of book.entries.items) c.prepare.ensures.alike c.self.invariant.stands in
     omega (arith, stands.early, length-past_of book.entries.items, c.len.ensures, book.entries.ok.0, c.self.invariant.in_range.few_entries)
 
 pub commit-requires-clause-few : goal.commit-requires-clause-few
 commit-requires-clause-few c =
     let book = c.self.inside in
-    let stands = c.prepare.ensures.stands book.config (past_of book.entries.items) c.self.invariant.stands in
-    omega (arith, stands.offered, length-past_of book.entries.items, c.len.ensures, book.entries.ok.0, c.self.invariant.in_range.few_entries)
+    let stands = state_alike-stands book.config _ _ (past_of book.entries.items) c.prepare.ensures.alike c.self.invariant.stands in
+    few_from_stands book.config _ (past_of book.entries.items) stands
+    (omega (arith, length-past_of book.entries.items, c.len.ensures, book.entries.ok.0, c.self.invariant.in_range.few_entries))
+
+pub invariant_of-self-in_err-commit : goal.invariant_of-self-in_err-commit
+invariant_of-self-in_err-commit c =
+    let book = c.self.inside in
+    let stands = state_alike-stands book.config _ _ (past_of book.entries.items) c.prepare.ensures.alike c.self.invariant.stands in record {
+      in_range = c.self.invariant.in_range;
+      few = rw c.reserve.ensures.items c.self.invariant.few;
+      legal = rw c.reserve.ensures.items c.self.invariant.legal;
+      stands = rw c.reserve.ensures.items (unchanged-stands book.config _ _ (past_of book.entries.items) c.in_err-commit.ensures.refused stands);
+    }
 
 pub returns-in_err-commit-clause-early : goal.returns-in_err-commit-clause-early
 returns-in_err-commit-clause-early c =
@@ -110,12 +123,12 @@ invariant_of-self-2 c =
     (omega (arith, length-past_of book.entries.items, c.len.ensures, book.entries.ok.0)) in
     let Below : BookSeen → Type 0 = λ seen. All (λ (e : Entry). e.ticket < c.args.ticket) seen.entries in
     let below : All (λ (e : Entry). e.ticket < c.args.ticket) book.entries.items = subst Below (sym c.self.view_is) c.requires in
-    let stands = c.prepare.ensures.stands g past c.self.invariant.stands in
+    let stands = state_alike-stands g _ _ past c.prepare.ensures.alike c.self.invariant.stands in
     record {
       in_range = c.self.invariant.in_range;
       few = rw items (omega (arith, length-append book.entries.items (entry ∷ []), c.len.ensures, book.entries.ok.0, c.self.invariant.in_range.few_entries));
       legal = rw items (IsLegal-push g book.entries.items entry c.self.invariant.legal (c.ranges.ticket.fits, c.ranges.by.fits, c.in_ok-change.ensures.fits) below (rw done refl));
-      stands = rw (items, past_of-push) (stands_after g c.prepare.new.self c.commit.new.self past request c.in_ok-change.field-0.change stands prepared.1 c.in_ok-commit.ensures.done);
+      stands = rw (items, past_of-push) (stands_after g c.prepare.new.self c.commit.new.self past request c.in_ok-change.field-0 c.self.invariant.in_range stands prepared c.in_ok-commit.ensures.done);
     }
 
 pub returns-clause-reply : goal.returns-clause-reply
@@ -132,3 +145,10 @@ returns-clause-early c =
     let past = past_of book.entries.items in
     let prepared = c.in_ok-change.ensures.prepared past c.self.invariant.stands in
     rw (← c.self.view_is) (λ early. absurd (late-done book.config past (request_of c.args.command) c.in_ok-change.field-0.reply prepared.0 early))
+
+pub commit-requires-clause-usable : goal.commit-requires-clause-usable
+commit-requires-clause-usable c =
+    let book = c.self.inside in
+    let stands = state_alike-stands book.config _ _ (past_of book.entries.items) c.prepare.ensures.alike c.self.invariant.stands in
+    usable_from_stands book.config _ (past_of book.entries.items) c.self.invariant.in_range stands
+    (omega (arith, length-past_of book.entries.items, c.self.invariant.few))

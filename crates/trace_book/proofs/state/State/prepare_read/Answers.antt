@@ -1,25 +1,45 @@
-use Rattle.std.proofs.Common.{Some, refl}
-use Rattle.trace_lex.specs.Decimals.{value_after}
-use Rattle.trace_command.specs.Paths.{TracePipe, EventEnable}
-use Rattle.trace_book.proofs.Prepared.{prepared-nothing, prepared-take, prepared-cpu_take}
+use Rattle.std.proofs.Common.{◌≡◌, Ok, Err, refl, rules}
+use Rattle.trace_command.specs.Paths as paths
+use Rattle.trace_command.specs.Paths.{Address}
+use Rattle.trace_book.specs.Commands.{IsRead}
+use Rattle.trace_book.specs.Files.{IsResolved, file_at}
+use Rattle.trace_book.specs.declared.resolve.Target.TheVariants.{Declarations, Of}
+use Rattle.trace_book.proofs.Dispatch.{address-lists, address-reads, address-read_refused, is-source}
 use Rattle.trace_book.proofs.state.State.prepare_read.Goals as goal
 
-pub returns-in-TracePipe-clause-prepared : goal.returns-in-TracePipe-clause-prepared
-returns-in-TracePipe-clause-prepared c = λ past stands.
+pub returns-in_err-change-in-Of-clause-prepared : goal.returns-in_err-change-in-Of-clause-prepared
+returns-in_err-change-in-Of-clause-prepared c = λ past stands.
     let g = c.args.config.now in
-    rw c.in-TracePipe.is
-    (prepared-take g past TracePipe c.args.limit c.args.self.now c.prepare_take.result (c.prepare_take.ensures g past c.args.limit stands c.unwrap_or-most.ensures) refl refl)
+    let state = c.args.self.now in
+    let address : Address = paths.address_of c.args.path.now in
+    let place = c.in-Of.place in
+    let refused = c.in_err-change-in-Of.field-0.0 in
+    let led = c.in_ok-resolve.ensures.resolved past stands in
+    let resolved : IsResolved g state past address (Ok (Of place c.in-Of.file)) = rw c.in-Of.is at led in
+    let source = is-source g state past _ place address.instance c.index.result.now stands resolved.1 refl refl c.index.ensures refl in
+    let read : IsRead g address.instance past c.args.limit (file_at state.catalog c.in-Of.file) (Err refused) =
+    c.in_err-change-in-Of.ensures g address.instance past source resolved.3 in
+    let out : c.from_residual-in_err-change-in-Of.result ≡ Err refused = search rules in
+    rw out (address-read_refused g state past address place c.in-Of.file c.args.limit refused stands resolved read)
 
-pub returns-in-Some-cpu_below-clause-prepared : goal.returns-in-Some-cpu_below-clause-prepared
-returns-in-Some-cpu_below-clause-prepared c = λ past stands.
+pub returns-in-Declarations-clause-prepared : goal.returns-in-Declarations-clause-prepared
+returns-in-Declarations-clause-prepared c = λ past stands.
     let g = c.args.config.now in
-    rw c.in-CpuTracePipe.is
-    (prepared-cpu_take g past (value_after 0 c.in-CpuTracePipe.digits.now) c.in-Some-cpu_below.cpu c.args.limit c.args.self.now c.prepare_take-in-Some-cpu_below.result
-    c.requires.in_range.one_cpu c.in-Some-cpu_below.ensures
-    (c.prepare_take-in-Some-cpu_below.ensures g past c.args.limit stands c.unwrap_or-most.ensures))
+    let state = c.args.self.now in
+    let address : Address = paths.address_of c.args.path.now in
+    let led = c.in_ok-resolve.ensures.resolved past stands in
+    let resolved : IsResolved g state past address (Ok Declarations) = rw c.in-Declarations.is at led in
+    address-lists g state past address c.args.limit c.read_declarations.result resolved
+    (c.read_declarations.ensures g past address.instance stands resolved.0)
 
-pub returns-in-EventEnable-clause-prepared : goal.returns-in-EventEnable-clause-prepared
-returns-in-EventEnable-clause-prepared c = λ past stands.
-    rw (c.in-EventEnable.is, c.unchanged-in-EventEnable.ensures)
-    (prepared-nothing c.args.config.now past (Some (EventEnable c.in-EventEnable.name.now)) c.args.limit c.args.self.now c.read_enable.result refl
-    (c.read_enable.ensures c.args.config.now past stands))
+pub returns-in_ok-change-in-Of-clause-prepared : goal.returns-in_ok-change-in-Of-clause-prepared
+returns-in_ok-change-in-Of-clause-prepared c = λ past stands.
+    let g = c.args.config.now in
+    let state = c.args.self.now in
+    let address : Address = paths.address_of c.args.path.now in
+    let place = c.in-Of.place in
+    let led = c.in_ok-resolve.ensures.resolved past stands in
+    let resolved : IsResolved g state past address (Ok (Of place c.in-Of.file)) = rw c.in-Of.is at led in
+    address-reads g state past address place c.in-Of.file c.args.limit c.in_ok-change-in-Of.field-0 c.requires.usable stands resolved
+    (c.in_ok-change-in-Of.ensures g address.instance past
+    (is-source g state past _ place address.instance c.index.result.now stands resolved.1 refl refl c.index.ensures refl) resolved.3)

@@ -1,0 +1,44 @@
+"""What the scripts beside this one have in common: programs are run in turns, and their time or their instructions are measured."""
+import os
+import re
+import subprocess
+import sys
+import time
+
+TOP = os.path.dirname(os.path.dirname(os.path.abspath(__file__)))
+RUNS = 12
+
+
+def program_of(crate):
+    """The built program of a crate."""
+    program = os.path.join(TOP, "crates", crate, "out", crate)
+    if not os.access(program, os.X_OK):
+        sys.exit("no program at %s: build it first, by rt run in crates/%s" % (os.path.relpath(program), crate))
+    return program
+
+
+def run_once(words, path=os.devnull):
+    """The time of one run, in seconds, with this file on standard input."""
+    with open(path, "rb") as source:
+        start = time.perf_counter()
+        status = subprocess.Popen(words, stdin=source, stdout=subprocess.DEVNULL).wait()
+        elapsed = time.perf_counter() - start
+    if status != 0:
+        sys.exit("the program ended with %d" % status)
+    return elapsed
+
+
+def least_times(runs):
+    """For each run, its words and perhaps a file, the least time of several, in seconds.
+
+    The runs take turns, so that a machine that gets slower or faster does so for all of them.
+    """
+    rounds = [[run_once(*run) for run in runs] for _ in range(RUNS)]
+    return [min(of_one) for of_one in zip(*rounds)]
+
+
+def instructions(words, text=""):
+    """How many instructions a run takes, with this text on standard input."""
+    command = ["valgrind", "--tool=callgrind", "--callgrind-out-file=/dev/null"] + words
+    run = subprocess.run(command, input=text, text=True, stdout=subprocess.DEVNULL, stderr=subprocess.PIPE, check=True)
+    return int(re.search(r"Collected : (\d+)", run.stderr).group(1))

@@ -1,0 +1,63 @@
+-- Room for records, and what is being prepared, are not part of what a state stands for.
+use Rattle.std.proofs.Common.{ℕ, ◌<◌, ◌≤◌, ◌∙◌, List, length, get_or, Option, sym, ap, subst, arith}
+use Rattle.std.proofs.lemmas.List.Elements.{All-same}
+use Rattle.std.specs.List.{AllByRecursion}
+use Rattle.trace_command.specs.Requests.{Request}
+use Rattle.trace_command.specs.declared.command.Config.{Config}
+use Rattle.trace_history.specs.Rings.{rings}
+use Rattle.trace_book.specs.Emissions.{IsStateAlike}
+use Rattle.trace_book.specs.Instances.{InstanceSeen, InstanceStandsFor, IsAlike}
+use Rattle.trace_book.specs.States.{IsUnchanged, StandsFor, names_of}
+use Rattle.trace_book.specs.declared.state.Named.{Named}
+use Rattle.trace_book.specs.declared.state.State.{State}
+use Rattle.trace_book.proofs.EachInstance.{names-same}
+
+alike-stands : (g : Config) (name : Option (List ℕ)) (past : List Request) (i j : InstanceSeen) → IsAlike i j → InstanceStandsFor g name past i
+    → InstanceStandsFor g name past j
+alike-stands g name past i j alike stands = record {
+  enabled = alike.enabled ∙ stands.enabled;
+  filters = alike.filters ∙ stands.filters;
+  overwrite = alike.overwrite ∙ stands.overwrite;
+  tracing = alike.tracing ∙ stands.tracing;
+  rings = alike.rings (rings g name past) stands.rings;
+  cpus = alike.cpus ∙ stands.cpus;
+  pages = alike.pages ∙ stands.pages;
+  page_bytes = alike.page_bytes ∙ stands.page_bytes;
+  offers = subst (AllByRecursion (λ n. n ≤ length past)) (sym alike.offers) stands.offers;
+}
+
+pub state_alike-stands : (g : Config) (old new : State) (past : List Request) → IsStateAlike old new → StandsFor g old past → StandsFor g new past
+state_alike-stands g old new past alike stands = record {
+  events = alike.catalog ∙ stands.events;
+  few_events = stands.few_events;
+  fit = stands.fit;
+  distinct = stands.distinct;
+  unknown = stands.unknown;
+  unfiltered = stands.unfiltered;
+  clock = alike.clock ∙ stands.clock;
+  early = omega (arith, alike.clock, stands.early);
+  names = names-same old.instances.items new.instances.items alike.instances.many alike.instances.names ∙ stands.names;
+  few_instances = stands.few_instances;
+  distinct_names = stands.distinct_names;
+  each = λ k d inside.
+      let within : k < length old.instances.items = omega (arith, inside, alike.instances.many) in
+      subst (λ (name : Option (List ℕ)). InstanceStandsFor g name past (get_or new.instances.items k d).instance) (sym (alike.instances.names k d within))
+      (alike-stands g _ past _ _ (alike.instances.came k d within) (stands.each k d within));
+}
+
+pub unchanged-stands : (g : Config) (old new : State) (past : List Request) → IsUnchanged old new → StandsFor g old past → StandsFor g new past
+unchanged-stands g old new past same stands =
+    let P : Named → Type 0 = λ n. InstanceStandsFor g n.name past n.instance in record {
+      events = same.catalog ∙ stands.events;
+      few_events = stands.few_events;
+      fit = stands.fit;
+      distinct = stands.distinct;
+      unknown = stands.unknown;
+      unfiltered = stands.unfiltered;
+      clock = same.clock ∙ stands.clock;
+      early = omega (arith, same.clock, stands.early);
+      names = ap names_of same.instances ∙ stands.names;
+      few_instances = stands.few_instances;
+      distinct_names = stands.distinct_names;
+      each = All-same P new.instances.items old.instances.items same.instances stands.each;
+    }

@@ -1,0 +1,183 @@
+-- What writes to files, reads and declarations change of each instance.
+use Rattle.std.proofs.Common.{◌≡◌, ℕ, ◌<◌, Bool, true, false, List, [], ◌∷◌, length, map, is_some, Option, Some, None, refl, sym, ap, ◌∙◌, arith}
+use Rattle.std.proofs.lemmas.Bool.{lt-ltb}
+use Rattle.std.proofs.lemmas.Slice.Eq.{bytes_eq-Decides}
+use Rattle.std.specs.Option.{option_map}
+use Rattle.page_ring.specs.Events.{Event}
+use Rattle.trace_filter.specs.Filters.{parsed_of}
+use Rattle.trace_format.specs.Catalogs.{AreEvents}
+use Rattle.trace_format.specs.Definitions.{Definition}
+use Rattle.trace_command.specs.Paths as paths
+use Rattle.trace_command.specs.Requests.{Request, WriteFile, ReadFile}
+use Rattle.trace_command.specs.declared.command.Config.{Config}
+use Rattle.trace_history.proofs.EventLists.{named_at}
+use Rattle.trace_history.specs.History.{missing}
+use Rattle.trace_history.specs.Rings.{rings, rings_after_read, rings_after_write}
+use Rattle.trace_history.specs.Settings.{declared_events, event_named, event_named_in, filter_of, is_enabled, is_same, is_tracing, overwrites}
+use Rattle.trace_book.specs.Changes.{IsEffect, filters_after, IsLawful, IsWriteEffect, rings_changed}
+use Rattle.trace_book.specs.Commands.{IsReading}
+use Rattle.trace_book.specs.Files.{IsThere, file_at, name_at}
+use Rattle.trace_book.specs.States.{IsPlain, IsUsableInstance}
+use Rattle.trace_book.specs.Instances.{InstanceSeen}
+use Rattle.trace_book.specs.declared.change.InstanceChange.{InstanceChange}
+use Rattle.trace_book.specs.declared.change.InstanceChange.TheVariants.{Keep, Take, TakeCpu, Switch, SwitchAll, SetFilter, SetFilters, SetOverwrite, SetTracing, Clear, ClearCpu}
+use Rattle.trace_book.specs.declared.resolve.File.{File}
+use Rattle.trace_book.specs.declared.resolve.File.TheVariants as file
+use Rattle.trace_book.proofs.EventReads.{name-at_place}
+
+-- an instance is the same as itself
+pub same_instance : (name : Option (List ℕ)) → is_same name name ≡ true
+same_instance None = refl
+same_instance (Some name) = (bytes_eq-Decides name name).1 refl
+
+-- ---- writes
+
+-- a write to a file of an instance changes no other
+pub other_write : (g : Config) (other name : Option (List ℕ)) (past : List Request) (named : paths.File) (append : Bool) (text : List ℕ)
+    → is_same other name ≡ false → IsEffect g other past (WriteFile name (Some named) append text) Keep
+other_write g other name past named append text is =
+    let kept : map (λ (event : Definition). option_map (parsed_of event) (filter_of other event.name (WriteFile name (Some named) append text ∷ past))) (declared_events past)
+    ≡ map (λ (event : Definition). option_map (parsed_of event) (filter_of other event.name past)) (declared_events past) = rw is refl in record {
+      enabled = rw is refl;
+      filters = kept;
+      overwrite = rw is refl;
+      tracing = rw is refl;
+      rings = rw is refl;
+    }
+
+-- and it changes this one as the file says
+pub own_write : (g : Config) (name : Option (List ℕ)) (past : List Request) (named : paths.File) (append : Bool) (text : List ℕ) (change : InstanceChange)
+    → IsWriteEffect g past append text named change → IsEffect g name past (WriteFile name (Some named) append text) change
+own_write g name past named append text change is =
+    let same = same_instance name in
+    let kept : map (λ (event : Definition). option_map (parsed_of event) (filter_of name event.name (WriteFile name (Some named) append text ∷ past))) (declared_events past)
+    ≡ filters_after change (map (λ (event : Definition). option_map (parsed_of event) (filter_of name event.name past)) (declared_events past)) =
+    rw same (is.filters (λ event. filter_of name event past)) in record {
+      enabled = rw same (is.enabled (λ event. is_enabled name event past));
+      filters = kept;
+      overwrite = rw same (is.overwrite (overwrites name past));
+      tracing = rw same (is.tracing (is_tracing name past));
+      rings = rw same (is.rings (rings g name past));
+    }
+
+-- a write to a file that is none of declarations declares nothing
+pub plain_write : (name : Option (List ℕ)) (events : List Definition) (found : File) (append : Bool) (text : List ℕ)
+    → IsPlain (WriteFile name (Some (file_at events found)) append text)
+plain_write name events file.Trace append text = record { declares = refl; made = refl; removed = refl; ticks = refl }
+plain_write name events (file.CpuTrace cpu) append text = record { declares = refl; made = refl; removed = refl; ticks = refl }
+plain_write name events file.TracePipe append text = record { declares = refl; made = refl; removed = refl; ticks = refl }
+plain_write name events (file.CpuTracePipe cpu) append text = record { declares = refl; made = refl; removed = refl; ticks = refl }
+plain_write name events (file.CpuStats cpu) append text = record { declares = refl; made = refl; removed = refl; ticks = refl }
+plain_write name events file.Overwrite append text = record { declares = refl; made = refl; removed = refl; ticks = refl }
+plain_write name events file.TraceOptions append text = record { declares = refl; made = refl; removed = refl; ticks = refl }
+plain_write name events file.TracingOn append text = record { declares = refl; made = refl; removed = refl; ticks = refl }
+plain_write name events file.EventsEnable append text = record { declares = refl; made = refl; removed = refl; ticks = refl }
+plain_write name events file.EventsFilter append text = record { declares = refl; made = refl; removed = refl; ticks = refl }
+plain_write name events (file.EventEnable event) append text = record { declares = refl; made = refl; removed = refl; ticks = refl }
+plain_write name events (file.EventFilter event) append text = record { declares = refl; made = refl; removed = refl; ticks = refl }
+plain_write name events (file.EventFormat event) append text = record { declares = refl; made = refl; removed = refl; ticks = refl }
+
+-- a declaration empties no ring
+declared_rings : (append : Bool) (family : List (List Event)) → rings_after_write append (Some paths.SyntheticEvents) family ≡ family
+declared_rings true family = refl
+declared_rings false family = refl
+
+-- a declaration changes nothing of the instance with its file
+declared_here : (g : Config) (other name : Option (List ℕ)) (past : List Request) (append : Bool) (text : List ℕ)
+    → is_same other name ≡ true → IsEffect g other past (WriteFile name (Some paths.SyntheticEvents) append text) Keep
+declared_here g other name past append text is =
+    let request = WriteFile name (Some paths.SyntheticEvents) append text in
+    let kept : map (λ (event : Definition). option_map (parsed_of event) (filter_of other event.name (request ∷ past))) (declared_events past)
+    ≡ map (λ (event : Definition). option_map (parsed_of event) (filter_of other event.name past)) (declared_events past) = rw is refl in
+    record { enabled = rw is refl; filters = kept; overwrite = rw is refl; tracing = rw is refl; rings = rw is (declared_rings append (rings g other past)) }
+
+-- a declaration changes no instance
+pub declaration_effect : (g : Config) (other name : Option (List ℕ)) (past : List Request) (append : Bool) (text : List ℕ)
+    → IsEffect g other past (WriteFile name (Some paths.SyntheticEvents) append text) Keep
+declaration_effect g other name past append text = by (is_same other name) refl
+  where
+    by : (same : Bool) → is_same other name ≡ same → IsEffect g other past (WriteFile name (Some paths.SyntheticEvents) append text) Keep
+    by true is = declared_here g other name past append text is
+    by false is = other_write g other name past paths.SyntheticEvents append text is
+
+-- ---- reads
+
+pub plain_read : (name : Option (List ℕ)) (named : Option paths.File) (limit : Option ℕ) → IsPlain (ReadFile name named limit)
+plain_read name named limit = record { declares = refl; made = refl; removed = refl; ticks = refl }
+
+-- a read of a file of an instance changes no other
+pub other_read : (g : Config) (other name : Option (List ℕ)) (past : List Request) (named : Option paths.File) (limit : Option ℕ)
+    → is_same other name ≡ false → IsEffect g other past (ReadFile name named limit) Keep
+other_read g other name past named limit is = record {
+  enabled = refl;
+  filters = refl;
+  overwrite = refl;
+  tracing = refl;
+  rings = rw is refl;
+}
+
+-- and it changes of this one the rings alone
+pub own_read : (g : Config) (name : Option (List ℕ)) (past : List Request) (named : paths.File) (limit : Option ℕ) (change : InstanceChange)
+    → IsReading g.cpus change
+    → rings_after_read g limit (Some named) (rings g name past) ≡ rings_changed g.pages g.page_bytes change (rings g name past)
+    → IsEffect g name past (ReadFile name (Some named) limit) change
+own_read g name past named limit Keep reading is =
+    record { enabled = refl; filters = refl; overwrite = refl; tracing = refl; rings = rw (same_instance name) is }
+own_read g name past named limit (Take most) reading is =
+    record { enabled = refl; filters = refl; overwrite = refl; tracing = refl; rings = rw (same_instance name) is }
+own_read g name past named limit (TakeCpu cpu most) reading is =
+    record { enabled = refl; filters = refl; overwrite = refl; tracing = refl; rings = rw (same_instance name) is }
+own_read g name past named limit (Switch event flag) reading is = absurd reading
+own_read g name past named limit (SwitchAll flag) reading is = absurd reading
+own_read g name past named limit (SetFilter event filter) reading is = absurd reading
+own_read g name past named limit (SetFilters changes) reading is = absurd reading
+own_read g name past named limit (SetOverwrite flag) reading is = absurd reading
+own_read g name past named limit (SetTracing flag) reading is = absurd reading
+own_read g name past named limit Clear reading is = absurd reading
+own_read g name past named limit (ClearCpu cpu) reading is = absurd reading
+
+-- such a change can be made of every instance
+pub lawful_read : (g : Config) (events : ℕ) (i : InstanceSeen) (change : InstanceChange) → IsUsableInstance g events i → IsReading g.cpus change
+    → IsLawful i change
+lawful_read g events i Keep usable reading = tt
+lawful_read g events i (Take most) usable reading = tt
+lawful_read g events i (TakeCpu cpu most) usable reading = omega (arith, reading, usable.cpus)
+lawful_read g events i (Switch event flag) usable reading = absurd reading
+lawful_read g events i (SwitchAll flag) usable reading = absurd reading
+lawful_read g events i (SetFilter event filter) usable reading = absurd reading
+lawful_read g events i (SetFilters changes) usable reading = absurd reading
+lawful_read g events i (SetOverwrite flag) usable reading = absurd reading
+lawful_read g events i (SetTracing flag) usable reading = absurd reading
+lawful_read g events i Clear usable reading = absurd reading
+lawful_read g events i (ClearCpu cpu) usable reading = absurd reading
+
+-- ---- nothing that was found is missing
+
+no_event : Definition
+no_event = record { name = []; fields = [] }
+
+named_at_place : (events : List Definition) (place : ℕ) → AreEvents [] events → place < length events
+    → is_some (event_named_in events (name_at events place)) ≡ true
+named_at_place events place are inside =
+    rw (name-at_place events place no_event inside, named_at events place no_event are inside) refl
+
+event_there : (past : List Request) (events : List Definition) (place : ℕ) → events ≡ declared_events past → AreEvents [] events → place < length events
+    → is_some (event_named (name_at events place) past) ≡ true
+event_there past events place is are inside =
+    ap (λ (es : List Definition). is_some (event_named_in es (name_at events place))) (sym is) ∙ named_at_place events place are inside
+
+pub nothing_missing : (g : Config) (past : List Request) (events : List Definition) (found : File) → events ≡ declared_events past → AreEvents [] events
+    → IsThere g.cpus events found → missing g past (file_at events found) ≡ None
+nothing_missing g past events file.Trace is are there = refl
+nothing_missing g past events (file.CpuTrace cpu) is are there = rw (lt-ltb cpu g.cpus there) refl
+nothing_missing g past events file.TracePipe is are there = refl
+nothing_missing g past events (file.CpuTracePipe cpu) is are there = rw (lt-ltb cpu g.cpus there) refl
+nothing_missing g past events (file.CpuStats cpu) is are there = rw (lt-ltb cpu g.cpus there) refl
+nothing_missing g past events file.Overwrite is are there = refl
+nothing_missing g past events file.TraceOptions is are there = refl
+nothing_missing g past events file.TracingOn is are there = refl
+nothing_missing g past events file.EventsEnable is are there = refl
+nothing_missing g past events file.EventsFilter is are there = refl
+nothing_missing g past events (file.EventEnable event) is are there = rw (event_there past events event is are there) refl
+nothing_missing g past events (file.EventFilter event) is are there = rw (event_there past events event is are there) refl
+nothing_missing g past events (file.EventFormat event) is are there = rw (event_there past events event is are there) refl

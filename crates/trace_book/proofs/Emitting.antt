@@ -1,0 +1,199 @@
+-- What an emission that is prepared leaves of the instances is what the requests say of it.
+use Rattle.std.proofs.Common.{◌≡◌, ℕ, zero, suc, ℤ, ◌+◌, ◌<◌, ◌≤◌, Bool, true, false, List, [], ◌∷◌, ◌++◌, length, take, get_or, All, Option, Some, None, Ok, refl, sym, ap, ◌∙◌, subst, arith}
+use Rattle.std.proofs.Math.Seq.{take-append_seam}
+use Rattle.std.specs.List.{AllByRecursion}
+use Rattle.std.specs.Option.{option_map}
+use Rattle.std.proofs.lemmas.List.{get_or-map}
+use Rattle.std.proofs.lemmas.Bool.{lt-ltb}
+use Rattle.trace_buffer.specs.Buffers as buffers
+use Rattle.trace_record.specs.Record.{IsRecord}
+use Rattle.trace_filter.specs.Filters.{Parsed, parsed_of}
+use Rattle.trace_format.specs.Cells.{Cells}
+use Rattle.trace_format.specs.Definitions.{Definition}
+use Rattle.trace_format.specs.Rows.{row_of}
+use Rattle.trace_format.specs.declared.pair.Pair.{Pair}
+use Rattle.trace_command.specs.Requests.{Request, Emission}
+use Rattle.trace_command.specs.declared.command.Config.{Config}
+use Rattle.trace_command.specs.declared.command.Reply.TheVariants as reply
+use Rattle.trace_history.specs.Declarations.{IsFit, IsPlaceOf}
+use Rattle.trace_history.specs.Settings.{NumberedEvent, declared_events, event_named, event_named_in, filter_of, is_enabled, kept_filter, now_of}
+use Rattle.trace_history.specs.Rings.{Emitted, filter_holds, is_recorded, record_bytes}
+use Rattle.trace_history.specs.History.{emission_answer}
+use Rattle.trace_book.specs.Instances.{InstanceSeen, InstanceStandsFor, IsAlike}
+use Rattle.trace_book.specs.Rows.{kept_holds, records}
+use Rattle.trace_book.specs.States.{EachCame, HasRoom, IsEmission, IsReady, StandsFor}
+use Rattle.trace_book.specs.Emissions.{IsAhead, IsArmedFor, IsReadied, IsStateAlike}
+use Rattle.trace_book.specs.Found.{numbered}
+use Rattle.trace_book.specs.declared.change.Change.TheVariants.{Emit}
+use Rattle.trace_book.specs.declared.change.Pending.{Pending}
+use Rattle.trace_book.specs.declared.resolve.Found.{Found}
+use Rattle.trace_book.specs.declared.state.Named.{Named}
+use Rattle.trace_book.specs.declared.state.State.{State}
+
+-- ---- what is written ahead
+
+-- an instance that was armed, and then made ready, is alike
+alike-armed : (i m j : InstanceSeen) (armed : Bool) → m ≡ record i { armed = armed } → IsAlike m j → IsAlike i j
+alike-armed i m j armed is alike =
+    let same : IsAlike (record i { armed = armed }) j = subst (λ (n : InstanceSeen). IsAlike n j) is alike in record {
+      enabled = same.enabled;
+      filters = same.filters;
+      overwrite = same.overwrite;
+      tracing = same.tracing;
+      rings = same.rings;
+      cpus = same.cpus;
+      pages = same.pages;
+      page_bytes = same.page_bytes;
+      offers = same.offers;
+    }
+
+-- what is written over all of a vector's elements
+pub written-over : {X : Type 0} (n : ℕ) (out rest : List X) → length out ≡ n → take n (out ++ rest) ≡ out
+written-over n out rest is = subst (λ (k : ℕ). take k (out ++ rest) ≡ out) is (take-append_seam out rest)
+
+-- and so are all of them
+pub alike-each : (event : ℕ) (row : Cells) (cpu : ℕ) (pid : ℤ) (old armed new : List Named)
+    → EachCame (IsArmedFor event row cpu pid) old armed → EachCame IsReadied armed new → EachCame IsAlike old new
+alike-each event row cpu pid old armed new came readied = record {
+  many = readied.many ∙ came.many;
+  names = λ k d inside. readied.names k d (omega (arith, came.many)) ∙ came.names k d inside;
+  came = λ k d inside. alike-armed (get_or old k d).instance (get_or armed k d).instance (get_or new k d).instance
+      (records (get_or old k d).instance event row cpu pid) (came.came k d inside) (readied.came k d (omega (arith, came.many))).0;
+}
+
+-- each is armed still exactly if it records the emission
+pub armed-each : (event : ℕ) (row : Cells) (cpu : ℕ) (pid : ℤ) (old armed new : List Named)
+    → EachCame (IsArmedFor event row cpu pid) old armed → EachCame IsReadied armed new
+    → (k : ℕ) (d : Named) → k < length old → (get_or new k d).instance.armed ≡ records (get_or old k d).instance event row cpu pid
+armed-each event row cpu pid old armed new came readied k d inside =
+    (readied.came k d (omega (arith, came.many))).1 ∙ ap (λ (i : InstanceSeen). i.armed) (came.came k d inside)
+
+-- and each that is armed has room
+pub room-each : (event : ℕ) (row : Cells) (cpu : ℕ) (pid : ℤ) (old armed new : List Named) (pending : Pending) (len : ℕ)
+    → EachCame (IsArmedFor event row cpu pid) old armed → EachCame IsReadied armed new → pending.cpu ≡ cpu → length pending.bytes.items ≡ len
+    → All (λ (n : Named). cpu < buffers.cpus n.instance.buffer) old
+    → All (λ (n : Named). n.instance.armed ≡ true → len ≤ get_or (buffers.readies n.instance.buffer) cpu 0) new
+    → All (λ (n : Named). HasRoom pending n.instance) new
+room-each event row cpu pid old armed new pending len came readied is long cpus room k d inside =
+    let within : k < length old = omega (arith, readied.many, came.many) in
+    let alike = (alike-each event row cpu pid old armed new came readied).came k d within in
+    let below = cpus k d within in
+    let last = room k d inside in
+    rw (is, long) ((rw alike.cpus below), last)
+
+-- a record for which each armed instance has room was written ahead
+pub is-ahead : (old new : State) (event : ℕ) (row : Cells) (cpu : ℕ) (pid : ℤ) (p : Pending)
+    → ((k : ℕ) (d : Named) → k < length old.instances.items
+    → (get_or new.instances.items k d).instance.armed ≡ records (get_or old.instances.items k d).instance event row cpu pid)
+    → p.cpu ≡ cpu → p.bytes.items ≡ record_bytes (old.clock + 1) pid (event + 1) row → IsRecord p.bytes.items
+    → All (λ (n : Named). HasRoom p n.instance) new.instances.items → IsAhead old new event row cpu pid (Some p)
+is-ahead old new event row cpu pid p armed is bytes is_record room = record {
+  armed = armed;
+  bytes = λ q e.
+      let same : p ≡ q = cc in
+      subst (λ (r : Pending). (r.cpu ≡ cpu) × (r.bytes.items ≡ record_bytes (old.clock + 1) pid (event + 1) row) × IsRecord r.bytes.items
+      × All (λ (n : Named). HasRoom r n.instance) new.instances.items) same (is, bytes, is_record, room);
+  none = λ e. absurd (cc);
+}
+
+-- ---- an event that was found
+
+-- an event that was found among those of the state is the one that the requests declared
+pub named-found : (g : Config) (state : State) (past : List Request) (name : List ℕ) (found : Found) → StandsFor g state past
+    → Some (numbered found) ≡ event_named_in state.catalog name → event_named name past ≡ Some (numbered found)
+named-found g state past name found stands named = rw (← stands.events) (sym named)
+
+-- the switch of an event that was found is the one that the requests set
+pub enabled-found : (g : Config) (name : Option (List ℕ)) (past : List Request) (i : InstanceSeen) (found : Found) (event : List ℕ)
+    → InstanceStandsFor g name past i → IsPlaceOf (declared_events past) event found.index found.event.now
+    → get_or i.enabled found.index false ≡ is_enabled name found.event.now.name past
+enabled-found g name past i found event stands place =
+    let f : Definition → Bool = λ e. is_enabled name e.name past in
+    rw stands.enabled (get_or-map f (declared_events past) found.index found.event.now false place.inside ∙ ap f (sym place.there))
+
+-- the truth of a kept filter is that of the filter's text
+kept-holds : (event : Definition) (filter : Option (List ℕ)) (row : Cells) (cpu : ℕ) (pid : ℤ)
+    → kept_holds (option_map (parsed_of event) filter) row cpu pid ≡ filter_holds event filter row cpu pid
+unfolding kept_holds filter_holds
+kept-holds event None row cpu pid = refl
+kept-holds event (Some text) row cpu pid = refl
+
+-- the filter of an event that was found holds as the one that the requests set
+pub filter-found : (g : Config) (name : Option (List ℕ)) (past : List Request) (i : InstanceSeen) (found : Found) (event : List ℕ) (row : Cells) (cpu : ℕ) (pid : ℤ)
+    → InstanceStandsFor g name past i → IsPlaceOf (declared_events past) event found.index found.event.now
+    → kept_holds (get_or i.filters found.index None) row cpu pid ≡ filter_holds found.event.now (filter_of name found.event.now.name past) row cpu pid
+filter-found g name past i found event row cpu pid stands place =
+    let kept : get_or i.filters found.index None ≡ kept_filter name past found.event.now =
+    rw stands.filters (get_or-map (kept_filter name past) (declared_events past) found.index found.event.now None place.inside
+    ∙ ap (kept_filter name past) (sym place.there)) in
+    ap (λ (k : Option Parsed). kept_holds k row cpu pid) kept ∙ kept-holds found.event.now (filter_of name found.event.now.name past) row cpu pid
+
+-- an instance that stands for its requests records what they say
+pub records-found : (g : Config) (name : Option (List ℕ)) (past : List Request) (i : InstanceSeen) (found : Found) (event : List ℕ) (row : Cells) (cpu : ℕ) (pid : ℤ) (timestamp : ℕ)
+    → InstanceStandsFor g name past i → IsPlaceOf (declared_events past) event found.index found.event.now
+    → records i found.index row cpu pid
+    ≡ is_recorded name past (record { k = numbered found; row = row; cpu = cpu; pid = pid; timestamp = timestamp })
+records-found g name past i found event row cpu pid timestamp stands place =
+    let enabled = enabled-found g name past i found event stands place in
+    let holds = filter-found g name past i found event row cpu pid stands place in
+    let tracing = stands.tracing in
+    rw (tracing, enabled, holds) refl
+
+-- ---- what is prepared
+
+-- an emission is done where its CPU and its event are there and its row is right
+pub answers-emission : (g : Config) (past : List Request) (name : List ℕ) (cpu : ℕ) (pairs : List Pair) (k : NumberedEvent) (row : Cells) → cpu < g.cpus
+    → event_named name past ≡ Some k → row_of k.event pairs ≡ Ok row → emission_answer g past name cpu pairs ≡ Ok reply.Done
+unfolding emission_answer
+answers-emission g past name cpu pairs k row inside there built = rw (lt-ltb cpu g.cpus inside, there, built) refl
+
+-- what is written ahead is the record of the emission
+pub is-emission : (g : Config) (old new : State) (past : List Request) (name : List ℕ) (cpu : ℕ) (pid : ℤ) (pairs : List Pair) (found : Found) (row : Cells)
+    (pending : Option Pending) → StandsFor g old past → Some (numbered found) ≡ event_named_in old.catalog name
+    → IsPlaceOf old.catalog name found.index found.event.now → row_of found.event.now pairs ≡ Ok row → IsStateAlike old new
+    → IsAhead old new found.index row cpu pid pending → IsEmission g past (Emission name cpu pid pairs) new.instances.items pending
+is-emission g old new past name cpu pid pairs found row pending stands named place built alike ahead = record {
+  declares = refl;
+  made = refl;
+  removed = refl;
+  ticks = refl;
+  e = e;
+  emitted = rw (there, built) refl;
+  armed = armed;
+  bytes = λ p is. let of = ahead.bytes p is in (rw (← stands.clock) of.1, of.0);
+  none = ahead.none;
+}
+  where
+    e : Emitted
+    e = record { k = numbered found; row = row; cpu = cpu; pid = pid; timestamp = now_of past + 1 }
+
+    there : event_named name past ≡ Some (numbered found)
+    there = named-found g old past name found stands named
+
+    declared : IsPlaceOf (declared_events past) name found.index found.event.now
+    declared = rw stands.events at place
+
+    armed : All (λ (n : Named). n.instance.armed ≡ is_recorded n.name past e) new.instances.items
+    armed k d inside =
+        let within : k < length old.instances.items = omega (arith, alike.instances.many) in
+        let was = get_or old.instances.items k d in
+        let named_so = alike.instances.names k d within in
+        rw named_so (ahead.armed k d within
+        ∙ records-found g was.name past was.instance found name row cpu pid (now_of past + 1) (stands.each k d within) declared)
+
+-- and each instance has room for it
+pub ready-emission : (g : Config) (old new : State) (event : ℕ) (row : Cells) (cpu : ℕ) (pid : ℤ) (pending : Option Pending)
+    → IsAhead old new event row cpu pid pending → ((p : Pending) → pending ≡ Some p → length p.bytes.items ≤ g.page_bytes)
+    → IsReady g new (Emit pending)
+ready-emission g old new event row cpu pid None ahead short = tt
+ready-emission g old new event row cpu pid (Some p) ahead short = let of = ahead.bytes p refl in (of.2, short p refl, of.3)
+
+-- what holds of each event holds of the one at a place
+pub fit-at : (page_bytes : ℕ) (events : List Definition) (name : List ℕ) (index : ℕ) (event : Definition) → AllByRecursion (IsFit page_bytes) events
+    → IsPlaceOf events name index event → IsFit page_bytes event
+fit-at page_bytes events name index event fit place = subst (IsFit page_bytes) (sym place.there) (by events index fit place.inside)
+  where
+    by : (es : List Definition) (i : ℕ) → AllByRecursion (IsFit page_bytes) es → i < length es → IsFit page_bytes (get_or es i event)
+    by [] i all inside = absurd (omega arith)
+    by (e ∷ es) zero all inside = all.0
+    by (e ∷ es) (suc i) all inside = by es i all.1 (omega (arith, inside))

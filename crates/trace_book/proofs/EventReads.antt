@@ -1,0 +1,77 @@
+-- What the files of an event show is what the requests say of it.
+use Rattle.std.proofs.Common.{◌≡◌, ℕ, zero, suc, ◌+◌, ◌<◌, Bool, false, List, [], ◌∷◌, length, get_or, Option, Some, None, option_map, refl, sym, ap, ◌∙◌, arith}
+use Rattle.std.proofs.lemmas.List.{get_or-map}
+use Rattle.trace_command.specs.Requests.{Request}
+use Rattle.trace_command.specs.declared.command.Config.{Config}
+use Rattle.trace_filter.specs.Filters.{parsed_of}
+use Rattle.trace_format.specs.Definitions.{Definition}
+use Rattle.trace_history.proofs.EventLists.{named_at}
+use Rattle.trace_history.specs.History.{filter_text, format_of_event}
+use Rattle.trace_history.specs.Settings.{declared_events, event_named, filter_of, is_enabled, kept_filter}
+use Rattle.trace_text.specs.FormatText.{format_text}
+use Rattle.trace_book.specs.Commands.{IsSource, shown_filter}
+use Rattle.trace_book.specs.Files.{name_at}
+use Rattle.trace_book.specs.declared.read.Source.{Source}
+
+-- an event for places outside of a list
+no_event : Definition
+no_event = record { name = []; fields = [] }
+
+-- the name of the event at a place
+pub name-at_place : (events : List Definition) (i : ℕ) (d : Definition) → i < length events → name_at events i ≡ (get_or events i d).name
+name-at_place [] i d inside = absurd (omega arith)
+name-at_place (event ∷ events) zero d inside = refl
+name-at_place (event ∷ events) (suc i) d inside = name-at_place events i d (omega arith)
+
+-- a place of the catalog is one of the declared events
+inside-declared : (g : Config) (name : Option (List ℕ)) (past : List Request) (source : Source) (event : ℕ) → IsSource g name past source
+    → event < length source.catalog.now → event < length (declared_events past)
+inside-declared g name past source event is inside = rw (← is.events) inside
+
+name-declared : (g : Config) (name : Option (List ℕ)) (past : List Request) (source : Source) (event : ℕ) → IsSource g name past source
+    → event < length source.catalog.now → (get_or (declared_events past) event no_event).name ≡ name_at source.catalog.now event
+name-declared g name past source event is inside =
+    sym (name-at_place (declared_events past) event no_event (inside-declared g name past source event is inside))
+    ∙ ap (λ (events : List Definition). name_at events event) (sym is.events)
+
+-- an event's switch
+pub enabled-at_place : (g : Config) (name : Option (List ℕ)) (past : List Request) (source : Source) (event : ℕ) → IsSource g name past source
+    → event < length source.catalog.now
+    → get_or source.instance.now.enabled event false ≡ is_enabled name (name_at source.catalog.now event) past
+enabled-at_place g name past source event is inside =
+    ap (λ (flags : List Bool). get_or flags event false) is.instance.enabled
+    ∙ get_or-map (λ (e : Definition). is_enabled name e.name past) (declared_events past) event no_event false
+    (inside-declared g name past source event is inside)
+    ∙ ap (λ (n : List ℕ). is_enabled name n past) (name-declared g name past source event is inside)
+
+-- the text of a kept filter is that of the filter as it was written
+shown-filter : (event : Definition) (filter : Option (List ℕ)) → shown_filter (option_map (parsed_of event) filter) ≡ filter_text filter
+unfolding shown_filter filter_text
+shown-filter event None = refl
+shown-filter event (Some text) = refl
+
+-- an event's filter
+pub filter-at_place : (g : Config) (name : Option (List ℕ)) (past : List Request) (source : Source) (event : ℕ) → IsSource g name past source
+    → event < length source.catalog.now
+    → shown_filter (get_or source.instance.now.filters event None) ≡ filter_text (filter_of name (name_at source.catalog.now event) past)
+filter-at_place g name past source event is inside =
+    rw is.instance.filters
+    (ap shown_filter (get_or-map (kept_filter name past) (declared_events past) event no_event None
+    (inside-declared g name past source event is inside))
+    ∙ shown-filter at_place (filter_of name at_place.name past)
+    ∙ ap (λ (n : List ℕ). filter_text (filter_of name n past)) (name-declared g name past source event is inside))
+  where
+    at_place : Definition
+    at_place = get_or (declared_events past) event no_event
+
+-- an event's format
+pub format-at_place : (g : Config) (name : Option (List ℕ)) (past : List Request) (source : Source) (event : ℕ) (d : Definition)
+    → IsSource g name past source → event < length source.catalog.now
+    → format_text (event + 1) (get_or source.catalog.now event d) ≡ format_of_event (event_named (name_at source.catalog.now event) past)
+format-at_place g name past source event d is inside =
+    let within = inside-declared g name past source event is inside in
+    let named = named_at (declared_events past) event d is.distinct within in
+    let called : name_at source.catalog.now event ≡ (get_or (declared_events past) event d).name =
+    ap (λ (events : List Definition). name_at events event) is.events ∙ name-at_place (declared_events past) event d within in
+    let next : event + 1 ≡ suc event = omega arith in
+    rw (called, named, next, is.events) refl

@@ -1,0 +1,116 @@
+-- What a request that is done changes: of one instance, and of the whole.
+use Rattle.std.specs.Prelude.{◌≡◌, ℕ, ◌<◌, ◌≤◌, min, slice_set, replicate, unwrap_or, Bool, true, false, List, [], ◌∷◌, length, map, Option, Some, None, if◌then◌else◌, ⊤}
+use Rattle.std.specs.List.{AllByRecursion}
+use Rattle.std.specs.Option.{option_map}
+use Rattle.page_ring.specs.Events.{Event}
+use Rattle.trace_buffer.specs.Buffers as buffers
+use Rattle.trace_buffer.specs.Families.{with_cleared, all_cleared, cpu_readings, kept_count}
+use Rattle.trace_buffer.specs.Orders.{consume_any, after_cpu_reads}
+use Rattle.trace_filter.specs.Filters.{Parsed, parsed_of}
+use Rattle.trace_format.specs.Definitions.{Definition}
+use Rattle.trace_command.specs.Paths.{File}
+use Rattle.trace_command.specs.Requests.{Request}
+use Rattle.trace_command.specs.declared.command.Config.{Config}
+use Rattle.trace_history.specs.Settings.{clears_filter, can_take, declared_events, is_enabled, is_tracing, kept_filter, overwrites, sets_filter, sets_overwrite, sets_tracing, switches}
+use Rattle.trace_history.specs.Rings.{rings, rings_after_write}
+use Rattle.trace_book.specs.Instances.{InstanceSeen}
+use Rattle.trace_book.specs.declared.change.InstanceChange.{InstanceChange}
+use Rattle.trace_book.specs.declared.change.InstanceChange.TheVariants.{Switch, SwitchAll, SetFilter, SetFilters, SetOverwrite, SetTracing, Clear, ClearCpu, Take, TakeCpu}
+use Rattle.trace_book.specs.declared.change.FilterChange.{FilterChange}
+use Rattle.trace_book.specs.declared.change.FilterChange.TheVariants as filter
+
+-- ---- what a change leaves of an instance
+
+-- the switches after a change
+abbrev pub flags_after : InstanceChange → List Bool → List Bool
+flags_after (Switch index flag) flags = slice_set flags index flag
+flags_after (SwitchAll flag) flags = replicate (length flags) flag
+flags_after change flags = flags
+
+-- a filter after a change of it
+abbrev pub changed_filter : FilterChange → Option Parsed → Option Parsed
+changed_filter filter.Keep old = old
+changed_filter filter.Drop old = None
+changed_filter (filter.Set new) old = Some new
+
+-- whether the event gets a filter
+abbrev pub is_set : FilterChange → Bool
+is_set filter.Keep = false
+is_set filter.Drop = false
+is_set (filter.Set new) = true
+
+-- the filters after a change of each
+abbrev pub changed_filters : List FilterChange → List (Option Parsed) → List (Option Parsed)
+changed_filters [] filters = filters
+changed_filters (change ∷ changes) [] = []
+changed_filters (change ∷ changes) (old ∷ filters) = changed_filter change old ∷ changed_filters changes filters
+
+-- the filters after a change
+abbrev pub filters_after : InstanceChange → List (Option Parsed) → List (Option Parsed)
+filters_after (SetFilter index new) filters = slice_set filters index new
+filters_after (SetFilters changes) filters = changed_filters changes.items filters
+filters_after change filters = filters
+
+abbrev pub overwrite_after : InstanceChange → Bool → Bool
+overwrite_after (SetOverwrite flag) overwrite = flag
+overwrite_after change overwrite = overwrite
+
+abbrev pub tracing_after : InstanceChange → Bool → Bool
+tracing_after (SetTracing flag) tracing = flag
+tracing_after change tracing = tracing
+
+-- the rings after a change, for rings of so many pages of so many bytes
+abbrev pub rings_changed : ℕ → ℕ → InstanceChange → List (List Event) → List (List Event)
+rings_changed pages page_bytes Clear family = all_cleared family
+rings_changed pages page_bytes (ClearCpu cpu) family = with_cleared cpu family
+rings_changed pages page_bytes (Take limit) family = (consume_any pages page_bytes (min limit (kept_count pages page_bytes family)) family).family
+rings_changed pages page_bytes (TakeCpu cpu limit) family = after_cpu_reads cpu (min limit (length (cpu_readings pages page_bytes family cpu))) family
+rings_changed pages page_bytes change family = family
+
+-- a change can be made: what it names is there
+abbrev pub IsLawful : InstanceSeen → InstanceChange → Type 0
+IsLawful i (Switch index flag) = index < length i.enabled
+IsLawful i (SetFilter index new) = index < length i.filters
+IsLawful i (SetFilters changes) = length changes.items ≡ length i.filters
+IsLawful i (ClearCpu cpu) = cpu < buffers.cpus i.buffer
+IsLawful i (TakeCpu cpu limit) = cpu < buffers.cpus i.buffer
+IsLawful i change = ⊤
+
+-- a change was made
+pub record IsApplied (change : InstanceChange) (old new : InstanceSeen) : Type 0 where
+  pub enabled : new.enabled ≡ flags_after change old.enabled
+  pub filters : new.filters ≡ filters_after change old.filters
+  pub overwrite : new.overwrite ≡ overwrite_after change old.overwrite
+  pub tracing : new.tracing ≡ tracing_after change old.tracing
+  pub rings : (family : List (List Event)) → buffers.StandsFor old.buffer family
+      → buffers.StandsFor new.buffer (rings_changed old.buffer.pages old.buffer.page_bytes change family)
+  pub cpus : buffers.cpus new.buffer ≡ buffers.cpus old.buffer
+  pub pages : new.buffer.pages ≡ old.buffer.pages
+  pub page_bytes : new.buffer.page_bytes ≡ old.buffer.page_bytes
+  pub offers : (most : ℕ) → AllByRecursion (λ n. n ≤ most) (buffers.offers old.buffer) → AllByRecursion (λ n. n ≤ most) (buffers.offers new.buffer)
+
+-- ---- when a change is what a request says of an instance
+
+-- a change says of an instance what the definitions say of a request after this past
+pub record IsEffect (g : Config) (name : Option (List ℕ)) (past : List Request) (request : Request) (change : InstanceChange) : Type 0 where
+  pub enabled : map (λ event. is_enabled name event.name (request ∷ past)) (declared_events past)
+      ≡ flags_after change (map (λ event. is_enabled name event.name past) (declared_events past))
+  pub filters : map (kept_filter name (request ∷ past)) (declared_events past) ≡ filters_after change (map (kept_filter name past) (declared_events past))
+  pub overwrite : overwrites name (request ∷ past) ≡ overwrite_after change (overwrites name past)
+  pub tracing : is_tracing name (request ∷ past) ≡ tracing_after change (is_tracing name past)
+  pub rings : rings g name (request ∷ past) ≡ rings_changed g.pages g.page_bytes change (rings g name past)
+
+-- a change says of a file what a write to it sets, whatever was set before
+pub record IsWriteEffect (g : Config) (past : List Request) (append : Bool) (text : List ℕ) (file : File) (change : InstanceChange) : Type 0 where
+  pub enabled : (old : List ℕ → Bool) → map (λ event. unwrap_or (switches event.name past file text) (old event.name)) (declared_events past)
+      ≡ flags_after change (map (λ event. old event.name) (declared_events past))
+  pub filters : (old : List ℕ → Option (List ℕ))
+      → map (λ event. option_map (parsed_of event) (unwrap_or (sets_filter event.name past file text) (old event.name))) (declared_events past)
+      ≡ filters_after change (map (λ event. option_map (parsed_of event) (old event.name)) (declared_events past))
+  pub overwrite : (old : Bool) → unwrap_or (sets_overwrite past file text) old ≡ overwrite_after change old
+  pub tracing : (old : Bool) → unwrap_or (sets_tracing past file text) old ≡ tracing_after change old
+  pub rings : (old : List (List Event)) → rings_after_write append (Some file) old ≡ rings_changed g.pages g.page_bytes change old
+
+-- what a text that is written to the filter of all events changes of one's
+abbrev pub change_of : List ℕ → Definition → FilterChange
+change_of text event = if clears_filter text then filter.Drop else (if can_take text event then filter.Set (parsed_of event text) else filter.Keep)

@@ -1,0 +1,94 @@
+-- What is prepared for a write to a file, and for a read of one.
+use Rattle.std.specs.Prelude.{◌≡◌, ℕ, ◌<◌, ◌++◌, Bool, List, [], length, map, Option, Some, None, Result, Ok, Err, codes, ⊤}
+use Rattle.std.specs.Option.{option_map}
+use Rattle.trace_filter.specs.Filters.{Parsed, parsed_of}
+use Rattle.trace_format.specs.Definitions.{Definition}
+use Rattle.trace_command.specs.Paths.{File}
+use Rattle.trace_command.specs.Paths as paths
+use Rattle.trace_buffer.specs.Buffers as buffers
+use Rattle.trace_format.specs.Catalogs.{AreEvents}
+use Rattle.trace_command.specs.Refusals.{IsRefusal}
+use Rattle.trace_command.specs.Requests.{Request}
+use Rattle.trace_command.specs.declared.command.Config.{Config}
+use Rattle.trace_command.specs.declared.command.Reply.TheVariants.{Done}
+use Rattle.trace_command.specs.declared.refusal.Refusal.{Refusal}
+use Rattle.trace_command.specs.declared.refusal.Refusal.TheVariants.{BadValue}
+use Rattle.trace_history.specs.History.{cpu_stats_text, filter_answer, filter_text, flag_text, format_of_event, option_text, read_answer, shown_trace, switches_text, write_answer}
+use Rattle.trace_history.specs.Rings.{rings, rings_after_read}
+use Rattle.trace_history.specs.Settings.{declared_events, event_named, filter_of, is_enabled, is_tracing, now_of, overwrites, written_filter}
+use Rattle.trace_book.specs.Instances.{InstanceSeen, InstanceStandsFor}
+use Rattle.trace_book.specs.Changes.{IsLawful, IsWriteEffect, rings_changed}
+use Rattle.trace_book.specs.States.{IsUsableInstance}
+use Rattle.trace_book.specs.declared.change.InstanceChange.{InstanceChange}
+use Rattle.trace_book.specs.declared.change.InstanceChange.TheVariants.{Keep, Take, TakeCpu}
+use Rattle.trace_book.specs.declared.read.Shown.{Shown}
+use Rattle.trace_book.specs.declared.read.Source.{Source}
+use Rattle.trace_book.specs.declared.resolve.File.{File as Found}
+use Rattle.trace_book.specs.declared.resolve.File.TheVariants as found
+
+-- the change that a write to a file makes, or why it is refused
+abbrev pub IsWriteChange : Config → List Request → Bool → List ℕ → File → Result InstanceChange Refusal → Type 0
+IsWriteChange g past append text file (Ok change) =
+    (write_answer g past append text file ≡ Ok Done) × IsWriteEffect g past append text file change
+    × ((i : InstanceSeen) → IsUsableInstance g (length (declared_events past)) i → IsLawful i change)
+IsWriteChange g past append text file (Err refusal) = IsRefusal refusal (write_answer g past append text file)
+
+-- a value that has to be one
+abbrev pub needed_flag : Option Bool → Result Bool Refusal
+needed_flag (Some flag) = Ok flag
+needed_flag None = Err BadValue
+
+-- the filter of an event that a text writes, or why the event can't take it
+abbrev pub IsWrittenFilter : List ℕ → Definition → Result (Option Parsed) Refusal → Type 0
+IsWrittenFilter text event (Ok kept) = (filter_answer text event ≡ Ok Done) × (kept ≡ option_map (parsed_of event) (written_filter text))
+IsWrittenFilter text event (Err refusal) = IsRefusal refusal (filter_answer text event)
+
+-- a change that a read makes: it sets nothing
+abbrev pub IsReading : ℕ → InstanceChange → Type 0
+IsReading cpus Keep = ⊤
+IsReading cpus (Take most) = ⊤
+IsReading cpus (TakeCpu cpu most) = cpu < cpus
+IsReading cpus change = ⊥
+
+-- what a read of a file shows and changes, or why it is refused
+abbrev pub IsRead : Config → Option (List ℕ) → List Request → Option ℕ → File → Result Shown Refusal → Type 0
+IsRead g name past limit file (Ok shown) =
+    (read_answer g name past limit file ≡ Ok shown.reply) × IsReading g.cpus shown.change
+    × (rings_after_read g limit (Some file) (rings g name past) ≡ rings_changed g.pages g.page_bytes shown.change (rings g name past))
+IsRead g name past limit file (Err refusal) = IsRefusal refusal (read_answer g name past limit file)
+
+-- the text of a kept filter
+unfoldable pub shown_filter : Option Parsed → List ℕ
+shown_filter None = codes "none\n"
+shown_filter (Some kept) = kept.text ++ codes "\n"
+
+-- what files are read from agrees with the requests done so far: the events, the clock and the instance of this name
+pub record IsSource (g : Config) (name : Option (List ℕ)) (past : List Request) (source : Source) : Type 0 where
+  pub events : source.catalog.now ≡ declared_events past
+  pub distinct : AreEvents [] (declared_events past)
+  pub clock : source.clock ≡ now_of past
+  pub instance : InstanceStandsFor g name past source.instance.now
+
+-- the CPU or the event of a file is there for a read
+abbrev pub IsReadable : Source → Found → Type 0
+IsReadable source (found.CpuTrace cpu) = cpu < buffers.cpus source.instance.now.buffer
+IsReadable source (found.CpuTracePipe cpu) = cpu < buffers.cpus source.instance.now.buffer
+IsReadable source (found.CpuStats cpu) = cpu < buffers.cpus source.instance.now.buffer
+IsReadable source (found.EventEnable event) = event < length source.instance.now.enabled
+IsReadable source (found.EventFilter event) = event < length source.instance.now.filters
+IsReadable source (found.EventFormat event) = event < length source.catalog.now
+IsReadable source file = ⊤
+
+-- the text of a file that is read whole, nothing of another
+abbrev pub text_of : Config → Option (List ℕ) → List Request → File → List ℕ
+text_of g name past paths.Trace = shown_trace g name past None
+text_of g name past (paths.CpuTrace cpu) = shown_trace g name past (Some cpu)
+text_of g name past (paths.CpuStats cpu) = cpu_stats_text g name past cpu
+text_of g name past paths.Overwrite = flag_text (overwrites name past)
+text_of g name past paths.TraceOptions = option_text (overwrites name past)
+text_of g name past paths.TracingOn = flag_text (is_tracing name past)
+text_of g name past (paths.EventEnable event) = flag_text (is_enabled name event past)
+text_of g name past paths.EventsEnable = switches_text (map (λ event. is_enabled name event.name past) (declared_events past))
+text_of g name past (paths.EventFilter event) = filter_text (filter_of name event past)
+text_of g name past (paths.EventFormat event) = format_of_event (event_named event past)
+text_of g name past file = []

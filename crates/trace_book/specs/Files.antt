@@ -1,0 +1,93 @@
+-- Files that are there: a CPU by its number, an event by its place among the declared ones.
+use Rattle.std.specs.Prelude.{◌≡◌, ℕ, zero, suc, ◌<◌, nat_lt, true, false, List, [], ◌∷◌, length, slice_index_or, Option, Some, None, Result, Ok, Err, ⊤}
+use Rattle.trace_format.specs.Definitions.{Definition}
+use Rattle.trace_command.specs.Paths as paths
+use Rattle.trace_command.specs.Paths.{Address}
+use Rattle.trace_command.specs.Requests.{Request}
+use Rattle.trace_command.specs.declared.command.Config.{Config}
+use Rattle.trace_command.specs.declared.command.Reply.{Reply}
+use Rattle.trace_command.specs.declared.refusal.Refusal.{Refusal}
+use Rattle.trace_command.specs.declared.refusal.Refusal.TheVariants.{NoSuchCpu, NoSuchEvent}
+use Rattle.trace_history.specs.Settings.{event_named_in, is_there}
+use Rattle.trace_history.specs.History.{file_answer, instance_answer, missing}
+use Rattle.trace_book.specs.declared.resolve.File.{File}
+use Rattle.trace_book.specs.declared.resolve.File.TheVariants as file
+use Rattle.trace_book.specs.declared.resolve.Target.{Target}
+use Rattle.trace_book.specs.declared.resolve.Target.TheVariants as target
+use Rattle.trace_book.specs.declared.state.Named.{Named}
+use Rattle.trace_book.specs.declared.state.State.{State}
+
+-- the name of the event at a place
+abbrev pub name_at : List Definition → ℕ → List ℕ
+name_at [] place = []
+name_at (event ∷ events) zero = event.name
+name_at (event ∷ events) (suc place) = name_at events place
+
+-- the file, as a path names it
+abbrev pub file_at : List Definition → File → paths.File
+file_at events file.Trace = paths.Trace
+file_at events (file.CpuTrace cpu) = paths.CpuTrace cpu
+file_at events file.TracePipe = paths.TracePipe
+file_at events (file.CpuTracePipe cpu) = paths.CpuTracePipe cpu
+file_at events (file.CpuStats cpu) = paths.CpuStats cpu
+file_at events file.Overwrite = paths.Overwrite
+file_at events file.TraceOptions = paths.TraceOptions
+file_at events file.TracingOn = paths.TracingOn
+file_at events file.EventsEnable = paths.EventsEnable
+file_at events file.EventsFilter = paths.EventsFilter
+file_at events (file.EventEnable event) = paths.EventEnable (name_at events event)
+file_at events (file.EventFilter event) = paths.EventFilter (name_at events event)
+file_at events (file.EventFormat event) = paths.EventFormat (name_at events event)
+
+-- its CPU or its event is there
+abbrev pub IsThere : ℕ → List Definition → File → Type 0
+IsThere cpus events (file.CpuTrace cpu) = cpu < cpus
+IsThere cpus events (file.CpuTracePipe cpu) = cpu < cpus
+IsThere cpus events (file.CpuStats cpu) = cpu < cpus
+IsThere cpus events (file.EventEnable event) = event < length events
+IsThere cpus events (file.EventFilter event) = event < length events
+IsThere cpus events (file.EventFormat event) = event < length events
+IsThere cpus events _ = ⊤
+
+-- its event is there
+abbrev pub HasEvent : List Definition → File → Type 0
+HasEvent events (file.EventEnable event) = event < length events
+HasEvent events (file.EventFilter event) = event < length events
+HasEvent events (file.EventFormat event) = event < length events
+HasEvent events _ = ⊤
+
+-- the number of a CPU that is there
+abbrev pub IsCpu : ℕ → ℕ → Result ℕ Refusal → Type 0
+IsCpu number cpus (Ok cpu) = (number ≡ cpu) × (cpu < cpus)
+IsCpu number cpus (Err refusal) = (nat_lt number cpus ≡ false) × (refusal ≡ NoSuchCpu)
+
+-- the place of the event of this name
+abbrev pub IsEventPlace : List Definition → List ℕ → Result ℕ Refusal → Type 0
+IsEventPlace events name (Ok place) = (place < length events) × (name ≡ name_at events place)
+IsEventPlace events name (Err refusal) = (event_named_in events name ≡ None) × (refusal ≡ NoSuchEvent)
+
+-- what was found for a path's file: none where the path is that of the declarations
+abbrev pub IsFound : Config → List Request → List Definition → paths.File → Result (Option File) Refusal → Type 0
+IsFound g past events named (Ok None) = named ≡ paths.SyntheticEvents
+IsFound g past events named (Ok (Some found)) = (named ≡ file_at events found) × IsThere g.cpus events found
+IsFound g past events named (Err refusal) = missing g past named ≡ Some refusal
+
+-- the instance at this place has the name
+abbrev pub IsAt : State → ℕ → Option (List ℕ) → Type 0
+IsAt state place name =
+    (place < length state.instances.items) × ((d : Named) → (slice_index_or state.instances.items place d).name ≡ name)
+
+-- what was found for an address, or why it is refused
+abbrev pub IsResolved : Config → State → List Request → Address → Result Target Refusal → Type 0
+IsResolved g state past address (Ok target.Declarations) =
+    (is_there address.instance past ≡ true) × (address.file ≡ Some paths.SyntheticEvents)
+IsResolved g state past address (Ok (target.Of place found)) =
+    (is_there address.instance past ≡ true) × IsAt state place address.instance × (address.file ≡ Some (file_at state.catalog found))
+    × IsThere g.cpus state.catalog found
+IsResolved g state past address (Err refusal) =
+    (answered : paths.File → Result Reply Refusal) → instance_answer address.instance past (file_answer g past answered address.file) ≡ Err refusal
+
+-- what was found is there
+abbrev pub IsTarget : ℕ → State → Target → Type 0
+IsTarget cpus state target.Declarations = ⊤
+IsTarget cpus state (target.Of place found) = (place < length state.instances.items) × IsThere cpus state.catalog found

@@ -1,0 +1,111 @@
+//! Emissions: a row is built once, and each instance that records it has room before any is written to.
+
+ghost use Rattle.std.specs.Prelude.{◌≡◌, ℕ, ◌+◌, ◌<◌, ◌≤◌, ◌^◌, true, false, List, length, All, slice_index_or, Some, IfOk, OnOk};
+ghost use Rattle.trace_buffer.specs.Buffers as buffers;
+ghost use Rattle.trace_command.specs.Configs.{IsInRange};
+ghost use Rattle.trace_command.specs.Requests.{Request, Emission};
+ghost use Rattle.trace_command.specs.declared.command.Config.{Config};
+ghost use Rattle.trace_format.specs.Cells.{size_of_all};
+ghost use Rattle.trace_record.specs.Record.{record_size};
+ghost use Rattle.trace_book.specs.Emissions as emissions;
+ghost use Rattle.trace_book.specs.declared.change.Pending.{Pending as PendingHere};
+ghost use Rattle.trace_book.specs.States.{StandsFor, IsPrepared, IsUsable, EachCame};
+
+use crate::change::{Change, Pending};
+use crate::resolve::find;
+use crate::row::record;
+use crate::state::{Named, Prepared, State};
+use std::alloc::{AllocError, Global};
+use trace_command::{Config, Refusal, Reply};
+use trace_format::{Pair, Row, payload_size};
+
+impl State {
+    /// Prepares an emission: its CPU, its event, its row, and then room for its record in each instance that records it.
+    #[tactic(auto, unfolding(trace_history::specs::History::emission_answer))]
+    pub(crate) fn prepare_emission(
+        &mut self,
+        alloc: Global,
+        config: &Config,
+        name: &[u8],
+        cpu: u32,
+        pid: i32,
+        pairs: &[Pair],
+    ) -> Result<Prepared, Refusal>
+        requires usable { IsUsable config.now self.old }
+        requires in_range { IsInRange config.now }
+        ensures alike { emissions.IsStateAlike self.old self.new }
+        ensures prepared { (past : List Request) → StandsFor config.now self.old past
+            → IsPrepared config.now past (Emission name.now cpu pid pairs.now) self.new result }
+    {
+        if cpu >= config.cpus {
+            return Err(Refusal::NoSuchCpu);
+        }
+        let Some(found) = find(&self.catalog, name) else {
+            return Err(Refusal::NoSuchEvent);
+        };
+        let index = found.index;
+        let size = payload_size(found.event);
+        let row = Row::build(alloc, found.event, pairs)?;
+        let pending = self.write_ahead(alloc, index, cpu, pid, size, &row)?;
+        Ok(Prepared {
+            change: Change::Emit(pending),
+            reply: Reply::Done,
+        })
+    }
+
+    // The record of an emission of the event at this place, with room for it in each instance that records it; none if no instance does.
+    fn write_ahead(
+        &mut self,
+        alloc: Global,
+        index: usize,
+        cpu: u32,
+        pid: i32,
+        size: usize,
+        row: &Row,
+    ) -> Result<Option<Pending>, AllocError>
+        requires early { self.old.clock ≤ 2 ^ 32 }
+        requires index { index < 64 }
+        requires enabled { All (λ n. index < length n.instance.enabled) self.old.instances.items }
+        requires filters { All (λ n. index < length n.instance.filters) self.old.instances.items }
+        requires cpu { All (λ n. cpu < buffers.cpus n.instance.buffer) self.old.instances.items }
+        requires size { size ≡ size_of_all row.now.kinds }
+        requires small { size < 2 ^ 12 }
+        ensures alike { emissions.IsStateAlike self.old self.new }
+        ensures ahead { IfOk result (λ pending. emissions.IsAhead self.old self.new index row.now cpu pid pending) }
+        ensures length { IfOk result (λ pending. (p : PendingHere) → pending ≡ Some p → length p.bytes.items ≡ record_size size) }
+    {
+        if !arm_each(&mut self.instances, index, row, cpu, pid) {
+            return Ok(None);
+        }
+        let bytes = record(alloc, self.clock + 1, pid, index as u16 + 1, size, row)?;
+        ready_each(&mut self.instances, cpu, bytes.len())?;
+        Ok(Some(Pending { cpu, bytes }))
+    }
+}
+
+// Arms each instance that records the emission, and tells whether one does.
+fn arm_each(instances: &mut [Named], event: usize, row: &Row, cpu: u32, pid: i32) -> bool
+    requires enabled { All (λ n. event < length n.instance.enabled) instances.old }
+    requires filters { All (λ n. event < length n.instance.filters) instances.old }
+    ensures came { EachCame (emissions.IsArmedFor event row.now cpu pid) instances.old instances.new }
+    ensures none { result ≡ false → All (λ n. n.instance.armed ≡ false) instances.new }
+{
+    let mut some = false;
+    for i in 0..instances.len() {
+        some |= instances[i].instance.arm(event, row, cpu, pid);
+    }
+    some
+}
+
+// Makes room for a record of this length in each instance that is armed.
+fn ready_each(instances: &mut [Named], cpu: u32, len: usize) -> Result<(), AllocError>
+    requires { All (λ n. cpu < buffers.cpus n.instance.buffer) instances.old }
+    ensures came { EachCame emissions.IsReadied instances.old instances.new }
+    ensures room { OnOk result (All (λ n. n.instance.armed ≡ true
+        → len ≤ slice_index_or (buffers.readies n.instance.buffer) cpu 0) instances.new) }
+{
+    for i in 0..instances.len() {
+        instances[i].instance.ready(cpu, len)?;
+    }
+    Ok(())
+}

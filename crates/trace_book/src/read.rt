@@ -1,0 +1,184 @@
+//! Reads of the files of an instance.
+
+ghost use Rattle.std.specs.Prelude.{◌≡◌, ℕ, ◌+◌, ◌<◌, ◌≤◌, List, length, slice_index_or, Option, Some, None, IfOk, IfSome};
+ghost use Rattle.trace_command.specs.Requests.{Request};
+ghost use Rattle.trace_command.specs.Paths as paths;
+ghost use Rattle.trace_command.specs.declared.command.Config.{Config};
+ghost use Rattle.trace_history.specs.History as history;
+ghost use Rattle.trace_history.specs.Settings.{declared_events};
+ghost use Rattle.trace_buffer.specs.Buffers as buffers;
+ghost use Rattle.trace_format.specs.Definitions.{Definition};
+ghost use Rattle.trace_text.specs.FormatText as texts;
+ghost use Rattle.trace_book.specs.Commands.{IsRead, IsReadable, IsSource, text_of};
+ghost use Rattle.trace_book.specs.Files.{IsThere, file_at};
+
+use crate::change::InstanceChange;
+use crate::instance::Instance;
+use crate::resolve::{File, event_at};
+use crate::text::{filter_text, flag_text, mixture_text, option_text, push_declarations};
+use std::alloc::{AllocError, Global};
+use trace_command::{Refusal, Reply};
+use trace_format::Catalog;
+use trace_lex::Text;
+use trace_text::{format_text, pipe_text, stats_text, trace_text};
+
+/// What a read shows, and what it changes of the instance: only a pipe consumes.
+#[derive(Drop)]
+pub(crate) struct Shown {
+    pub change: InstanceChange,
+    pub reply: Reply,
+}
+
+/// What all files are read from: the declared events, the clock, and an instance.
+#[derive(Clone, Copy)]
+pub(crate) struct Source<'a> {
+    pub catalog: &'a Catalog,
+    pub clock: u64,
+    pub instance: &'a Instance,
+}
+
+/// Reads a file of an instance.
+pub(crate) fn read_file(
+    alloc: Global,
+    source: Source<'_>,
+    file: File,
+    limit: Option<u64>,
+) -> Result<Shown, Refusal>
+    requires few { length source.catalog.now ≤ 64 }
+    requires file { IsReadable source file }
+    ensures { (g : Config) (name : Option (List ℕ)) (past : List Request)
+        → IsSource g name past source.entry → IsThere g.cpus source.entry.catalog.now file
+        → IsRead g name past limit (file_at source.entry.catalog.now file) result }
+{
+    match file {
+        File::TracePipe => return read_pipe(alloc, source, limit),
+        File::CpuTracePipe(cpu) => return read_cpu_pipe(alloc, source, cpu, limit),
+        File::EventsFilter => return Err(Refusal::NotReadable),
+        _ => {}
+    }
+    if limit.is_some() {
+        return Err(Refusal::BadValue);
+    }
+    let text = file_text(alloc, source, file)?;
+    Ok(Shown {
+        change: InstanceChange::Keep,
+        reply: Reply::Text(text),
+    })
+}
+
+// What a file shows that is read whole. Of a file that isn't, nothing.
+fn file_text(alloc: Global, source: Source<'_>, file: File) -> Result<Text, AllocError>
+    requires few { length source.catalog.now ≤ 64 }
+    requires file { IsReadable source file }
+    ensures { (g : Config) (name : Option (List ℕ)) (past : List Request)
+        → IsSource g name past source.entry → IsThere g.cpus source.entry.catalog.now file
+        → IfOk result (λ text. text ≡ text_of g name past (file_at source.entry.catalog.now file)) }
+{
+    let instance = source.instance;
+    match file {
+        File::Trace => trace(alloc, source, None),
+        File::CpuTrace(cpu) => trace(alloc, source, Some(cpu)),
+        File::CpuStats(cpu) => stats(alloc, source, cpu),
+        File::Overwrite => flag_text(alloc, instance.overwrites()),
+        File::TraceOptions => option_text(alloc, instance.overwrites()),
+        File::TracingOn => flag_text(alloc, instance.is_tracing()),
+        File::EventsEnable => mixture_text(alloc, instance.none_on(), instance.some_off()),
+        File::EventEnable(event) => flag_text(alloc, instance.is_enabled(event)),
+        File::EventFilter(event) => filter_text(alloc, instance.filter(event)),
+        File::EventFormat(event) => format(alloc, source.catalog, event),
+        File::TracePipe | File::CpuTracePipe(_) | File::EventsFilter => Ok(Text::new(alloc)),
+    }
+}
+
+// The trace of one CPU or of all.
+#[tactic(auto, unfolding(trace_history::specs::History::shown_trace))]
+fn trace(alloc: Global, source: Source<'_>, cpu: Option<u32>) -> Result<Text, AllocError>
+    requires { IfSome cpu (λ cpu. cpu < buffers.cpus source.instance.now.buffer) }
+    ensures { (g : Config) (name : Option (List ℕ)) (past : List Request)
+        → IsSource g name past source.entry
+        → IfOk result (λ text. text ≡ history.shown_trace g name past cpu) }
+{
+    let mut out = Vec::new(alloc);
+    trace_text(
+        alloc,
+        source.catalog,
+        source.instance.buffer(),
+        cpu,
+        &mut out,
+    )?;
+    Ok(Text::from(out))
+}
+
+#[tactic(auto, unfolding(trace_history::specs::History::cpu_stats_text))]
+fn stats(alloc: Global, source: Source<'_>, cpu: u32) -> Result<Text, AllocError>
+    requires { cpu < buffers.cpus source.instance.now.buffer }
+    ensures { (g : Config) (name : Option (List ℕ)) (past : List Request)
+        → IsSource g name past source.entry
+        → IfOk result (λ text. text ≡ history.cpu_stats_text g name past cpu) }
+{
+    let mut out = Vec::new(alloc);
+    stats_text(alloc, source.instance.stats(cpu), source.clock, &mut out)?;
+    Ok(Text::from(out))
+}
+
+fn format(alloc: Global, catalog: &Catalog, event: usize) -> Result<Text, AllocError>
+    requires inside { event < length catalog.now }
+    requires few { length catalog.now ≤ 64 }
+    ensures { (d : Definition) → IfOk result (λ text. text
+        ≡ texts.format_text (event + 1) (slice_index_or catalog.now event d)) }
+{
+    let mut out = Vec::new(alloc);
+    format_text(alloc, event as u16 + 1, event_at(catalog, event), &mut out)?;
+    Ok(Text::from(out))
+}
+
+/// The declarations of all events, one on each line.
+#[tactic(auto, unfolding(trace_history::specs::History::declarations_text))]
+pub(crate) fn declarations(alloc: Global, catalog: &Catalog) -> Result<Text, AllocError>
+    requires few { length catalog.now ≤ 64 }
+    ensures { (past : List Request) → catalog.now ≡ declared_events past
+        → IfOk result (λ text. text ≡ history.declarations_text past) }
+{
+    let mut out = Vec::new(alloc);
+    push_declarations(alloc, catalog, &mut out)?;
+    Ok(Text::from(out))
+}
+
+// What the pipe of all CPUs gives, up to a limit. The string is built before anything is consumed.
+#[tactic(auto, unfolding(trace_history::specs::History::shown_pipe))]
+fn read_pipe(alloc: Global, source: Source<'_>, limit: Option<u64>) -> Result<Shown, Refusal>
+    ensures { (g : Config) (name : Option (List ℕ)) (past : List Request)
+        → IsSource g name past source.entry → IsRead g name past limit paths.TracePipe result }
+{
+    let most = limit.unwrap_or(u64::MAX);
+    let taken = source.instance.buffer().preview_any(most)?;
+    let mut out = Vec::new(alloc);
+    pipe_text(alloc, source.catalog, &taken, &mut out)?;
+    Ok(Shown {
+        change: InstanceChange::Take(most),
+        reply: Reply::Text(Text::from(out)),
+    })
+}
+
+// Likewise for a CPU's pipe.
+#[tactic(auto, unfolding(trace_history::specs::History::shown_cpu_pipe))]
+fn read_cpu_pipe(
+    alloc: Global,
+    source: Source<'_>,
+    cpu: u32,
+    limit: Option<u64>,
+) -> Result<Shown, Refusal>
+    requires { cpu < buffers.cpus source.instance.now.buffer }
+    ensures { (g : Config) (name : Option (List ℕ)) (past : List Request)
+        → IsSource g name past source.entry
+        → cpu < g.cpus → IsRead g name past limit (paths.CpuTracePipe cpu) result }
+{
+    let most = limit.unwrap_or(u64::MAX);
+    let taken = source.instance.buffer().preview_cpu(cpu, most)?;
+    let mut out = Vec::new(alloc);
+    pipe_text(alloc, source.catalog, &taken, &mut out)?;
+    Ok(Shown {
+        change: InstanceChange::TakeCpu(cpu, most),
+        reply: Reply::Text(Text::from(out)),
+    })
+}

@@ -1,0 +1,161 @@
+//! Paths are looked up once: the instance, the CPU and the event that a path names, in the order in which they are refused.
+
+ghost use Rattle.std.specs.Prelude.{◌≡◌, ℕ, ◌<◌, ◌≤◌, List, length, slice_index_or, position, nat_lt, if◌then◌else◌, Some, None, IfSome, IfOk};
+ghost use Rattle.std.specs.Option.{option_map};
+ghost use Rattle.trace_lex.specs.Decimals.{value_after};
+ghost use Rattle.trace_command.specs.Paths as paths;
+ghost use Rattle.trace_command.specs.Places as places;
+ghost use Rattle.trace_command.specs.Requests.{Request};
+ghost use Rattle.trace_command.specs.declared.command.Config.{Config};
+ghost use Rattle.trace_history.specs.Declarations.{IsPlaceOf};
+ghost use Rattle.trace_history.specs.Settings.{declared_events, event_named_in, is_same};
+ghost use Rattle.trace_book.specs.Files as files;
+ghost use Rattle.trace_book.specs.Found.{numbered};
+ghost use Rattle.trace_book.specs.States.{StandsFor};
+
+use crate::state::{Named, State};
+use trace_command::{Config, Place, Refusal, address_of};
+use trace_format::{Catalog, EventDef};
+use trace_lex::digits_value;
+
+/// A file of an instance that is there: a CPU by its number, an event by its place among the declared ones, from 0.
+#[derive(Clone, Copy, Drop)]
+pub(crate) enum File {
+    Trace,
+    CpuTrace(u32),
+    TracePipe,
+    CpuTracePipe(u32),
+    CpuStats(u32),
+    Overwrite,
+    TraceOptions,
+    TracingOn,
+    EventsEnable,
+    EventsFilter,
+    EventEnable(usize),
+    EventFilter(usize),
+    EventFormat(usize),
+}
+
+/// What a path leads to.
+#[derive(Clone, Copy, Drop)]
+pub(crate) enum Target {
+    /// The file of all declarations, which only the top instance has.
+    Declarations,
+    /// A file of the instance at this place.
+    Of(usize, File),
+}
+
+/// An event, and how many were declared before it.
+#[derive(Clone, Copy)]
+pub(crate) struct Found<'a> {
+    pub index: usize,
+    pub event: &'a EventDef,
+}
+
+/// The event of this name.
+pub(crate) fn find<'a>(catalog: &'a Catalog, name: &[u8]) -> Option<Found<'a>>
+    ensures named { option_map numbered result ≡ event_named_in catalog.now name.now }
+    ensures place { IfSome result (λ found. IsPlaceOf catalog.now name.now found.index found.event.now) }
+{
+    let id = catalog.find(name)?;
+    let event = catalog.def(id)?;
+    Some(Found {
+        index: usize::from(id) - 1,
+        event,
+    })
+}
+
+/// The event at this place.
+pub(crate) fn event_at(catalog: &Catalog, index: usize) -> &EventDef
+    requires inside { index < length catalog.now }
+    requires few { length catalog.now ≤ 64 }
+    ensures { result.now ≡ slice_index_or catalog.now index result.now }
+{
+    catalog.def(index as u16 + 1).unwrap()
+}
+
+impl State {
+    /// What a path leads to. It is refused as `NoSuchInstance` if its instance isn't there, then as `NoSuchFile` if the rest names no file,
+    /// then as `NoSuchCpu` or `NoSuchEvent`.
+    pub(crate) fn resolve(&self, config: &Config, path: &[u8]) -> Result<Target, Refusal>
+        ensures resolved { (past : List Request) → StandsFor config.now self.now past
+            → files.IsResolved config.now self.now past (paths.address_of path.now) result }
+        ensures there { IfOk result (files.IsTarget config.now.cpus self.now) }
+    {
+        let address = address_of(path);
+        let Some(place) = self.place_of(address.instance) else {
+            return Err(Refusal::NoSuchInstance);
+        };
+        let Some(named) = address.place else {
+            return Err(Refusal::NoSuchFile);
+        };
+        match found_file(&self.catalog, config.cpus, named)? {
+            Some(file) => Ok(Target::Of(place, file)),
+            None => Ok(Target::Declarations),
+        }
+    }
+
+    /// The place of the instance of this name; the top one has none.
+    pub(crate) fn place_of(&self, name: Option<&[u8]>) -> Option<usize>
+        ensures { result ≡ position (λ (n : Named). is_same n.name (option_map places.bytes_now name.entry)) self.now.instances.items }
+    {
+        self.instances
+            .iter()
+            .position(|named| is_named(named, name))
+    }
+}
+
+fn is_named(named: &Named, name: Option<&[u8]>) -> bool
+    ensures { result ≡ is_same named.now.name (option_map places.bytes_now name.entry) }
+{
+    match (&named.name, name) {
+        (None, None) => true,
+        (Some(own), Some(other)) => own.as_bytes() == other,
+        _ => false,
+    }
+}
+
+// The file that a path names, with its CPU and its event looked up; none for the declarations.
+fn found_file(catalog: &Catalog, cpus: u32, named: Place<'_>) -> Result<Option<File>, Refusal>
+    ensures found { (g : Config) (past : List Request) → g.cpus ≡ cpus → catalog.now ≡ declared_events past
+        → files.IsFound g past catalog.now (places.file_at named.entry) result }
+    ensures there { IfOk result (λ found. IfSome found (files.IsThere cpus catalog.now)) }
+{
+    let file = match named {
+        Place::Trace => File::Trace,
+        Place::CpuTrace(digits) => File::CpuTrace(cpu_below(digits, cpus)?),
+        Place::TracePipe => File::TracePipe,
+        Place::CpuTracePipe(digits) => File::CpuTracePipe(cpu_below(digits, cpus)?),
+        Place::CpuStats(digits) => File::CpuStats(cpu_below(digits, cpus)?),
+        Place::Overwrite => File::Overwrite,
+        Place::TraceOptions => File::TraceOptions,
+        Place::TracingOn => File::TracingOn,
+        Place::SyntheticEvents => return Ok(None),
+        Place::EventsEnable => File::EventsEnable,
+        Place::EventsFilter => File::EventsFilter,
+        Place::EventEnable(name) => File::EventEnable(event_place(catalog, name)?),
+        Place::EventFilter(name) => File::EventFilter(event_place(catalog, name)?),
+        Place::EventFormat(name) => File::EventFormat(event_place(catalog, name)?),
+    };
+    Ok(Some(file))
+}
+
+// The number that digits write, if it is a CPU's.
+fn cpu_below(digits: &[u8], cpus: u32) -> Result<u32, Refusal>
+    ensures { files.IsCpu (value_after 0 digits.now) cpus result }
+{
+    match digits_value(digits, u64::from(u32::MAX)) {
+        Some(number) if number < u64::from(cpus) => Ok(number as u32),
+        _ => Err(Refusal::NoSuchCpu),
+    }
+}
+
+// The place of the event of this name.
+fn event_place(catalog: &Catalog, name: &[u8]) -> Result<usize, Refusal>
+    ensures { files.IsEventPlace catalog.now name.now result }
+{
+    match find(catalog, name) {
+        Some(found) => Ok(found.index),
+        None => Err(Refusal::NoSuchEvent),
+    }
+}

@@ -1,0 +1,197 @@
+//! Writes to the files of an instance.
+
+ghost use Rattle.std.specs.Prelude.{◌≡◌, ℕ, ◌≤◌, ◌<◌, Bool, List, [], length, map, Some, None, if◌then◌else◌, IfOk, IfErr, OnOk, Ok};
+ghost use Rattle.std.specs.List.{list_any};
+ghost use Rattle.trace_format.specs.Catalogs.{AreEvents};
+ghost use Rattle.trace_command.specs.Paths.{EventsFilter};
+ghost use Rattle.trace_command.specs.Refusals.{IsRefusal};
+ghost use Rattle.trace_command.specs.Requests.{Request};
+ghost use Rattle.trace_command.specs.declared.command.Config.{Config};
+ghost use Rattle.trace_command.specs.declared.command.Reply.TheVariants.{Done};
+ghost use Rattle.trace_history.specs.History as history;
+ghost use Rattle.trace_history.specs.Settings as settings;
+ghost use Rattle.trace_history.specs.Settings.{declared_events};
+ghost use Rattle.trace_book.specs.Changes.{change_of, is_set};
+ghost use Rattle.trace_book.specs.Commands.{IsWriteChange, IsWrittenFilter, needed_flag};
+ghost use Rattle.trace_book.specs.Files.{HasEvent, IsThere, file_at};
+ghost use Rattle.trace_book.specs.declared.change.InstanceChange.TheVariants as change;
+
+use crate::change::{FilterChange, InstanceChange};
+use crate::resolve::{File, event_at};
+use std::alloc::{AllocError, Global};
+use trace_command::Refusal;
+use trace_filter::{Filter, FilterFault};
+use trace_format::{Catalog, EventDef};
+use trace_lex::{trim, written_number};
+
+/// What a write to a file of an instance changes of it.
+pub(crate) fn written_change(
+    alloc: Global,
+    catalog: &Catalog,
+    file: File,
+    append: bool,
+    text: &[u8],
+) -> Result<InstanceChange, Refusal>
+    requires few { length catalog.now ≤ 64 }
+    requires event { HasEvent catalog.now file }
+    ensures { (g : Config) (past : List Request) → catalog.now ≡ declared_events past → AreEvents [] catalog.now
+        → IsThere g.cpus catalog.now file → IsWriteChange g past append text.now (file_at catalog.now file) result }
+{
+    match file {
+        File::Trace => Ok(cleared(append, InstanceChange::Clear)),
+        File::CpuTrace(cpu) => Ok(cleared(append, InstanceChange::ClearCpu(cpu))),
+        File::TracePipe => Err(Refusal::NotWritable),
+        File::CpuTracePipe(_) => Err(Refusal::NotWritable),
+        File::CpuStats(_) => Err(Refusal::NotWritable),
+        File::Overwrite => Ok(InstanceChange::SetOverwrite(needed(written_flag(text))?)),
+        File::TraceOptions => Ok(InstanceChange::SetOverwrite(needed(written_option(text))?)),
+        File::TracingOn => Ok(InstanceChange::SetTracing(needed(written_tracing(text))?)),
+        File::EventsEnable => Ok(InstanceChange::SwitchAll(needed(written_flag(text))?)),
+        File::EventsFilter => written_filters(alloc, catalog, text),
+        File::EventEnable(event) => Ok(InstanceChange::Switch(event, needed(written_flag(text))?)),
+        File::EventFilter(event) => {
+            let filter = written_filter(alloc, text, event_at(catalog, event))?;
+            Ok(InstanceChange::SetFilter(event, filter))
+        }
+        File::EventFormat(_) => Err(Refusal::NotWritable),
+    }
+}
+
+// A write to a trace file: any string empties rings, but not to append.
+fn cleared(append: bool, clear: InstanceChange) -> InstanceChange
+    ensures { result ≡ (if append then change.Keep else clear) }
+{
+    if append { InstanceChange::Keep } else { clear }
+}
+
+// The value that was written, if it is one.
+fn needed(flag: Option<bool>) -> Result<bool, Refusal>
+    ensures { result ≡ needed_flag flag }
+{
+    flag.ok_or(Refusal::BadValue)
+}
+
+/// The switch that a string writes.
+#[tactic(auto, unfolding(trace_history::specs::Settings::written_flag))]
+fn written_flag(text: &[u8]) -> Option<bool>
+    ensures { result ≡ settings.written_flag text.now }
+{
+    match written_number(text)? {
+        0 => Some(false),
+        1 => Some(true),
+        _ => None,
+    }
+}
+
+// Whether a number that is written switches recording on.
+#[tactic(auto, unfolding(trace_history::specs::Settings::written_tracing))]
+fn written_tracing(text: &[u8]) -> Option<bool>
+    ensures { result ≡ settings.written_tracing text.now }
+{
+    let number = written_number(text)?;
+    Some(number != 0)
+}
+
+// The word of an option.
+#[tactic(auto, unfolding(trace_history::specs::Settings::written_option))]
+fn written_option(text: &[u8]) -> Option<bool>
+    ensures { result ≡ settings.written_option text.now }
+{
+    if text == b"overwrite".as_slice() {
+        return Some(true);
+    }
+    if text == b"nooverwrite".as_slice() {
+        return Some(false);
+    }
+    None
+}
+
+// Whether a string written to a filter clears it.
+#[tactic(auto, unfolding(trace_history::specs::Settings::clears_filter))]
+fn clears_filter(text: &[u8]) -> bool
+    ensures { result ≡ settings.clears_filter text.now }
+{
+    trim(text) == b"0".as_slice()
+}
+
+// The filter of an event that a string writes, none if it clears.
+fn written_filter(alloc: Global, text: &[u8], event: &EventDef) -> Result<Option<Filter>, Refusal>
+    ensures { IsWrittenFilter text.now event.now result }
+{
+    if clears_filter(text) {
+        return Ok(None);
+    }
+    Ok(Some(Filter::parse(alloc, text, event)?))
+}
+
+// A filter of all events: it is for those that can take it, of which there is at least one.
+fn written_filters(alloc: Global, catalog: &Catalog, text: &[u8]) -> Result<InstanceChange, Refusal>
+    requires { length catalog.now ≤ 64 }
+    ensures { (g : Config) (past : List Request) (append : Bool) → catalog.now ≡ declared_events past → AreEvents [] catalog.now
+        → IsWriteChange g past append text.now EventsFilter result }
+{
+    if catalog.is_empty() {
+        return Err(Refusal::NoSuchEvent);
+    }
+    let Taken { changes, some } = filter_changes(alloc, catalog, text)?;
+    check_filter_of_all(alloc, catalog, text, some)?;
+    Ok(InstanceChange::SetFilters(changes))
+}
+
+/// What a filter of all events changes, and whether some event takes it.
+#[derive(Drop)]
+struct Taken {
+    changes: Vec<FilterChange>,
+    some: bool,
+}
+
+// What a string that is written to the filter of all events changes of one's.
+fn filter_change(alloc: Global, event: &EventDef, text: &[u8]) -> Result<FilterChange, AllocError>
+    ensures { IfOk result (λ change. change ≡ change_of text.now event.now) }
+{
+    if clears_filter(text) {
+        return Ok(FilterChange::Drop);
+    }
+    match Filter::parse(alloc, text, event) {
+        Ok(filter) => Ok(FilterChange::Set(filter)),
+        Err(FilterFault::Memory) => Err(AllocError),
+        Err(_) => Ok(FilterChange::Keep),
+    }
+}
+
+// Likewise for all events.
+fn filter_changes(alloc: Global, events: &Catalog, text: &[u8]) -> Result<Taken, AllocError>
+    requires { length events.now ≤ 64 }
+    ensures changes { IfOk result (λ taken. taken.changes.items ≡ map (change_of text.now) events.now) }
+    ensures some { IfOk result (λ taken. taken.some ≡ list_any (λ event. is_set (change_of text.now event)) events.now) }
+{
+    let mut changes = Vec::new(alloc);
+    let mut some = false;
+    for i in 0..events.len() {
+        let change = filter_change(alloc, event_at(events, i), text)?;
+        some |= change.sets();
+        changes.push(change)?;
+    }
+    Ok(Taken { changes, some })
+}
+
+// Whether a filter of all events, of which there is at least one, is done. If no event gets one, the first event says why it is refused, or
+// that the string clears.
+fn check_filter_of_all(
+    alloc: Global,
+    events: &Catalog,
+    text: &[u8],
+    some: bool,
+) -> Result<(), Refusal>
+    requires one { 0 < length events.now }
+    requires few { length events.now ≤ 64 }
+    requires some { some ≡ list_any (λ event. is_set (change_of text.now event)) events.now }
+    ensures done { OnOk result (history.filter_of_all_answer text.now events.now ≡ Ok Done) }
+    ensures refused { IfErr result (λ refusal. IsRefusal refusal (history.filter_of_all_answer text.now events.now)) }
+{
+    if some {
+        return Ok(());
+    }
+    let _filter = written_filter(alloc, text, event_at(events, 0))?;
+    Ok(())
+}

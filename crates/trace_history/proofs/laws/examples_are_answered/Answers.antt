@@ -1,0 +1,20 @@
+use Rattle.trace_history.proofs.Examples.{examples-are_answered}
+use Rattle.trace_history.proofs.laws.examples_are_answered.Goals as goal
+
+pub returns-clause-merged : goal.returns-clause-merged
+returns-clause-merged c = examples-are_answered.merged
+
+pub returns-clause-instances : goal.returns-clause-instances
+returns-clause-instances c = examples-are_answered.instances
+
+pub returns-clause-made_again : goal.returns-clause-made_again
+returns-clause-made_again c = examples-are_answered.made_again
+
+pub returns-clause-recording : goal.returns-clause-recording
+returns-clause-recording c = examples-are_answered.recording
+
+pub returns-clause-lost : goal.returns-clause-lost
+returns-clause-lost c = examples-are_answered.lost
+
+pub returns-clause-filters : goal.returns-clause-filters
+returns-clause-filters c = examples-are_answered.filters
