@@ -3,3 +3,4 @@ pub mod RecordLemmas
 pub mod ProcessLemmas
 pub mod FrontLemmas
 pub mod BufferLemmas
+pub mod SnapshotLemmas

@@ -11,14 +11,17 @@ use Rattle.trace_text.specs.FieldText.{field_text}
 abbrev pub signed_text : Bool → List ℕ
 signed_text signed = if signed then codes "1" else codes "0"
 
--- a field with the place of its first byte in a record, how many bytes it takes, and whether it is signed
-unfoldable pub place_line : List ℕ → ℕ → ℕ → Bool → List ℕ
-place_line declared offset size signed =
-    codes "\tfield:" ++ declared
-    ++ codes ";\toffset:" ++ decimal offset
+-- the place of a field's first byte in a record, how many bytes it takes, and whether it is signed
+abbrev pub place_text : ℕ → ℕ → Bool → List ℕ
+place_text offset size signed =
+    codes ";\toffset:" ++ decimal offset
     ++ codes ";\tsize:" ++ decimal size
     ++ codes ";\tsigned:" ++ signed_text signed
     ++ codes ";\n"
+
+-- a field with its place
+unfoldable pub place_line : List ℕ → ℕ → ℕ → Bool → List ℕ
+place_line declared offset size signed = codes "\tfield:" ++ declared ++ place_text offset size signed
 
 unfoldable pub field_line : ℕ → Field → List ℕ
 field_line offset field = place_line (field_text field) offset (size_of field.kind) (is_signed_kind field.kind)

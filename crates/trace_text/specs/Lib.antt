@@ -7,3 +7,6 @@ pub mod TraceText
 pub mod Laws
 pub mod Fronts
 pub mod BufferText
+pub mod SnapshotText
+pub mod TriggerText
+pub mod ShownTriggers

@@ -3,6 +3,7 @@
 ghost use Rattle.std.specs.Prelude.{◌≡◌, ◌++◌, OnOk, OnErr};
 ghost use Rattle.trace_text.specs.DeclarationText as texts;
 
+use crate::append::append_text;
 use crate::field::push_field;
 use std::alloc::{AllocError, Global};
 use trace_format::{EventDef, Field};
@@ -42,5 +43,5 @@ pub fn declaration_text(alloc: Global, def: &EventDef, out: &mut Vec<u8>) -> Res
     text.extend_from_slice(b" ".as_slice())?;
     push_fields(&mut text, def.fields())?;
     text.extend_from_slice(b"\n".as_slice())?;
-    out.extend_from_slice(&text)
+    append_text(out, text)
 }

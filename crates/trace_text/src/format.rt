@@ -3,7 +3,7 @@
 ghost use Rattle.std.specs.Prelude.{◌≡◌, ◌++◌, OnOk, OnErr};
 ghost use Rattle.trace_text.specs.FormatText as texts;
 
-use crate::append::push_number;
+use crate::append::{append_text, push_number};
 use crate::field::push_field;
 use std::alloc::{AllocError, Global};
 use trace_format::{EventDef, Field};
@@ -24,18 +24,9 @@ fn push_sign(out: &mut Vec<u8>, signed: bool) -> Result<(), AllocError>
 }
 
 /// Appends where a field lies in a record, and how: its first byte, its bytes, and whether it is signed.
-#[tactic(auto, unfolding(crate::specs::FormatText::place_line))]
-fn push_place(
-    out: &mut Vec<u8>,
-    declared: &[u8],
-    offset: u128,
-    size: usize,
-    signed: bool,
-) -> Result<(), AllocError>
-    ensures { OnOk result (out.new.items ≡ out.old.items ++ texts.place_line declared.now offset size signed) }
+fn push_place(out: &mut Vec<u8>, offset: u128, size: usize, signed: bool) -> Result<(), AllocError>
+    ensures { OnOk result (out.new.items ≡ out.old.items ++ texts.place_text offset size signed) }
 {
-    out.extend_from_slice(b"\tfield:".as_slice())?;
-    out.extend_from_slice(declared)?;
     out.extend_from_slice(b";\toffset:".as_slice())?;
     push_number(out, offset)?;
     out.extend_from_slice(b";\tsize:".as_slice())?;
@@ -46,39 +37,35 @@ fn push_place(
 }
 
 /// Appends the line of a field whose first byte is at an offset.
-#[tactic(auto, unfolding(crate::specs::FormatText::field_line))]
-fn push_field_line(
-    alloc: Global,
-    out: &mut Vec<u8>,
-    offset: u128,
-    field: &Field,
-) -> Result<(), AllocError>
+#[tactic(auto, unfolding(crate::specs::FormatText::field_line, crate::specs::FormatText::place_line))]
+fn push_field_line(out: &mut Vec<u8>, offset: u128, field: &Field) -> Result<(), AllocError>
     ensures { OnOk result (out.new.items ≡ out.old.items ++ texts.field_line offset field.now) }
 {
-    let mut declared = Vec::new(alloc);
-    push_field(&mut declared, field)?;
-    let kind = field.kind;
-    push_place(out, &declared, offset, kind.size(), kind.is_signed())
+    out.extend_from_slice(b"\tfield:".as_slice())?;
+    push_field(out, field)?;
+    push_place(out, offset, field.kind.size(), field.kind.is_signed())
 }
 
 /// Appends the lines of fields that lie one behind the other in a record.
-fn push_field_lines(alloc: Global, out: &mut Vec<u8>, fields: &[Field]) -> Result<(), AllocError>
+fn push_field_lines(out: &mut Vec<u8>, fields: &[Field]) -> Result<(), AllocError>
     ensures { OnOk result (out.new.items ≡ out.old.items ++ texts.field_lines 16 fields.now) }
 {
     let mut offset = FIRST_OFFSET;
     for field in fields {
-        push_field_line(alloc, out, offset, field)?;
+        push_field_line(out, offset, field)?;
         offset += field.kind.size() as u128;
     }
     Ok(())
 }
 
 /// Appends the line of the pid, which stands in each record's head.
-#[tactic(auto, unfolding(crate::specs::FormatText::common_pid_line))]
+#[tactic(auto, unfolding(crate::specs::FormatText::common_pid_line, crate::specs::FormatText::place_line))]
 fn push_common_pid_line(out: &mut Vec<u8>) -> Result<(), AllocError>
     ensures { OnOk result (out.new.items ≡ out.old.items ++ texts.common_pid_line) }
 {
-    push_place(out, b"s32 common_pid".as_slice(), 8, 4, true)
+    out.extend_from_slice(b"\tfield:".as_slice())?;
+    out.extend_from_slice(b"s32 common_pid".as_slice())?;
+    push_place(out, 8, 4, true)
 }
 
 /// Appends the text of `events/synthetic/NAME/format` ("Event formats" of events.rst): the event's name and number, then a line for the pid
@@ -104,6 +91,6 @@ pub fn format_text(
     text.extend_from_slice(b"\nformat:\n".as_slice())?;
     push_common_pid_line(&mut text)?;
     text.extend_from_slice(b"\n".as_slice())?;
-    push_field_lines(alloc, &mut text, def.fields())?;
-    out.extend_from_slice(&text)
+    push_field_lines(&mut text, def.fields())?;
+    append_text(out, text)
 }

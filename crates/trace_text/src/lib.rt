@@ -1,5 +1,5 @@
-//! The texts of a tracer's files: `stats`, `format`, `synthetic_events`, and the lines of `trace` and `trace_pipe`, after "The File System"
-//! of ftrace.rst, "Event formats" of events.rst and "Synthetic events" of histogram.rst.
+//! The texts of a tracer's files: `stats`, `format`, `synthetic_events`, `trace`, `trace_pipe`, `snapshot` and `trigger`, after "The File
+//! System" and "Snapshot" of ftrace.rst, "Event formats" and "Event triggers" of events.rst and "Synthetic events" of histogram.rst.
 //!
 //! Each call appends its text to a vector. Where memory is refused, the vector is left as it was.
 #![tactic(auto)]
@@ -15,13 +15,19 @@ mod pipe;
 #[cfg(test)]
 mod reads;
 mod record;
+mod snapshot;
+#[cfg(test)]
+mod snapshots;
 mod stats;
 #[cfg(test)]
 mod tests;
 mod trace;
+mod trigger;
 
 pub use declaration::declaration_text;
 pub use format::format_text;
 pub use pipe::pipe_text;
+pub use snapshot::snapshot_text;
 pub use stats::stats_text;
 pub use trace::trace_text;
+pub use trigger::{Shown, trigger_text};

@@ -28,6 +28,10 @@ const TRACE_HEAD: &str = "\
 #
 ";
 
+const FILTERED: &str =
+    "snapshot:count=3 if no field holds a longer text than this one: it has sixty-three.
+";
+
 const STATS: &str = "\
 entries: 3
 overrun: 4
@@ -96,6 +100,12 @@ fn push_each(
     want.push_str(LOST)?;
     push_record_line(alloc, out, catalog, 255, &texts.rec)?;
     want.push_str(&texts.line)?;
+    let shown = Shown::Snapshot {
+        left: Some(3),
+        filter: Some(TEXT.as_bytes()),
+    };
+    trigger_text(alloc, &[shown], out)?;
+    want.push_str(FILTERED)?;
     let stats = RingStats {
         entries: 3,
         overrun: 4,

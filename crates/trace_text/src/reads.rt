@@ -119,7 +119,7 @@ CPU:7 [LOST 2 EVENTS]
 ";
 
 /// The declaration `tick u64 n`.
-fn ticks(alloc: Global) -> Result<Catalog, Fail> {
+pub(crate) fn ticks(alloc: Global) -> Result<Catalog, Fail> {
     let mut catalog = Catalog::new(alloc);
     catalog.add(EventDef::parse(alloc, b"tick u64 n")?, 64)?;
     Ok(catalog)
@@ -143,7 +143,7 @@ fn tick(ts: u32, n: u8) -> [u8; 24]
 }
 
 /// Records a tick.
-fn emit(buffer: &mut Buffer, cpu: u32, ts: u32, n: u8) -> Result<(), AllocError>
+pub(crate) fn emit(buffer: &mut Buffer, cpu: u32, ts: u32, n: u8) -> Result<(), AllocError>
     requires cpu { cpu < seen.cpus buffer.old }
     requires fits { 24 ≤ buffer.old.page_bytes }
     requires few { (i : ℕ) → slice_index (offers buffer.old) i < ts }

@@ -3,6 +3,7 @@
 ghost use Rattle.std.specs.Prelude.{◌≡◌, ◌++◌, OnOk, OnErr, string_bytes};
 ghost use Rattle.trace_text.specs.StatsText as texts;
 
+use crate::append::append_text;
 use page_ring::RingStats;
 use std::alloc::{AllocError, Global};
 use std::fmt::Write;
@@ -38,5 +39,5 @@ pub fn stats_text(
     push_line(&mut text, "now ts: ", now)?;
     push_line(&mut text, "dropped events: ", stats.dropped)?;
     push_line(&mut text, "read events: ", stats.read)?;
-    out.extend_from_slice(text.as_bytes())
+    append_text(out, text.into_bytes())
 }

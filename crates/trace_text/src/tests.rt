@@ -65,6 +65,38 @@ const DECLARATIONS: [(&[u8], &str); 3] = [
     ),
 ];
 
+/// Triggers of an event, each with the text of its file.
+const TRIGGERS: [(&[Shown<'static>], &str); 5] = [
+    (&[], "# Available triggers:\n# hist snapshot\n"),
+    (&[UNLIMITED], "snapshot:unlimited\n"),
+    (&[SPENT], "snapshot:count=0\n"),
+    (&[FILTERED], "snapshot:unlimited if n > 5\n"),
+    (
+        &[COUNTED, UNLIMITED, FILTERED],
+        "snapshot:count=18446744073709551615 if who ~ \"a b*\"\nsnapshot:unlimited\nsnapshot:unlimited if n > 5\n",
+    ),
+];
+
+const UNLIMITED: Shown<'static> = Shown::Snapshot {
+    left: None,
+    filter: None,
+};
+
+const SPENT: Shown<'static> = Shown::Snapshot {
+    left: Some(0),
+    filter: None,
+};
+
+const FILTERED: Shown<'static> = Shown::Snapshot {
+    left: None,
+    filter: Some(b"n > 5"),
+};
+
+const COUNTED: Shown<'static> = Shown::Snapshot {
+    left: Some(18446744073709551615),
+    filter: Some(b"who ~ \"a b*\""),
+};
+
 /// CPUs and records, each with its line. The events are `tick u64 n` and `move char who[8]; s64 d`.
 const RECORDS: [(u32, &[u8], &str); 8] = [
     (
@@ -155,6 +187,19 @@ fn declarations(rt: HostRuntime) -> Result<(), Fail> {
         let def = EventDef::parse(rt.alloc(), declaration)?;
         let mut out = begun(rt.alloc())?;
         declaration_text(rt.alloc(), &def, &mut out)?;
+        assert!(rt; is_appended(&out, text), "at {text}");
+    }
+    Ok(())
+}
+
+#[test]
+fn triggers(rt: HostRuntime) -> Result<(), Fail> {
+    for (shown, text) in TRIGGERS {
+        let mut alone = Vec::new(rt.alloc());
+        trigger_text(rt.alloc(), shown, &mut alone)?;
+        assert!(rt; alone.as_slice() == text.as_bytes(), "at {text}");
+        let mut out = begun(rt.alloc())?;
+        trigger_text(rt.alloc(), shown, &mut out)?;
         assert!(rt; is_appended(&out, text), "at {text}");
     }
     Ok(())
