@@ -1,6 +1,6 @@
 //! That the calls that allocate succeed while there is memory, and what they then show: buffers of two and of eight CPUs, records of one
 //! timestamp, and limits of 0, 1 and more than there is.
-ghost use Rattle.std.specs.Prelude.{◌≡◌, ◌+◌, ◌<◌, ◌≤◌, ◌^◌, length, sum};
+ghost use Rattle.std.specs.Prelude.{IfOk, ◌≡◌, ◌+◌, ◌<◌, ◌≤◌, ◌^◌, length, sum};
 ghost use Rattle.trace_record.specs.Record.{IsRecord};
 ghost use Rattle.trace_buffer.specs.Buffers.{offers};
 ghost use Rattle.trace_buffer.specs.Buffers as seen;
@@ -87,31 +87,75 @@ fn first_lost(records: &[Taken<'_>]) -> Option<u64> {
     records.first().map(|taken| taken.lost)
 }
 
-// Two CPUs; one record of each was written at time 3.
+// What two_cpus has in order of time: one record of each CPU was written at time 3.
+const ORDER: [(u32, u64); 4] = [(1, 1), (0, 3), (1, 3), (0, 5)];
+
+// A buffer of two CPUs that holds these.
+fn two_cpus(rt: &(impl Abort + AllocGlobal)) -> Result<Buffer, AllocError>
+    ensures { IfOk result (λ made. seen.cpus made ≡ 2) }
+{
+    let mut buffer = Buffer::new(rt.alloc(), 2, 4, 64)?;
+    write_all(&mut buffer, &[(0, 3), (1, 1), (1, 3), (0, 5)])?;
+    Ok(buffer)
+}
+
 #[test]
-fn two_cpus(rt: HostRuntime) -> Result<(), Fail> {
+fn nothing_is_taken_of_empty_rings(rt: HostRuntime) -> Result<(), Fail> {
     let mut buffer = Buffer::new(rt.alloc(), 2, 4, 64)?;
     assert_eq!(rt; buffer.cpus(), 2);
     assert_eq!(rt; buffer.merged()?.len(), 0);
     assert_eq!(rt; buffer.preview_any(9)?.len(), 0);
     assert_eq!(rt; buffer.take_any(9), 0);
-    write_all(&mut buffer, &[(0, 3), (1, 1), (1, 3), (0, 5)])?;
+    Ok(())
+}
 
-    let order = [(1, 1), (0, 3), (1, 3), (0, 5)];
-    expect_merged(&rt, &buffer.merged()?, &order);
-    expect_taken(&rt, &buffer.preview_any(0)?, &[]);
-    expect_taken(&rt, &buffer.preview_any(1)?, &order[..1]);
-    expect_taken(&rt, &buffer.preview_any(4)?, &order);
-    expect_taken(&rt, &buffer.preview_any(u64::MAX)?, &order);
-    expect_taken(&rt, &buffer.preview_cpu(0, 0)?, &[]);
-    expect_taken(&rt, &buffer.preview_cpu(0, 1)?, &[(0, 3)]);
-    expect_taken(&rt, &buffer.preview_cpu(1, u64::MAX)?, &[(1, 1), (1, 3)]);
+// Sees that so many records of all CPUs are these.
+fn previews(
+    rt: &impl Abort,
+    buffer: &Buffer,
+    most: u64,
+    want: &[(u32, u64)],
+) -> Result<(), AllocError> {
+    expect_taken(rt, &buffer.preview_any(most)?, want);
+    Ok(())
+}
 
+// Likewise of one CPU.
+fn previews_cpu(
+    rt: &impl Abort,
+    buffer: &Buffer,
+    cpu: u32,
+    most: u64,
+    want: &[(u32, u64)],
+) -> Result<(), AllocError>
+    requires { cpu < seen.cpus buffer.now }
+{
+    expect_taken(rt, &buffer.preview_cpu(cpu, most)?, want);
+    Ok(())
+}
+
+#[test]
+fn previews_are_in_order_of_time(rt: HostRuntime) -> Result<(), Fail> {
+    let buffer = two_cpus(&rt)?;
+    expect_merged(&rt, &buffer.merged()?, &ORDER);
+    previews(&rt, &buffer, 0, &[])?;
+    previews(&rt, &buffer, 1, &ORDER[..1])?;
+    previews(&rt, &buffer, 4, &ORDER)?;
+    previews(&rt, &buffer, u64::MAX, &ORDER)?;
+    previews_cpu(&rt, &buffer, 0, 0, &[])?;
+    previews_cpu(&rt, &buffer, 0, 1, &[(0, 3)])?;
+    previews_cpu(&rt, &buffer, 1, u64::MAX, &[(1, 1), (1, 3)])?;
+    Ok(())
+}
+
+#[test]
+fn takes_are_in_order_of_time(rt: HostRuntime) -> Result<(), Fail> {
+    let mut buffer = two_cpus(&rt)?;
     assert_eq!(rt; buffer.take_any(0), 0);
     assert_eq!(rt; buffer.take_any(2), 2);
-    expect_merged(&rt, &buffer.merged()?, &order[2..]);
+    expect_merged(&rt, &buffer.merged()?, &ORDER[2..]);
     assert_eq!(rt; buffer.take_cpu(1, u64::MAX), 1);
-    expect_merged(&rt, &buffer.merged()?, &order[3..]);
+    expect_merged(&rt, &buffer.merged()?, &ORDER[3..]);
     assert_eq!(rt; buffer.stats(1).read, 2);
     assert_eq!(rt; buffer.take_any(u64::MAX), 1);
     assert_eq!(rt; buffer.stats(0).read, 2);

@@ -1,7 +1,8 @@
 //! Worked filters.
 
 use super::*;
-use std::alloc::Global;
+use std::alloc::{AllocError, Global};
+use std::process::Abort;
 use std::test::Fail;
 use trace_format::{EventDef, Pair, Row};
 use trace_lex::Text;
@@ -88,15 +89,21 @@ fn parsed(alloc: Global, def: &EventDef, text: &str) -> Result<String, Fail> {
     })
 }
 
+/// Sees that a line's text is refused as the line says.
+fn is_refused_so(rt: &(impl Abort + AllocGlobal), def: &EventDef, line: &str) -> Result<(), Fail> {
+    let (text, want) = parts(line)?;
+    let found = parsed(rt.alloc(), def, text)?;
+    assert_eq!(rt; found.as_str(), want, "at {line}");
+    let applies = applies_to(rt.alloc(), text.as_bytes(), def)?;
+    assert_eq!(rt; applies, want == "-", "at {line}");
+    Ok(())
+}
+
 #[test]
 fn texts(rt: HostRuntime) -> Result<(), Fail> {
     let def = EventDef::parse(rt.alloc(), b"tick u64 n")?;
     for line in TEXTS.lines() {
-        let (text, want) = parts(line)?;
-        let found = parsed(rt.alloc(), &def, text)?;
-        assert_eq!(rt; found.as_str(), want, "at {line}");
-        let applies = applies_to(rt.alloc(), text.as_bytes(), &def)?;
-        assert_eq!(rt; applies, want == "-", "at {line}");
+        is_refused_so(&rt, &def, line)?;
     }
     Ok(())
 }
@@ -113,29 +120,39 @@ fn row(alloc: Global, def: &EventDef, text: &str) -> Result<Row, Fail> {
     Ok(Row::build(alloc, def, &pairs)?)
 }
 
+/// Whether the filter of a declared event passes on CPU 1 for process -7.
+fn passes(alloc: Global, declaration: &str, text: &str, pairs: &str) -> Result<bool, Fail> {
+    let def = EventDef::parse(alloc, declaration.as_bytes())?;
+    let filter = Filter::parse(alloc, text.as_bytes(), &def)?;
+    let row = row(alloc, &def, pairs)?;
+    Ok(filter.passes(&row, 1, -7))
+}
+
 #[test]
 fn truths(rt: HostRuntime) -> Result<(), Fail> {
     for line in TRUTHS.lines() {
         let (declaration, others) = parts(line)?;
         let (text, others) = parts(others)?;
         let (pairs, want) = parts(others)?;
-        let def = EventDef::parse(rt.alloc(), declaration.as_bytes())?;
-        let filter = Filter::parse(rt.alloc(), text.as_bytes(), &def)?;
-        let row = row(rt.alloc(), &def, pairs)?;
-        assert_eq!(rt; filter.passes(&row, 1, -7), want == "true", "at {line}");
+        let passes = passes(rt.alloc(), declaration, text, pairs)?;
+        assert_eq!(rt; passes, want == "true", "at {line}");
     }
     Ok(())
 }
 
-/// A test with so many blanks in it, and some at both ends.
-fn spaced(alloc: Global, blanks: usize) -> Result<String, Fail> {
+/// A part so many times.
+fn repeated(alloc: Global, part: &str, count: usize) -> Result<String, AllocError> {
     let mut text = String::new(alloc);
-    text.push_str("  n ==")?;
-    for _ in 0..blanks {
-        text.push(' ')?;
+    for _ in 0..count {
+        text.push_str(part)?;
     }
-    text.push_str("1  ")?;
     Ok(text)
+}
+
+/// A test with so many blanks in it, and some at both ends.
+fn spaced(alloc: Global, blanks: usize) -> Result<String, AllocError> {
+    let blanks = repeated(alloc, " ", blanks)?;
+    format!(in alloc; "  n =={blanks}1  ")
 }
 
 #[test]
@@ -153,10 +170,7 @@ fn lengths(rt: HostRuntime) -> Result<(), Fail> {
 #[test]
 fn parentheses(rt: HostRuntime) -> Result<(), Fail> {
     let def = EventDef::parse(rt.alloc(), b"tick u64 n")?;
-    let mut text = String::new(rt.alloc());
-    for _ in 0..1024 {
-        text.push('(')?;
-    }
+    let text = repeated(rt.alloc(), "(", 1024)?;
     let found = parsed(rt.alloc(), &def, text.as_str())?;
     assert_eq!(rt; found.as_str(), "TooMany");
     Ok(())
@@ -164,22 +178,12 @@ fn parentheses(rt: HostRuntime) -> Result<(), Fail> {
 
 /// A filter in so many `(`, with so many times two tests before its last one, and so many blanks at the end of what is in the `(`. It passes
 /// a row whose `n` is 1 or 7.
-fn nested(alloc: Global, depth: usize, pairs: usize, blanks: usize) -> Result<String, Fail> {
-    let mut text = String::new(alloc);
-    for _ in 0..depth {
-        text.push('(')?;
-    }
-    for _ in 0..pairs {
-        text.push_str("n==1&&n>0||")?;
-    }
-    text.push_str("n==7")?;
-    for _ in 0..blanks {
-        text.push(' ')?;
-    }
-    for _ in 0..depth {
-        text.push(')')?;
-    }
-    Ok(text)
+fn nested(alloc: Global, depth: usize, pairs: usize, blanks: usize) -> Result<String, AllocError> {
+    let open = repeated(alloc, "(", depth)?;
+    let close = repeated(alloc, ")", depth)?;
+    let pairs = repeated(alloc, "n==1&&n>0||", pairs)?;
+    let blanks = repeated(alloc, " ", blanks)?;
+    format!(in alloc; "{open}{pairs}n==7{blanks}{close}")
 }
 
 /// How a filter is nested, how many times two tests it has, its blanks and its bytes: one of 41 steps, one in the middle, and the longest that

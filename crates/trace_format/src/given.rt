@@ -111,7 +111,7 @@ pub(crate) fn given_values(
     ensures values { IfOk result (λ found. IfSome found (λ v. map datum_of v.items ≡ filter_map (given pairs.now) fields.now)) }
     ensures missing { IfOk result (λ found. IfNone found (IsSome (first_missing fields.now pairs.now))) }
 {
-    let mut values = Vec::new(alloc);
+    let mut values = Vec::with_capacity(alloc, fields.len())?;
     for field in fields {
         let Some(value) = given_value(alloc, pairs, field)? else {
             return Ok(None);

@@ -2,30 +2,49 @@ use crate::fault::{LineError, ScriptFault};
 use crate::line::{Line, prepare};
 use crate::render::{Outcome, render};
 use std::alloc::Global;
+use std::process::Abort;
 use std::test::Fail;
 use trace_command::{Command, Refusal, Reply};
+use trace_format::Pair;
 use trace_lex::Text;
+
+/// What a command is called.
+fn called(command: &Command) -> &'static str {
+    match command {
+        Command::Emit { .. } => "emit",
+        Command::Write { append, .. } => if *append { "append" } else { "write" },
+        Command::Read { limit, .. } => if limit.is_some() { "take" } else { "read" },
+        Command::Mkdir(_) => "mkdir",
+        Command::Rmdir(_) => "rmdir",
+    }
+}
+
+/// What a fault is called.
+fn fault_called(fault: ScriptFault) -> &'static str {
+    match fault {
+        ScriptFault::LineTooLong => "LineTooLong",
+        ScriptFault::BadByte => "BadByte",
+        ScriptFault::UnclosedQuote => "UnclosedQuote",
+        ScriptFault::UnknownCommand => "UnknownCommand",
+        ScriptFault::WrongWords => "WrongWords",
+        ScriptFault::BadNumber => "BadNumber",
+        _ => "another fault",
+    }
+}
+
+/// What was asked for, or why nothing was.
+fn reading_called(line: &Result<Line, LineError>) -> &'static str {
+    match line {
+        Ok(Line::Blank) => "nothing",
+        Ok(Line::Ask(command)) => called(command),
+        Err(LineError::Fault(fault)) => fault_called(*fault),
+        Err(LineError::Memory) => "out of memory",
+    }
+}
 
 /// What a line is read as: its fault, or what it asks for.
 fn reading(alloc: Global, line: &[u8]) -> &'static str {
-    match prepare(alloc, line) {
-        Ok(Line::Blank) => "nothing",
-        Ok(Line::Ask(Command::Emit { .. })) => "emit",
-        Ok(Line::Ask(Command::Write { append: true, .. })) => "append",
-        Ok(Line::Ask(Command::Write { .. })) => "write",
-        Ok(Line::Ask(Command::Read { limit: None, .. })) => "read",
-        Ok(Line::Ask(Command::Read { .. })) => "take",
-        Ok(Line::Ask(Command::Mkdir(_))) => "mkdir",
-        Ok(Line::Ask(Command::Rmdir(_))) => "rmdir",
-        Err(LineError::Fault(ScriptFault::LineTooLong)) => "LineTooLong",
-        Err(LineError::Fault(ScriptFault::BadByte)) => "BadByte",
-        Err(LineError::Fault(ScriptFault::UnclosedQuote)) => "UnclosedQuote",
-        Err(LineError::Fault(ScriptFault::UnknownCommand)) => "UnknownCommand",
-        Err(LineError::Fault(ScriptFault::WrongWords)) => "WrongWords",
-        Err(LineError::Fault(ScriptFault::BadNumber)) => "BadNumber",
-        Err(LineError::Fault(_)) => "another fault",
-        Err(LineError::Memory) => "out of memory",
-    }
+    reading_called(&prepare(alloc, line))
 }
 
 #[test]
@@ -89,14 +108,19 @@ fn lines_are_read(rt: HostRuntime) {
 }
 
 #[test]
-fn words_lose_their_quotes(rt: HostRuntime) -> Result<(), Fail> {
+fn a_write_loses_its_quotes(rt: HostRuntime) -> Result<(), Fail> {
     let line = prepare(rt.alloc(), b"echo \"a 'b\"c  d'>' >> 'p q'")?;
-    let Line::Ask(Command::Write { path, append, text }) = line else {
+    let Line::Ask(Command::Write { path, append, text }) = &line else {
         return Err(Fail::from("no write"));
     };
     assert_eq!(rt; path.as_bytes(), b"p q".as_slice());
     assert_eq!(rt; text.as_bytes(), b"a 'bc d>".as_slice());
-    assert!(rt; append);
+    assert!(rt; *append);
+    Ok(())
+}
+
+#[test]
+fn an_emission_loses_its_quotes(rt: HostRuntime) -> Result<(), Fail> {
     let line = prepare(rt.alloc(), b"emit 3 -2 tick a==b 'c d'=")?;
     let Line::Ask(
         Command::Emit {
@@ -105,18 +129,23 @@ fn words_lose_their_quotes(rt: HostRuntime) -> Result<(), Fail> {
             pid,
             pairs,
         },
-    ) = line
+    ) = &line
     else {
         return Err(Fail::from("no emission"));
     };
     assert_eq!(rt; event.as_bytes(), b"tick".as_slice());
-    assert_eq!(rt; (cpu, pid), (3, -2));
+    assert_eq!(rt; (*cpu, *pid), (3, -2));
     assert_eq!(rt; pairs.as_slice().len(), 2);
-    assert_eq!(rt; pairs.as_slice()[0].name.as_bytes(), b"a".as_slice());
-    assert_eq!(rt; pairs.as_slice()[0].value.as_bytes(), b"=b".as_slice());
-    assert_eq!(rt; pairs.as_slice()[1].name.as_bytes(), b"c d".as_slice());
-    assert_eq!(rt; pairs.as_slice()[1].value.as_bytes(), b"".as_slice());
+    has_pair(&rt, pairs.as_slice(), 0, "a", "=b");
+    has_pair(&rt, pairs.as_slice(), 1, "c d", "");
     Ok(())
+}
+
+/// Sees that this pair is at this place.
+fn has_pair(rt: &impl Abort, pairs: &[Pair], place: usize, name: &str, value: &str) {
+    assert!(rt; place < pairs.len());
+    assert_eq!(rt; pairs[place].name.as_bytes(), name.as_bytes());
+    assert_eq!(rt; pairs[place].value.as_bytes(), value.as_bytes());
 }
 
 #[test]
