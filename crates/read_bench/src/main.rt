@@ -1,7 +1,8 @@
-//! Measures reads of `trace` over one CPU and over several.
+//! Measures reads of `trace` over one CPU and over several, and snapshots of rings of few pages and of many.
 //!
-//! With the words CPUS RECORDS READS it records so many events, spread over so many CPUs, and reads `trace` so many times. Without words it
-//! does so with 40 records, on one CPU and on eight. It prints how long the last trace is.
+//! With the words CPUS PAGES RECORDS READS SNAPSHOTS it records so many events, spread over so many CPUs with rings of so many pages, reads `trace`
+//! so many times, and then takes so many snapshots. Without words it does so with 40 records, one read and two snapshots, on one CPU and on eight.
+//! It prints how long the last trace is.
 #![tactic(auto)]
 
 ghost use Rattle.std.specs.Prelude.{◌<◌, All};
@@ -38,8 +39,10 @@ impl Tracer {
 #[derive(Clone, Copy)]
 struct Work {
     cpus: u32,
+    pages: u32,
     records: u32,
     reads: u32,
+    snapshots: u32,
 }
 
 /// The event `tick` happens on a CPU.
@@ -53,7 +56,7 @@ fn tick(alloc: Global, cpu: u32) -> Result<Command, Refusal> {
 fn busy_tracer(alloc: Global, work: Work) -> Result<Tracer, Refusal> {
     let config = Config {
         cpus: work.cpus,
-        pages: 1_024,
+        pages: work.pages,
         page_bytes: 4_080,
         history_limit: 1 << 32,
     };
@@ -79,6 +82,9 @@ fn measure(alloc: Global, work: Work) -> Result<usize, Refusal> {
             length = text.as_bytes().len();
         }
     }
+    for _ in 0..work.snapshots {
+        tracer.ask(Command::write(alloc, b"snapshot", b"1")?)?;
+    }
     Ok(length)
 }
 
@@ -92,7 +98,7 @@ fn show(rt: &(impl Print + AllocGlobal), work: Work) -> Result<()> {
 
 /// The number that a word writes.
 fn number(word: Option<String>) -> Result<u32> {
-    let word = word.context("the words are CPUS RECORDS READS")?;
+    let word = word.context("the words are CPUS PAGES RECORDS READS SNAPSHOTS")?;
     Ok(word.parse()?)
 }
 
@@ -103,8 +109,10 @@ fn main(rt: HostRuntime) -> Result<()> {
         Some(cpus) => {
             let work = Work {
                 cpus: number(Some(cpus))?,
+                pages: number(words.next())?,
                 records: number(words.next())?,
                 reads: number(words.next())?,
+                snapshots: number(words.next())?,
             };
             show(&rt, work)
         }
@@ -112,8 +120,10 @@ fn main(rt: HostRuntime) -> Result<()> {
             for cpus in [1, 8] {
                 let work = Work {
                     cpus,
+                    pages: 1_024,
                     records: 40,
                     reads: 1,
+                    snapshots: 2,
                 };
                 show(&rt, work)?;
             }

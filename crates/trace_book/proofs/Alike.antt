@@ -1,12 +1,10 @@
 -- Room for records, and what is being prepared, are not part of what a state stands for.
-use Rattle.std.proofs.Common.{ℕ, ◌<◌, ◌≤◌, ◌∙◌, List, length, get_or, Option, sym, ap, subst, arith}
+use Rattle.std.proofs.Common.{ℕ, ◌<◌, ◌∙◌, List, length, get_or, Option, sym, ap, subst, arith}
 use Rattle.std.proofs.lemmas.List.Elements.{All-same}
-use Rattle.std.specs.List.{AllByRecursion}
 use Rattle.trace_command.specs.Requests.{Request}
 use Rattle.trace_command.specs.declared.command.Config.{Config}
-use Rattle.trace_history.specs.Rings.{rings}
 use Rattle.trace_book.specs.Emissions.{IsStateAlike}
-use Rattle.trace_book.specs.Instances.{InstanceSeen, InstanceStandsFor, IsAlike}
+use Rattle.trace_book.specs.Instances.{InstanceSeen, InstanceStandsFor, IsAlike, side_families}
 use Rattle.trace_book.specs.States.{IsUnchanged, StandsFor, names_of}
 use Rattle.trace_book.specs.declared.state.Named.{Named}
 use Rattle.trace_book.specs.declared.state.State.{State}
@@ -17,13 +15,13 @@ alike-stands : (g : Config) (name : Option (List ℕ)) (past : List Request) (i 
 alike-stands g name past i j alike stands = record {
   enabled = alike.enabled ∙ stands.enabled;
   filters = alike.filters ∙ stands.filters;
+  triggers = alike.triggers ∙ stands.triggers;
   overwrite = alike.overwrite ∙ stands.overwrite;
   tracing = alike.tracing ∙ stands.tracing;
-  rings = alike.rings (rings g name past) stands.rings;
-  cpus = alike.cpus ∙ stands.cpus;
-  pages = alike.pages ∙ stands.pages;
-  page_bytes = alike.page_bytes ∙ stands.page_bytes;
-  offers = subst (AllByRecursion (λ n. n ≤ length past)) (sym alike.offers) stands.offers;
+  sides = alike.sides (side_families g name past) stands.sides;
+  shaped = alike.shaped g stands.shaped;
+  offered = alike.offered (length past) stands.offered;
+  spared = stands.spared;
 }
 
 pub state_alike-stands : (g : Config) (old new : State) (past : List Request) → IsStateAlike old new → StandsFor g old past → StandsFor g new past
@@ -34,6 +32,7 @@ state_alike-stands g old new past alike stands = record {
   distinct = stands.distinct;
   unknown = stands.unknown;
   unfiltered = stands.unfiltered;
+  untriggered = stands.untriggered;
   clock = alike.clock ∙ stands.clock;
   early = omega (arith, alike.clock, stands.early);
   names = names-same old.instances.items new.instances.items alike.instances.many alike.instances.names ∙ stands.names;
@@ -54,6 +53,7 @@ unchanged-stands g old new past same stands =
       distinct = stands.distinct;
       unknown = stands.unknown;
       unfiltered = stands.unfiltered;
+      untriggered = stands.untriggered;
       clock = same.clock ∙ stands.clock;
       early = omega (arith, same.clock, stands.early);
       names = ap names_of same.instances ∙ stands.names;

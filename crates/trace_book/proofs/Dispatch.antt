@@ -13,10 +13,10 @@ use Rattle.trace_command.specs.Refusals.{IsRefusal}
 use Rattle.trace_command.specs.Requests.{Request, WriteFile, ReadFile}
 use Rattle.trace_command.specs.declared.command.Config.{Config}
 use Rattle.trace_command.specs.declared.command.Reply.{Reply}
-use Rattle.trace_command.specs.declared.command.Reply.TheVariants.{Done}
+use Rattle.trace_command.specs.declared.command.Reply.TheVariants.{Done, Text}
 use Rattle.trace_command.specs.declared.refusal.Refusal.{Refusal}
-use Rattle.trace_history.specs.History.{added_answer, answer_with_room, declaration_answer, file_answer, instance_answer, missing, read_answer, read_declaration_answer, write_answer}
-use Rattle.trace_history.specs.Settings.{declared_events, is_there, is_same}
+use Rattle.trace_history.specs.History.{added_answer, answer_with_room, declaration_answer, declarations_text, file_answer, instance_answer, missing, read_answer, read_declaration_answer, write_answer}
+use Rattle.trace_history.specs.Settings.{declared_events, instance_names, is_there, is_same}
 use Rattle.trace_book.specs.Changes.{IsEffect}
 use Rattle.trace_book.specs.Commands.{IsRead, IsReadable, IsSource, IsWriteChange}
 use Rattle.trace_book.specs.Files.{HasEvent, IsAt, IsResolved, IsThere, file_at}
@@ -33,7 +33,8 @@ use Rattle.trace_book.specs.declared.resolve.Target.TheVariants as target
 use Rattle.trace_book.specs.declared.state.Named.{Named}
 use Rattle.trace_book.specs.declared.state.Prepared.{Prepared}
 use Rattle.trace_book.specs.declared.state.State.{State}
-use Rattle.trace_book.proofs.Effects.{declaration_effect, lawful_read, nothing_missing, other_read, other_write, own_read, own_write, plain_read, plain_write}
+use Rattle.trace_book.proofs.EachInstance.{length-names_of}
+use Rattle.trace_book.proofs.Effects.{declaration_effect, declarations_read, lawful_read, nothing_missing, other_read, other_write, own_read, plain_read, plain_write}
 
 -- ---- what was found is there
 
@@ -47,27 +48,31 @@ has_event cpus events (file.CpuStats cpu) there = tt
 has_event cpus events file.Overwrite there = tt
 has_event cpus events file.TraceOptions there = tt
 has_event cpus events file.TracingOn there = tt
+has_event cpus events file.Snapshot there = tt
 has_event cpus events file.EventsEnable there = tt
 has_event cpus events file.EventsFilter there = tt
 has_event cpus events (file.EventEnable event) there = there
 has_event cpus events (file.EventFilter event) there = there
+has_event cpus events (file.EventTrigger event) there = there
 has_event cpus events (file.EventFormat event) there = there
 
 -- and it can be read of an instance
 pub readable : (g : Config) (source : Source) (found : File) → IsUsableInstance g (length source.catalog.now) source.instance.now
     → IsThere g.cpus source.catalog.now found → IsReadable source found
 readable g source file.Trace usable there = tt
-readable g source (file.CpuTrace cpu) usable there = omega (arith, there, usable.cpus)
+readable g source (file.CpuTrace cpu) usable there = omega (arith, there, usable.shaped.live.cpus)
 readable g source file.TracePipe usable there = tt
-readable g source (file.CpuTracePipe cpu) usable there = omega (arith, there, usable.cpus)
-readable g source (file.CpuStats cpu) usable there = omega (arith, there, usable.cpus)
+readable g source (file.CpuTracePipe cpu) usable there = omega (arith, there, usable.shaped.live.cpus)
+readable g source (file.CpuStats cpu) usable there = omega (arith, there, usable.shaped.live.cpus)
 readable g source file.Overwrite usable there = tt
 readable g source file.TraceOptions usable there = tt
 readable g source file.TracingOn usable there = tt
+readable g source file.Snapshot usable there = tt
 readable g source file.EventsEnable usable there = tt
 readable g source file.EventsFilter usable there = tt
 readable g source (file.EventEnable event) usable there = omega (arith, there, usable.enabled)
 readable g source (file.EventFilter event) usable there = omega (arith, there, usable.filters)
+readable g source (file.EventTrigger event) usable there = omega (arith, there, usable.triggers)
 readable g source (file.EventFormat event) usable there = there
 
 -- ---- what an address answers
@@ -104,9 +109,9 @@ write_to state name found append text = WriteFile name (Some (file_at state.cata
 
 write-answers : (g : Config) (state : State) (past : List Request) (name : Option (List ℕ)) (found : File) (append : Bool) (text : List ℕ)
     → StandsFor g state past → is_there name past ≡ true → IsThere g.cpus state.catalog found
-    → answer_with_room g past (write_to state name found append text) ≡ write_answer g past append text (file_at state.catalog found)
+    → answer_with_room g past (write_to state name found append text) ≡ write_answer g name past append text (file_at state.catalog found)
 write-answers g state past name found append text stands is there =
-    answered-there g past name (write_answer g past append text) (file_at state.catalog found) is
+    answered-there g past name (write_answer g name past append text) (file_at state.catalog found) is
     (nothing_missing g past state.catalog found stands.events
     (subst (λ (events : List Definition). AreEvents [] events) (sym stands.events) stands.distinct) there)
 
@@ -117,30 +122,39 @@ usable-at g state past place d usable stands inside =
     subst (λ (events : List Definition). IsUsableInstance g (length events) (get_or state.instances.items place d).instance) stands.events
     (usable.each place d inside)
 
+-- the instance at a place is what the requests say of the one of this name
+pub stands-at : (g : Config) (state : State) (past : List Request) (place : ℕ) (name : Option (List ℕ)) (n : Named)
+    → StandsFor g state past → IsAt state place name → n ≡ get_or state.instances.items place n → InstanceStandsFor g name past n.instance
+stands-at g state past place name n stands at is =
+    let called : n.name ≡ name = ap (λ (m : Named). m.name) is ∙ at.1 n in
+    let own : InstanceStandsFor g n.name past n.instance =
+    subst (λ (m : Named). InstanceStandsFor g m.name past m.instance) (sym is) (stands.each place n at.0) in
+    subst (λ (o : Option (List ℕ)). InstanceStandsFor g o past n.instance) called own
+
 write-done : (g : Config) (state : State) (past : List Request) (name : Option (List ℕ)) (place : ℕ) (found : File) (append : Bool) (text : List ℕ)
     (change : InstanceChange) → IsUsable g state → StandsFor g state past → is_there name past ≡ true → IsAt state place name
-    → IsThere g.cpus state.catalog found → IsWriteChange g past append text (file_at state.catalog found) (Ok change)
+    → IsThere g.cpus state.catalog found → IsWriteChange g name past append text (file_at state.catalog found) (Ok change)
     → IsPrepared g past (write_to state name found append text) state (Ok (record { change = Instance place change; reply = Done }))
 write-done g state past name place found append text change usable stands is at there write =
     let named = file_at state.catalog found in (
       write-answers g state past name found append text stands is there ∙ write.0,
       changed-at g state past (write_to state name found append text) place name change at (plain_write name state.catalog found append text)
           (λ other differ. other_write g other name past named append text differ)
-          (own_write g name past named append text change write.1),
+          write.1,
       (at.0, λ d. write.2 (get_or state.instances.items place d).instance (usable-at g state past place d usable stands at.0)),
     )
 
 write-refused : (g : Config) (state : State) (past : List Request) (name : Option (List ℕ)) (found : File) (append : Bool) (text : List ℕ)
     (refused : Refusal) → StandsFor g state past → is_there name past ≡ true
-    → IsThere g.cpus state.catalog found → IsWriteChange g past append text (file_at state.catalog found) (Err refused)
+    → IsThere g.cpus state.catalog found → IsWriteChange g name past append text (file_at state.catalog found) (Err refused)
     → IsPrepared g past (write_to state name found append text) state (Err refused)
 write-refused g state past name found append text refused stands is there write =
-    refused-as refused (write_answer g past append text (file_at state.catalog found)) _ (write-answers g state past name found append text stands is there) write
+    refused-as refused (write_answer g name past append text (file_at state.catalog found)) _ (write-answers g state past name found append text stands is there) write
 
 -- the same of an address
 pub address-writes : (g : Config) (state : State) (past : List Request) (a : Address) (place : ℕ) (found : File) (append : Bool) (text : List ℕ)
     (change : InstanceChange) → IsUsable g state → StandsFor g state past → IsResolved g state past a (Ok (target.Of place found))
-    → IsWriteChange g past append text (file_at state.catalog found) (Ok change)
+    → IsWriteChange g a.instance past append text (file_at state.catalog found) (Ok change)
     → IsPrepared g past (WriteFile a.instance a.file append text) state (Ok (record { change = Instance place change; reply = Done }))
 address-writes g state past a place found append text change usable stands resolved write =
     subst
@@ -149,7 +163,7 @@ address-writes g state past a place found append text change usable stands resol
 
 pub address-write_refused : (g : Config) (state : State) (past : List Request) (a : Address) (place : ℕ) (found : File) (append : Bool) (text : List ℕ)
     (refused : Refusal) → StandsFor g state past → IsResolved g state past a (Ok (target.Of place found))
-    → IsWriteChange g past append text (file_at state.catalog found) (Err refused)
+    → IsWriteChange g a.instance past append text (file_at state.catalog found) (Err refused)
     → IsPrepared g past (WriteFile a.instance a.file append text) state (Err refused)
 address-write_refused g state past a place found append text refused stands resolved write =
     subst (λ (f : Option paths.File). IsPrepared g past (WriteFile a.instance f append text) state (Err refused))
@@ -158,7 +172,7 @@ address-write_refused g state past a place found append text refused stands reso
 -- a path that leads nowhere
 pub address-lost_write : (g : Config) (state : State) (past : List Request) (a : Address) (append : Bool) (text : List ℕ) (refused : Refusal)
     → IsResolved g state past a (Err refused) → IsPrepared g past (WriteFile a.instance a.file append text) state (Err refused)
-address-lost_write g state past a append text refused resolved = is-refusal refused _ (resolved (write_answer g past append text))
+address-lost_write g state past a append text refused resolved = is-refusal refused _ (resolved (write_answer g a.instance past append text))
 
 -- a declaration by its path
 pub address-declares : (g : Config) (state : State) (past : List Request) (a : Address) (append : Bool) (text : List ℕ) (result : Result Prepared Refusal)
@@ -173,7 +187,7 @@ address-declares g state past a append text result resolved is =
 -- what a declaration answers, at its instance
 declaration-answers : (g : Config) (past : List Request) (name : Option (List ℕ)) (append : Bool) (text : List ℕ) → is_there name past ≡ true
     → answer_with_room g past (WriteFile name (Some paths.SyntheticEvents) append text) ≡ declaration_answer g past append text
-declaration-answers g past name append text is = answered-there g past name (write_answer g past append text) paths.SyntheticEvents is refl
+declaration-answers g past name append text is = answered-there g past name (write_answer g name past append text) paths.SyntheticEvents is refl
 
 -- an event that may be added
 fresh_event : (g : Config) (past : List Request) (event : Definition) (id : ℕ) → IsDefinition event → id_for (declared_events past) event g.page_bytes ≡ Ok id
@@ -298,6 +312,20 @@ pub address-lost_read : (g : Config) (state : State) (past : List Request) (a : 
     → IsResolved g state past a (Err refused) → IsPrepared g past (ReadFile a.instance a.file limit) state (Err refused)
 address-lost_read g state past a limit refused resolved = is-refusal refused _ (resolved (read_answer g a.instance past limit))
 
+-- the declarations are read whole, and nothing is changed
+pub declarations-shown : (g : Config) (state : State) (past : List Request) (name : Option (List ℕ)) (limit : Option ℕ) (text : List ℕ)
+    → StandsFor g state past → is_there name past ≡ true → limit ≡ None → text ≡ declarations_text past
+    → IsPrepared g past (ReadFile name (Some paths.SyntheticEvents) limit) state (Ok (record { change = Instance 0 Keep; reply = Text text }))
+declarations-shown g state past name limit text stands is none shown =
+    let some : 0 < length state.instances.items = omega (arith, length-names_of state.instances.items (instance_names past) stands.names) in (
+      rw (is, none, shown) refl,
+      λ d. (
+        record { plain = plain_read name (Some paths.SyntheticEvents) limit; others = λ other differ. declarations_read g other name past limit },
+        declarations_read g (get_or state.instances.items 0 d).name name past limit,
+      ),
+      (some, λ d. tt),
+    )
+
 pub address-lists : (g : Config) (state : State) (past : List Request) (a : Address) (limit : Option ℕ) (result : Result Prepared Refusal)
     → IsResolved g state past a (Ok target.Declarations)
     → IsPrepared g past (ReadFile a.instance (Some paths.SyntheticEvents) limit) state result
@@ -309,13 +337,9 @@ address-lists g state past a limit result resolved is =
 pub is-source : (g : Config) (state : State) (past : List Request) (source : Source) (place : ℕ) (name : Option (List ℕ)) (n : Named)
     → StandsFor g state past → IsAt state place name → source.catalog.now ≡ state.catalog → source.clock ≡ state.clock
     → n ≡ get_or state.instances.items place n → source.instance.now ≡ n.instance → IsSource g name past source
-is-source g state past source place name n stands at catalog clock is instance =
-    let called : n.name ≡ name = ap (λ (m : Named). m.name) is ∙ at.1 n in
-    let own : InstanceStandsFor g n.name past n.instance =
-    subst (λ (m : Named). InstanceStandsFor g m.name past m.instance) (sym is) (stands.each place n at.0) in record {
-      events = catalog ∙ stands.events;
-      distinct = stands.distinct;
-      clock = clock ∙ stands.clock;
-      instance = subst (λ (i : InstanceSeen). InstanceStandsFor g name past i) (sym instance)
-          (subst (λ (o : Option (List ℕ)). InstanceStandsFor g o past n.instance) called own);
-    }
+is-source g state past source place name n stands at catalog clock is instance = record {
+  events = catalog ∙ stands.events;
+  distinct = stands.distinct;
+  clock = clock ∙ stands.clock;
+  instance = subst (λ (i : InstanceSeen). InstanceStandsFor g name past i) (sym instance) (stands-at g state past place name n stands at is);
+}

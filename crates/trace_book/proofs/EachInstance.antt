@@ -1,5 +1,5 @@
 -- Lists of instances: what a loop over them keeps, and their names.
-use Rattle.std.proofs.Common.{◌≡◌, ℕ, zero, suc, ◌+◌, ◌<◌, ◌≤◌, ◌≢◌, Bool, true, false, not, cond, List, [], ◌∷◌, ◌++◌, length, map, take, drop, get_or, set, All, Option, Some, None, refl, sym, ap, ◌∙◌, subst, ⊎_elim, arith, below_more, get_or-set_same, get_or-set_other}
+use Rattle.std.proofs.Common.{◌≡◌, ℕ, zero, suc, ◌+◌, ◌<◌, ◌≤◌, ◌≢◌, Bool, true, false, not, ◌||◌, cond, List, [], ◌∷◌, ◌++◌, length, map, take, drop, get_or, set, All, Option, Some, None, refl, sym, ap, ◌∙◌, subst, ⊎_elim, arith, below_more, get_or-set_same, get_or-set_other}
 use Rattle.std.proofs.lemmas.Bool.{cases_eq, false≢true}
 use Rattle.std.proofs.lemmas.List.{get_or_default, get_or-map, map-append, take-map, drop-map, length-map}
 use Rattle.std.proofs.lemmas.Map.Keys.{IsDistinct-head, IsDistinct-tail, IsDistinct-cons}
@@ -38,6 +38,17 @@ names_more old now i read new inside same names = λ k d. ⊎_elim
     rw e here)
     (λ (other : k ≡ i → ⊥). rw (get_or-set_other now i k new d other) (names k d))
     (cases_eq k i)
+
+-- none is armed, also where one more is not
+pub none_more : (now : List Named) (i : ℕ) (new : Named) (some armed : Bool) → i < length now → new.instance.armed ≡ armed
+    → (some ≡ false → (k : ℕ) (d : Named) → k < i → (get_or now k d).instance.armed ≡ false)
+    → (some || armed) ≡ false → (k : ℕ) (d : Named) → k < i + 1 → (get_or (set now i new) k d).instance.armed ≡ false
+none_more now i new true armed inside is before none = absurd (cc)
+none_more now i new false armed inside is before none = λ k d h. below_more
+    (λ (j : ℕ). (e : Named) → (get_or (set now i new) j e).instance.armed ≡ false) i
+    (λ j below e. let other : j ≢ i = omega arith in rw get_or-set_other (before refl j e below))
+    (λ e. rw get_or-set_same (is ∙ none))
+    k h d
 
 -- ---- names
 

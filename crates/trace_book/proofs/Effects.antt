@@ -1,5 +1,5 @@
 -- What writes to files, reads and declarations change of each instance.
-use Rattle.std.proofs.Common.{◌≡◌, ℕ, ◌<◌, Bool, true, false, List, [], ◌∷◌, length, map, is_some, Option, Some, None, refl, sym, ap, ◌∙◌, arith}
+use Rattle.std.proofs.Common.{◌≡◌, ℕ, ◌<◌, Bool, true, false, List, [], ◌∷◌, length, map, is_some, if◌then◌else◌, Option, Some, None, refl, sym, ap, ◌∙◌, arith}
 use Rattle.std.proofs.lemmas.Bool.{lt-ltb}
 use Rattle.std.proofs.lemmas.Slice.Eq.{bytes_eq-Decides}
 use Rattle.std.specs.Option.{option_map}
@@ -12,17 +12,18 @@ use Rattle.trace_command.specs.Requests.{Request, WriteFile, ReadFile}
 use Rattle.trace_command.specs.declared.command.Config.{Config}
 use Rattle.trace_history.proofs.EventLists.{named_at}
 use Rattle.trace_history.specs.History.{missing}
-use Rattle.trace_history.specs.Rings.{rings, rings_after_read, rings_after_write}
+use Rattle.trace_history.specs.Rings.{rings, rings_after, rings_after_read, rings_after_write}
 use Rattle.trace_history.specs.Settings.{declared_events, event_named, event_named_in, filter_of, is_enabled, is_same, is_tracing, overwrites}
-use Rattle.trace_book.specs.Changes.{IsEffect, filters_after, IsLawful, IsWriteEffect, rings_changed}
+use Rattle.trace_book.specs.Changes.{IsEffect, filters_after, IsLawful, rings_changed}
 use Rattle.trace_book.specs.Commands.{IsReading}
 use Rattle.trace_book.specs.Files.{IsThere, file_at, name_at}
 use Rattle.trace_book.specs.States.{IsPlain, IsUsableInstance}
 use Rattle.trace_book.specs.Instances.{InstanceSeen}
 use Rattle.trace_book.specs.declared.change.InstanceChange.{InstanceChange}
-use Rattle.trace_book.specs.declared.change.InstanceChange.TheVariants.{Keep, Take, TakeCpu, Switch, SwitchAll, SetFilter, SetFilters, SetOverwrite, SetTracing, Clear, ClearCpu}
+use Rattle.trace_book.specs.declared.change.InstanceChange.TheVariants.{Keep, Take, TakeCpu, Switch, SwitchAll, SetFilter, SetFilters, SetOverwrite, SetTracing, Clear, ClearCpu, Attach, Detach, TakeSnapshot, FreeSpare, ClearSpare}
 use Rattle.trace_book.specs.declared.resolve.File.{File}
 use Rattle.trace_book.specs.declared.resolve.File.TheVariants as file
+use Rattle.trace_book.proofs.Calm.{IsQuiet, IsQuietFile, IsWriteEffect, calm-effect, calm-other_write, calm-read, calm-write, quiet-keep}
 use Rattle.trace_book.proofs.EventReads.{name-at_place}
 
 -- an instance is the same as itself
@@ -37,28 +38,33 @@ pub other_write : (g : Config) (other name : Option (List ℕ)) (past : List Req
     → is_same other name ≡ false → IsEffect g other past (WriteFile name (Some named) append text) Keep
 other_write g other name past named append text is =
     let kept : map (λ (event : Definition). option_map (parsed_of event) (filter_of other event.name (WriteFile name (Some named) append text ∷ past))) (declared_events past)
-    ≡ map (λ (event : Definition). option_map (parsed_of event) (filter_of other event.name past)) (declared_events past) = rw is refl in record {
+    ≡ map (λ (event : Definition). option_map (parsed_of event) (filter_of other event.name past)) (declared_events past) = rw is refl in
+    calm-effect g other past (WriteFile name (Some named) append text) Keep (calm-other_write name other past named append text is) quiet-keep
+    (record {
       enabled = rw is refl;
       filters = kept;
       overwrite = rw is refl;
       tracing = rw is refl;
       rings = rw is refl;
-    }
+    })
 
--- and it changes this one as the file says
+-- and it changes this one as the file says, if that is neither of snapshots nor of triggers
 pub own_write : (g : Config) (name : Option (List ℕ)) (past : List Request) (named : paths.File) (append : Bool) (text : List ℕ) (change : InstanceChange)
-    → IsWriteEffect g past append text named change → IsEffect g name past (WriteFile name (Some named) append text) change
-own_write g name past named append text change is =
+    → IsQuietFile named → IsQuiet change → IsWriteEffect g past append text named change
+    → IsEffect g name past (WriteFile name (Some named) append text) change
+own_write g name past named append text change file quiet is =
     let same = same_instance name in
     let kept : map (λ (event : Definition). option_map (parsed_of event) (filter_of name event.name (WriteFile name (Some named) append text ∷ past))) (declared_events past)
     ≡ filters_after change (map (λ (event : Definition). option_map (parsed_of event) (filter_of name event.name past)) (declared_events past)) =
-    rw same (is.filters (λ event. filter_of name event past)) in record {
+    rw same (is.filters (λ event. filter_of name event past)) in
+    calm-effect g name past (WriteFile name (Some named) append text) change (calm-write name name past named append text file) quiet
+    (record {
       enabled = rw same (is.enabled (λ event. is_enabled name event past));
       filters = kept;
       overwrite = rw same (is.overwrite (overwrites name past));
       tracing = rw same (is.tracing (is_tracing name past));
       rings = rw same (is.rings (rings g name past));
-    }
+    })
 
 -- a write to a file that is none of declarations declares nothing
 pub plain_write : (name : Option (List ℕ)) (events : List Definition) (found : File) (append : Bool) (text : List ℕ)
@@ -71,10 +77,12 @@ plain_write name events (file.CpuStats cpu) append text = record { declares = re
 plain_write name events file.Overwrite append text = record { declares = refl; made = refl; removed = refl; ticks = refl }
 plain_write name events file.TraceOptions append text = record { declares = refl; made = refl; removed = refl; ticks = refl }
 plain_write name events file.TracingOn append text = record { declares = refl; made = refl; removed = refl; ticks = refl }
+plain_write name events file.Snapshot append text = record { declares = refl; made = refl; removed = refl; ticks = refl }
 plain_write name events file.EventsEnable append text = record { declares = refl; made = refl; removed = refl; ticks = refl }
 plain_write name events file.EventsFilter append text = record { declares = refl; made = refl; removed = refl; ticks = refl }
 plain_write name events (file.EventEnable event) append text = record { declares = refl; made = refl; removed = refl; ticks = refl }
 plain_write name events (file.EventFilter event) append text = record { declares = refl; made = refl; removed = refl; ticks = refl }
+plain_write name events (file.EventTrigger event) append text = record { declares = refl; made = refl; removed = refl; ticks = refl }
 plain_write name events (file.EventFormat event) append text = record { declares = refl; made = refl; removed = refl; ticks = refl }
 
 -- a declaration empties no ring
@@ -89,7 +97,8 @@ declared_here g other name past append text is =
     let request = WriteFile name (Some paths.SyntheticEvents) append text in
     let kept : map (λ (event : Definition). option_map (parsed_of event) (filter_of other event.name (request ∷ past))) (declared_events past)
     ≡ map (λ (event : Definition). option_map (parsed_of event) (filter_of other event.name past)) (declared_events past) = rw is refl in
-    record { enabled = rw is refl; filters = kept; overwrite = rw is refl; tracing = rw is refl; rings = rw is (declared_rings append (rings g other past)) }
+    calm-effect g other past request Keep (calm-write name other past paths.SyntheticEvents append text tt) quiet-keep
+    (record { enabled = rw is refl; filters = kept; overwrite = rw is refl; tracing = rw is refl; rings = rw is (declared_rings append (rings g other past)) })
 
 -- a declaration changes no instance
 pub declaration_effect : (g : Config) (other name : Option (List ℕ)) (past : List Request) (append : Bool) (text : List ℕ)
@@ -108,13 +117,9 @@ plain_read name named limit = record { declares = refl; made = refl; removed = r
 -- a read of a file of an instance changes no other
 pub other_read : (g : Config) (other name : Option (List ℕ)) (past : List Request) (named : Option paths.File) (limit : Option ℕ)
     → is_same other name ≡ false → IsEffect g other past (ReadFile name named limit) Keep
-other_read g other name past named limit is = record {
-  enabled = refl;
-  filters = refl;
-  overwrite = refl;
-  tracing = refl;
-  rings = rw is refl;
-}
+other_read g other name past named limit is =
+    calm-effect g other past (ReadFile name named limit) Keep (calm-read name other past named limit) quiet-keep
+    (record { enabled = refl; filters = refl; overwrite = refl; tracing = refl; rings = rw is refl })
 
 -- and it changes of this one the rings alone
 pub own_read : (g : Config) (name : Option (List ℕ)) (past : List Request) (named : paths.File) (limit : Option ℕ) (change : InstanceChange)
@@ -122,11 +127,16 @@ pub own_read : (g : Config) (name : Option (List ℕ)) (past : List Request) (na
     → rings_after_read g limit (Some named) (rings g name past) ≡ rings_changed g.pages g.page_bytes change (rings g name past)
     → IsEffect g name past (ReadFile name (Some named) limit) change
 own_read g name past named limit Keep reading is =
-    record { enabled = refl; filters = refl; overwrite = refl; tracing = refl; rings = rw (same_instance name) is }
+    calm-effect g name past (ReadFile name (Some named) limit) Keep (calm-read name name past (Some named) limit) quiet-keep
+    (record { enabled = refl; filters = refl; overwrite = refl; tracing = refl; rings = rw (same_instance name) is })
 own_read g name past named limit (Take most) reading is =
-    record { enabled = refl; filters = refl; overwrite = refl; tracing = refl; rings = rw (same_instance name) is }
+    calm-effect g name past (ReadFile name (Some named) limit) (Take most) (calm-read name name past (Some named) limit)
+    (record { triggers = λ old. refl; sides = λ cpus pages page_bytes f. refl })
+    (record { enabled = refl; filters = refl; overwrite = refl; tracing = refl; rings = rw (same_instance name) is })
 own_read g name past named limit (TakeCpu cpu most) reading is =
-    record { enabled = refl; filters = refl; overwrite = refl; tracing = refl; rings = rw (same_instance name) is }
+    calm-effect g name past (ReadFile name (Some named) limit) (TakeCpu cpu most) (calm-read name name past (Some named) limit)
+    (record { triggers = λ old. refl; sides = λ cpus pages page_bytes f. refl })
+    (record { enabled = refl; filters = refl; overwrite = refl; tracing = refl; rings = rw (same_instance name) is })
 own_read g name past named limit (Switch event flag) reading is = absurd reading
 own_read g name past named limit (SwitchAll flag) reading is = absurd reading
 own_read g name past named limit (SetFilter event filter) reading is = absurd reading
@@ -135,13 +145,33 @@ own_read g name past named limit (SetOverwrite flag) reading is = absurd reading
 own_read g name past named limit (SetTracing flag) reading is = absurd reading
 own_read g name past named limit Clear reading is = absurd reading
 own_read g name past named limit (ClearCpu cpu) reading is = absurd reading
+own_read g name past named limit (Attach event trigger) reading is = absurd reading
+own_read g name past named limit (Detach event) reading is = absurd reading
+own_read g name past named limit TakeSnapshot reading is = absurd reading
+own_read g name past named limit FreeSpare reading is = absurd reading
+own_read g name past named limit ClearSpare reading is = absurd reading
+
+-- a read of the declarations changes no instance
+declarations_rings : (g : Config) (other name : Option (List ℕ)) (past : List Request) (limit : Option ℕ) (family : List (List Event))
+    → rings_after g other past (ReadFile name (Some paths.SyntheticEvents) limit) family ≡ family
+declarations_rings g other name past limit family = by (is_same other name)
+  where
+    by : (same : Bool) → (if same then family else family) ≡ family
+    by true = refl
+    by false = refl
+
+pub declarations_read : (g : Config) (other name : Option (List ℕ)) (past : List Request) (limit : Option ℕ)
+    → IsEffect g other past (ReadFile name (Some paths.SyntheticEvents) limit) Keep
+declarations_read g other name past limit =
+    calm-effect g other past (ReadFile name (Some paths.SyntheticEvents) limit) Keep (calm-read name other past (Some paths.SyntheticEvents) limit) quiet-keep
+    (record { enabled = refl; filters = refl; overwrite = refl; tracing = refl; rings = declarations_rings g other name past limit (rings g other past) })
 
 -- such a change can be made of every instance
 pub lawful_read : (g : Config) (events : ℕ) (i : InstanceSeen) (change : InstanceChange) → IsUsableInstance g events i → IsReading g.cpus change
     → IsLawful i change
 lawful_read g events i Keep usable reading = tt
 lawful_read g events i (Take most) usable reading = tt
-lawful_read g events i (TakeCpu cpu most) usable reading = omega (arith, reading, usable.cpus)
+lawful_read g events i (TakeCpu cpu most) usable reading = omega (arith, reading, usable.shaped.live.cpus)
 lawful_read g events i (Switch event flag) usable reading = absurd reading
 lawful_read g events i (SwitchAll flag) usable reading = absurd reading
 lawful_read g events i (SetFilter event filter) usable reading = absurd reading
@@ -150,6 +180,11 @@ lawful_read g events i (SetOverwrite flag) usable reading = absurd reading
 lawful_read g events i (SetTracing flag) usable reading = absurd reading
 lawful_read g events i Clear usable reading = absurd reading
 lawful_read g events i (ClearCpu cpu) usable reading = absurd reading
+lawful_read g events i (Attach event trigger) usable reading = absurd reading
+lawful_read g events i (Detach event) usable reading = absurd reading
+lawful_read g events i TakeSnapshot usable reading = absurd reading
+lawful_read g events i FreeSpare usable reading = absurd reading
+lawful_read g events i ClearSpare usable reading = absurd reading
 
 -- ---- nothing that was found is missing
 
@@ -176,8 +211,10 @@ nothing_missing g past events (file.CpuStats cpu) is are there = rw (lt-ltb cpu 
 nothing_missing g past events file.Overwrite is are there = refl
 nothing_missing g past events file.TraceOptions is are there = refl
 nothing_missing g past events file.TracingOn is are there = refl
+nothing_missing g past events file.Snapshot is are there = refl
 nothing_missing g past events file.EventsEnable is are there = refl
 nothing_missing g past events file.EventsFilter is are there = refl
 nothing_missing g past events (file.EventEnable event) is are there = rw (event_there past events event is are there) refl
 nothing_missing g past events (file.EventFilter event) is are there = rw (event_there past events event is are there) refl
+nothing_missing g past events (file.EventTrigger event) is are there = rw (event_there past events event is are there) refl
 nothing_missing g past events (file.EventFormat event) is are there = rw (event_there past events event is are there) refl

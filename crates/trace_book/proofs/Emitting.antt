@@ -1,5 +1,5 @@
 -- What an emission that is prepared leaves of the instances is what the requests say of it.
-use Rattle.std.proofs.Common.{◌≡◌, ℕ, zero, suc, ℤ, ◌+◌, ◌<◌, ◌≤◌, Bool, true, false, List, [], ◌∷◌, ◌++◌, length, take, get_or, All, Option, Some, None, Ok, refl, sym, ap, ◌∙◌, subst, arith}
+use Rattle.std.proofs.Common.{◌≡◌, ℕ, zero, suc, ℤ, ◌+◌, ◌<◌, ◌≤◌, Bool, true, false, ◌&&◌, List, [], ◌∷◌, ◌++◌, length, take, get_or, All, Option, Some, None, Ok, refl, sym, ap, ◌∙◌, subst, arith}
 use Rattle.std.proofs.Math.Seq.{take-append_seam}
 use Rattle.std.specs.List.{AllByRecursion}
 use Rattle.std.specs.Option.{option_map}
@@ -17,11 +17,14 @@ use Rattle.trace_command.specs.declared.command.Config.{Config}
 use Rattle.trace_command.specs.declared.command.Reply.TheVariants as reply
 use Rattle.trace_history.specs.Declarations.{IsFit, IsPlaceOf}
 use Rattle.trace_history.specs.Settings.{NumberedEvent, declared_events, event_named, event_named_in, filter_of, is_enabled, kept_filter, now_of}
-use Rattle.trace_history.specs.Rings.{Emitted, filter_holds, is_recorded, record_bytes}
+use Rattle.trace_history.specs.Emissions.{Emitted, filter_holds, is_recorded, record_bytes}
 use Rattle.trace_history.specs.History.{emission_answer}
-use Rattle.trace_book.specs.Instances.{InstanceSeen, InstanceStandsFor, IsAlike}
-use Rattle.trace_book.specs.Rows.{kept_holds, records}
-use Rattle.trace_book.specs.States.{EachCame, HasRoom, IsEmission, IsReady, StandsFor}
+use Rattle.trace_history.specs.Snapshots.{is_exchanged_by}
+use Rattle.trace_history.specs.Triggers as triggers
+use Rattle.trace_history.specs.Triggers.{acts, is_left, passes, times_left, trigger_of}
+use Rattle.trace_book.specs.Instances.{InstanceSeen, InstanceStandsFor, IsAlike, kept_as}
+use Rattle.trace_book.specs.Rows.{fires, kept_acts, kept_holds, records}
+use Rattle.trace_book.specs.States.{CanBeWritten, EachCame, HasRoom, IsEmission, IsReady, StandsFor}
 use Rattle.trace_book.specs.Emissions.{IsAhead, IsArmedFor, IsReadied, IsStateAlike}
 use Rattle.trace_book.specs.Found.{numbered}
 use Rattle.trace_book.specs.declared.change.Change.TheVariants.{Emit}
@@ -29,22 +32,24 @@ use Rattle.trace_book.specs.declared.change.Pending.{Pending}
 use Rattle.trace_book.specs.declared.resolve.Found.{Found}
 use Rattle.trace_book.specs.declared.state.Named.{Named}
 use Rattle.trace_book.specs.declared.state.State.{State}
+use Rattle.trace_book.specs.declared.trigger.Trigger.{Trigger}
+use Rattle.trace_book.proofs.Delivered.{can-fire, self, trigger-at}
 
 -- ---- what is written ahead
 
 -- an instance that was armed, and then made ready, is alike
-alike-armed : (i m j : InstanceSeen) (armed : Bool) → m ≡ record i { armed = armed } → IsAlike m j → IsAlike i j
-alike-armed i m j armed is alike =
-    let same : IsAlike (record i { armed = armed }) j = subst (λ (n : InstanceSeen). IsAlike n j) is alike in record {
+alike-armed : (i m j : InstanceSeen) (armed fires : Bool) → m ≡ record i { armed = armed; fires = fires } → IsAlike m j → IsAlike i j
+alike-armed i m j armed fires is alike =
+    let same : IsAlike (record i { armed = armed; fires = fires }) j = subst (λ (n : InstanceSeen). IsAlike n j) is alike in record {
       enabled = same.enabled;
       filters = same.filters;
+      triggers = same.triggers;
       overwrite = same.overwrite;
       tracing = same.tracing;
-      rings = same.rings;
+      sides = same.sides;
+      shaped = same.shaped;
+      offered = same.offered;
       cpus = same.cpus;
-      pages = same.pages;
-      page_bytes = same.page_bytes;
-      offers = same.offers;
     }
 
 -- what is written over all of a vector's elements
@@ -58,7 +63,7 @@ alike-each event row cpu pid old armed new came readied = record {
   many = readied.many ∙ came.many;
   names = λ k d inside. readied.names k d (omega (arith, came.many)) ∙ came.names k d inside;
   came = λ k d inside. alike-armed (get_or old k d).instance (get_or armed k d).instance (get_or new k d).instance
-      (records (get_or old k d).instance event row cpu pid) (came.came k d inside) (readied.came k d (omega (arith, came.many))).0;
+      (records (get_or old k d).instance event row cpu pid) (fires (get_or old k d).instance event row cpu pid) (came.came k d inside) (readied.came k d (omega (arith, came.many))).0;
 }
 
 -- each is armed still exactly if it records the emission
@@ -68,11 +73,18 @@ pub armed-each : (event : ℕ) (row : Cells) (cpu : ℕ) (pid : ℤ) (old armed 
 armed-each event row cpu pid old armed new came readied k d inside =
     (readied.came k d (omega (arith, came.many))).1 ∙ ap (λ (i : InstanceSeen). i.armed) (came.came k d inside)
 
+-- and is to exchange its sides still exactly if a trigger acts on it
+pub fires-each : (event : ℕ) (row : Cells) (cpu : ℕ) (pid : ℤ) (old armed new : List Named)
+    → EachCame (IsArmedFor event row cpu pid) old armed → EachCame IsReadied armed new
+    → (k : ℕ) (d : Named) → k < length old → (get_or new k d).instance.fires ≡ fires (get_or old k d).instance event row cpu pid
+fires-each event row cpu pid old armed new came readied k d inside =
+    (readied.came k d (omega (arith, came.many))).2 ∙ ap (λ (i : InstanceSeen). i.fires) (came.came k d inside)
+
 -- and each that is armed has room
 pub room-each : (event : ℕ) (row : Cells) (cpu : ℕ) (pid : ℤ) (old armed new : List Named) (pending : Pending) (len : ℕ)
     → EachCame (IsArmedFor event row cpu pid) old armed → EachCame IsReadied armed new → pending.cpu ≡ cpu → length pending.bytes.items ≡ len
-    → All (λ (n : Named). cpu < buffers.cpus n.instance.buffer) old
-    → All (λ (n : Named). n.instance.armed ≡ true → len ≤ get_or (buffers.readies n.instance.buffer) cpu 0) new
+    → All (λ (n : Named). cpu < buffers.cpus n.instance.sides.live) old
+    → All (λ (n : Named). n.instance.armed ≡ true → len ≤ get_or (buffers.readies n.instance.sides.live) cpu 0) new
     → All (λ (n : Named). HasRoom pending n.instance) new
 room-each event row cpu pid old armed new pending len came readied is long cpus room k d inside =
     let within : k < length old = omega (arith, readied.many, came.many) in
@@ -85,10 +97,13 @@ room-each event row cpu pid old armed new pending len came readied is long cpus 
 pub is-ahead : (old new : State) (event : ℕ) (row : Cells) (cpu : ℕ) (pid : ℤ) (p : Pending)
     → ((k : ℕ) (d : Named) → k < length old.instances.items
     → (get_or new.instances.items k d).instance.armed ≡ records (get_or old.instances.items k d).instance event row cpu pid)
+    → ((k : ℕ) (d : Named) → k < length old.instances.items
+    → (get_or new.instances.items k d).instance.fires ≡ fires (get_or old.instances.items k d).instance event row cpu pid)
     → p.cpu ≡ cpu → p.bytes.items ≡ record_bytes (old.clock + 1) pid (event + 1) row → IsRecord p.bytes.items
     → All (λ (n : Named). HasRoom p n.instance) new.instances.items → IsAhead old new event row cpu pid (Some p)
-is-ahead old new event row cpu pid p armed is bytes is_record room = record {
+is-ahead old new event row cpu pid p armed firing is bytes is_record room = record {
   armed = armed;
+  fires = firing;
   bytes = λ q e.
       let same : p ≡ q = cc in
       subst (λ (r : Pending). (r.cpu ≡ cpu) × (r.bytes.items ≡ record_bytes (old.clock + 1) pid (event + 1) row) × IsRecord r.bytes.items
@@ -139,6 +154,26 @@ records-found g name past i found event row cpu pid timestamp stands place =
     let tracing = stands.tracing in
     rw (tracing, enabled, holds) refl
 
+-- a kept trigger acts as the one that the requests attached
+acts-kept : (past : List Request) (e : Emitted) (t : Option triggers.Trigger)
+    → kept_acts (option_map (kept_as past e.k.event) t) e.row e.cpu e.pid ≡ acts past e t
+unfolding kept_holds
+acts-kept past e None = refl
+acts-kept past e (Some t) = by t.spec.filter
+  where
+    by : (filter : Option Parsed) → (is_left (times_left e.k.event t past) && kept_holds filter e.row e.cpu e.pid)
+        ≡ (is_left (times_left e.k.event t past) && passes filter e)
+    by None = refl
+    by (Some f) = refl
+
+-- so a trigger of an instance that stands for its requests acts as they say
+pub fires-found : (g : Config) (name : Option (List ℕ)) (past : List Request) (i : InstanceSeen) (e : Emitted) (index : ℕ)
+    → InstanceStandsFor g name past i → IsPlaceOf (declared_events past) e.k.event.name index e.k.event
+    → fires i index e.row e.cpu e.pid ≡ is_exchanged_by name past (Some e)
+fires-found g name past i e index stands place =
+    ap (λ (t : Option Trigger). kept_acts t e.row e.cpu e.pid) (trigger-at name past i.triggers e.k.event.name index e.k.event stands.triggers place)
+    ∙ acts-kept past e (trigger_of name e.k.event past)
+
 -- ---- what is prepared
 
 -- an emission is done where its CPU and its event are there and its row is right
@@ -151,7 +186,8 @@ answers-emission g past name cpu pairs k row inside there built = rw (lt-ltb cpu
 pub is-emission : (g : Config) (old new : State) (past : List Request) (name : List ℕ) (cpu : ℕ) (pid : ℤ) (pairs : List Pair) (found : Found) (row : Cells)
     (pending : Option Pending) → StandsFor g old past → Some (numbered found) ≡ event_named_in old.catalog name
     → IsPlaceOf old.catalog name found.index found.event.now → row_of found.event.now pairs ≡ Ok row → IsStateAlike old new
-    → IsAhead old new found.index row cpu pid pending → IsEmission g past (Emission name cpu pid pairs) new.instances.items pending
+    → IsAhead old new found.index row cpu pid pending
+    → IsEmission g past (Emission name cpu pid pairs) new.instances.items (record { event = found.index; «record» = pending })
 is-emission g old new past name cpu pid pairs found row pending stands named place built alike ahead = record {
   declares = refl;
   made = refl;
@@ -159,7 +195,9 @@ is-emission g old new past name cpu pid pairs found row pending stands named pla
   ticks = refl;
   e = e;
   emitted = rw (there, built) refl;
+  place = own;
   armed = armed;
+  fires = firing;
   bytes = λ p is. let of = ahead.bytes p is in (rw (← stands.clock) of.1, of.0);
   none = ahead.none;
 }
@@ -173,6 +211,9 @@ is-emission g old new past name cpu pid pairs found row pending stands named pla
     declared : IsPlaceOf (declared_events past) name found.index found.event.now
     declared = rw stands.events at place
 
+    own : IsPlaceOf (declared_events past) found.event.now.name found.index found.event.now
+    own = record { inside = declared.inside; there = declared.there; named = self found.event.now.name }
+
     armed : All (λ (n : Named). n.instance.armed ≡ is_recorded n.name past e) new.instances.items
     armed k d inside =
         let within : k < length old.instances.items = omega (arith, alike.instances.many) in
@@ -181,12 +222,32 @@ is-emission g old new past name cpu pid pairs found row pending stands named pla
         rw named_so (ahead.armed k d within
         ∙ records-found g was.name past was.instance found name row cpu pid (now_of past + 1) (stands.each k d within) declared)
 
--- and each instance has room for it
-pub ready-emission : (g : Config) (old new : State) (event : ℕ) (row : Cells) (cpu : ℕ) (pid : ℤ) (pending : Option Pending)
+    firing : All (λ (n : Named). n.instance.fires ≡ is_exchanged_by n.name past (Some e)) new.instances.items
+    firing k d inside =
+        let within : k < length old.instances.items = omega (arith, alike.instances.many) in
+        let was = get_or old.instances.items k d in
+        let named_so = alike.instances.names k d within in
+        rw named_so (ahead.fires k d within ∙ fires-found g was.name past was.instance e found.index (stands.each k d within) own)
+
+-- a record for which each armed instance has room can be written
+can-be-written : (g : Config) (old new : State) (event : ℕ) (row : Cells) (cpu : ℕ) (pid : ℤ) (pending : Option Pending)
     → IsAhead old new event row cpu pid pending → ((p : Pending) → pending ≡ Some p → length p.bytes.items ≤ g.page_bytes)
-    → IsReady g new (Emit pending)
-ready-emission g old new event row cpu pid None ahead short = tt
-ready-emission g old new event row cpu pid (Some p) ahead short = let of = ahead.bytes p refl in (of.2, short p refl, of.3)
+    → CanBeWritten g new.instances.items pending
+can-be-written g old new event row cpu pid None ahead short = tt
+can-be-written g old new event row cpu pid (Some p) ahead short = let of = ahead.bytes p refl in (of.2, short p refl, of.3)
+
+-- and so all is there for the emission
+pub ready-emission : (g : Config) (old new : State) (past : List Request) (request : Request) (event : ℕ) (row : Cells) (cpu : ℕ) (pid : ℤ)
+    (pending : Option Pending) → StandsFor g new past → IsEmission g past request new.instances.items (record { event = event; «record» = pending })
+    → IsAhead old new event row cpu pid pending → ((p : Pending) → pending ≡ Some p → length p.bytes.items ≤ g.page_bytes)
+    → IsReady g new (Emit (record { event = event; «record» = pending }))
+ready-emission g old new past request event row cpu pid pending stands emission ahead short = (
+  rw stands.events emission.place.inside,
+  can-be-written g old new event row cpu pid pending ahead short,
+  λ k d inside.
+      let n = get_or new.instances.items k d in
+      can-fire g n.name past emission.e event n.instance (stands.each k d inside) emission.place (emission.fires k d inside),
+)
 
 -- what holds of each event holds of the one at a place
 pub fit-at : (page_bytes : ℕ) (events : List Definition) (name : List ℕ) (index : ℕ) (event : Definition) → AllByRecursion (IsFit page_bytes) events

@@ -1,15 +1,22 @@
--- What the files of an event show is what the requests say of it.
-use Rattle.std.proofs.Common.{◌≡◌, ℕ, zero, suc, ◌+◌, ◌<◌, Bool, false, List, [], ◌∷◌, length, get_or, Option, Some, None, option_map, refl, sym, ap, ◌∙◌, arith}
+-- What the files of an event and the file of the spare side show is what the requests say.
+use Rattle.std.proofs.Common.{◌≡◌, ℕ, zero, suc, ◌+◌, ◌<◌, Bool, false, List, [], ◌∷◌, length, map, get_or, IfSome, Option, Some, None, option_map, refl, sym, ap, ◌∙◌, arith}
 use Rattle.std.proofs.lemmas.List.{get_or-map}
 use Rattle.trace_command.specs.Requests.{Request}
 use Rattle.trace_command.specs.declared.command.Config.{Config}
 use Rattle.trace_filter.specs.Filters.{parsed_of}
 use Rattle.trace_format.specs.Definitions.{Definition}
 use Rattle.trace_history.proofs.EventLists.{named_at}
-use Rattle.trace_history.specs.History.{filter_text, format_of_event}
+use Rattle.trace_buffer.specs.Buffers.{Seen}
+use Rattle.trace_text.specs.SnapshotText.{SpareHasShape}
+use Rattle.trace_text.specs.TriggerText.{trigger_text}
+use Rattle.trace_history.specs.History.{filter_text, format_of_event, shown_trigger, triggers_of_event}
+use Rattle.trace_history.specs.Triggers as history
+use Rattle.trace_history.specs.Triggers.{trigger_of}
 use Rattle.trace_history.specs.Settings.{declared_events, event_named, filter_of, is_enabled, kept_filter}
 use Rattle.trace_text.specs.FormatText.{format_text}
-use Rattle.trace_book.specs.Commands.{IsSource, shown_filter}
+use Rattle.std.specs.Option.{option_to_list}
+use Rattle.trace_book.specs.Commands.{IsSource, shown_filter, shown_kept}
+use Rattle.trace_book.specs.Instances.{HasShape, kept_as, kept_trigger}
 use Rattle.trace_book.specs.Files.{name_at}
 use Rattle.trace_book.specs.declared.read.Source.{Source}
 
@@ -75,3 +82,30 @@ format-at_place g name past source event d is inside =
     ap (λ (events : List Definition). name_at events event) is.events ∙ name-at_place (declared_events past) event d within in
     let next : event + 1 ≡ suc event = omega arith in
     rw (called, named, next, is.events) refl
+
+-- a kept trigger is shown as the one that was attached
+shown-trigger : (past : List Request) (event : Definition) (t : Option history.Trigger)
+    → map shown_kept (option_to_list (option_map (kept_as past event) t)) ≡ map (shown_trigger past event) (option_to_list t)
+shown-trigger past event None = refl
+shown-trigger past event (Some t) = refl
+
+-- an event's trigger
+pub triggers-at_place : (g : Config) (name : Option (List ℕ)) (past : List Request) (source : Source) (event : ℕ) → IsSource g name past source
+    → event < length source.catalog.now
+    → trigger_text (map shown_kept (option_to_list (get_or source.instance.now.triggers event None)))
+    ≡ triggers_of_event name past (event_named (name_at source.catalog.now event) past)
+triggers-at_place g name past source event is inside =
+    let within = inside-declared g name past source event is inside in
+    let named = named_at (declared_events past) event no_event is.distinct within in
+    let called : name_at source.catalog.now event ≡ at_place.name = sym (name-declared g name past source event is inside) in
+    let kept : get_or source.instance.now.triggers event None ≡ kept_trigger name past at_place =
+    rw is.instance.triggers (get_or-map (kept_trigger name past) (declared_events past) event no_event None within) in
+    rw (called, named, kept, shown-trigger past at_place (trigger_of name at_place past)) refl
+  where
+    at_place : Definition
+    at_place = get_or (declared_events past) event no_event
+
+-- the spare, if there is one, has the shape that the configuration says
+pub spare-shape : (g : Config) (spare : Option Seen) → IfSome spare (HasShape g) → SpareHasShape g.pages g.page_bytes spare
+spare-shape g None shape = tt
+spare-shape g (Some side) shape = (shape.pages, shape.page_bytes)

@@ -1,14 +1,12 @@
 -- Instances that are made and removed.
-use Rattle.std.proofs.Common.{◌≡◌, ℕ, zero, suc, ◌<◌, ◌≤◌, ltb, Bool, true, false, List, [], ◌∷◌, length, replicate, get_or, All, is_some, Option, Some, None, Result, Ok, Err, refl, sym, ◌∙◌, subst, arith, append-nil}
-use Rattle.std.specs.List.{AllByRecursion, list_any}
+use Rattle.std.proofs.Common.{◌≡◌, ℕ, ◌<◌, ◌≤◌, ltb, Bool, true, false, List, [], ◌∷◌, length, get_or, All, is_some, Option, Some, None, Result, Ok, Err, refl, sym, ◌∙◌, subst, arith}
+use Rattle.std.specs.List.{list_any}
 use Rattle.std.specs.Str.{bytes_eq}
 use Rattle.std.proofs.lemmas.Bool.{lt-ltb, false≢true}
 use Rattle.std.proofs.lemmas.Bool.Decides.{nat_tests}
 use Rattle.std.proofs.lemmas.List.Folds.{list_any_at}
-use Rattle.std.proofs.lemmas.Slice.Eq.{bytes_eq-Decides}
 use Rattle.trace_lex.specs.Names.{is_name}
 use Rattle.trace_format.specs.Definitions.{Definition}
-use Rattle.trace_buffer.specs.Buffers as buffers
 use Rattle.trace_command.specs.Refusals.{IsRefusal, IsFoundEarly}
 use Rattle.trace_command.specs.Requests.{Request, MakeInstance, RemoveInstance}
 use Rattle.trace_command.specs.declared.command.Config.{Config}
@@ -18,14 +16,15 @@ use Rattle.trace_command.specs.declared.refusal.Refusal.{Refusal}
 use Rattle.trace_command.specs.declared.refusal.Refusal.TheVariants.{BadValue, InstanceExists, Memory, NoSuchFile, NoSuchInstance, TooMany}
 use Rattle.trace_history.specs.History.{named_answer}
 use Rattle.trace_history.specs.Settings.{declared_events, instance_names, is_enabled, is_there, kept_filter, makes}
-use Rattle.trace_history.proofs.EventLists.{map-agrees, map-constant}
+use Rattle.trace_history.proofs.EventLists.{map-agrees}
 use Rattle.trace_book.specs.Changes.{IsEffect}
-use Rattle.trace_book.specs.Instances.{InstanceSeen, InstanceStandsFor}
+use Rattle.trace_book.specs.Instances.{InstanceStandsFor}
 use Rattle.trace_book.specs.States.{IsPrepared, StandsFor}
 use Rattle.trace_book.specs.declared.change.Change.TheVariants.{Make, Remove}
 use Rattle.trace_book.specs.declared.change.InstanceChange.TheVariants.{Keep}
 use Rattle.trace_book.specs.declared.state.Named.{Named}
 use Rattle.trace_book.specs.declared.state.State.{State}
+use Rattle.trace_book.proofs.Calm.{calm-effect, calm-make, calm-remove, quiet-keep}
 use Rattle.trace_book.proofs.EachInstance.{differs-flip, length-names_of, name_at}
 use Rattle.trace_book.proofs.Resolving.{found-there, lost-there, place_in}
 
@@ -64,50 +63,30 @@ few-names g state past stands few = omega (arith, length-names_of state.instance
 no_event : Definition
 no_event = record { name = []; fields = [] }
 
-none_offered : (most cpus : ℕ) → AllByRecursion (λ n. n ≤ most) (replicate cpus 0)
-none_offered most zero = tt
-none_offered most (suc cpus) = (omega arith, none_offered most cpus)
-
--- an instance stands for the request that makes it: it is as new
-pub made-stands : (g : Config) (past : List Request) (name : List ℕ) (i : InstanceSeen)
-    → i.enabled ≡ replicate (length (declared_events past)) false → i.filters ≡ replicate (length (declared_events past)) None → i.overwrite ≡ true
-    → i.tracing ≡ true → buffers.StandsFor i.buffer (replicate g.cpus []) → buffers.cpus i.buffer ≡ g.cpus → i.buffer.pages ≡ g.pages
-    → i.buffer.page_bytes ≡ g.page_bytes → buffers.offers i.buffer ≡ replicate g.cpus 0 → InstanceStandsFor g (Some name) (MakeInstance (Some name) ∷ past) i
-made-stands g past name i enabled filters overwrite tracing rings cpus pages page_bytes offers = record {
-  enabled = rw append-nil (enabled ∙ sym (map-constant (λ (e : Definition). is_enabled (Some name) e.name now) false events no_event (λ j inside. rw itself refl)));
-  filters = rw append-nil (filters ∙ sym (map-constant (kept_filter (Some name) now) None events no_event (λ j inside. rw itself refl)));
-  overwrite = rw itself overwrite;
-  tracing = rw itself tracing;
-  rings = rw itself rings;
-  cpus = cpus;
-  pages = pages;
-  page_bytes = page_bytes;
-  offers = subst (λ (l : List ℕ). AllByRecursion (λ n. n ≤ suc (length past)) l) (sym offers) (none_offered (suc (length past)) g.cpus);
-}
-  where
-    events : List Definition
-    events = declared_events past
-
-    now : List Request
-    now = MakeInstance (Some name) ∷ past
-
-    itself : bytes_eq name name ≡ true
-    itself = (bytes_eq-Decides name name).1 refl
-
 -- the others stay as they are
 made-effect : (g : Config) (past : List Request) (name : List ℕ) (other : Option (List ℕ)) → makes other (MakeInstance (Some name)) ≡ false
     → IsEffect g other past (MakeInstance (Some name)) Keep
-made-effect g past name None differ = record { enabled = refl; filters = refl; overwrite = refl; tracing = refl; rings = refl }
+made-effect g past name None differ =
+    calm-effect g None past (MakeInstance (Some name)) Keep (calm-make name None past differ) quiet-keep
+    (record { enabled = refl; filters = refl; overwrite = refl; tracing = refl; rings = refl })
 made-effect g past name (Some other) differ =
     let events = declared_events past in
-    let now = MakeInstance (Some name) ∷ past in record {
+    let now = MakeInstance (Some name) ∷ past in
+    calm-effect g (Some other) past (MakeInstance (Some name)) Keep (calm-make name (Some other) past differ) quiet-keep
+    (record {
       enabled = map-agrees (λ (e : Definition). is_enabled (Some other) e.name now) (λ (e : Definition). is_enabled (Some other) e.name past) events no_event
           (λ j inside. rw differ refl);
       filters = map-agrees (kept_filter (Some other) now) (kept_filter (Some other) past) events no_event (λ j inside. rw differ refl);
       overwrite = rw differ refl;
       tracing = rw differ refl;
       rings = rw differ refl;
-    }
+    })
+
+-- nor does a removal change what is said of an instance
+removed-effect : (g : Config) (past : List Request) (name : List ℕ) (other : Option (List ℕ)) → IsEffect g other past (RemoveInstance (Some name)) Keep
+removed-effect g past name other =
+    calm-effect g other past (RemoveInstance (Some name)) Keep (calm-remove (Some name) other past) quiet-keep
+    (record { enabled = refl; filters = refl; overwrite = refl; tracing = refl; rings = refl })
 
 -- ---- answers
 
@@ -209,7 +188,7 @@ remove-done g state past path name place stands is at =
         ticks = refl;
         inside = omega (arith, inside, many);
         there = sym (name_at items _ place (one items inside) stands.names inside) ∙ there.1.1 (one items inside);
-        effect = λ other. record { enabled = refl; filters = refl; overwrite = refl; tracing = refl; rings = refl };
+        effect = λ other. removed-effect g past name other;
       },
       inside,
     )

@@ -23,12 +23,13 @@ use Rattle.trace_book.specs.States.{IsChangeOf, IsDeclared, IsEmission, IsFresh,
 use Rattle.trace_book.specs.declared.change.Change.{Change}
 use Rattle.trace_book.specs.declared.change.Change.TheVariants.{Declare, Make, Remove, Instance, Emit}
 use Rattle.trace_book.specs.declared.change.InstanceChange.{InstanceChange}
-use Rattle.trace_book.specs.declared.change.Pending.{Pending}
+use Rattle.trace_book.specs.declared.change.Delivery.{Delivery}
 use Rattle.trace_book.specs.declared.state.Named.{Named}
 use Rattle.trace_book.specs.declared.state.Prepared.{Prepared}
 use Rattle.trace_book.specs.declared.state.State.{State}
 use Rattle.trace_book.proofs.EachInstance.{distinct-push, distinct-without, length-names_of, name_at, names-same, names-without, not_born, others_differ, some_names}
-use Rattle.trace_book.proofs.Steps.{declared-stands, effect-stands, event_named-before, kept-stands, recorded-quiet, recorded-stands, recorded-written, unfiltered_after, unknown_after}
+use Rattle.trace_book.proofs.Delivered.{delivered-stands}
+use Rattle.trace_book.proofs.Steps.{declared-stands, effect-stands, event_named-before, kept-stands, unfiltered_after, unknown_after, untriggered_after}
 
 -- ---- events
 
@@ -110,6 +111,9 @@ state-after g old new past request reply declared stands given is fresh catalog 
   unfiltered = λ name event none.
       let before = event_named-before event past request none in
       unfiltered_after g past request reply name event given before (stands.unfiltered name event before);
+  untriggered = λ name event none.
+      let before = event_named-before event.name past request none in
+      untriggered_after g past request reply name event given before (stands.untriggered name event before);
   clock = clock ∙ ap (λ (n : ℕ). n + ticks request) stands.clock;
   early = let small = ticks-le request in omega (arith, small, clock, stands.early);
   names = instances.names;
@@ -145,6 +149,7 @@ declare_stands g old new past request reply event stands given is step =
     (declared-stands g name past request event (get_or old.instances.items k d).instance is.declares (is.effect name)
     (unknown_after g past request reply name event.name given none (stands.unknown name event.name none))
     (unfiltered_after g past request reply name event.name given none (stands.unfiltered name event.name none))
+    (untriggered_after g past request reply name event given none (stands.untriggered name event none))
     (stands.each k d inside))))
 
 make_stands : (g : Config) (old new : State) (past : List Request) (request : Request) (reply : Reply) (named : Named)
@@ -234,31 +239,16 @@ change_stands g old new past request reply place change stands given is there st
     (clock-still old new request plain.ticks step.1)
     (same_instances g old new.instances.items past request stands plain.made plain.removed came.many came.names each)
 
-emit_stands : (g : Config) (old new : State) (past : List Request) (request : Request) (reply : Reply) (pending : Option Pending)
-    → StandsFor g old past → answer_with_room g past request ≡ Ok reply → IsEmission g past request old.instances.items pending
-    → IsStep old new (Emit pending) → StandsFor g new (request ∷ past)
-emit_stands g old new past request reply None stands given is step =
-    let same : new.instances.items ≡ old.instances.items = rw step.2 refl in
-    let each : (k : ℕ) (d : Named) → k < length old.instances.items
-    → InstanceStandsFor g (get_or old.instances.items k d).name (request ∷ past) (get_or new.instances.items k d).instance = λ k d inside.
-    let n = get_or old.instances.items k d in
-    subst (λ (l : List Named). InstanceStandsFor g n.name (request ∷ past) (get_or l k d).instance) (sym same)
-    (recorded-stands g n.name past request is.e n.instance n.instance is.emitted (stands.each k d inside)
-    (recorded-quiet n.name past is.e n.instance (sym (is.armed k d inside) ∙ is.none refl k d inside))) in
-    state-after g old new past request reply None stands given is.declares (none_fresh g past) (catalog-same old new step.0)
-    (omega (arith, is.ticks, step.1))
-    (same_instances g old new.instances.items past request stands is.made is.removed (ap (λ (l : List Named). length l) same)
-    (λ k d inside. ap (λ (l : List Named). (get_or l k d).name) same) each)
-emit_stands g old new past request reply (Some pending) stands given is step =
+emit_stands : (g : Config) (old new : State) (past : List Request) (request : Request) (reply : Reply) (delivery : Delivery)
+    → StandsFor g old past → answer_with_room g past request ≡ Ok reply → IsEmission g past request old.instances.items delivery
+    → IsStep old new (Emit delivery) → StandsFor g new (request ∷ past)
+emit_stands g old new past request reply delivery stands given is step =
     let came = step.2 in
-    let bytes = is.bytes pending refl in
     let each : (k : ℕ) (d : Named) → k < length old.instances.items
     → InstanceStandsFor g (get_or old.instances.items k d).name (request ∷ past) (get_or new.instances.items k d).instance = λ k d inside.
     let n = get_or old.instances.items k d in
-    let stood = stands.each k d inside in
-    recorded-stands g n.name past request is.e n.instance (get_or new.instances.items k d).instance is.emitted stood
-    (recorded-written n.name past is.e pending n.instance (get_or new.instances.items k d).instance (is.armed k d inside) stood.overwrite bytes.0 bytes.1
-    (came.came k d inside)) in
+    delivered-stands g n.name past request is.e delivery n.instance (get_or new.instances.items k d).instance is.emitted stands.distinct
+    (stands.each k d inside) is.place (is.armed k d inside) (is.fires k d inside) is.bytes (λ none. is.none none k d inside) (came.came k d inside) in
     state-after g old new past request reply None stands given is.declares (none_fresh g past) (catalog-same old new step.0)
     (omega (arith, is.ticks, step.1))
     (same_instances g old new.instances.items past request stands is.made is.removed came.many came.names each)
@@ -271,7 +261,8 @@ step_stands g old new past request reply (Make named) stands given is ready step
 step_stands g old new past request reply (Remove place) stands given is ready step = remove_stands g old new past request reply place stands given is step
 step_stands g old new past request reply (Instance place change) stands given is ready step =
     change_stands g old new past request reply place change stands given is ready.0 step
-step_stands g old new past request reply (Emit pending) stands given is ready step = emit_stands g old new past request reply pending stands given is step
+step_stands g old new past request reply (Emit delivery) stands given is ready step =
+    emit_stands g old new past request reply delivery stands given is step
 
 pub stands_after : (g : Config) (old new : State) (past : List Request) (request : Request) (prepared : Prepared) → IsInRange g → StandsFor g old past
     → IsPrepared g past request old (Ok prepared) → IsStep old new prepared.change → StandsFor g new (request ∷ past)

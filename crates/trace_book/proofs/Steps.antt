@@ -1,32 +1,34 @@
 -- What one request more leaves of settings, and of an instance.
-use Rattle.std.proofs.Common.{◌≡◌, ℕ, suc, ◌+◌, ◌≤◌, Bool, true, false, cond, List, [], ◌∷◌, ◌++◌, length, map, is_some, Option, Some, None, unwrap_or, Result, Ok, Err, refl, sym, ap, ◌∙◌, subst, arith, append-nil}
+use Rattle.std.proofs.Common.{◌≡◌, ℕ, suc, ◌+◌, Bool, true, false, ◌||◌, cond, List, [], ◌∷◌, ◌++◌, length, map, is_some, Option, Some, None, unwrap_or, Result, Ok, Err, refl, sym, ap, ◌∙◌, subst, arith, append-nil}
 use Rattle.std.proofs.lemmas.Bool.{false≢true}
 use Rattle.std.proofs.lemmas.List.{map-append}
+use Rattle.std.proofs.lemmas.List.Folds.{list_any-append}
 use Rattle.std.proofs.lemmas.Slice.Eq.{bytes_eq-Decides}
-use Rattle.std.specs.List.{AllByRecursion}
+use Rattle.std.specs.List.{list_any}
 use Rattle.std.specs.Option.{option_map, option_to_list}
 use Rattle.std.specs.Str.{bytes_eq}
-use Rattle.page_ring.specs.Events as ring
-use Rattle.trace_buffer.specs.Buffers as buffers
-use Rattle.trace_buffer.specs.Families.{with_events}
+use Rattle.trace_snapshot.specs.Sides as snapshot
+use Rattle.trace_snapshot.specs.Sides.{SideFamilies, SidesSeen}
 use Rattle.trace_filter.specs.Filters.{Parsed, parsed_of}
 use Rattle.trace_format.specs.Definitions.{Definition}
-use Rattle.trace_command.specs.Paths.{File, EventEnable, EventsEnable, EventFilter, EventsFilter}
-use Rattle.trace_command.specs.Requests.{Request, Emission, WriteFile}
+use Rattle.trace_command.specs.Paths.{File, EventEnable, EventsEnable, EventFilter, EventsFilter, EventTrigger}
+use Rattle.trace_command.specs.Requests.{Request, WriteFile}
 use Rattle.trace_command.specs.declared.command.Config.{Config}
 use Rattle.trace_command.specs.declared.command.Reply.{Reply}
 use Rattle.trace_command.specs.declared.refusal.Refusal.{Refusal}
 use Rattle.trace_command.specs.declared.refusal.Refusal.TheVariants.{NoSuchEvent, NoSuchInstance}
 use Rattle.trace_history.specs.History.{answer_with_room, unless_refused}
-use Rattle.trace_history.specs.Rings.{Emitted, emitted, emitted_bytes, is_recorded, rings}
-use Rattle.trace_history.specs.Settings.{declares, declared_events, event_named, filter_of, is_enabled, is_same, kept_filter, makes, overwrites, set_by, sets_filter, switches}
+use Rattle.trace_history.specs.Settings.{declares, declared_events, event_named, filter_of, is_enabled, is_same, kept_filter, makes, set_by, sets_filter, switches}
+use Rattle.trace_history.specs.Triggers as triggers
+use Rattle.trace_history.specs.Triggers.{sets_trigger, trigger_of}
 use Rattle.trace_history.proofs.Events.{named_in-fewer}
-use Rattle.trace_book.specs.Changes.{IsApplied, IsEffect, flags_after, filters_after, overwrite_after, tracing_after}
-use Rattle.trace_book.specs.Instances.{InstanceSeen, InstanceStandsFor}
-use Rattle.trace_book.specs.States.{IsWritten, with_event}
+use Rattle.trace_book.specs.Changes.{IsApplied, IsEffect, flags_after, filters_after, triggers_after, overwrite_after, tracing_after}
+use Rattle.trace_book.specs.Instances.{InstanceSeen, InstanceStandsFor, IsSpared, WereOffered, kept_as, kept_trigger, side_families}
+use Rattle.trace_book.specs.States.{with_event}
 use Rattle.trace_book.specs.declared.change.InstanceChange.{InstanceChange}
 use Rattle.trace_book.specs.declared.change.InstanceChange.TheVariants.{Keep}
-use Rattle.trace_book.specs.declared.change.Pending.{Pending}
+use Rattle.trace_book.specs.declared.trigger.Trigger.{Trigger}
+use Rattle.trace_book.proofs.LiveSide.{offered_more}
 
 -- ---- events that were not declared
 
@@ -71,6 +73,12 @@ file-sets_none past (EventFilter name) text event none there = rw (other_name pa
 file-sets_none past EventsFilter text event none there = rw none refl
 file-sets_none past file text event none there = refl
 
+-- nor sets its trigger
+file-triggers_none : (past : List Request) (file : File) (text : List ℕ) (event : Definition) → event_named event.name past ≡ None
+    → ((name : List ℕ) → file ≡ EventTrigger name → is_some (event_named name past) ≡ true) → sets_trigger event past file text ≡ None
+file-triggers_none past (EventTrigger name) text event none there = rw (other_name past event.name name none (there name refl)) refl
+file-triggers_none past file text event none there = refl
+
 -- so no request that is done switches it
 not_switched : (g : Config) (past : List Request) (request : Request) (reply : Reply) (name : Option (List ℕ)) (event : List ℕ)
     → answer_with_room g past request ≡ Ok reply → event_named event past ≡ None → set_by name (switches event past) request ≡ None
@@ -94,6 +102,17 @@ not_filtered g past (WriteFile other (Some file) append text) reply name event g
     is_known _ _ NoSuchEvent NoSuchInstance _ reply own))
 not_filtered g past request reply name event given none = refl
 
+not_triggered : (g : Config) (past : List Request) (request : Request) (reply : Reply) (name : Option (List ℕ)) (event : Definition)
+    → answer_with_room g past request ≡ Ok reply → event_named event.name past ≡ None → set_by name (sets_trigger event past) request ≡ None
+not_triggered g past (WriteFile other (Some file) append text) reply name event given none =
+    cond_none (is_same name other) (sets_trigger event past file text)
+    (file-triggers_none past file text event none
+    (λ n is.
+    let own : answer_with_room g past (WriteFile other (Some (EventTrigger n)) append text) ≡ Ok reply =
+    subst (λ (f : File). answer_with_room g past (WriteFile other (Some f) append text) ≡ Ok reply) is given in
+    is_known _ _ NoSuchEvent NoSuchInstance _ reply own))
+not_triggered g past request reply name event given none = refl
+
 -- a setting that no request set keeps its default
 cond_default : {A : Type 0} (b : Bool) (default : A) (set : Option A) (old : A) → set ≡ None → old ≡ default → cond b default (unwrap_or set old) ≡ default
 cond_default true default set old none is = refl
@@ -113,12 +132,27 @@ unfiltered_after g past request reply name event given none is =
     cond_default (makes name request) None (set_by name (sets_filter event past) request) (filter_of name event past)
     (not_filtered g past request reply name event given none) is
 
+pub untriggered_after : (g : Config) (past : List Request) (request : Request) (reply : Reply) (name : Option (List ℕ)) (event : Definition)
+    → answer_with_room g past request ≡ Ok reply → event_named event.name past ≡ None → trigger_of name event past ≡ None
+    → trigger_of name event (request ∷ past) ≡ None
+untriggered_after g past request reply name event given none is =
+    cond_default (makes name request) None (set_by name (sets_trigger event past) request) (trigger_of name event past)
+    (not_triggered g past request reply name event given none) is
+
 -- ---- an instance
 
 -- at most so many are at most one more
-pub at_most_more : (most : ℕ) (counts : List ℕ) → AllByRecursion (λ n. n ≤ most) counts → AllByRecursion (λ n. n ≤ suc most) counts
-at_most_more most [] all = tt
-at_most_more most (n ∷ counts) all = (omega (arith, all.0), at_most_more most counts all.1)
+offered-after : (past : List Request) (request : Request) (s : SidesSeen) → WereOffered (length past) s → WereOffered (length (request ∷ past)) s
+offered-after past request s were =
+    let one : length past + 1 ≡ suc (length past) = omega arith in
+    subst (λ (n : ℕ). WereOffered n s) one (offered_more (length past) s were)
+
+-- a request that declares nothing leaves the events as they were
+spared-same : (g : Config) (name : Option (List ℕ)) (past : List Request) (request : Request) → declares request ≡ None
+    → IsSpared g name (declared_events past) (request ∷ past) → IsSpared g name (declared_events (request ∷ past)) (request ∷ past)
+spared-same g name past request nothing spared =
+    let same : declared_events past ≡ declared_events (request ∷ past) = rw (nothing, append-nil) refl in
+    subst (λ (events : List Definition). IsSpared g name events (request ∷ past)) same spared
 
 -- after a request that declares nothing, where the change is its effect
 pub effect-stands : (g : Config) (name : Option (List ℕ)) (past : List Request) (request : Request) (change : InstanceChange) (old new : InstanceSeen)
@@ -127,26 +161,26 @@ pub effect-stands : (g : Config) (name : Option (List ℕ)) (past : List Request
 effect-stands g name past request change old new nothing effect stands applied = record {
   enabled = rw (nothing, append-nil) (applied.enabled ∙ ap (flags_after change) stands.enabled ∙ sym effect.enabled);
   filters = rw (nothing, append-nil) (applied.filters ∙ ap (filters_after change) stands.filters ∙ sym effect.filters);
+  triggers = rw (nothing, append-nil) (applied.triggers ∙ ap (triggers_after change) stands.triggers ∙ sym effect.triggers);
   overwrite = applied.overwrite ∙ ap (overwrite_after change) stands.overwrite ∙ sym effect.overwrite;
   tracing = applied.tracing ∙ ap (tracing_after change) stands.tracing ∙ sym effect.tracing;
-  rings = rw effect.rings (rw (stands.pages, stands.page_bytes) at (applied.rings (rings g name past) stands.rings));
-  cpus = applied.cpus ∙ stands.cpus;
-  pages = applied.pages ∙ stands.pages;
-  page_bytes = applied.page_bytes ∙ stands.page_bytes;
-  offers = at_most_more (length past) (buffers.offers new.buffer) (applied.offers (length past) stands.offers);
+  sides = subst (λ (f : SideFamilies). snapshot.StandsFor new.sides f) (sym (effect.sides stands.spared))
+      (rw (stands.shaped.cpus, stands.shaped.live.pages, stands.shaped.live.page_bytes) at (applied.sides (side_families g name past) stands.sides));
+  shaped = applied.shaped g stands.shaped;
+  offered = offered-after past request new.sides (applied.offered (length past) stands.offered);
+  spared = spared-same g name past request nothing (effect.spared stands.spared);
 }
 
 keeps : (i : InstanceSeen) → IsApplied Keep i i
 keeps i = record {
   enabled = refl;
   filters = refl;
+  triggers = refl;
   overwrite = refl;
   tracing = refl;
-  rings = λ family stands. stands;
-  cpus = refl;
-  pages = refl;
-  page_bytes = refl;
-  offers = λ most all. all;
+  sides = λ families stands. stands;
+  shaped = λ g is. is;
+  offered = λ most were. were;
 }
 
 -- an instance that the request changes nothing of
@@ -154,100 +188,47 @@ pub kept-stands : (g : Config) (name : Option (List ℕ)) (past : List Request) 
     → declares request ≡ None → IsEffect g name past request Keep → InstanceStandsFor g name past i → InstanceStandsFor g name (request ∷ past) i
 kept-stands g name past request i nothing effect stands = effect-stands g name past request Keep i i nothing effect stands (keeps i)
 
+or-false : (b : Bool) → (b || false) ≡ b
+or-false true = refl
+or-false false = refl
+
+-- one more event without a trigger
+spared-more : (g : Config) (name : Option (List ℕ)) (past : List Request) (events : List Definition) (event : Definition) → trigger_of name event past ≡ None
+    → IsSpared g name events past → IsSpared g name (events ++ event ∷ []) past
+spared-more g name past events event none spared = record {
+  unused = spared.unused;
+  armed = λ some. spared.armed (sym without ∙ some);
+}
+  where
+    test : Definition → Bool
+    test e = is_some (trigger_of name e past)
+
+    last : list_any test (event ∷ []) ≡ false
+    last = rw none refl
+
+    without : list_any test (events ++ event ∷ []) ≡ list_any test events
+    without = list_any-append test events (event ∷ []) ∙ ap (λ (b : Bool). list_any test events || b) last ∙ or-false (list_any test events)
+
 -- one more event is declared
 pub declared-stands : (g : Config) (name : Option (List ℕ)) (past : List Request) (request : Request) (event : Definition) (i : InstanceSeen)
     → declares request ≡ Some event → IsEffect g name past request Keep → is_enabled name event.name (request ∷ past) ≡ false
-    → filter_of name event.name (request ∷ past) ≡ None → InstanceStandsFor g name past i → InstanceStandsFor g name (request ∷ past) (with_event i)
-declared-stands g name past request event i declared effect off none stands = record {
+    → filter_of name event.name (request ∷ past) ≡ None → trigger_of name event (request ∷ past) ≡ None
+    → InstanceStandsFor g name past i → InstanceStandsFor g name (request ∷ past) (with_event i)
+declared-stands g name past request event i declared effect off none idle stands = record {
   enabled = rw (declared, map-append)
       (ap (λ (flags : List Bool). flags ++ false ∷ []) (stands.enabled ∙ sym effect.enabled)
       ∙ ap (λ (flag : Bool). map (λ (e : Definition). is_enabled name e.name (request ∷ past)) (declared_events past) ++ flag ∷ []) (sym off));
   filters = rw (declared, map-append)
       (ap (λ (filters : List (Option Parsed)). filters ++ None ∷ []) (stands.filters ∙ sym effect.filters)
       ∙ ap (λ (text : Option (List ℕ)). map (kept_filter name (request ∷ past)) (declared_events past) ++ option_map (parsed_of event) text ∷ []) (sym none));
+  triggers = rw (declared, map-append)
+      (ap (λ (kept : List (Option Trigger)). kept ++ None ∷ []) (stands.triggers ∙ sym effect.triggers)
+      ∙ ap (λ (t : Option triggers.Trigger). map (kept_trigger name (request ∷ past)) (declared_events past) ++ option_map (kept_as (request ∷ past) event) t ∷ [])
+      (sym idle));
   overwrite = stands.overwrite ∙ sym effect.overwrite;
   tracing = stands.tracing ∙ sym effect.tracing;
-  rings = rw effect.rings stands.rings;
-  cpus = stands.cpus;
-  pages = stands.pages;
-  page_bytes = stands.page_bytes;
-  offers = at_most_more (length past) (buffers.offers i.buffer) stands.offers;
+  sides = subst (λ (f : SideFamilies). snapshot.StandsFor i.sides f) (sym (effect.sides stands.spared)) stands.sides;
+  shaped = stands.shaped;
+  offered = offered-after past request i.sides stands.offered;
+  spared = rw declared (spared-more g name (request ∷ past) (declared_events past) event idle (effect.spared stands.spared));
 }
-
--- ---- an emission
-
--- the record of an emission is in the rings if the instance records it, and nothing else is changed
-pub record IsRecordedBy (name : Option (List ℕ)) (past : List Request) (e : Emitted) (old new : InstanceSeen) : Type 0 where
-  pub enabled : new.enabled ≡ old.enabled
-  pub filters : new.filters ≡ old.filters
-  pub overwrite : new.overwrite ≡ old.overwrite
-  pub tracing : new.tracing ≡ old.tracing
-  pub rings : (family : List (List ring.Event)) → buffers.StandsFor old.buffer family → buffers.StandsFor new.buffer
-      (cond (is_recorded name past e) (with_events e.cpu (ring.Put (emitted_bytes e) (overwrites name past) ∷ []) family) family)
-  pub cpus : buffers.cpus new.buffer ≡ buffers.cpus old.buffer
-  pub pages : new.buffer.pages ≡ old.buffer.pages
-  pub page_bytes : new.buffer.page_bytes ≡ old.buffer.page_bytes
-  pub offers : (most : ℕ) → AllByRecursion (λ n. n ≤ most) (buffers.offers old.buffer)
-      → AllByRecursion (λ n. n ≤ suc most) (buffers.offers new.buffer)
-
--- an instance that is not armed stays as it is
-pub recorded-quiet : (name : Option (List ℕ)) (past : List Request) (e : Emitted) (i : InstanceSeen) → is_recorded name past e ≡ false
-    → IsRecordedBy name past e i i
-recorded-quiet name past e i quiet = record {
-  enabled = refl;
-  filters = refl;
-  overwrite = refl;
-  tracing = refl;
-  rings = λ family stands. subst
-      (λ (b : Bool). buffers.StandsFor i.buffer (cond b (with_events e.cpu (ring.Put (emitted_bytes e) (overwrites name past) ∷ []) family) family)) (sym quiet) stands;
-  cpus = refl;
-  pages = refl;
-  page_bytes = refl;
-  offers = λ most all. at_most_more most (buffers.offers i.buffer) all;
-}
-
--- and the record is written where it is
-pub recorded-written : (name : Option (List ℕ)) (past : List Request) (e : Emitted) (pending : Pending) (old new : InstanceSeen)
-    → old.armed ≡ is_recorded name past e → old.overwrite ≡ overwrites name past → pending.bytes.items ≡ emitted_bytes e → pending.cpu ≡ e.cpu
-    → IsWritten pending old new → IsRecordedBy name past e old new
-recorded-written name past e pending old new armed over bytes cpu written = record {
-  enabled = written.enabled;
-  filters = written.filters;
-  overwrite = written.overwrite;
-  tracing = written.tracing;
-  rings = λ family stands. subst
-      (λ (b : Bool). buffers.StandsFor new.buffer (cond b (with_events e.cpu (ring.Put (emitted_bytes e) (overwrites name past) ∷ []) family) family)) armed
-      (by_armed old.armed refl family stands);
-  cpus = written.cpus;
-  pages = written.pages;
-  page_bytes = written.page_bytes;
-  offers = λ most all.
-      let one : most + 1 ≡ suc most = omega arith in
-      subst (λ (n : ℕ). AllByRecursion (λ m. m ≤ n) (buffers.offers new.buffer)) one (written.offers most all);
-}
-  where
-    by_armed : (b : Bool) → old.armed ≡ b → (family : List (List ring.Event)) → buffers.StandsFor old.buffer family
-        → buffers.StandsFor new.buffer (cond b (with_events e.cpu (ring.Put (emitted_bytes e) (overwrites name past) ∷ []) family) family)
-    by_armed true is family stands =
-        subst (λ (a : ℕ). buffers.StandsFor new.buffer (with_events a (ring.Put (emitted_bytes e) (overwrites name past) ∷ []) family)) cpu
-        (subst (λ (b : List ℕ). buffers.StandsFor new.buffer (with_events pending.cpu (ring.Put b (overwrites name past) ∷ []) family)) bytes
-        (subst (λ (o : Bool). buffers.StandsFor new.buffer (with_events pending.cpu (ring.Put pending.bytes.items o ∷ []) family)) over
-        (written.written is family stands)))
-    by_armed false is family stands = written.quiet is family stands
-
--- so the instance is what the emission says of it
-pub recorded-stands : (g : Config) (name : Option (List ℕ)) (past : List Request) (request : Request) (e : Emitted) (old new : InstanceSeen)
-    → emitted past request ≡ Some e → InstanceStandsFor g name past old → IsRecordedBy name past e old new
-    → InstanceStandsFor g name (request ∷ past) new
-recorded-stands g name past (Emission event cpu pid pairs) e old new is stands came = record {
-  enabled = rw append-nil (came.enabled ∙ stands.enabled);
-  filters = rw append-nil (came.filters ∙ stands.filters);
-  overwrite = came.overwrite ∙ stands.overwrite;
-  tracing = came.tracing ∙ stands.tracing;
-  rings = rw is (came.rings (rings g name past) stands.rings);
-  cpus = came.cpus ∙ stands.cpus;
-  pages = came.pages ∙ stands.pages;
-  page_bytes = came.page_bytes ∙ stands.page_bytes;
-  offers = came.offers (length past) stands.offers;
-}
-recorded-stands g name past request e old new is stands came = cc

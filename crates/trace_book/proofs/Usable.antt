@@ -1,10 +1,9 @@
 -- A state that stands for a past is fit for one more command, and a new state stands for none.
-use Rattle.std.proofs.Common.{◌≡◌, ℕ, zero, suc, ◌<◌, ◌≤◌, ◌^◌, Bool, true, false, List, [], ◌∷◌, length, replicate, All, Option, Some, None, refl, sym, ap, ◌∙◌, subst, arith}
+use Rattle.std.proofs.Common.{◌≡◌, ℕ, ◌<◌, ◌≤◌, ◌^◌, Bool, false, List, [], ◌∷◌, length, All, Option, Some, None, refl, sym, ap, ◌∙◌, subst, arith}
 use Rattle.std.proofs.lemmas.List.{length-map}
 use Rattle.std.proofs.lemmas.List.Elements.{All-cons, All-nil, All-same}
 use Rattle.std.specs.List.{AllByRecursion, IsDistinct}
 use Rattle.std.specs.Str.{bytes_eq}
-use Rattle.trace_buffer.specs.Buffers as buffers
 use Rattle.trace_filter.specs.Filters.{Parsed}
 use Rattle.trace_format.specs.Catalogs.{AreEvents}
 use Rattle.trace_format.specs.Definitions.{Definition}
@@ -13,10 +12,11 @@ use Rattle.trace_command.specs.Requests.{Request}
 use Rattle.trace_command.specs.declared.command.Config.{Config}
 use Rattle.trace_history.specs.Declarations.{IsFit}
 use Rattle.trace_history.specs.Settings.{declared_events, instance_names, is_enabled, is_same, kept_filter}
-use Rattle.trace_book.specs.Instances.{InstanceSeen, InstanceStandsFor}
+use Rattle.trace_book.specs.Instances.{InstanceSeen, InstanceStandsFor, kept_trigger}
 use Rattle.trace_book.specs.States.{HasFew, IsUsable, IsUsableInstance, StandsFor, names_of}
 use Rattle.trace_book.specs.declared.state.Named.{Named}
 use Rattle.trace_book.specs.declared.state.State.{State}
+use Rattle.trace_book.specs.declared.trigger.Trigger.{Trigger}
 use Rattle.trace_book.proofs.EachInstance.{length-names_of, name_at, some_names}
 
 -- ---- names
@@ -48,9 +48,9 @@ usable_instance g state past name i events stands = record {
       ∙ ap (λ (l : List Definition). length l) (sym events);
   filters = ap (λ (l : List (Option Parsed)). length l) stands.filters ∙ length-map (declared_events past) (kept_filter name past)
       ∙ ap (λ (l : List Definition). length l) (sym events);
-  cpus = stands.cpus;
-  pages = stands.pages;
-  page_bytes = stands.page_bytes;
+  triggers = ap (λ (l : List (Option Trigger)). length l) stands.triggers ∙ length-map (declared_events past) (kept_trigger name past)
+      ∙ ap (λ (l : List Definition). length l) (sym events);
+  shaped = stands.shaped;
 }
 
 pub usable_from_stands : (g : Config) (state : State) (past : List Request) → IsInRange g → StandsFor g state past → length past ≤ 2 ^ 32
@@ -77,32 +77,12 @@ few_offers most (n ∷ counts) small all = (omega (arith, all.0, small), few_off
 
 pub few_from_stands : (g : Config) (state : State) (past : List Request) → StandsFor g state past → length past < 2 ^ 32
     → All (λ (n : Named). HasFew n.instance) state.instances.items
-few_from_stands g state past stands short = λ k d inside. few_offers (length past) _ short (stands.each k d inside).offers
+few_from_stands g state past stands short = λ k d inside. few_offers (length past) _ short (stands.each k d inside).offered.0
 
 pub early_from_stands : (g : Config) (state : State) (past : List Request) → StandsFor g state past → length past < 2 ^ 32 → state.clock < 2 ^ 32
 early_from_stands g state past stands short = omega (arith, stands.early, short)
 
 -- ---- a new state
-
-none_offered : (cpus : ℕ) → AllByRecursion (λ n. n ≤ 0) (replicate cpus 0)
-none_offered zero = tt
-none_offered (suc cpus) = (omega arith, none_offered cpus)
-
--- the top instance, as it is made where no event is declared
-pub top_instance_stands : (g : Config) (i : InstanceSeen) → i.enabled ≡ [] → i.filters ≡ [] → i.overwrite ≡ true → i.tracing ≡ true
-    → buffers.StandsFor i.buffer (replicate g.cpus []) → buffers.cpus i.buffer ≡ g.cpus → i.buffer.pages ≡ g.pages
-    → i.buffer.page_bytes ≡ g.page_bytes → buffers.offers i.buffer ≡ replicate g.cpus 0 → InstanceStandsFor g None [] i
-top_instance_stands g i enabled filters overwrite tracing rings cpus pages page_bytes offers = record {
-  enabled = enabled;
-  filters = filters;
-  overwrite = overwrite;
-  tracing = tracing;
-  rings = rings;
-  cpus = cpus;
-  pages = pages;
-  page_bytes = page_bytes;
-  offers = subst (λ (l : List ℕ). AllByRecursion (λ n. n ≤ 0) l) (sym offers) (none_offered g.cpus);
-}
 
 pub stands_new : (g : Config) (state : State) (top : Named) → state.catalog ≡ [] → state.clock ≡ 0 → state.instances.items ≡ top ∷ [] → top.name ≡ None
     → InstanceStandsFor g None [] top.instance → StandsFor g state []
@@ -116,6 +96,7 @@ stands_new g state top events clock instances name stands =
       distinct = tt;
       unknown = λ other event none. refl;
       unfiltered = λ other event none. refl;
+      untriggered = λ other event none. refl;
       clock = clock;
       early = omega (arith, clock);
       names = ap names_of instances ∙ ap (λ (n : Option (List ℕ)). n ∷ []) name;

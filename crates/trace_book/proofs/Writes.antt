@@ -23,36 +23,42 @@ use Rattle.trace_book.specs.Commands.{IsWriteChange, IsWrittenFilter, needed_fla
 use Rattle.trace_book.specs.Files.{name_at}
 use Rattle.trace_book.specs.declared.change.InstanceChange.TheVariants.{Keep, Switch, SwitchAll, SetFilter, SetFilters, SetOverwrite, SetTracing, Clear, ClearCpu}
 use Rattle.trace_book.specs.declared.change.FilterChange.{FilterChange}
+use Rattle.trace_book.proofs.Calm.{quiet-keep}
+use Rattle.trace_book.proofs.Effects.{own_write}
 use Rattle.trace_book.proofs.Filtering.{all-late, changed-map, no-event-refused}
 use Rattle.trace_book.proofs.Resolving.{name_at-is}
 use Rattle.trace_history.proofs.EventLists.{map-agrees, map-constant, map-set, named_at, one_place}
 
 -- ---- what changes
 
-pub clears-trace : (g : Config) (past : List Request) (text : List ℕ) (append : Bool)
-    → IsWriteChange g past append text paths.Trace (Ok (if append then Keep else Clear))
-clears-trace g past text true = (
+pub clears-trace : (g : Config) (instance : Option (List ℕ)) (past : List Request) (text : List ℕ) (append : Bool)
+    → IsWriteChange g instance past append text paths.Trace (Ok (if append then Keep else Clear))
+clears-trace g instance past text true = (
   refl,
-  record { enabled = λ old. refl; filters = λ old. refl; overwrite = λ old. refl; tracing = λ old. refl; rings = λ old. refl },
+  own_write g instance past paths.Trace true text Keep tt quiet-keep
+      (record { enabled = λ old. refl; filters = λ old. refl; overwrite = λ old. refl; tracing = λ old. refl; rings = λ old. refl }),
   λ i usable. tt,
 )
-clears-trace g past text false = (
+clears-trace g instance past text false = (
   refl,
-  record { enabled = λ old. refl; filters = λ old. refl; overwrite = λ old. refl; tracing = λ old. refl; rings = λ old. refl },
+  own_write g instance past paths.Trace false text Clear tt (record { triggers = λ old. refl; sides = λ cpus pages page_bytes f. refl })
+      (record { enabled = λ old. refl; filters = λ old. refl; overwrite = λ old. refl; tracing = λ old. refl; rings = λ old. refl }),
   λ i usable. tt,
 )
 
-pub clears-cpu : (g : Config) (past : List Request) (text : List ℕ) (cpu : ℕ) → cpu < g.cpus → (append : Bool)
-    → IsWriteChange g past append text (paths.CpuTrace cpu) (Ok (if append then Keep else ClearCpu cpu))
-clears-cpu g past text cpu there true = (
+pub clears-cpu : (g : Config) (instance : Option (List ℕ)) (past : List Request) (text : List ℕ) (cpu : ℕ) → cpu < g.cpus → (append : Bool)
+    → IsWriteChange g instance past append text (paths.CpuTrace cpu) (Ok (if append then Keep else ClearCpu cpu))
+clears-cpu g instance past text cpu there true = (
   refl,
-  record { enabled = λ old. refl; filters = λ old. refl; overwrite = λ old. refl; tracing = λ old. refl; rings = λ old. refl },
+  own_write g instance past (paths.CpuTrace cpu) true text Keep tt quiet-keep
+      (record { enabled = λ old. refl; filters = λ old. refl; overwrite = λ old. refl; tracing = λ old. refl; rings = λ old. refl }),
   λ i usable. tt,
 )
-clears-cpu g past text cpu there false = (
+clears-cpu g instance past text cpu there false = (
   refl,
-  record { enabled = λ old. refl; filters = λ old. refl; overwrite = λ old. refl; tracing = λ old. refl; rings = λ old. refl },
-  λ i usable. rw usable.cpus there,
+  own_write g instance past (paths.CpuTrace cpu) false text (ClearCpu cpu) tt (record { triggers = λ old. refl; sides = λ cpus pages page_bytes f. refl })
+      (record { enabled = λ old. refl; filters = λ old. refl; overwrite = λ old. refl; tracing = λ old. refl; rings = λ old. refl }),
+  λ i usable. rw usable.shaped.live.cpus there,
 )
 
 -- a write that empties no ring
@@ -87,41 +93,44 @@ no-number text refused is =
     let none = needed-none (written_tracing text) refused is in
     rw (none.1, none.0) (λ other. refl, λ early. refl)
 
-pub sets-overwrite : (g : Config) (past : List Request) (append : Bool) (text : List ℕ) (flag : Bool) → needed_flag (written_flag text) ≡ Ok flag
-    → IsWriteChange g past append text paths.Overwrite (Ok (SetOverwrite flag))
+pub sets-overwrite : (g : Config) (instance : Option (List ℕ)) (past : List Request) (append : Bool) (text : List ℕ) (flag : Bool) → needed_flag (written_flag text) ≡ Ok flag
+    → IsWriteChange g instance past append text paths.Overwrite (Ok (SetOverwrite flag))
 unfolding switch_answer
-sets-overwrite g past append text flag needed =
+sets-overwrite g instance past append text flag needed =
     let is = needed-some (written_flag text) flag needed in (
       rw is refl,
-      record { enabled = λ old. refl; filters = λ old. refl; overwrite = λ old. rw is refl; tracing = λ old. refl; rings = λ old. same-rings append paths.Overwrite old refl },
+      own_write g instance past paths.Overwrite append text (SetOverwrite flag) tt (record { triggers = λ old. refl; sides = λ cpus pages page_bytes f. refl })
+          (record { enabled = λ old. refl; filters = λ old. refl; overwrite = λ old. rw is refl; tracing = λ old. refl; rings = λ old. same-rings append paths.Overwrite old refl }),
       λ i usable. tt,
     )
 
-pub sets-option : (g : Config) (past : List Request) (append : Bool) (text : List ℕ) (flag : Bool) → needed_flag (written_option text) ≡ Ok flag
-    → IsWriteChange g past append text paths.TraceOptions (Ok (SetOverwrite flag))
+pub sets-option : (g : Config) (instance : Option (List ℕ)) (past : List Request) (append : Bool) (text : List ℕ) (flag : Bool) → needed_flag (written_option text) ≡ Ok flag
+    → IsWriteChange g instance past append text paths.TraceOptions (Ok (SetOverwrite flag))
 unfolding option_answer
-sets-option g past append text flag needed =
+sets-option g instance past append text flag needed =
     let is = needed-some (written_option text) flag needed in (
       rw is refl,
-      record { enabled = λ old. refl; filters = λ old. refl; overwrite = λ old. rw is refl; tracing = λ old. refl; rings = λ old. same-rings append paths.TraceOptions old refl },
+      own_write g instance past paths.TraceOptions append text (SetOverwrite flag) tt (record { triggers = λ old. refl; sides = λ cpus pages page_bytes f. refl })
+          (record { enabled = λ old. refl; filters = λ old. refl; overwrite = λ old. rw is refl; tracing = λ old. refl; rings = λ old. same-rings append paths.TraceOptions old refl }),
       λ i usable. tt,
     )
 
-pub sets-tracing : (g : Config) (past : List Request) (append : Bool) (text : List ℕ) (flag : Bool) → needed_flag (written_tracing text) ≡ Ok flag
-    → IsWriteChange g past append text paths.TracingOn (Ok (SetTracing flag))
+pub sets-tracing : (g : Config) (instance : Option (List ℕ)) (past : List Request) (append : Bool) (text : List ℕ) (flag : Bool) → needed_flag (written_tracing text) ≡ Ok flag
+    → IsWriteChange g instance past append text paths.TracingOn (Ok (SetTracing flag))
 unfolding tracing_answer
-sets-tracing g past append text flag needed =
+sets-tracing g instance past append text flag needed =
     let is = needed-some (written_tracing text) flag needed in (
       rw is refl,
-      record { enabled = λ old. refl; filters = λ old. refl; overwrite = λ old. refl; tracing = λ old. rw is refl; rings = λ old. same-rings append paths.TracingOn old refl },
+      own_write g instance past paths.TracingOn append text (SetTracing flag) tt (record { triggers = λ old. refl; sides = λ cpus pages page_bytes f. refl })
+          (record { enabled = λ old. refl; filters = λ old. refl; overwrite = λ old. refl; tracing = λ old. rw is refl; rings = λ old. same-rings append paths.TracingOn old refl }),
       λ i usable. tt,
     )
 
 -- an event has its own name, and no other's
-own-name : (events : List Definition) (index : ℕ) (d : Definition) → index < length events → bytes_eq (get_or events index d).name (name_at events index) ≡ true
+pub own-name : (events : List Definition) (index : ℕ) (d : Definition) → index < length events → bytes_eq (get_or events index d).name (name_at events index) ≡ true
 own-name events index d inside = (bytes_eq-Decides (get_or events index d).name (name_at events index)).1 (name_at-is events index d inside)
 
-other-name : (events : List Definition) (j index : ℕ) (d : Definition) → AreEvents [] events → j < length events → index < length events → (j ≡ index → ⊥)
+pub other-name : (events : List Definition) (j index : ℕ) (d : Definition) → AreEvents [] events → j < length events → index < length events → (j ≡ index → ⊥)
     → bytes_eq (get_or events j d).name (name_at events index) ≡ false
 other-name events j index d distinct within inside other = by (bytes_eq (get_or events j d).name (name_at events index)) refl
   where
@@ -135,10 +144,10 @@ other-name events j index d distinct within inside other = by (bytes_eq (get_or 
 no_event : Definition
 no_event = record { name = []; fields = [] }
 
-pub switches-all : (g : Config) (past : List Request) (append : Bool) (text : List ℕ) (flag : Bool) → AreEvents [] (declared_events past)
-    → needed_flag (written_flag text) ≡ Ok flag → IsWriteChange g past append text paths.EventsEnable (Ok (SwitchAll flag))
+pub switches-all : (g : Config) (instance : Option (List ℕ)) (past : List Request) (append : Bool) (text : List ℕ) (flag : Bool) → AreEvents [] (declared_events past)
+    → needed_flag (written_flag text) ≡ Ok flag → IsWriteChange g instance past append text paths.EventsEnable (Ok (SwitchAll flag))
 unfolding switch_answer
-switches-all g past append text flag distinct needed =
+switches-all g instance past append text flag distinct needed =
     let is = needed-some (written_flag text) flag needed in
     let events = declared_events past in
     let enabled = λ (old : List ℕ → Bool).
@@ -146,23 +155,25 @@ switches-all g past append text flag distinct needed =
     (λ j inside. rw (named_at events j no_event distinct inside, is) refl)
     ∙ ap (λ (n : ℕ). replicate n flag) (sym (length-map events (λ (event : Definition). old event.name))) in (
       rw is refl,
-      record { enabled = enabled; filters = λ old. refl; overwrite = λ old. refl; tracing = λ old. refl; rings = λ old. same-rings append paths.EventsEnable old refl },
+      own_write g instance past paths.EventsEnable append text (SwitchAll flag) tt (record { triggers = λ old. refl; sides = λ cpus pages page_bytes f. refl })
+          (record { enabled = enabled; filters = λ old. refl; overwrite = λ old. refl; tracing = λ old. refl; rings = λ old. same-rings append paths.EventsEnable old refl }),
       λ i usable. tt,
     )
 
-pub switches-one : (g : Config) (past : List Request) (append : Bool) (text : List ℕ) (index : ℕ) (flag : Bool) → AreEvents [] (declared_events past)
+pub switches-one : (g : Config) (instance : Option (List ℕ)) (past : List Request) (append : Bool) (text : List ℕ) (index : ℕ) (flag : Bool) → AreEvents [] (declared_events past)
     → index < length (declared_events past) → needed_flag (written_flag text) ≡ Ok flag
-    → IsWriteChange g past append text (paths.EventEnable (name_at (declared_events past) index)) (Ok (Switch index flag))
+    → IsWriteChange g instance past append text (paths.EventEnable (name_at (declared_events past) index)) (Ok (Switch index flag))
 unfolding switch_answer
-switches-one g past append text index flag distinct inside needed = (
+switches-one g instance past append text index flag distinct inside needed = (
   rw is refl,
-  record {
-    enabled = λ old. map-set (λ (event : Definition). old event.name) (switched old) flag events index no_event inside (here old) (others old);
-    filters = λ old. refl;
-    overwrite = λ old. refl;
-    tracing = λ old. refl;
-    rings = λ old. same-rings append (paths.EventEnable name) old refl;
-  },
+  own_write g instance past (paths.EventEnable name) append text (Switch index flag) tt (record { triggers = λ old. refl; sides = λ cpus pages page_bytes f. refl })
+      (record {
+        enabled = λ old. map-set (λ (event : Definition). old event.name) (switched old) flag events index no_event inside (here old) (others old);
+        filters = λ old. refl;
+        overwrite = λ old. refl;
+        tracing = λ old. refl;
+        rings = λ old. same-rings append (paths.EventEnable name) old refl;
+      }),
   λ i usable. rw usable.enabled inside,
 )
   where
@@ -188,19 +199,20 @@ switches-one g past append text index flag distinct inside needed = (
         let differ : bytes_eq (get_or events j no_event).name name ≡ false = other-name events j index no_event distinct within inside other in
         rw differ refl
 
-pub sets-one : (g : Config) (past : List Request) (append : Bool) (text : List ℕ) (index : ℕ) (event : Definition) (kept : Option Parsed)
+pub sets-one : (g : Config) (instance : Option (List ℕ)) (past : List Request) (append : Bool) (text : List ℕ) (index : ℕ) (event : Definition) (kept : Option Parsed)
     → AreEvents [] (declared_events past) → index < length (declared_events past) → event ≡ get_or (declared_events past) index event
     → IsWrittenFilter text event (Ok kept)
-    → IsWriteChange g past append text (paths.EventFilter (name_at (declared_events past) index)) (Ok (SetFilter index kept))
-sets-one g past append text index event kept distinct inside at written = (
+    → IsWriteChange g instance past append text (paths.EventFilter (name_at (declared_events past) index)) (Ok (SetFilter index kept))
+sets-one g instance past append text index event kept distinct inside at written = (
   done,
-  record {
-    enabled = λ old. refl;
-    filters = λ old. map-set (λ (e : Definition). option_map (parsed_of e) (old e.name)) (filtered old) kept events index event inside (here old) (others old);
-    overwrite = λ old. refl;
-    tracing = λ old. refl;
-    rings = λ old. same-rings append (paths.EventFilter name) old refl;
-  },
+  own_write g instance past (paths.EventFilter name) append text (SetFilter index kept) tt (record { triggers = λ old. refl; sides = λ cpus pages page_bytes f. refl })
+      (record {
+        enabled = λ old. refl;
+        filters = λ old. map-set (λ (e : Definition). option_map (parsed_of e) (old e.name)) (filtered old) kept events index event inside (here old) (others old);
+        overwrite = λ old. refl;
+        tracing = λ old. refl;
+        rings = λ old. same-rings append (paths.EventFilter name) old refl;
+      }),
   λ i usable. rw usable.filters inside,
 )
   where
@@ -253,18 +265,19 @@ pub memory-for-all : (text : List ℕ) (events : List Definition) → 0 < length
 memory-for-all text [] inside = absurd (omega arith)
 memory-for-all text (event ∷ events) inside = (λ other. absurd (other refl), λ early. absurd (all-late text event events early))
 
-pub sets-all : (g : Config) (past : List Request) (append : Bool) (text : List ℕ) (changes : Vec FilterChange Global) → AreEvents [] (declared_events past)
+pub sets-all : (g : Config) (instance : Option (List ℕ)) (past : List Request) (append : Bool) (text : List ℕ) (changes : Vec FilterChange Global) → AreEvents [] (declared_events past)
     → changes.items ≡ map (change_of text) (declared_events past) → filter_of_all_answer text (declared_events past) ≡ Ok reply.Done
-    → IsWriteChange g past append text paths.EventsFilter (Ok (SetFilters changes))
-sets-all g past append text changes distinct are done = (
+    → IsWriteChange g instance past append text paths.EventsFilter (Ok (SetFilters changes))
+sets-all g instance past append text changes distinct are done = (
   done,
-  record {
-    enabled = λ old. refl;
-    filters = filters;
-    overwrite = λ old. refl;
-    tracing = λ old. refl;
-    rings = λ old. same-rings append paths.EventsFilter old refl;
-  },
+  own_write g instance past paths.EventsFilter append text (SetFilters changes) tt (record { triggers = λ old. refl; sides = λ cpus pages page_bytes f. refl })
+      (record {
+        enabled = λ old. refl;
+        filters = filters;
+        overwrite = λ old. refl;
+        tracing = λ old. refl;
+        rings = λ old. same-rings append paths.EventsFilter old refl;
+      }),
   λ i usable. rw (are, usable.filters) (length-map events (change_of text)),
 )
   where

@@ -1,21 +1,20 @@
 -- What a request that is done changes: of one instance, and of the whole.
-use Rattle.std.specs.Prelude.{◌≡◌, ℕ, ◌<◌, ◌≤◌, min, slice_set, replicate, unwrap_or, Bool, true, false, List, [], ◌∷◌, length, map, Option, Some, None, if◌then◌else◌, ⊤}
-use Rattle.std.specs.List.{AllByRecursion}
-use Rattle.std.specs.Option.{option_map}
+use Rattle.std.specs.Prelude.{◌≡◌, ℕ, ◌<◌, min, slice_set, replicate, Bool, true, false, List, [], ◌∷◌, length, map, Option, Some, None, if◌then◌else◌, ⊤}
 use Rattle.page_ring.specs.Events.{Event}
 use Rattle.trace_buffer.specs.Buffers as buffers
 use Rattle.trace_buffer.specs.Families.{with_cleared, all_cleared, cpu_readings, kept_count}
 use Rattle.trace_buffer.specs.Orders.{consume_any, after_cpu_reads}
 use Rattle.trace_filter.specs.Filters.{Parsed, parsed_of}
 use Rattle.trace_format.specs.Definitions.{Definition}
-use Rattle.trace_command.specs.Paths.{File}
 use Rattle.trace_command.specs.Requests.{Request}
 use Rattle.trace_command.specs.declared.command.Config.{Config}
-use Rattle.trace_history.specs.Settings.{clears_filter, can_take, declared_events, is_enabled, is_tracing, kept_filter, overwrites, sets_filter, sets_overwrite, sets_tracing, switches}
-use Rattle.trace_history.specs.Rings.{rings, rings_after_write}
-use Rattle.trace_book.specs.Instances.{InstanceSeen}
+use Rattle.trace_snapshot.specs.Sides as snapshot
+use Rattle.trace_snapshot.specs.Sides.{SideFamilies, exchanged, spare_cleared, with_spare, without_spare}
+use Rattle.trace_history.specs.Settings.{clears_filter, can_take, declared_events, is_enabled, is_tracing, kept_filter, overwrites}
+use Rattle.trace_book.specs.Instances.{InstanceSeen, IsShaped, IsSpared, WereOffered, kept_trigger, side_families}
+use Rattle.trace_book.specs.declared.trigger.Trigger.{Trigger}
 use Rattle.trace_book.specs.declared.change.InstanceChange.{InstanceChange}
-use Rattle.trace_book.specs.declared.change.InstanceChange.TheVariants.{Switch, SwitchAll, SetFilter, SetFilters, SetOverwrite, SetTracing, Clear, ClearCpu, Take, TakeCpu}
+use Rattle.trace_book.specs.declared.change.InstanceChange.TheVariants.{Switch, SwitchAll, SetFilter, SetFilters, Attach, Detach, SetOverwrite, SetTracing, Clear, ClearCpu, Take, TakeCpu, TakeSnapshot, FreeSpare, ClearSpare}
 use Rattle.trace_book.specs.declared.change.FilterChange.{FilterChange}
 use Rattle.trace_book.specs.declared.change.FilterChange.TheVariants as filter
 
@@ -51,6 +50,12 @@ filters_after (SetFilter index new) filters = slice_set filters index new
 filters_after (SetFilters changes) filters = changed_filters changes.items filters
 filters_after change filters = filters
 
+-- the triggers after a change
+abbrev pub triggers_after : InstanceChange → List (Option Trigger) → List (Option Trigger)
+triggers_after (Attach index trigger) triggers = slice_set triggers index (Some trigger)
+triggers_after (Detach index) triggers = slice_set triggers index None
+triggers_after change triggers = triggers
+
 abbrev pub overwrite_after : InstanceChange → Bool → Bool
 overwrite_after (SetOverwrite flag) overwrite = flag
 overwrite_after change overwrite = overwrite
@@ -59,7 +64,7 @@ abbrev pub tracing_after : InstanceChange → Bool → Bool
 tracing_after (SetTracing flag) tracing = flag
 tracing_after change tracing = tracing
 
--- the rings after a change, for rings of so many pages of so many bytes
+-- the rings of the live side after a change, for rings of so many pages of so many bytes
 abbrev pub rings_changed : ℕ → ℕ → InstanceChange → List (List Event) → List (List Event)
 rings_changed pages page_bytes Clear family = all_cleared family
 rings_changed pages page_bytes (ClearCpu cpu) family = with_cleared cpu family
@@ -67,27 +72,36 @@ rings_changed pages page_bytes (Take limit) family = (consume_any pages page_byt
 rings_changed pages page_bytes (TakeCpu cpu limit) family = after_cpu_reads cpu (min limit (length (cpu_readings pages page_bytes family cpu))) family
 rings_changed pages page_bytes change family = family
 
+-- both sides after a change
+abbrev pub sides_changed : ℕ → ℕ → ℕ → InstanceChange → SideFamilies → SideFamilies
+sides_changed cpus pages page_bytes (Attach index trigger) f = with_spare cpus f
+sides_changed cpus pages page_bytes TakeSnapshot f = exchanged (with_spare cpus f)
+sides_changed cpus pages page_bytes FreeSpare f = without_spare f
+sides_changed cpus pages page_bytes ClearSpare f = spare_cleared f
+sides_changed cpus pages page_bytes change f = record { live = rings_changed pages page_bytes change f.live; spare = f.spare }
+
 -- a change can be made: what it names is there
 abbrev pub IsLawful : InstanceSeen → InstanceChange → Type 0
 IsLawful i (Switch index flag) = index < length i.enabled
 IsLawful i (SetFilter index new) = index < length i.filters
 IsLawful i (SetFilters changes) = length changes.items ≡ length i.filters
-IsLawful i (ClearCpu cpu) = cpu < buffers.cpus i.buffer
-IsLawful i (TakeCpu cpu limit) = cpu < buffers.cpus i.buffer
+IsLawful i (Attach index trigger) = index < length i.triggers
+IsLawful i (Detach index) = index < length i.triggers
+IsLawful i (ClearCpu cpu) = cpu < buffers.cpus i.sides.live
+IsLawful i (TakeCpu cpu limit) = cpu < buffers.cpus i.sides.live
 IsLawful i change = ⊤
 
 -- a change was made
 pub record IsApplied (change : InstanceChange) (old new : InstanceSeen) : Type 0 where
   pub enabled : new.enabled ≡ flags_after change old.enabled
   pub filters : new.filters ≡ filters_after change old.filters
+  pub triggers : new.triggers ≡ triggers_after change old.triggers
   pub overwrite : new.overwrite ≡ overwrite_after change old.overwrite
   pub tracing : new.tracing ≡ tracing_after change old.tracing
-  pub rings : (family : List (List Event)) → buffers.StandsFor old.buffer family
-      → buffers.StandsFor new.buffer (rings_changed old.buffer.pages old.buffer.page_bytes change family)
-  pub cpus : buffers.cpus new.buffer ≡ buffers.cpus old.buffer
-  pub pages : new.buffer.pages ≡ old.buffer.pages
-  pub page_bytes : new.buffer.page_bytes ≡ old.buffer.page_bytes
-  pub offers : (most : ℕ) → AllByRecursion (λ n. n ≤ most) (buffers.offers old.buffer) → AllByRecursion (λ n. n ≤ most) (buffers.offers new.buffer)
+  pub sides : (families : SideFamilies) → snapshot.StandsFor old.sides families
+      → snapshot.StandsFor new.sides (sides_changed old.sides.cpus old.sides.live.pages old.sides.live.page_bytes change families)
+  pub shaped : (g : Config) → IsShaped g old.sides → IsShaped g new.sides
+  pub offered : (most : ℕ) → WereOffered most old.sides → WereOffered most new.sides
 
 -- ---- when a change is what a request says of an instance
 
@@ -96,20 +110,12 @@ pub record IsEffect (g : Config) (name : Option (List ℕ)) (past : List Request
   pub enabled : map (λ event. is_enabled name event.name (request ∷ past)) (declared_events past)
       ≡ flags_after change (map (λ event. is_enabled name event.name past) (declared_events past))
   pub filters : map (kept_filter name (request ∷ past)) (declared_events past) ≡ filters_after change (map (kept_filter name past) (declared_events past))
+  pub triggers : map (kept_trigger name (request ∷ past)) (declared_events past) ≡ triggers_after change (map (kept_trigger name past) (declared_events past))
   pub overwrite : overwrites name (request ∷ past) ≡ overwrite_after change (overwrites name past)
   pub tracing : is_tracing name (request ∷ past) ≡ tracing_after change (is_tracing name past)
-  pub rings : rings g name (request ∷ past) ≡ rings_changed g.pages g.page_bytes change (rings g name past)
-
--- a change says of a file what a write to it sets, whatever was set before
-pub record IsWriteEffect (g : Config) (past : List Request) (append : Bool) (text : List ℕ) (file : File) (change : InstanceChange) : Type 0 where
-  pub enabled : (old : List ℕ → Bool) → map (λ event. unwrap_or (switches event.name past file text) (old event.name)) (declared_events past)
-      ≡ flags_after change (map (λ event. old event.name) (declared_events past))
-  pub filters : (old : List ℕ → Option (List ℕ))
-      → map (λ event. option_map (parsed_of event) (unwrap_or (sets_filter event.name past file text) (old event.name))) (declared_events past)
-      ≡ filters_after change (map (λ event. option_map (parsed_of event) (old event.name)) (declared_events past))
-  pub overwrite : (old : Bool) → unwrap_or (sets_overwrite past file text) old ≡ overwrite_after change old
-  pub tracing : (old : Bool) → unwrap_or (sets_tracing past file text) old ≡ tracing_after change old
-  pub rings : (old : List (List Event)) → rings_after_write append (Some file) old ≡ rings_changed g.pages g.page_bytes change old
+  pub sides : IsSpared g name (declared_events past) past
+      → side_families g name (request ∷ past) ≡ sides_changed g.cpus g.pages g.page_bytes change (side_families g name past)
+  pub spared : IsSpared g name (declared_events past) past → IsSpared g name (declared_events past) (request ∷ past)
 
 -- what a text that is written to the filter of all events changes of one's
 abbrev pub change_of : List ℕ → Definition → FilterChange

@@ -8,30 +8,32 @@ use Rattle.trace_command.specs.Paths as paths
 use Rattle.trace_buffer.specs.Buffers as buffers
 use Rattle.trace_format.specs.Catalogs.{AreEvents}
 use Rattle.trace_command.specs.Refusals.{IsRefusal}
-use Rattle.trace_command.specs.Requests.{Request}
+use Rattle.trace_command.specs.Requests.{Request, WriteFile}
 use Rattle.trace_command.specs.declared.command.Config.{Config}
 use Rattle.trace_command.specs.declared.command.Reply.TheVariants.{Done}
 use Rattle.trace_command.specs.declared.refusal.Refusal.{Refusal}
 use Rattle.trace_command.specs.declared.refusal.Refusal.TheVariants.{BadValue}
-use Rattle.trace_history.specs.History.{cpu_stats_text, filter_answer, filter_text, flag_text, format_of_event, option_text, read_answer, shown_trace, switches_text, write_answer}
+use Rattle.trace_history.specs.History.{cpu_stats_text, filter_answer, filter_text, flag_text, format_of_event, option_text, read_answer, shown_snapshot, shown_trace, switches_text, triggers_of_event, write_answer}
 use Rattle.trace_history.specs.Rings.{rings, rings_after_read}
 use Rattle.trace_history.specs.Settings.{declared_events, event_named, filter_of, is_enabled, is_tracing, now_of, overwrites, written_filter}
 use Rattle.trace_book.specs.Instances.{InstanceSeen, InstanceStandsFor}
-use Rattle.trace_book.specs.Changes.{IsLawful, IsWriteEffect, rings_changed}
+use Rattle.trace_book.specs.Changes.{IsEffect, IsLawful, rings_changed}
 use Rattle.trace_book.specs.States.{IsUsableInstance}
 use Rattle.trace_book.specs.declared.change.InstanceChange.{InstanceChange}
 use Rattle.trace_book.specs.declared.change.InstanceChange.TheVariants.{Keep, Take, TakeCpu}
 use Rattle.trace_book.specs.declared.read.Shown.{Shown}
 use Rattle.trace_book.specs.declared.read.Source.{Source}
 use Rattle.trace_book.specs.declared.resolve.File.{File as Found}
+use Rattle.trace_book.specs.declared.trigger.Trigger.{Trigger}
+use Rattle.trace_text.specs.TriggerText as texts
 use Rattle.trace_book.specs.declared.resolve.File.TheVariants as found
 
--- the change that a write to a file makes, or why it is refused
-abbrev pub IsWriteChange : Config → List Request → Bool → List ℕ → File → Result InstanceChange Refusal → Type 0
-IsWriteChange g past append text file (Ok change) =
-    (write_answer g past append text file ≡ Ok Done) × IsWriteEffect g past append text file change
+-- the change that a write to a file of this instance makes, or why it is refused
+abbrev pub IsWriteChange : Config → Option (List ℕ) → List Request → Bool → List ℕ → File → Result InstanceChange Refusal → Type 0
+IsWriteChange g name past append text file (Ok change) =
+    (write_answer g name past append text file ≡ Ok Done) × IsEffect g name past (WriteFile name (Some file) append text) change
     × ((i : InstanceSeen) → IsUsableInstance g (length (declared_events past)) i → IsLawful i change)
-IsWriteChange g past append text file (Err refusal) = IsRefusal refusal (write_answer g past append text file)
+IsWriteChange g name past append text file (Err refusal) = IsRefusal refusal (write_answer g name past append text file)
 
 -- a value that has to be one
 abbrev pub needed_flag : Option Bool → Result Bool Refusal
@@ -62,6 +64,10 @@ unfoldable pub shown_filter : Option Parsed → List ℕ
 shown_filter None = codes "none\n"
 shown_filter (Some kept) = kept.text ++ codes "\n"
 
+-- a kept trigger as its file shows it
+abbrev pub shown_kept : Trigger → texts.Trigger
+shown_kept t = texts.Snapshot t.left (option_map (λ (filter : Parsed). filter.text) t.filter)
+
 -- what files are read from agrees with the requests done so far: the events, the clock and the instance of this name
 pub record IsSource (g : Config) (name : Option (List ℕ)) (past : List Request) (source : Source) : Type 0 where
   pub events : source.catalog.now ≡ declared_events past
@@ -71,11 +77,12 @@ pub record IsSource (g : Config) (name : Option (List ℕ)) (past : List Request
 
 -- the CPU or the event of a file is there for a read
 abbrev pub IsReadable : Source → Found → Type 0
-IsReadable source (found.CpuTrace cpu) = cpu < buffers.cpus source.instance.now.buffer
-IsReadable source (found.CpuTracePipe cpu) = cpu < buffers.cpus source.instance.now.buffer
-IsReadable source (found.CpuStats cpu) = cpu < buffers.cpus source.instance.now.buffer
+IsReadable source (found.CpuTrace cpu) = cpu < buffers.cpus source.instance.now.sides.live
+IsReadable source (found.CpuTracePipe cpu) = cpu < buffers.cpus source.instance.now.sides.live
+IsReadable source (found.CpuStats cpu) = cpu < buffers.cpus source.instance.now.sides.live
 IsReadable source (found.EventEnable event) = event < length source.instance.now.enabled
 IsReadable source (found.EventFilter event) = event < length source.instance.now.filters
+IsReadable source (found.EventTrigger event) = event < length source.instance.now.triggers
 IsReadable source (found.EventFormat event) = event < length source.catalog.now
 IsReadable source file = ⊤
 
@@ -90,5 +97,7 @@ text_of g name past paths.TracingOn = flag_text (is_tracing name past)
 text_of g name past (paths.EventEnable event) = flag_text (is_enabled name event past)
 text_of g name past paths.EventsEnable = switches_text (map (λ event. is_enabled name event.name past) (declared_events past))
 text_of g name past (paths.EventFilter event) = filter_text (filter_of name event past)
+text_of g name past paths.Snapshot = shown_snapshot g name past
+text_of g name past (paths.EventTrigger event) = triggers_of_event name past (event_named event past)
 text_of g name past (paths.EventFormat event) = format_of_event (event_named event past)
 text_of g name past file = []

@@ -33,10 +33,12 @@ file_at events (file.CpuStats cpu) = paths.CpuStats cpu
 file_at events file.Overwrite = paths.Overwrite
 file_at events file.TraceOptions = paths.TraceOptions
 file_at events file.TracingOn = paths.TracingOn
+file_at events file.Snapshot = paths.Snapshot
 file_at events file.EventsEnable = paths.EventsEnable
 file_at events file.EventsFilter = paths.EventsFilter
 file_at events (file.EventEnable event) = paths.EventEnable (name_at events event)
 file_at events (file.EventFilter event) = paths.EventFilter (name_at events event)
+file_at events (file.EventTrigger event) = paths.EventTrigger (name_at events event)
 file_at events (file.EventFormat event) = paths.EventFormat (name_at events event)
 
 -- its CPU or its event is there
@@ -46,6 +48,7 @@ IsThere cpus events (file.CpuTracePipe cpu) = cpu < cpus
 IsThere cpus events (file.CpuStats cpu) = cpu < cpus
 IsThere cpus events (file.EventEnable event) = event < length events
 IsThere cpus events (file.EventFilter event) = event < length events
+IsThere cpus events (file.EventTrigger event) = event < length events
 IsThere cpus events (file.EventFormat event) = event < length events
 IsThere cpus events _ = ⊤
 
@@ -53,6 +56,7 @@ IsThere cpus events _ = ⊤
 abbrev pub HasEvent : List Definition → File → Type 0
 HasEvent events (file.EventEnable event) = event < length events
 HasEvent events (file.EventFilter event) = event < length events
+HasEvent events (file.EventTrigger event) = event < length events
 HasEvent events (file.EventFormat event) = event < length events
 HasEvent events _ = ⊤
 

@@ -1,44 +1,92 @@
 -- What contracts see of an instance, and when it agrees with the requests that were done.
-use Rattle.std.specs.Prelude.{◌≡◌, ℕ, ◌≤◌, Bool, List, length, map, Option}
-use Rattle.std.specs.List.{AllByRecursion}
-use Rattle.page_ring.specs.Events.{Event}
+use Rattle.std.specs.Prelude.{◌≡◌, ℕ, ◌≤◌, Bool, true, false, List, [], length, map, replicate, Option, is_some, IfSome}
+use Rattle.std.specs.List.{AllByRecursion, list_any}
+use Rattle.std.specs.Option.{option_map}
 use Rattle.trace_buffer.specs.Buffers as buffers
 use Rattle.trace_filter.specs.Filters.{Parsed}
+use Rattle.trace_format.specs.Definitions.{Definition}
+use Rattle.trace_snapshot.specs.Sides.{SideFamilies, SidesSeen}
+use Rattle.trace_snapshot.specs.Sides as snapshot
 use Rattle.trace_command.specs.Requests.{Request}
 use Rattle.trace_command.specs.declared.command.Config.{Config}
 use Rattle.trace_history.specs.Settings.{declared_events, is_enabled, kept_filter, overwrites, is_tracing}
-use Rattle.trace_history.specs.Rings.{rings}
+use Rattle.trace_history.specs.Rings.{rings, other_rings, spare_rings}
+use Rattle.trace_history.specs.Snapshots.{has_spare}
+use Rattle.trace_history.specs.Triggers as triggers
+use Rattle.trace_history.specs.Triggers.{times_left, trigger_of}
+use Rattle.trace_book.specs.declared.trigger.Trigger.{Trigger}
 
--- which events are enabled and their filters, in order of declaration; whether records may overwrite older ones, and whether it records at
--- all; its rings; and whether it is to record the emission that is being prepared
+-- which events are enabled, their filters and their triggers, in order of declaration; whether records may overwrite older ones, and whether it
+-- records at all; its rings; and whether it is to record the emission that is being prepared, and whether that makes a trigger act
 pub record InstanceSeen : Type 0 where
   pub enabled : List Bool
   pub filters : List (Option Parsed)
+  pub triggers : List (Option Trigger)
   pub overwrite : Bool
   pub tracing : Bool
-  pub buffer : buffers.Seen
+  pub sides : SidesSeen
   pub armed : Bool
+  pub fires : Bool
+
+-- ---- the shape of rings, and how many records they were offered
+
+pub record HasShape (g : Config) (side : buffers.Seen) : Type 0 where
+  pub cpus : buffers.cpus side ≡ g.cpus
+  pub pages : side.pages ≡ g.pages
+  pub page_bytes : side.page_bytes ≡ g.page_bytes
+
+pub record IsShaped (g : Config) (s : SidesSeen) : Type 0 where
+  pub cpus : s.cpus ≡ g.cpus
+  pub pages : s.pages ≡ g.pages
+  pub page_bytes : s.page_bytes ≡ g.page_bytes
+  pub live : HasShape g s.live
+  pub spare : IfSome s.spare (HasShape g)
+
+-- each ring was offered at most so many
+abbrev pub WasOffered : ℕ → buffers.Seen → Type 0
+WasOffered most side = AllByRecursion (λ n. n ≤ most) (buffers.offers side)
+
+abbrev pub WereOffered : ℕ → SidesSeen → Type 0
+WereOffered most s = WasOffered most s.live × IfSome s.spare (WasOffered most)
+
+-- ---- what the requests say
+
+-- a trigger as an instance keeps it
+abbrev pub kept_as : List Request → Definition → triggers.Trigger → Trigger
+kept_as past event t = record { left = times_left event t past; filter = t.spec.filter }
+
+abbrev pub kept_trigger : Option (List ℕ) → List Request → Definition → Option Trigger
+kept_trigger name past event = option_map (kept_as past event) (trigger_of name event past)
+
+-- what happened to the rings of each side
+abbrev pub side_families : Config → Option (List ℕ) → List Request → SideFamilies
+side_families g name past = record { live = rings g name past; spare = spare_rings g name past }
+
+-- a side that is no spare is empty, and there is a spare where one of these events has a trigger
+pub record IsSpared (g : Config) (name : Option (List ℕ)) (events : List Definition) (past : List Request) : Type 0 where
+  pub unused : has_spare name past ≡ false → other_rings g name past ≡ replicate g.cpus []
+  pub armed : list_any (λ event. is_some (trigger_of name event past)) events ≡ true → has_spare name past ≡ true
 
 -- each part of the instance of this name (none is the top one) is what the requests say of it
 pub record InstanceStandsFor (g : Config) (name : Option (List ℕ)) (past : List Request) (i : InstanceSeen) : Type 0 where
   pub enabled : i.enabled ≡ map (λ event. is_enabled name event.name past) (declared_events past)
   pub filters : i.filters ≡ map (kept_filter name past) (declared_events past)
+  pub triggers : i.triggers ≡ map (kept_trigger name past) (declared_events past)
   pub overwrite : i.overwrite ≡ overwrites name past
   pub tracing : i.tracing ≡ is_tracing name past
-  pub rings : buffers.StandsFor i.buffer (rings g name past)
-  pub cpus : buffers.cpus i.buffer ≡ g.cpus
-  pub pages : i.buffer.pages ≡ g.pages
-  pub page_bytes : i.buffer.page_bytes ≡ g.page_bytes
-  pub offers : AllByRecursion (λ n. n ≤ length past) (buffers.offers i.buffer)
+  pub sides : snapshot.StandsFor i.sides (side_families g name past)
+  pub shaped : IsShaped g i.sides
+  pub offered : WereOffered (length past) i.sides
+  pub spared : IsSpared g name (declared_events past) past
 
 -- two instances agree in all but room for records, and what is being prepared
 pub record IsAlike (old new : InstanceSeen) : Type 0 where
   pub enabled : new.enabled ≡ old.enabled
   pub filters : new.filters ≡ old.filters
+  pub triggers : new.triggers ≡ old.triggers
   pub overwrite : new.overwrite ≡ old.overwrite
   pub tracing : new.tracing ≡ old.tracing
-  pub rings : (family : List (List Event)) → buffers.StandsFor old.buffer family → buffers.StandsFor new.buffer family
-  pub cpus : buffers.cpus new.buffer ≡ buffers.cpus old.buffer
-  pub pages : new.buffer.pages ≡ old.buffer.pages
-  pub page_bytes : new.buffer.page_bytes ≡ old.buffer.page_bytes
-  pub offers : buffers.offers new.buffer ≡ buffers.offers old.buffer
+  pub sides : (families : SideFamilies) → snapshot.StandsFor old.sides families → snapshot.StandsFor new.sides families
+  pub shaped : (g : Config) → IsShaped g old.sides → IsShaped g new.sides
+  pub offered : (most : ℕ) → WereOffered most old.sides → WereOffered most new.sides
+  pub cpus : buffers.cpus new.sides.live ≡ buffers.cpus old.sides.live

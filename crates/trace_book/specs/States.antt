@@ -1,30 +1,37 @@
 -- When what a book keeps agrees with the requests that were done, and what a change does to it.
-use Rattle.std.specs.Prelude.{◌≡◌, ℕ, ◌+◌, ◌<◌, ◌≤◌, ◌^◌, true, false, List, [], ◌∷◌, ◌++◌, length, map, take, drop, slice_index_or, All, IsOk, Option, Some, None, Result, Ok, Err, ⊤}
+use Rattle.std.specs.Prelude.{◌≡◌, ℕ, ◌+◌, ◌-◌, ◌<◌, ◌≤◌, ◌^◌, Bool, true, false, if◌then◌else◌, List, [], ◌∷◌, ◌++◌, length, map, take, drop, slice_index_or, slice_set, All, is_some, IsOk, Option, Some, None, Result, Ok, Err, ⊤}
 use Rattle.std.specs.List.{AllByRecursion, IsDistinct}
+use Rattle.std.specs.Option.{option_map}
 use Rattle.std.specs.Str.{bytes_eq}
 use Rattle.trace_record.specs.Record.{IsRecord}
 use Rattle.page_ring.specs.Events as ring
 use Rattle.trace_buffer.specs.Buffers as buffers
 use Rattle.trace_buffer.specs.Families.{with_events}
+use Rattle.trace_snapshot.specs.Sides as snapshot
+use Rattle.trace_snapshot.specs.Sides.{SideFamilies, exchanged}
 use Rattle.trace_format.specs.Catalogs.{id_for, IsEvent, AreEvents}
 use Rattle.trace_format.specs.Definitions.{Definition}
 use Rattle.trace_command.specs.Refusals.{IsRefusal}
 use Rattle.trace_command.specs.Requests.{Request}
 use Rattle.trace_command.specs.declared.command.Config.{Config}
 use Rattle.trace_command.specs.declared.refusal.Refusal.{Refusal}
-use Rattle.trace_history.specs.Declarations.{IsFit}
+use Rattle.trace_history.specs.Declarations.{IsFit, IsPlaceOf}
 use Rattle.trace_history.specs.Settings.{event_named, declares, declared_events, filter_of, instance_names, is_enabled, is_same, made, makes, now_of, removed, ticks}
-use Rattle.trace_history.specs.Rings.{Emitted, emitted, emitted_bytes, is_recorded}
+use Rattle.trace_history.specs.Emissions.{Emitted, emitted, emitted_bytes, is_recorded}
 use Rattle.trace_history.specs.History.{answer_with_room}
-use Rattle.trace_book.specs.Instances.{InstanceSeen, InstanceStandsFor}
+use Rattle.trace_history.specs.Snapshots.{is_exchanged_by}
+use Rattle.trace_history.specs.Triggers.{trigger_of}
+use Rattle.trace_book.specs.Instances.{InstanceSeen, InstanceStandsFor, IsShaped, WereOffered}
 use Rattle.trace_book.specs.Changes.{IsEffect, IsApplied, IsLawful}
 use Rattle.trace_book.specs.declared.change.Change.{Change}
 use Rattle.trace_book.specs.declared.change.Change.TheVariants.{Declare, Make, Remove, Instance, Emit}
 use Rattle.trace_book.specs.declared.change.InstanceChange.TheVariants.{Keep}
+use Rattle.trace_book.specs.declared.change.Delivery.{Delivery}
 use Rattle.trace_book.specs.declared.change.Pending.{Pending}
 use Rattle.trace_book.specs.declared.state.Named.{Named}
 use Rattle.trace_book.specs.declared.state.Prepared.{Prepared}
 use Rattle.trace_book.specs.declared.state.State.{State}
+use Rattle.trace_book.specs.declared.trigger.Trigger.{Trigger}
 
 -- the names of the instances, of which the top one has none
 abbrev pub names_of : List Named → List (Option (List ℕ))
@@ -38,6 +45,7 @@ pub record StandsFor (g : Config) (state : State) (past : List Request) : Type 0
   pub distinct : AreEvents [] (declared_events past)
   pub unknown : (name : Option (List ℕ)) (event : List ℕ) → event_named event past ≡ None → is_enabled name event past ≡ false
   pub unfiltered : (name : Option (List ℕ)) (event : List ℕ) → event_named event past ≡ None → filter_of name event past ≡ None
+  pub untriggered : (name : Option (List ℕ)) (event : Definition) → event_named event.name past ≡ None → trigger_of name event past ≡ None
   pub clock : state.clock ≡ now_of past
   pub early : state.clock ≤ length past
   pub names : names_of state.instances.items ≡ None ∷ map (λ (name : List ℕ). Some name) (instance_names past)
@@ -49,9 +57,8 @@ pub record StandsFor (g : Config) (state : State) (past : List Request) : Type 0
 pub record IsUsableInstance (g : Config) (events : ℕ) (i : InstanceSeen) : Type 0 where
   pub enabled : length i.enabled ≡ events
   pub filters : length i.filters ≡ events
-  pub cpus : buffers.cpus i.buffer ≡ g.cpus
-  pub pages : i.buffer.pages ≡ g.pages
-  pub page_bytes : i.buffer.page_bytes ≡ g.page_bytes
+  pub triggers : length i.triggers ≡ events
+  pub shaped : IsShaped g i.sides
 
 -- what every state of a book has, so that a command can be prepared without its past
 pub record IsUsable (g : Config) (state : State) : Type 0 where
@@ -73,24 +80,53 @@ pub record IsUnchanged (old new : State) : Type 0 where
   pub clock : new.clock ≡ old.clock
   pub instances : new.instances.items ≡ old.instances.items
 
--- an instance with one more event, which is disabled and has no filter
+-- an instance with one more event, which is disabled and has no filter and no trigger
 abbrev pub with_event : InstanceSeen → InstanceSeen
-with_event i = record i { enabled = i.enabled ++ false ∷ []; filters = i.filters ++ None ∷ [] }
+with_event i = record i { enabled = i.enabled ++ false ∷ []; filters = i.filters ++ None ∷ []; triggers = i.triggers ++ None ∷ [] }
+
+-- a trigger that acted acts once less
+abbrev pub counted_down : Option Trigger → Option Trigger
+counted_down None = None
+counted_down (Some t) = Some (record { left = option_map (λ times. times - 1) t.left; filter = t.filter })
+
+-- the live side's rings after an emission: with its record, if there is one and the instance is armed
+abbrev pub recorded_in : Bool → Bool → Option Pending → List (List ring.Event) → List (List ring.Event)
+recorded_in armed overwrite None family = family
+recorded_in armed overwrite (Some p) family = if armed then with_events p.cpu (ring.Put p.bytes.items overwrite ∷ []) family else family
 
 -- the record is written if the instance is armed
 pub record IsWritten (pending : Pending) (old new : InstanceSeen) : Type 0 where
+  pub rest : new ≡ record old { sides = new.sides }
+  pub sides : (families : SideFamilies) → snapshot.StandsFor old.sides families → snapshot.StandsFor new.sides
+      (record { live = recorded_in old.armed old.overwrite (Some pending) families.live; spare = families.spare })
+  pub spare : new.sides.spare ≡ old.sides.spare
+  pub shaped : (g : Config) → IsShaped g old.sides → IsShaped g new.sides
+  pub offered : (most : ℕ) → WereOffered most old.sides → WereOffered (most + 1) new.sides
+
+-- the sides are exchanged, and the event's trigger has acted
+pub record IsExchanged (event : ℕ) (old new : InstanceSeen) : Type 0 where
+  pub rest : new ≡ record old { sides = new.sides; triggers = slice_set old.triggers event (counted_down (slice_index_or old.triggers event None)) }
+  pub sides : (families : SideFamilies) → snapshot.StandsFor old.sides families → snapshot.StandsFor new.sides (exchanged families)
+  pub shaped : (g : Config) → IsShaped g old.sides → IsShaped g new.sides
+  pub offered : (most : ℕ) → WereOffered most old.sides → WereOffered most new.sides
+
+-- both sides after it: the record is written before the sides are exchanged
+abbrev pub delivered_to : InstanceSeen → Delivery → SideFamilies → SideFamilies
+delivered_to i d f =
+    let written : SideFamilies = record { live = recorded_in i.armed i.overwrite d.record f.live; spare = f.spare } in
+    if i.fires then exchanged written else written
+
+-- an emission reached an instance: its record is written if the instance is armed, and then the event's trigger acts if the emission makes it
+pub record IsDelivered (d : Delivery) (old new : InstanceSeen) : Type 0 where
   pub enabled : new.enabled ≡ old.enabled
   pub filters : new.filters ≡ old.filters
+  pub triggers : new.triggers
+      ≡ (if old.fires then slice_set old.triggers d.event (counted_down (slice_index_or old.triggers d.event None)) else old.triggers)
   pub overwrite : new.overwrite ≡ old.overwrite
   pub tracing : new.tracing ≡ old.tracing
-  pub written : old.armed ≡ true → (family : List (List ring.Event)) → buffers.StandsFor old.buffer family
-      → buffers.StandsFor new.buffer (with_events pending.cpu (ring.Put pending.bytes.items old.overwrite ∷ []) family)
-  pub quiet : old.armed ≡ false → (family : List (List ring.Event)) → buffers.StandsFor old.buffer family → buffers.StandsFor new.buffer family
-  pub cpus : buffers.cpus new.buffer ≡ buffers.cpus old.buffer
-  pub pages : new.buffer.pages ≡ old.buffer.pages
-  pub page_bytes : new.buffer.page_bytes ≡ old.buffer.page_bytes
-  pub offers : (most : ℕ) → AllByRecursion (λ n. n ≤ most) (buffers.offers old.buffer)
-      → AllByRecursion (λ n. n ≤ most + 1) (buffers.offers new.buffer)
+  pub sides : (families : SideFamilies) → snapshot.StandsFor old.sides families → snapshot.StandsFor new.sides (delivered_to old d families)
+  pub shaped : (g : Config) → IsShaped g old.sides → IsShaped g new.sides
+  pub offered : (most : ℕ) → WereOffered most old.sides → WereOffered (most + 1) new.sides
 
 -- each instance has its name still, and this came of it
 pub record EachCame (R : InstanceSeen → InstanceSeen → Type 0) (old new : List Named) : Type 0 where
@@ -117,10 +153,8 @@ IsStep old new (Remove place) =
     × (new.instances.items ≡ take place old.instances.items ++ drop (place + 1) old.instances.items)
 IsStep old new (Instance place change) =
     (new.catalog ≡ old.catalog) × (new.clock ≡ old.clock) × OneCame (IsApplied change) place old.instances.items new.instances.items
-IsStep old new (Emit None) =
-    (new.catalog ≡ old.catalog) × (new.clock ≡ old.clock + 1) × (new.instances ≡ old.instances)
-IsStep old new (Emit (Some pending)) =
-    (new.catalog ≡ old.catalog) × (new.clock ≡ old.clock + 1) × EachCame (IsWritten pending) old.instances.items new.instances.items
+IsStep old new (Emit delivery) =
+    (new.catalog ≡ old.catalog) × (new.clock ≡ old.clock + 1) × EachCame (IsDelivered delivery) old.instances.items new.instances.items
 
 -- ---- when a change is what a request says
 
@@ -176,17 +210,20 @@ pub record IsChanged (g : Config) (past : List Request) (request : Request) (nam
   pub plain : IsPlain request
   pub others : (other : Option (List ℕ)) → is_same other name ≡ false → IsEffect g other past request Keep
 
--- the request emits this row, and what was prepared for it is its record, if some instance records it
-pub record IsEmission (g : Config) (past : List Request) (request : Request) (instances : List Named) (pending : Option Pending) : Type 0 where
+-- the request emits this row: what was prepared for it is its record, if some instance records it, and each instance whose sides it exchanges
+-- is to do so
+pub record IsEmission (g : Config) (past : List Request) (request : Request) (instances : List Named) (d : Delivery) : Type 0 where
   pub declares : declares request ≡ None
   pub made : made request ≡ None
   pub removed : removed request ≡ None
   pub ticks : ticks request ≡ 1
   pub e : Emitted
   pub emitted : emitted past request ≡ Some e
+  pub place : IsPlaceOf (declared_events past) e.k.event.name d.event e.k.event
   pub armed : All (λ (n : Named). n.instance.armed ≡ is_recorded n.name past e) instances
-  pub bytes : (p : Pending) → pending ≡ Some p → (p.bytes.items ≡ emitted_bytes e) × (p.cpu ≡ e.cpu)
-  pub none : pending ≡ None → All (λ (n : Named). n.instance.armed ≡ false) instances
+  pub fires : All (λ (n : Named). n.instance.fires ≡ is_exchanged_by n.name past (Some e)) instances
+  pub bytes : (p : Pending) → d.record ≡ Some p → (p.bytes.items ≡ emitted_bytes e) × (p.cpu ≡ e.cpu)
+  pub none : d.record ≡ None → All (λ (n : Named). n.instance.armed ≡ false) instances
 
 -- a change says of a request all that the definitions say of it, after this past, in this state
 abbrev pub IsChangeOf : Config → State → List Request → Request → Change → Type 0
@@ -196,16 +233,32 @@ IsChangeOf g state past request (Remove place) = IsRemoved g past request place
 IsChangeOf g state past request (Instance place change) =
     (d : Named) → IsChanged g past request (slice_index_or state.instances.items place d).name
     × IsEffect g (slice_index_or state.instances.items place d).name past request change
-IsChangeOf g state past request (Emit pending) = IsEmission g past request state.instances.items pending
+IsChangeOf g state past request (Emit delivery) = IsEmission g past request state.instances.items delivery
 
 -- an instance has room for the record, where it is armed
 abbrev pub HasRoom : Pending → InstanceSeen → Type 0
-HasRoom pending i = (pending.cpu < buffers.cpus i.buffer)
-    × (i.armed ≡ true → length pending.bytes.items ≤ slice_index_or (buffers.readies i.buffer) pending.cpu 0)
+HasRoom pending i = (pending.cpu < buffers.cpus i.sides.live)
+    × (i.armed ≡ true → length pending.bytes.items ≤ slice_index_or (buffers.readies i.sides.live) pending.cpu 0)
 
--- each ring was offered few records
+-- each ring of the live side was offered few records
 abbrev pub HasFew : InstanceSeen → Type 0
-HasFew i = AllByRecursion (λ n. n < 2 ^ 32) (buffers.offers i.buffer)
+HasFew i = AllByRecursion (λ n. n < 2 ^ 32) (buffers.offers i.sides.live)
+
+-- a record can be written wherever an instance is armed
+abbrev pub CanBeWritten : Config → List Named → Option Pending → Type 0
+CanBeWritten g instances None = ⊤
+CanBeWritten g instances (Some pending) =
+    IsRecord pending.bytes.items × (length pending.bytes.items ≤ g.page_bytes) × All (λ (n : Named). HasRoom pending n.instance) instances
+
+-- the same for one instance
+abbrev pub IsWritable : InstanceSeen → Option Pending → Type 0
+IsWritable i None = ⊤
+IsWritable i (Some pending) =
+    IsRecord pending.bytes.items × (length pending.bytes.items ≤ i.sides.live.page_bytes) × HasRoom pending i
+
+-- an instance whose sides are to be exchanged has a spare
+abbrev pub CanFire : InstanceSeen → Type 0
+CanFire i = i.fires ≡ true → is_some i.sides.spare ≡ true
 
 -- a change can be made, and what was grown for it is there
 abbrev pub IsReady : Config → State → Change → Type 0
@@ -214,10 +267,9 @@ IsReady g state (Make named) = ⊤
 IsReady g state (Remove place) = place < length state.instances.items
 IsReady g state (Instance place change) = (place < length state.instances.items)
     × ((d : Named) → IsLawful (slice_index_or state.instances.items place d).instance change)
-IsReady g state (Emit None) = ⊤
-IsReady g state (Emit (Some pending)) =
-    IsRecord pending.bytes.items × (length pending.bytes.items ≤ g.page_bytes)
-    × All (λ (n : Named). HasRoom pending n.instance) state.instances.items
+IsReady g state (Emit delivery) =
+    (delivery.event < length state.catalog) × CanBeWritten g state.instances.items delivery.record
+    × All (λ (n : Named). CanFire n.instance) state.instances.items
 
 -- what was prepared for a request, or why it is refused
 abbrev pub IsPrepared : Config → List Request → Request → State → Result Prepared Refusal → Type 0

@@ -4,6 +4,7 @@ ghost use Rattle.std.specs.Prelude.{◌≡◌};
 ghost use Rattle.trace_book.specs.Changes as changes;
 
 use crate::state::Named;
+use crate::trigger::Trigger;
 use trace_filter::Filter;
 use trace_format::EventDef;
 
@@ -18,8 +19,8 @@ pub(crate) enum Change {
     Remove(usize),
     /// The instance at this place is changed.
     Instance(usize, InstanceChange),
-    /// The clock ticks, and the record is written in each instance that is armed; without one none is.
-    Emit(Option<Pending>),
+    /// The clock ticks, and an emission reaches the instances.
+    Emit(Delivery),
 }
 
 /// What is changed of an instance. An event is known by its place among the declared ones.
@@ -34,18 +35,28 @@ pub(crate) enum InstanceChange {
     SetFilter(usize, Option<Filter>),
     /// Each event's filter is changed.
     SetFilters(Vec<FilterChange>),
+    /// An event gets this trigger, and the instance a spare side if it has none.
+    Attach(usize, Trigger),
+    /// An event's trigger is removed.
+    Detach(usize),
     /// Records may overwrite older ones, or not.
     SetOverwrite(bool),
     /// Emissions are recorded, or not.
     SetTracing(bool),
-    /// All rings are emptied.
+    /// All rings of the live side are emptied.
     Clear,
-    /// A CPU's ring is emptied.
+    /// A CPU's ring of the live side is emptied.
     ClearCpu(u32),
     /// So many records are consumed, of all CPUs in the order of time.
     Take(u64),
     /// So many records of a CPU are consumed.
     TakeCpu(u32, u64),
+    /// The sides are exchanged, where a spare one is made if there is none.
+    TakeSnapshot,
+    /// The spare side is freed.
+    FreeSpare,
+    /// The spare side is emptied, if there is one.
+    ClearSpare,
 }
 
 /// What becomes of an event's filter.
@@ -74,6 +85,14 @@ impl FilterChange {
             FilterChange::Set(new) => *filter = Some(new),
         }
     }
+}
+
+/// What an emission brings to the instances: its record, which is written in each one that is armed, if one is; and the place of its event,
+/// whose trigger acts in each one whose sides it exchanges.
+#[derive(Drop)]
+pub(crate) struct Delivery {
+    pub event: usize,
+    pub record: Option<Pending>,
 }
 
 /// The record of an emission that is about to be written, and its CPU.

@@ -11,7 +11,7 @@ ghost use Rattle.trace_book.specs.Emissions as emissions;
 ghost use Rattle.trace_book.specs.declared.change.Pending.{Pending as PendingHere};
 ghost use Rattle.trace_book.specs.States.{StandsFor, IsPrepared, IsUsable, EachCame};
 
-use crate::change::{Change, Pending};
+use crate::change::{Change, Delivery, Pending};
 use crate::resolve::find;
 use crate::row::record;
 use crate::state::{Named, Prepared, State};
@@ -48,7 +48,10 @@ impl State {
         let row = Row::build(alloc, found.event, pairs)?;
         let pending = self.write_ahead(alloc, index, cpu, pid, size, &row)?;
         Ok(Prepared {
-            change: Change::Emit(pending),
+            change: Change::Emit(Delivery {
+                event: index,
+                record: pending,
+            }),
             reply: Reply::Done,
         })
     }
@@ -67,7 +70,8 @@ impl State {
         requires index { index < 64 }
         requires enabled { All (λ n. index < length n.instance.enabled) self.old.instances.items }
         requires filters { All (λ n. index < length n.instance.filters) self.old.instances.items }
-        requires cpu { All (λ n. cpu < buffers.cpus n.instance.buffer) self.old.instances.items }
+        requires triggers { All (λ n. index < length n.instance.triggers) self.old.instances.items }
+        requires cpu { All (λ n. cpu < buffers.cpus n.instance.sides.live) self.old.instances.items }
         requires size { size ≡ size_of_all row.now.kinds }
         requires small { size < 2 ^ 12 }
         ensures alike { emissions.IsStateAlike self.old self.new }
@@ -87,6 +91,7 @@ impl State {
 fn arm_each(instances: &mut [Named], event: usize, row: &Row, cpu: u32, pid: i32) -> bool
     requires enabled { All (λ n. event < length n.instance.enabled) instances.old }
     requires filters { All (λ n. event < length n.instance.filters) instances.old }
+    requires triggers { All (λ n. event < length n.instance.triggers) instances.old }
     ensures came { EachCame (emissions.IsArmedFor event row.now cpu pid) instances.old instances.new }
     ensures none { result ≡ false → All (λ n. n.instance.armed ≡ false) instances.new }
 {
@@ -99,10 +104,10 @@ fn arm_each(instances: &mut [Named], event: usize, row: &Row, cpu: u32, pid: i32
 
 // Makes room for a record of this length in each instance that is armed.
 fn ready_each(instances: &mut [Named], cpu: u32, len: usize) -> Result<(), AllocError>
-    requires { All (λ n. cpu < buffers.cpus n.instance.buffer) instances.old }
+    requires { All (λ n. cpu < buffers.cpus n.instance.sides.live) instances.old }
     ensures came { EachCame emissions.IsReadied instances.old instances.new }
     ensures room { OnOk result (All (λ n. n.instance.armed ≡ true
-        → len ≤ slice_index_or (buffers.readies n.instance.buffer) cpu 0) instances.new) }
+        → len ≤ slice_index_or (buffers.readies n.instance.sides.live) cpu 0) instances.new) }
 {
     for i in 0..instances.len() {
         instances[i].instance.ready(cpu, len)?;

@@ -1,39 +1,46 @@
-//! A trace instance: which events it records, and its rings.
+//! A trace instance: which events it records, their triggers, and its rings.
 
-ghost use Rattle.std.specs.Prelude.{◌≡◌, ℕ, ◌+◌, ◌%◌, ◌^◌, ◌≤◌, ◌<◌, Bool, true, false, not, Option, None, List, [], ◌∷◌, ◌++◌, length, slice_index_or, slice_set, option_copied, replicate, IfOk, OnOk, OnErr};
+ghost use Rattle.std.specs.Prelude.{◌≡◌, ℕ, ◌+◌, ◌%◌, ◌^◌, ◌≤◌, ◌<◌, Bool, true, false, not, is_some, Option, None, List, [], ◌∷◌, ◌++◌, length, slice_index_or, slice_set, option_copied, replicate, IfOk, OnOk, OnErr};
 ghost use Rattle.std.specs.List.{list_all, list_any, AllByRecursion};
 ghost use Rattle.trace_record.specs.Record.{IsRecord};
 ghost use Rattle.page_ring.specs.Events as event;
 ghost use Rattle.trace_buffer.specs.Buffers as buffers;
 ghost use Rattle.trace_buffer.specs.Families.{cpu_stats};
+ghost use Rattle.trace_snapshot.specs.Sides as snapshot;
+ghost use Rattle.trace_snapshot.specs.Sides.{IsNewSide};
 ghost use Rattle.trace_book.specs.Instances.{InstanceSeen, IsAlike};
 ghost use Rattle.trace_book.specs.Changes as changes;
 ghost use Rattle.trace_book.specs.Changes.{changed_filters};
 ghost use Rattle.trace_book.specs.Rows as rows;
 ghost use Rattle.trace_book.specs.Rows.{kept_holds};
-ghost use Rattle.trace_book.specs.States.{IsWritten, HasRoom, HasFew, with_event};
+ghost use Rattle.trace_book.specs.States.{CanFire, IsDelivered, IsExchanged, IsWritable, IsWritten, HasRoom, HasFew, with_event};
 
-use crate::change::{FilterChange, InstanceChange, Pending};
+use crate::change::{Delivery, FilterChange, InstanceChange, Pending};
+use crate::trigger::{Trigger, passes};
 use page_ring::RingStats;
 use std::alloc::{AllocError, Global};
 use std::marker::Model;
 use trace_buffer::Buffer;
 use trace_filter::Filter;
 use trace_format::Row;
+use trace_snapshot::Sides;
 
 /// How many events there may ever be.
 pub(crate) const EVENTS: usize = 64;
 
-/// A trace instance, as in ftrace.rst, "Instances": each has switches, filters, options and rings of its own.
+/// A trace instance, as in ftrace.rst, "Instances": each has switches, filters, triggers, options and rings of its own.
 #[derive(Drop)]
 pub struct Instance {
     enabled: Vec<bool>,
     filters: Vec<Option<Filter>>,
+    triggers: Vec<Option<Trigger>>,
     overwrite: bool,
     tracing: bool,
-    buffer: Buffer,
+    sides: Sides,
     // Whether the emission that is being prepared will be recorded.
     armed: bool,
+    // Whether it will make its event's trigger act.
+    fires: bool,
 }
 
 impl Model for Instance {
@@ -42,14 +49,15 @@ impl Model for Instance {
 
     ghost Value = { InstanceSeen };
 
-    ghost view = { λ i. record { enabled = i.enabled.items; filters = i.filters.items; overwrite = i.overwrite; tracing = i.tracing; buffer = i.buffer; armed = i.armed } };
+    ghost view = { λ i. record { enabled = i.enabled.items; filters = i.filters.items; triggers = i.triggers.items; overwrite = i.overwrite; tracing = i.tracing; sides = i.sides; armed = i.armed; fires = i.fires } };
 
     ghost invariant = { λ i. (vec_len i.enabled ≤ 64) × (64 ≤ vec_capacity i.enabled)
-        × (vec_len i.filters ≤ 64) × (64 ≤ vec_capacity i.filters) };
+        × (vec_len i.filters ≤ 64) × (64 ≤ vec_capacity i.filters)
+        × (vec_len i.triggers ≤ 64) × (64 ≤ vec_capacity i.triggers) };
 }
 
 impl Instance {
-    /// An instance with so many events, all disabled and without a filter, and empty rings of this shape.
+    /// An instance with so many events, all disabled and without a filter or a trigger, and empty rings of this shape, without a spare side.
     pub(crate) fn new(
         alloc: Global,
         events: usize,
@@ -63,21 +71,24 @@ impl Instance {
         requires page_bytes { (64 ≤ page_bytes) × (page_bytes ≤ 4080) × (page_bytes % 8 ≡ 0) }
         ensures enabled { IfOk result (λ instance. instance.enabled ≡ replicate events false) }
         ensures filters { IfOk result (λ instance. instance.filters ≡ replicate events None) }
+        ensures triggers { IfOk result (λ instance. instance.triggers ≡ replicate events None) }
         ensures overwrite { IfOk result (λ instance. instance.overwrite ≡ true) }
         ensures tracing { IfOk result (λ instance. instance.tracing ≡ true) }
-        ensures stands { IfOk result (λ instance. buffers.StandsFor instance.buffer (replicate cpus [])) }
-        ensures cpus { IfOk result (λ instance. buffers.cpus instance.buffer ≡ cpus) }
-        ensures pages { IfOk result (λ instance. instance.buffer.pages ≡ pages) }
-        ensures page_bytes { IfOk result (λ instance. instance.buffer.page_bytes ≡ page_bytes) }
-        ensures offers { IfOk result (λ instance. buffers.offers instance.buffer ≡ replicate cpus 0) }
+        ensures live { IfOk result (λ instance. IsNewSide cpus pages page_bytes instance.sides.live) }
+        ensures spare { IfOk result (λ instance. instance.sides.spare ≡ None) }
+        ensures cpus { IfOk result (λ instance. instance.sides.cpus ≡ cpus) }
+        ensures pages { IfOk result (λ instance. instance.sides.pages ≡ pages) }
+        ensures page_bytes { IfOk result (λ instance. instance.sides.page_bytes ≡ page_bytes) }
     {
         let mut instance = Instance {
             enabled: Vec::with_capacity(alloc, EVENTS)?,
             filters: Vec::with_capacity(alloc, EVENTS)?,
+            triggers: Vec::with_capacity(alloc, EVENTS)?,
             overwrite: true,
             tracing: true,
-            buffer: Buffer::new(alloc, cpus, pages, page_bytes)?,
+            sides: Sides::new(alloc, cpus, pages, page_bytes)?,
             armed: false,
+            fires: false,
         };
         for _event in 0..events {
             instance.add_event();
@@ -115,6 +126,21 @@ impl Instance {
         self.filters[event].as_ref()
     }
 
+    /// The trigger of the event at this place.
+    pub(crate) fn trigger(&self, event: usize) -> Option<&Trigger>
+        requires { event < length self.now.triggers }
+        ensures { option_copied result ≡ slice_index_or self.now.triggers event None }
+    {
+        self.triggers[event].as_ref()
+    }
+
+    /// Whether some event has a trigger.
+    pub(crate) fn has_trigger(&self) -> bool
+        ensures { result ≡ list_any is_some self.now.triggers }
+    {
+        self.triggers.iter().any(|trigger| trigger.is_some())
+    }
+
     /// Whether records may overwrite older ones.
     pub(crate) fn overwrites(&self) -> bool
         ensures { result ≡ self.now.overwrite }
@@ -129,36 +155,46 @@ impl Instance {
         self.tracing
     }
 
-    /// The rings.
+    /// The rings of the live side.
     pub(crate) fn buffer(&self) -> &Buffer
-        ensures { result.now ≡ self.now.buffer }
+        ensures { result.now ≡ self.now.sides.live }
     {
-        &self.buffer
+        self.sides.live()
     }
 
-    /// What the `stats` file shows of a CPU's ring (ftrace.rst, "The File System").
+    /// Both sides.
+    pub(crate) fn sides(&self) -> &Sides
+        ensures { result.now ≡ self.now.sides }
+    {
+        &self.sides
+    }
+
+    /// What the `stats` file shows of a CPU's ring of the live side (ftrace.rst, "The File System").
     pub fn stats(&self, cpu: u32) -> RingStats
-        requires { cpu < buffers.cpus self.now.buffer }
-        ensures { (family : List (List event.Event)) → buffers.StandsFor self.now.buffer family
-            → result ≡ cpu_stats self.now.buffer.pages self.now.buffer.page_bytes family cpu }
+        requires { cpu < buffers.cpus self.now.sides.live }
+        ensures { (family : List (List event.Event)) → buffers.StandsFor self.now.sides.live family
+            → result ≡ cpu_stats self.now.sides.live.pages self.now.sides.live.page_bytes family cpu }
     {
-        self.buffer.stats(cpu)
+        self.sides.live().stats(cpu)
     }
 
-    /// Takes in one more event, which is disabled and has no filter.
+    /// Takes in one more event, which is disabled and has no filter and no trigger.
     pub(crate) fn add_event(&mut self)
         requires enabled { length self.old.enabled < 64 }
         requires filters { length self.old.filters < 64 }
+        requires triggers { length self.old.triggers < 64 }
         ensures { self.new ≡ with_event self.old }
     {
         self.enabled.push_reserved(false);
         self.filters.push_reserved(None);
+        self.triggers.push_reserved(None);
     }
 
-    /// Makes a change.
-    pub(crate) fn apply(&mut self, change: InstanceChange)
+    /// Makes a change. The only error is that memory for a spare side is refused, and then nothing is changed.
+    pub(crate) fn apply(&mut self, change: InstanceChange) -> Result<(), AllocError>
         requires { changes.IsLawful self.old change }
-        ensures { changes.IsApplied change self.old self.new }
+        ensures applied { OnOk result (changes.IsApplied change self.old self.new) }
+        ensures refused { OnErr result (self.new ≡ self.old) }
     {
         match change {
             InstanceChange::Keep => {}
@@ -166,68 +202,105 @@ impl Instance {
             InstanceChange::SwitchAll(flag) => self.enabled.fill(flag),
             InstanceChange::SetFilter(event, filter) => self.filters[event] = filter,
             InstanceChange::SetFilters(changes) => change_all(&mut self.filters, changes),
+            InstanceChange::Attach(event, trigger) => {
+                self.sides.arm()?;
+                self.triggers[event] = Some(trigger);
+            }
+            InstanceChange::Detach(event) => self.triggers[event] = None,
             InstanceChange::SetOverwrite(flag) => self.overwrite = flag,
             InstanceChange::SetTracing(flag) => self.tracing = flag,
-            InstanceChange::Clear => self.buffer.clear(),
-            InstanceChange::ClearCpu(cpu) => self.buffer.clear_cpu(cpu),
+            InstanceChange::Clear => self.sides.live_mut().clear(),
+            InstanceChange::ClearCpu(cpu) => self.sides.live_mut().clear_cpu(cpu),
             InstanceChange::Take(count) => {
-                let _taken = self.buffer.take_any(count);
+                let _taken = self.sides.live_mut().take_any(count);
             }
             InstanceChange::TakeCpu(cpu, count) => {
-                let _taken = self.buffer.take_cpu(cpu, count);
+                let _taken = self.sides.live_mut().take_cpu(cpu, count);
             }
-        }
-    }
-
-    /// Looks whether an emission of the event at this place is recorded, keeps that, and tells it: tracing is on, the event is enabled, and
-    /// its filter passes.
-    #[tactic(auto, unfolding(crate::specs::Rows::kept_holds))]
-    pub(crate) fn arm(&mut self, event: usize, row: &Row, cpu: u32, pid: i32) -> bool
-        requires enabled { event < length self.old.enabled }
-        requires filters { event < length self.old.filters }
-        ensures armed { self.new ≡ record self.old { armed = result } }
-        ensures records { result ≡ rows.records self.old event row.now cpu pid }
-    {
-        self.armed = self.tracing && self.enabled[event] && self.passes(event, row, cpu, pid);
-        self.armed
-    }
-
-    /// Whether an emission of the event at this place passes its filter.
-    #[tactic(auto, unfolding(crate::specs::Rows::kept_holds))]
-    fn passes(&self, event: usize, row: &Row, cpu: u32, pid: i32) -> bool
-        requires { event < length self.now.filters }
-        ensures { result ≡ kept_holds (slice_index_or self.now.filters event None) row.now cpu pid }
-    {
-        match self.filter(event) {
-            Some(filter) => filter.passes(row, cpu, pid),
-            None => true,
-        }
-    }
-
-    /// Makes room for a record of this length, if the instance is armed. All that can be seen stays as it was.
-    pub(crate) fn ready(&mut self, cpu: u32, len: usize) -> Result<(), AllocError>
-        requires { cpu < buffers.cpus self.old.buffer }
-        ensures alike { IsAlike self.old self.new }
-        ensures armed { self.new.armed ≡ self.old.armed }
-        ensures room { OnOk result (self.old.armed ≡ true → len ≤ slice_index_or (buffers.readies self.new.buffer) cpu 0) }
-    {
-        if self.armed {
-            self.buffer.ready(cpu, len)?;
+            InstanceChange::TakeSnapshot => self.sides.take_snapshot()?,
+            InstanceChange::FreeSpare => self.sides.free(),
+            InstanceChange::ClearSpare => self.sides.clear_spare(),
         }
         Ok(())
     }
 
-    /// Writes a record if the instance is armed, over older ones where the ring is full and that is allowed.
-    pub(crate) fn write(&mut self, pending: &Pending)
+    /// Looks whether an emission of the event at this place is recorded, and whether it makes the event's trigger act; keeps both, and tells
+    /// the first. It is recorded where tracing is on, the event is enabled, and its filter passes. The trigger heeds its own filter alone.
+    #[tactic(auto, unfolding(crate::specs::Rows::kept_holds))]
+    pub(crate) fn arm(&mut self, event: usize, row: &Row, cpu: u32, pid: i32) -> bool
+        requires enabled { event < length self.old.enabled }
+        requires filters { event < length self.old.filters }
+        requires triggers { event < length self.old.triggers }
+        ensures armed { self.new ≡ record self.old { armed = result; fires = rows.fires self.old event row.now cpu pid } }
+        ensures records { result ≡ rows.records self.old event row.now cpu pid }
+    {
+        self.fires = match &self.triggers[event] {
+            Some(trigger) => trigger.acts(row, cpu, pid),
+            None => false,
+        };
+        self.armed = self.tracing
+            && self.enabled[event]
+            && passes(self.filter(event), row, cpu, pid);
+        self.armed
+    }
+
+    /// Makes room for a record of this length, if the instance is armed. All that can be seen stays as it was.
+    pub(crate) fn ready(&mut self, cpu: u32, len: usize) -> Result<(), AllocError>
+        requires { cpu < buffers.cpus self.old.sides.live }
+        ensures alike { IsAlike self.old self.new }
+        ensures armed { self.new.armed ≡ self.old.armed }
+        ensures fires { self.new.fires ≡ self.old.fires }
+        ensures room { OnOk result (self.old.armed ≡ true → len ≤ slice_index_or (buffers.readies self.new.sides.live) cpu 0) }
+    {
+        if self.armed {
+            self.sides.live_mut().ready(cpu, len)?;
+        }
+        Ok(())
+    }
+
+    /// Takes in an emission: its record is written if the instance is armed, over older ones where the ring is full and that is allowed; and
+    /// then the sides are exchanged if it makes its event's trigger act.
+    pub(crate) fn deliver(&mut self, delivery: &Delivery)
+        requires event { delivery.now.event < length self.old.triggers }
+        requires record { IsWritable self.old delivery.now.record }
+        requires few { HasFew self.old }
+        requires spare { CanFire self.old }
+        ensures { IsDelivered delivery.now self.old self.new }
+    {
+        if let Some(pending) = &delivery.record {
+            self.write(pending);
+        }
+        if self.fires {
+            self.exchange(delivery.event);
+        }
+    }
+
+    // Writes a record if the instance is armed.
+    fn write(&mut self, pending: &Pending)
         requires is_record { IsRecord pending.now.bytes.items }
-        requires fits { length pending.now.bytes.items ≤ self.old.buffer.page_bytes }
+        requires fits { length pending.now.bytes.items ≤ self.old.sides.live.page_bytes }
         requires room { HasRoom pending.now self.old }
         requires few { HasFew self.old }
         ensures { IsWritten pending.now self.old self.new }
     {
         if self.armed {
-            let _put = self.buffer.put(pending.cpu, &pending.bytes, self.overwrite);
+            let _put = self
+                .sides
+                .live_mut()
+                .put(pending.cpu, &pending.bytes, self.overwrite);
         }
+    }
+
+    // Exchanges the sides for the trigger of the event at this place, which acts once less.
+    fn exchange(&mut self, event: usize)
+        requires event { event < length self.old.triggers }
+        requires spare { is_some self.old.sides.spare ≡ true }
+        ensures { IsExchanged event self.old self.new }
+    {
+        if let Some(trigger) = &mut self.triggers[event] {
+            trigger.count_down();
+        }
+        self.sides.swap_armed();
     }
 }
 

@@ -14,6 +14,7 @@ mod state;
 #[cfg(test)]
 mod tests;
 mod text;
+mod trigger;
 mod write;
 
 pub use book::Book;

@@ -77,7 +77,14 @@ impl State {
             Target::Of(place, file) => Ok(Prepared {
                 change: Change::Instance(
                     place,
-                    written_change(alloc, &self.catalog, file, append, text)?,
+                    written_change(
+                        alloc,
+                        &self.catalog,
+                        &self.instances[place].instance,
+                        file,
+                        append,
+                        text,
+                    )?,
                 ),
                 reply: Reply::Done,
             }),

@@ -1,6 +1,6 @@
 //! Reads of the files of an instance.
 
-ghost use Rattle.std.specs.Prelude.{◌≡◌, ℕ, ◌+◌, ◌<◌, ◌≤◌, List, length, slice_index_or, Option, Some, None, IfOk, IfSome};
+ghost use Rattle.std.specs.Prelude.{◌≡◌, ℕ, ◌+◌, ◌<◌, ◌≤◌, List, length, map, slice_index_or, option_copied, Option, Some, None, IfOk, IfSome};
 ghost use Rattle.trace_command.specs.Requests.{Request};
 ghost use Rattle.trace_command.specs.Paths as paths;
 ghost use Rattle.trace_command.specs.declared.command.Config.{Config};
@@ -8,19 +8,22 @@ ghost use Rattle.trace_history.specs.History as history;
 ghost use Rattle.trace_history.specs.Settings.{declared_events};
 ghost use Rattle.trace_buffer.specs.Buffers as buffers;
 ghost use Rattle.trace_format.specs.Definitions.{Definition};
+ghost use Rattle.std.specs.Option.{option_to_list};
 ghost use Rattle.trace_text.specs.FormatText as texts;
-ghost use Rattle.trace_book.specs.Commands.{IsRead, IsReadable, IsSource, text_of};
+ghost use Rattle.trace_text.specs.TriggerText.{trigger_text as trigger_text_of};
+ghost use Rattle.trace_book.specs.Commands.{IsRead, IsReadable, IsSource, shown_kept, text_of};
 ghost use Rattle.trace_book.specs.Files.{IsThere, file_at};
 
 use crate::change::InstanceChange;
 use crate::instance::Instance;
 use crate::resolve::{File, event_at};
 use crate::text::{filter_text, flag_text, mixture_text, option_text, push_declarations};
+use crate::trigger::Trigger;
 use std::alloc::{AllocError, Global};
 use trace_command::{Refusal, Reply};
 use trace_format::Catalog;
 use trace_lex::Text;
-use trace_text::{format_text, pipe_text, stats_text, trace_text};
+use trace_text::{format_text, pipe_text, snapshot_text, stats_text, trace_text, trigger_text};
 
 /// What a read shows, and what it changes of the instance: only a pipe consumes.
 #[derive(Drop)]
@@ -82,9 +85,11 @@ fn file_text(alloc: Global, source: Source<'_>, file: File) -> Result<Text, Allo
         File::Overwrite => flag_text(alloc, instance.overwrites()),
         File::TraceOptions => option_text(alloc, instance.overwrites()),
         File::TracingOn => flag_text(alloc, instance.is_tracing()),
+        File::Snapshot => snapshot(alloc, source),
         File::EventsEnable => mixture_text(alloc, instance.none_on(), instance.some_off()),
         File::EventEnable(event) => flag_text(alloc, instance.is_enabled(event)),
         File::EventFilter(event) => filter_text(alloc, instance.filter(event)),
+        File::EventTrigger(event) => triggers(alloc, instance.trigger(event)),
         File::EventFormat(event) => format(alloc, source.catalog, event),
         File::TracePipe | File::CpuTracePipe(_) | File::EventsFilter => Ok(Text::new(alloc)),
     }
@@ -93,7 +98,7 @@ fn file_text(alloc: Global, source: Source<'_>, file: File) -> Result<Text, Allo
 // The trace of one CPU or of all.
 #[tactic(auto, unfolding(trace_history::specs::History::shown_trace))]
 fn trace(alloc: Global, source: Source<'_>, cpu: Option<u32>) -> Result<Text, AllocError>
-    requires { IfSome cpu (λ cpu. cpu < buffers.cpus source.instance.now.buffer) }
+    requires { IfSome cpu (λ cpu. cpu < buffers.cpus source.instance.now.sides.live) }
     ensures { (g : Config) (name : Option (List ℕ)) (past : List Request)
         → IsSource g name past source.entry
         → IfOk result (λ text. text ≡ history.shown_trace g name past cpu) }
@@ -111,7 +116,7 @@ fn trace(alloc: Global, source: Source<'_>, cpu: Option<u32>) -> Result<Text, Al
 
 #[tactic(auto, unfolding(trace_history::specs::History::cpu_stats_text))]
 fn stats(alloc: Global, source: Source<'_>, cpu: u32) -> Result<Text, AllocError>
-    requires { cpu < buffers.cpus source.instance.now.buffer }
+    requires { cpu < buffers.cpus source.instance.now.sides.live }
     ensures { (g : Config) (name : Option (List ℕ)) (past : List Request)
         → IsSource g name past source.entry
         → IfOk result (λ text. text ≡ history.cpu_stats_text g name past cpu) }
@@ -129,6 +134,30 @@ fn format(alloc: Global, catalog: &Catalog, event: usize) -> Result<Text, AllocE
 {
     let mut out = Vec::new(alloc);
     format_text(alloc, event as u16 + 1, event_at(catalog, event), &mut out)?;
+    Ok(Text::from(out))
+}
+
+// What the spare side keeps.
+#[tactic(auto, unfolding(trace_history::specs::History::shown_snapshot))]
+fn snapshot(alloc: Global, source: Source<'_>) -> Result<Text, AllocError>
+    ensures { (g : Config) (name : Option (List ℕ)) (past : List Request)
+        → IsSource g name past source.entry
+        → IfOk result (λ text. text ≡ history.shown_snapshot g name past) }
+{
+    let mut out = Vec::new(alloc);
+    snapshot_text(alloc, source.catalog, source.instance.sides(), &mut out)?;
+    Ok(Text::from(out))
+}
+
+// The triggers of an event, of which there is at most one.
+fn triggers(alloc: Global, trigger: Option<&Trigger>) -> Result<Text, AllocError>
+    ensures { IfOk result (λ text. text ≡ trigger_text_of (map shown_kept (option_to_list (option_copied trigger.entry)))) }
+{
+    let mut out = Vec::new(alloc);
+    match trigger {
+        Some(trigger) => trigger_text(alloc, &[trigger.shown()], &mut out)?,
+        None => trigger_text(alloc, &[], &mut out)?,
+    }
     Ok(Text::from(out))
 }
 
@@ -168,7 +197,7 @@ fn read_cpu_pipe(
     cpu: u32,
     limit: Option<u64>,
 ) -> Result<Shown, Refusal>
-    requires { cpu < buffers.cpus source.instance.now.buffer }
+    requires { cpu < buffers.cpus source.instance.now.sides.live }
     ensures { (g : Config) (name : Option (List ℕ)) (past : List Request)
         → IsSource g name past source.entry
         → cpu < g.cpus → IsRead g name past limit (paths.CpuTracePipe cpu) result }

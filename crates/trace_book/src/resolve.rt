@@ -8,7 +8,8 @@ ghost use Rattle.trace_command.specs.Places as places;
 ghost use Rattle.trace_command.specs.Requests.{Request};
 ghost use Rattle.trace_command.specs.declared.command.Config.{Config};
 ghost use Rattle.trace_history.specs.Declarations.{IsPlaceOf};
-ghost use Rattle.trace_history.specs.Settings.{declared_events, event_named_in, is_same};
+ghost use Rattle.trace_history.specs.Settings.{declared_events, event_named_in, numbered_event, is_same};
+ghost use Rattle.trace_format.specs.Catalogs.{id_of};
 ghost use Rattle.trace_book.specs.Files as files;
 ghost use Rattle.trace_book.specs.Found.{numbered};
 ghost use Rattle.trace_book.specs.States.{StandsFor};
@@ -29,10 +30,12 @@ pub(crate) enum File {
     Overwrite,
     TraceOptions,
     TracingOn,
+    Snapshot,
     EventsEnable,
     EventsFilter,
     EventEnable(usize),
     EventFilter(usize),
+    EventTrigger(usize),
     EventFormat(usize),
 }
 
@@ -58,6 +61,15 @@ pub(crate) fn find<'a>(catalog: &'a Catalog, name: &[u8]) -> Option<Found<'a>>
     ensures place { IfSome result (λ found. IsPlaceOf catalog.now name.now found.index found.event.now) }
 {
     let id = catalog.find(name)?;
+    numbered(catalog, id)
+}
+
+// The event of a number.
+fn numbered(catalog: &Catalog, id: u16) -> Option<Found<'_>>
+    ensures numbered { option_map numbered result ≡ numbered_event catalog.now id }
+    ensures place { (name : List ℕ) → id_of catalog.now name ≡ Some id
+        → IfSome result (λ found. IsPlaceOf catalog.now name found.index found.event.now) }
+{
     let event = catalog.def(id)?;
     Some(Found {
         index: usize::from(id) - 1,
@@ -130,11 +142,13 @@ fn found_file(catalog: &Catalog, cpus: u32, named: Place<'_>) -> Result<Option<F
         Place::Overwrite => File::Overwrite,
         Place::TraceOptions => File::TraceOptions,
         Place::TracingOn => File::TracingOn,
+        Place::Snapshot => File::Snapshot,
         Place::SyntheticEvents => return Ok(None),
         Place::EventsEnable => File::EventsEnable,
         Place::EventsFilter => File::EventsFilter,
         Place::EventEnable(name) => File::EventEnable(event_place(catalog, name)?),
         Place::EventFilter(name) => File::EventFilter(event_place(catalog, name)?),
+        Place::EventTrigger(name) => File::EventTrigger(event_place(catalog, name)?),
         Place::EventFormat(name) => File::EventFormat(event_place(catalog, name)?),
     };
     Ok(Some(file))

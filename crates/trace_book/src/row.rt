@@ -3,7 +3,7 @@
 ghost use Rattle.std.specs.Prelude.{◌≡◌, ◌<◌, ◌≤◌, ◌+◌, ◌^◌, ◌++◌, length, take, drop, replicate, IfOk};
 ghost use Rattle.trace_record.specs.Record.{IsRecord, head_bytes, padding, record_size};
 ghost use Rattle.trace_format.specs.Cells.{size_of_all, payload_of};
-ghost use Rattle.trace_history.specs.Rings.{record_bytes};
+ghost use Rattle.trace_history.specs.Emissions.{record_bytes};
 
 use std::alloc::{AllocError, Global};
 use trace_format::Row;
@@ -35,7 +35,7 @@ fn write_record(head: Head, row: &Row, size: usize, out: &mut [u8])
 }
 
 /// The record of an emission, whose row has a payload of so many bytes.
-#[tactic(auto, unfolding(trace_history::specs::Rings::record_bytes))]
+#[tactic(auto, unfolding(trace_history::specs::Emissions::record_bytes))]
 pub(crate) fn record(
     alloc: Global,
     timestamp: u64,

@@ -7,8 +7,9 @@ ghost use Rattle.trace_book.specs.States as states;
 ghost use Rattle.trace_book.specs.declared.state.Named.{Named};
 ghost use Rattle.trace_book.specs.Changes.{IsApplied, IsLawful};
 
-use crate::change::{Change, InstanceChange, Pending};
+use crate::change::{Change, Delivery, InstanceChange};
 use crate::instance::Instance;
+use std::alloc::AllocError;
 use trace_command::{Config, Refusal, Reply};
 use trace_format::Catalog;
 use trace_lex::Text;
@@ -36,8 +37,8 @@ pub(crate) struct Prepared {
 }
 
 impl State {
-    /// Makes a change for which all memory is at hand but that of the lists of events and of instances. If that is refused, nothing is
-    /// changed.
+    /// Makes a change for which all memory is at hand but that of the lists of events and of instances, and of a spare side. If that is refused,
+    /// nothing is changed.
     pub(crate) fn commit(&mut self, config: &Config, change: Change) -> Result<(), Refusal>
         requires usable { states.IsUsable config.now self.old }
         requires ready { states.IsReady config.now self.old change }
@@ -56,11 +57,10 @@ impl State {
             Change::Remove(place) => {
                 let _named = self.instances.remove(place);
             }
-            Change::Instance(place, change) => change_one(&mut self.instances, place, change),
-            Change::Emit(None) => self.clock += 1,
-            Change::Emit(Some(pending)) => {
+            Change::Instance(place, change) => change_one(&mut self.instances, place, change)?,
+            Change::Emit(delivery) => {
                 self.clock += 1;
-                write_each(&mut self.instances, &pending);
+                deliver_each(&mut self.instances, &delivery);
             }
         }
         Ok(())
@@ -69,7 +69,7 @@ impl State {
 
 // Takes one more event into each instance.
 fn add_event(instances: &mut [Named])
-    requires { All (λ n. (length n.instance.enabled < 64) × (length n.instance.filters < 64)) instances.old }
+    requires { All (λ n. (length n.instance.enabled < 64) × (length n.instance.filters < 64) × (length n.instance.triggers < 64)) instances.old }
     ensures { states.EachCame (λ i j. j ≡ states.with_event i) instances.old instances.new }
 {
     for i in 0..instances.len() {
@@ -77,24 +77,29 @@ fn add_event(instances: &mut [Named])
     }
 }
 
-// Changes the instance at a place.
-fn change_one(instances: &mut [Named], place: usize, change: InstanceChange)
+// Changes the instance at a place. Where memory is refused it is as it was.
+fn change_one(
+    instances: &mut [Named],
+    place: usize,
+    change: InstanceChange,
+) -> Result<(), AllocError>
     requires place { place < length instances.old }
     requires lawful { (d : Named) → IsLawful (slice_index_or instances.old place d).instance change }
-    ensures { states.OneCame (IsApplied change) place instances.old instances.new }
+    ensures changed { OnOk result (states.OneCame (IsApplied change) place instances.old instances.new) }
+    ensures refused { OnErr result (instances.new ≡ instances.old) }
 {
-    instances[place].instance.apply(change);
+    instances[place].instance.apply(change)
 }
 
-// Writes the record in each instance that is armed.
-fn write_each(instances: &mut [Named], pending: &Pending)
-    requires is_record { IsRecord pending.now.bytes.items }
-    requires fits { All (λ n. length pending.now.bytes.items ≤ n.instance.buffer.page_bytes) instances.old }
-    requires room { All (λ n. states.HasRoom pending.now n.instance) instances.old }
+// Brings an emission to each instance.
+fn deliver_each(instances: &mut [Named], delivery: &Delivery)
+    requires event { All (λ n. delivery.now.event < length n.instance.triggers) instances.old }
+    requires record { All (λ n. states.IsWritable n.instance delivery.now.record) instances.old }
     requires few { All (λ n. states.HasFew n.instance) instances.old }
-    ensures { states.EachCame (states.IsWritten pending.now) instances.old instances.new }
+    requires spare { All (λ n. states.CanFire n.instance) instances.old }
+    ensures { states.EachCame (states.IsDelivered delivery.now) instances.old instances.new }
 {
     for i in 0..instances.len() {
-        instances[i].instance.write(pending);
+        instances[i].instance.deliver(delivery);
     }
 }

@@ -115,6 +115,19 @@ impl Desk {
         assert_eq!(rt; bytes, wanted.as_bytes());
         Ok(())
     }
+
+    /// Likewise for each of these steps in turn.
+    fn expect_all(&mut self, rt: &impl Abort, steps: &[(Step, &str)]) -> Result<(), Fail> {
+        for (step, wanted) in steps {
+            self.expect(rt, *step, wanted)?;
+        }
+        Ok(())
+    }
+
+    /// Asks, and whether it is refused since there are too many.
+    fn is_too_many(&mut self, step: Step) -> bool {
+        matches!(self.ask(step), Err(Refusal::TooMany))
+    }
 }
 
 /// The last record in the rings of the top instance, in hexadecimal.
@@ -139,6 +152,20 @@ struct Case {
     pairs: &'static str,
     times: u32,
     record: &'static str,
+}
+
+impl Case {
+    /// The last record, once the emissions were made.
+    fn last_record(&self, rt: &(impl Abort + AllocGlobal)) -> Result<String, Fail> {
+        let mut desk = Desk::new(rt.alloc(), CONFIG)?;
+        desk.expect(rt, Step::Append("synthetic_events", "first u64 n"), "")?;
+        desk.expect(rt, Step::Append("synthetic_events", self.declaration), "")?;
+        desk.expect(rt, Step::Append("events/enable", "1"), "")?;
+        for _ in 0..self.times {
+            desk.expect(rt, Step::Emit(0, self.event, self.pairs), "")?;
+        }
+        Ok(last_record(rt.alloc(), &desk.book)?)
+    }
 }
 
 const CASES: [Case; 3] = [
@@ -169,14 +196,7 @@ const CASES: [Case; 3] = [
 fn records_as_bytes(rt: HostRuntime) -> Result<(), Fail> {
     let alloc = rt.alloc();
     for case in &CASES {
-        let mut desk = Desk::new(alloc, CONFIG)?;
-        desk.ask(Step::Append("synthetic_events", "first u64 n"))?;
-        desk.ask(Step::Append("synthetic_events", case.declaration))?;
-        desk.ask(Step::Append("events/enable", "1"))?;
-        for _ in 0..case.times {
-            desk.ask(Step::Emit(0, case.event, case.pairs))?;
-        }
-        let record = last_record(alloc, &desk.book)?;
+        let record = case.last_record(&rt)?;
         assert_eq!(rt; record.as_str(), case.record, "{}", case.event);
     }
     Ok(())
@@ -210,7 +230,41 @@ const EIGHT_CPUS: [(Step<'static>, &str); 12] = [
 #[test]
 fn eight_cpus(rt: HostRuntime) -> Result<(), Fail> {
     let mut desk = Desk::new(rt.alloc(), Config { cpus: 8, ..CONFIG })?;
-    for (step, wanted) in EIGHT_CPUS {
+    desk.expect_all(&rt, &EIGHT_CPUS)
+}
+
+/// The greatest sides, made for a trigger and exchanged by it and by hand.
+const GREATEST_SIDES: [(Step<'static>, &str); 9] = [
+    (Step::Write("synthetic_events", "tick u64 n"), ""),
+    (Step::Write("events/enable", "1"), ""),
+    (
+        Step::Write("events/synthetic/tick/trigger", "snapshot:1 if n > 1"),
+        "",
+    ),
+    (Step::Emit(7, "tick", "n=1"), ""),
+    (Step::Emit(0, "tick", "n=2"), ""),
+    (Step::Read("trace_pipe"), ""),
+    (
+        Step::Read("events/synthetic/tick/trigger"),
+        "snapshot:count=0 if n > 1\n",
+    ),
+    (Step::Write("snapshot", "1"), ""),
+    (
+        Step::Read("trace_pipe"),
+        "7 [007] 1: tick: n=1\n7 [000] 2: tick: n=2\n",
+    ),
+];
+
+#[test]
+fn greatest_sides(rt: HostRuntime) -> Result<(), Fail> {
+    let config = Config {
+        cpus: 8,
+        pages: 1024,
+        page_bytes: 4080,
+        history_limit: 100,
+    };
+    let mut desk = Desk::new(rt.alloc(), config)?;
+    for (step, wanted) in GREATEST_SIDES {
         desk.expect(&rt, step, wanted)?;
     }
     Ok(())
@@ -264,20 +318,28 @@ const EIGHT_INSTANCES: [(Step<'static>, &str); 18] = [
     ),
 ];
 
+/// A desk with as many instances as there may be.
+fn full_desk(rt: &(impl Abort + AllocGlobal)) -> Result<Desk, Fail> {
+    let mut desk = Desk::new(rt.alloc(), CONFIG)?;
+    desk.expect(rt, Step::Write("synthetic_events", "tick u64 n"), "")?;
+    for path in &INSTANCES {
+        desk.expect(rt, Step::Make(path), "")?;
+    }
+    Ok(desk)
+}
+
 #[test]
 fn eight_instances(rt: HostRuntime) -> Result<(), Fail> {
-    let mut desk = Desk::new(rt.alloc(), CONFIG)?;
-    desk.expect(&rt, Step::Write("synthetic_events", "tick u64 n"), "")?;
-    for path in INSTANCES {
-        desk.expect(&rt, Step::Make(path), "")?;
-    }
-    let one_more = desk.ask(Step::Make("instances/h"));
-    assert!(rt; matches!(one_more, Err(Refusal::TooMany)));
-    for (step, wanted) in EIGHT_INSTANCES {
-        desk.expect(&rt, step, wanted)?;
-    }
-    assert!(rt; desk.book.instance(Some(b"g")).is_some());
-    assert!(rt; desk.book.instance(Some(b"h")).is_none());
-    assert_eq!(rt; desk.book.now(), 2);
+    let mut desk = full_desk(&rt)?;
+    assert!(rt; desk.is_too_many(Step::Make("instances/h")));
+    desk.expect_all(&rt, &EIGHT_INSTANCES)?;
+    has_seven(&rt, &desk.book);
     Ok(())
+}
+
+/// Sees that the book has the last of the instances and none beyond it, and that two emissions were done.
+fn has_seven(rt: &impl Abort, book: &Book) {
+    assert!(rt; book.instance(Some(b"g")).is_some());
+    assert!(rt; book.instance(Some(b"h")).is_none());
+    assert_eq!(rt; book.now(), 2);
 }

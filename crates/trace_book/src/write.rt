@@ -1,9 +1,9 @@
 //! Writes to the files of an instance.
 
-ghost use Rattle.std.specs.Prelude.{◌≡◌, ℕ, ◌≤◌, ◌<◌, Bool, List, [], length, map, Some, None, if◌then◌else◌, IfOk, IfErr, OnOk, Ok};
+ghost use Rattle.std.specs.Prelude.{◌≡◌, ℕ, ◌≤◌, ◌<◌, Bool, List, [], length, map, Option, Some, None, if◌then◌else◌, IfOk, IfErr, OnOk, Ok};
 ghost use Rattle.std.specs.List.{list_any};
 ghost use Rattle.trace_format.specs.Catalogs.{AreEvents};
-ghost use Rattle.trace_command.specs.Paths.{EventsFilter};
+ghost use Rattle.trace_command.specs.Paths.{EventsFilter, EventTrigger, Snapshot};
 ghost use Rattle.trace_command.specs.Refusals.{IsRefusal};
 ghost use Rattle.trace_command.specs.Requests.{Request};
 ghost use Rattle.trace_command.specs.declared.command.Config.{Config};
@@ -13,29 +13,36 @@ ghost use Rattle.trace_history.specs.Settings as settings;
 ghost use Rattle.trace_history.specs.Settings.{declared_events};
 ghost use Rattle.trace_book.specs.Changes.{change_of, is_set};
 ghost use Rattle.trace_book.specs.Commands.{IsWriteChange, IsWrittenFilter, needed_flag};
-ghost use Rattle.trace_book.specs.Files.{HasEvent, IsThere, file_at};
+ghost use Rattle.trace_book.specs.Files.{HasEvent, IsThere, file_at, name_at};
+ghost use Rattle.trace_book.specs.Instances.{InstanceStandsFor};
 ghost use Rattle.trace_book.specs.declared.change.InstanceChange.TheVariants as change;
 
 use crate::change::{FilterChange, InstanceChange};
+use crate::instance::Instance;
 use crate::resolve::{File, event_at};
+use crate::trigger::Trigger;
 use std::alloc::{AllocError, Global};
 use trace_command::Refusal;
 use trace_filter::{Filter, FilterFault};
 use trace_format::{Catalog, EventDef};
 use trace_lex::{trim, written_number};
+use trace_trigger::TriggerText;
 
 /// What a write to a file of an instance changes of it.
 pub(crate) fn written_change(
     alloc: Global,
     catalog: &Catalog,
+    instance: &Instance,
     file: File,
     append: bool,
     text: &[u8],
 ) -> Result<InstanceChange, Refusal>
     requires few { length catalog.now ≤ 64 }
     requires event { HasEvent catalog.now file }
-    ensures { (g : Config) (past : List Request) → catalog.now ≡ declared_events past → AreEvents [] catalog.now
-        → IsThere g.cpus catalog.now file → IsWriteChange g past append text.now (file_at catalog.now file) result }
+    requires triggers { length instance.now.triggers ≡ length catalog.now }
+    ensures { (g : Config) (name : Option (List ℕ)) (past : List Request) → catalog.now ≡ declared_events past → AreEvents [] catalog.now
+        → InstanceStandsFor g name past instance.now
+        → IsThere g.cpus catalog.now file → IsWriteChange g name past append text.now (file_at catalog.now file) result }
 {
     match file {
         File::Trace => Ok(cleared(append, InstanceChange::Clear)),
@@ -46,6 +53,7 @@ pub(crate) fn written_change(
         File::Overwrite => Ok(InstanceChange::SetOverwrite(needed(written_flag(text))?)),
         File::TraceOptions => Ok(InstanceChange::SetOverwrite(needed(written_option(text))?)),
         File::TracingOn => Ok(InstanceChange::SetTracing(needed(written_tracing(text))?)),
+        File::Snapshot => written_snapshot(instance, text),
         File::EventsEnable => Ok(InstanceChange::SwitchAll(needed(written_flag(text))?)),
         File::EventsFilter => written_filters(alloc, catalog, text),
         File::EventEnable(event) => Ok(InstanceChange::Switch(event, needed(written_flag(text))?)),
@@ -53,7 +61,51 @@ pub(crate) fn written_change(
             let filter = written_filter(alloc, text, event_at(catalog, event))?;
             Ok(InstanceChange::SetFilter(event, filter))
         }
+        File::EventTrigger(event) => written_trigger(alloc, catalog, instance, event, text),
         File::EventFormat(_) => Err(Refusal::NotWritable),
+    }
+}
+
+// What a number that is written to `snapshot` changes (ftrace.rst, "Snapshot"). The spare is not freed while some event has a trigger that
+// needs it.
+#[tactic(auto, unfolding(trace_history::specs::History::snapshot_answer, trace_history::specs::Snapshots::written_snapshot))]
+fn written_snapshot(instance: &Instance, text: &[u8]) -> Result<InstanceChange, Refusal>
+    ensures { (g : Config) (name : Option (List ℕ)) (past : List Request) (append : Bool) → InstanceStandsFor g name past instance.now
+        → IsWriteChange g name past append text.now Snapshot result }
+{
+    match written_number(text) {
+        None => Err(Refusal::BadValue),
+        Some(0) if instance.has_trigger() => Err(Refusal::Busy),
+        Some(0) => Ok(InstanceChange::FreeSpare),
+        Some(1) => Ok(InstanceChange::TakeSnapshot),
+        Some(_) => Ok(InstanceChange::ClearSpare),
+    }
+}
+
+// What a trigger text changes that is written for the event at this place (events.rst, "Event triggers"). An event has at most one trigger
+// for snapshots.
+#[tactic(auto, unfolding(trace_history::specs::History::trigger_answer))]
+fn written_trigger(
+    alloc: Global,
+    catalog: &Catalog,
+    instance: &Instance,
+    event: usize,
+    text: &[u8],
+) -> Result<InstanceChange, Refusal>
+    requires few { length catalog.now ≤ 64 }
+    requires event { event < length catalog.now }
+    requires triggers { length instance.now.triggers ≡ length catalog.now }
+    ensures { (g : Config) (name : Option (List ℕ)) (past : List Request) (append : Bool) → catalog.now ≡ declared_events past
+        → AreEvents [] catalog.now → InstanceStandsFor g name past instance.now
+        → IsWriteChange g name past append text.now (EventTrigger (name_at catalog.now event)) result }
+{
+    let attached = instance.trigger(event).is_some();
+    match TriggerText::parse(alloc, text, event_at(catalog, event))? {
+        TriggerText::Nothing => Ok(InstanceChange::Keep),
+        TriggerText::Attach(_) if attached => Err(Refusal::TriggerExists),
+        TriggerText::Attach(trigger) => Ok(InstanceChange::Attach(event, Trigger::from(trigger))),
+        TriggerText::Remove if attached => Ok(InstanceChange::Detach(event)),
+        TriggerText::Remove => Err(Refusal::NoSuchTrigger),
     }
 }
 
@@ -127,8 +179,8 @@ fn written_filter(alloc: Global, text: &[u8], event: &EventDef) -> Result<Option
 // A filter of all events: it is for those that can take it, of which there is at least one.
 fn written_filters(alloc: Global, catalog: &Catalog, text: &[u8]) -> Result<InstanceChange, Refusal>
     requires { length catalog.now ≤ 64 }
-    ensures { (g : Config) (past : List Request) (append : Bool) → catalog.now ≡ declared_events past → AreEvents [] catalog.now
-        → IsWriteChange g past append text.now EventsFilter result }
+    ensures { (g : Config) (name : Option (List ℕ)) (past : List Request) (append : Bool) → catalog.now ≡ declared_events past → AreEvents [] catalog.now
+        → IsWriteChange g name past append text.now EventsFilter result }
 {
     if catalog.is_empty() {
         return Err(Refusal::NoSuchEvent);

@@ -3,7 +3,7 @@ use Rattle.std.proofs.Common.{◌≡◌, ℕ, ◌+◌, ◌<◌, true, List, [], 
 use Rattle.std.proofs.Math.Seq.{drop-cons}
 use Rattle.std.proofs.lemmas.Grind.{common_steps}
 use Rattle.std.proofs.lemmas.List.Splits.{slice_split_at, slice_split_none, length-slice_split}
-use Rattle.trace_command.specs.Paths.{Address, address_in, file_in, file_of_instance, instance_in, is_instance, parts}
+use Rattle.trace_command.specs.Paths.{address_in, file_in, file_of_instance, instance_in, is_instance, parts}
 use Rattle.trace_command.specs.Places.{parts_of}
 
 -- a list, cut at a place

@@ -21,11 +21,13 @@ pub data File : Type 0 where
   Overwrite : File
   TraceOptions : File
   TracingOn : File
+  Snapshot : File
   SyntheticEvents : File
   EventsEnable : File
   EventsFilter : File
   EventEnable : List ℕ → File
   EventFilter : List ℕ → File
+  EventTrigger : List ℕ → File
   EventFormat : List ℕ → File
 
 -- the number in `cpuN`: decimal, without leading zeros
@@ -40,7 +42,8 @@ top_file name =
     else (if bytes_eq name (codes "trace_pipe") then Some TracePipe
     else (if bytes_eq name (codes "trace_options") then Some TraceOptions
     else (if bytes_eq name (codes "tracing_on") then Some TracingOn
-    else (if bytes_eq name (codes "synthetic_events") then Some SyntheticEvents else None))))
+    else (if bytes_eq name (codes "snapshot") then Some Snapshot
+    else (if bytes_eq name (codes "synthetic_events") then Some SyntheticEvents else None)))))
 
 -- a file of an option
 unfoldable pub option_file : List ℕ → Option File
@@ -68,7 +71,8 @@ unfoldable pub event_file : List ℕ → List ℕ → Option File
 event_file event name =
     if bytes_eq name (codes "enable") then Some (EventEnable event)
     else (if bytes_eq name (codes "filter") then Some (EventFilter event)
-    else (if bytes_eq name (codes "format") then Some (EventFormat event) else None))
+    else (if bytes_eq name (codes "trigger") then Some (EventTrigger event)
+    else (if bytes_eq name (codes "format") then Some (EventFormat event) else None)))
 
 -- the file that the parts of a path name
 abbrev pub file_in : List (List ℕ) → Option File

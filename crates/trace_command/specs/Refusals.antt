@@ -10,6 +10,8 @@ use Rattle.trace_format.specs.declared.fault.CatalogFault.{CatalogFault}
 use Rattle.trace_format.specs.declared.fault.CatalogFault.TheVariants as catalog
 use Rattle.trace_format.specs.declared.fault.RowFault.{RowFault}
 use Rattle.trace_format.specs.declared.fault.RowFault.TheVariants as row
+use Rattle.trace_trigger.specs.declared.fault.TriggerFault.{TriggerFault}
+use Rattle.trace_trigger.specs.declared.fault.TriggerFault.TheVariants as trigger
 use Rattle.trace_command.specs.declared.refusal.Refusal.{Refusal}
 use Rattle.trace_command.specs.declared.refusal.Refusal.TheVariants.{NoSuchFile, NotReadable, NotWritable, BadValue, NoSuchEvent, EventExists, BadDefinition, TooBig, FilterSyntax, NoSuchField, WrongOperator, HistSyntax, BadSize, TriggerExists, NoSuchTrigger, TooMany, InstanceExists, NoSuchInstance, Busy, NoSuchCpu, BadRow, HistoryFull, Memory, Worn}
 
@@ -40,7 +42,7 @@ number_of HistoryFull = 22
 number_of Memory = 23
 number_of Worn = 24
 
--- ---- the refusals that the faults of formats and filters become
+-- ---- the refusals that the faults of formats, filters and triggers become
 
 abbrev pub refusal_of_definition : DefinitionFault → Refusal
 refusal_of_definition (definition.BadDefinition at) = BadDefinition at
@@ -62,6 +64,15 @@ refusal_of_filter (filter.FilterSyntax at) = FilterSyntax at
 refusal_of_filter (filter.NoSuchField at) = NoSuchField at
 refusal_of_filter (filter.WrongOperator at) = WrongOperator at
 refusal_of_filter filter.Memory = Memory
+
+-- a text that is written as no trigger is no value of its file
+abbrev pub refusal_of_trigger : TriggerFault → Refusal
+refusal_of_trigger trigger.BadText = BadValue
+refusal_of_trigger trigger.TooMany = TooMany
+refusal_of_trigger (trigger.FilterSyntax at) = FilterSyntax at
+refusal_of_trigger (trigger.NoSuchField at) = NoSuchField at
+refusal_of_trigger (trigger.WrongOperator at) = WrongOperator at
+refusal_of_trigger trigger.Memory = Memory
 
 -- the name that is printed for a refusal
 unfoldable pub name_of : Refusal → List ℕ

@@ -1,7 +1,7 @@
 -- Requests: commands whose paths were read.
 use Rattle.std.specs.Prelude.{ℕ, ℤ, ◌<◌, ◌^◌, FitsSigned, Bool, List, Option, Some, ⊤}
 use Rattle.std.specs.Int.{w32}
-use Rattle.trace_command.specs.Paths.{File, Address, address_of, instance_of}
+use Rattle.trace_command.specs.Paths.{File, address_of, instance_of}
 use Rattle.trace_format.specs.declared.pair.Pair.{Pair}
 use Rattle.trace_command.specs.declared.command.Command.{Command}
 use Rattle.trace_command.specs.declared.command.Command.TheVariants.{Emit, Mkdir, Rmdir, Write, Read}

@@ -20,11 +20,13 @@ pub enum Place<'a> {
     Overwrite,
     TraceOptions,
     TracingOn,
+    Snapshot,
     SyntheticEvents,
     EventsEnable,
     EventsFilter,
     EventEnable(&'a [u8]),
     EventFilter(&'a [u8]),
+    EventTrigger(&'a [u8]),
     EventFormat(&'a [u8]),
 }
 
@@ -188,6 +190,9 @@ fn top_place(name: &[u8]) -> Option<Place<'_>>
     if name == b"tracing_on".as_slice() {
         return Some(Place::TracingOn);
     }
+    if name == b"snapshot".as_slice() {
+        return Some(Place::Snapshot);
+    }
     if name == b"synthetic_events".as_slice() {
         return Some(Place::SyntheticEvents);
     }
@@ -337,6 +342,9 @@ fn event_place<'a>(event: &'a [u8], name: &[u8]) -> Option<Place<'a>>
     }
     if name == b"filter".as_slice() {
         return Some(Place::EventFilter(event));
+    }
+    if name == b"trigger".as_slice() {
+        return Some(Place::EventTrigger(event));
     }
     if name == b"format".as_slice() {
         return Some(Place::EventFormat(event));

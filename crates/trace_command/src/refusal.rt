@@ -1,7 +1,7 @@
 //! Refusals: why a command was not done.
 
 ghost use Rattle.std.specs.Prelude.{◌≡◌, Some};
-ghost use Rattle.trace_command.specs.Refusals.{refusal_of_definition, refusal_of_catalog, refusal_of_row, refusal_of_filter, shown_name as shown_name_of};
+ghost use Rattle.trace_command.specs.Refusals.{refusal_of_definition, refusal_of_catalog, refusal_of_row, refusal_of_filter, refusal_of_trigger, shown_name as shown_name_of};
 ghost use Rattle.trace_command.specs.declared.refusal.Refusal.TheVariants.{Memory};
 
 use std::alloc::{AllocError, AllocFailed};
@@ -11,6 +11,7 @@ use std::{fmt, str};
 use trace_filter::FilterFault;
 use trace_format::{CatalogFault, DefinitionFault, RowFault};
 use trace_lex::Text;
+use trace_trigger::TriggerFault;
 
 /// Why a command was refused. A refused command changes nothing and is not in the history.
 /// `at` is a place in the text as it was written: how many bytes stand before it.
@@ -118,6 +119,21 @@ impl From<FilterFault> for Refusal {
             FilterFault::NoSuchField { at } => Refusal::NoSuchField { at },
             FilterFault::WrongOperator { at } => Refusal::WrongOperator { at },
             FilterFault::Memory => Refusal::Memory,
+        }
+    }
+}
+
+impl From<TriggerFault> for Refusal {
+    ghost from_gives = { λ fault refusal. refusal ≡ refusal_of_trigger fault };
+
+    fn from(fault: TriggerFault) -> Refusal {
+        match fault {
+            TriggerFault::BadText => Refusal::BadValue,
+            TriggerFault::TooMany => Refusal::TooMany,
+            TriggerFault::FilterSyntax { at } => Refusal::FilterSyntax { at },
+            TriggerFault::NoSuchField { at } => Refusal::NoSuchField { at },
+            TriggerFault::WrongOperator { at } => Refusal::WrongOperator { at },
+            TriggerFault::Memory => Refusal::Memory,
         }
     }
 }

@@ -17,14 +17,20 @@ use Rattle.trace_text.specs.DeclarationText.{declaration_text}
 use Rattle.trace_text.specs.FieldText.{field_text}
 use Rattle.trace_text.specs.FormatText.{place_line, field_line, common_pid_line, format_text}
 use Rattle.trace_text.specs.RecordText.{line_start, cell_text, row_line, record_line}
+use Rattle.trace_text.specs.SnapshotText.{freed_line, snapshot_text}
 use Rattle.trace_text.specs.StatsText.{stats_line, stats_text}
 use Rattle.trace_text.specs.TraceText.{lost_line, trace_title, trace_head}
+use Rattle.trace_text.specs.TriggerText.{trigger_line, available_triggers, trigger_text}
+use Rattle.trace_trigger.specs.TriggerTexts.{count_of, condition_of, said_of}
+use Rattle.trace_trigger.specs.TriggerTexts.{trigger_of as said_trigger}
 use Rattle.trace_command.specs.Paths.{top_file, option_file, events_file, system_file, cpu_file, event_file, mount_point, below_mount_point, address_of, instance_of}
-use Rattle.trace_history.specs.History.{emission_answer, declaration_answer, switch_answer, filter_answer, filter_of_all_answer, option_answer, tracing_answer, flag_text, cpu_stats_text, shown_trace, shown_pipe, shown_cpu_pipe, option_text, declarations_text, mixture_text, filter_text, named_answer, answer}
-use Rattle.trace_history.specs.Rings.{record_bytes, filter_holds}
+use Rattle.trace_history.specs.History.{emission_answer, declaration_answer, switch_answer, filter_answer, filter_of_all_answer, option_answer, tracing_answer, snapshot_answer, trigger_answer, flag_text, cpu_stats_text, shown_trace, shown_pipe, shown_cpu_pipe, shown_snapshot, option_text, declarations_text, mixture_text, filter_text, named_answer, answer}
+use Rattle.trace_history.specs.Emissions.{record_bytes, filter_holds}
 use Rattle.trace_history.specs.Settings.{written_flag, clears_filter, can_take, written_option, written_tracing}
+use Rattle.trace_history.specs.Snapshots.{written_snapshot}
 use Rattle.std.specs.Fmt.{digits}
 use Rattle.trace_history.specs.Examples.{small, IsAnswered, merged_reads, instances, instance_made_again, recording_off, lost_line_after_overrun, precedence_and_kept_filter}
+use Rattle.trace_history.specs.SnapshotExamples.{two_snapshots, counted_trigger, unlimited_trigger, removed_trigger, trigger_of_disabled_event, refused_triggers, sides_of_an_instance}
 
 pub record AreAnswered : Type 0 where
   pub merged : IsAnswered (small 2) merged_reads
@@ -33,6 +39,13 @@ pub record AreAnswered : Type 0 where
   pub recording : IsAnswered (small 1) recording_off
   pub lost : IsAnswered (small 1) lost_line_after_overrun
   pub filters : IsAnswered (small 1) precedence_and_kept_filter
+  pub snapshots : IsAnswered (small 1) two_snapshots
+  pub counted : IsAnswered (small 1) counted_trigger
+  pub unlimited : IsAnswered (small 1) unlimited_trigger
+  pub removed : IsAnswered (small 1) removed_trigger
+  pub disabled : IsAnswered (small 1) trigger_of_disabled_event
+  pub refused : IsAnswered (small 1) refused_triggers
+  pub sides : IsAnswered (small 1) sides_of_an_instance
 
 pub examples-are_answered : AreAnswered
 unfolding head_bytes head_of timestamp account readings_of stats_of cut merged step definition_of value_of row_of answer_of part_of
@@ -42,4 +55,19 @@ unfolding head_bytes head_of timestamp account readings_of stats_of cut merged s
     emission_answer declaration_answer switch_answer filter_answer filter_of_all_answer option_answer tracing_answer flag_text
     cpu_stats_text shown_trace shown_pipe shown_cpu_pipe option_text declarations_text mixture_text filter_text named_answer answer
     record_bytes filter_holds written_flag clears_filter can_take written_option written_tracing digits
-examples-are_answered = record { merged = refl; instances = refl; made_again = refl; recording = refl; lost = refl; filters = refl }
+    snapshot_answer trigger_answer shown_snapshot written_snapshot freed_line snapshot_text trigger_line available_triggers trigger_text count_of condition_of said_trigger said_of
+examples-are_answered = record {
+  merged = refl;
+  instances = refl;
+  made_again = refl;
+  recording = refl;
+  lost = refl;
+  filters = refl;
+  snapshots = refl;
+  counted = refl;
+  unlimited = refl;
+  removed = refl;
+  disabled = refl;
+  refused = refl;
+  sides = refl;
+}

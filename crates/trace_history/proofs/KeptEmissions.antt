@@ -1,24 +1,28 @@
 -- Each record that a ring keeps was brought by an emission.
-use Rattle.std.proofs.Common.{◌≡◌, ◌⊎◌, inl, inr, ℕ, ◌==◌, Bool, true, false, ◌&&◌, ◌||◌, if◌then◌else◌, List, [], ◌∷◌, ◌++◌, length, get_or, bytes_eq, All, Option, None, Some, refl, sym, ap, ◌∙◌, subst, eq-eqb, eqb-true}
+use Rattle.std.proofs.Common.{◌≡◌, ◌⊎◌, inl, inr, ℕ, ◌-◌, ◌==◌, Bool, true, false, ◌&&◌, ◌||◌, if◌then◌else◌, List, [], ◌∷◌, ◌++◌, length, get_or, bytes_eq, All, Option, None, Some, refl, sym, ap, ◌∙◌, subst, eq-eqb, eqb-true}
 use Rattle.std.specs.List.{AllByRecursion, list_any}
 use Rattle.std.proofs.lemmas.Bool.{or_cases, and_parts}
 use Rattle.std.proofs.lemmas.List.Elements.{All-from_recursion}
 use Rattle.std.proofs.lemmas.Slice.Eq.{bytes_eq-Decides}
+use Rattle.page_ring.specs.Account.{Reading}
 use Rattle.page_ring.specs.Events as ring
 use Rattle.page_ring.specs.Laws.{puts_pass, KeptWerePut}
-use Rattle.trace_buffer.specs.Families.{events_of, with_events, cpu_readings, kept_count}
+use Rattle.trace_buffer.specs.Families.{events_of, with_events, all_cleared, cpu_readings, kept_count}
 use Rattle.trace_text.specs.RecordText.{record_line}
 use Rattle.trace_command.specs.Configs.{IsInRange}
-use Rattle.trace_command.specs.Paths.{File, Trace, CpuTrace, TracePipe, CpuTracePipe}
+use Rattle.trace_command.specs.Paths.{File, Trace, CpuTrace, TracePipe, CpuTracePipe, Snapshot}
 use Rattle.trace_history.specs.History.{requests_of, IsLegalNewestFirst}
-use Rattle.trace_history.specs.Laws.{kept_readings, ShowsEmission, KeptRecordsShowEmissions}
+use Rattle.trace_history.specs.Laws.{ShowsEmission, KeptRecordsShowEmissions, KeptSpareRecordsShowEmissions}
 use Rattle.trace_command.specs.Requests.{Request, Emission, MakeInstance, RemoveInstance, WriteFile, ReadFile, request_of}
-use Rattle.trace_history.specs.Rings.{Emitted, emitted, emitted_bytes, is_recorded, up_to_limit, with_emitted, rings_after_write, rings_after_read, rings_after, rings}
+use Rattle.trace_history.specs.Emissions.{Emitted, emitted, emitted_bytes, is_recorded}
+use Rattle.trace_history.specs.Rings.{up_to_limit, with_emitted, rings_after_write, rings_after_read, rings_after, spare_after, rings_of_side}
 use Rattle.trace_history.specs.Settings.{is_same, makes, declared_events, overwrites}
+use Rattle.trace_history.specs.Snapshots.{clears_spare, live_side, written_snapshot}
 use Rattle.trace_command.specs.declared.command.Config.{Config}
 use Rattle.trace_command.specs.declared.command.Entry.{Entry}
 use Rattle.trace_history.proofs.Families.{with_events-are, with_takes-are, with_cleared-are, replicate-are_none, consumed-are}
 use Rattle.trace_history.proofs.ShownRecords.{records_show_their_rows}
+use Rattle.trace_history.proofs.Sides.{side-made}
 
 -- ---- what was put
 
@@ -121,23 +125,36 @@ after-are g instance cpu past (Emission name event_cpu pid pairs) family alive a
 after-are g instance cpu past (MakeInstance name) family alive all = rw alive all
 after-are g instance cpu past (RemoveInstance name) family alive all = all
 
--- where a life begins
-made-are : (g : Config) (instance : Option (List ℕ)) (cpu : ℕ) (past : List Request) (request : Request) (family : List (List ring.Event))
-    → makes instance request ≡ true → AreBrought instance cpu (request ∷ past) (events_of (rings_after g instance past request family) cpu)
-made-are g instance cpu past (MakeInstance name) family new =
-    rw new (replicate-are_none (IsBrought instance cpu (MakeInstance name ∷ past)) g.cpus cpu)
-made-are g instance cpu past _ family new = absurd (cc)
+-- what `snapshot` leaves of the spare
+spare-are : (g : Config) (instance : Option (List ℕ)) (cpu : ℕ) (past : List Request) (request : Request) (family : List (List ring.Event))
+    → makes instance request ≡ false → AreBrought instance cpu (request ∷ past) (events_of family cpu)
+    → AreBrought instance cpu (request ∷ past) (events_of (spare_after g instance request family) cpu)
+spare-are g instance cpu past (WriteFile other (Some Snapshot) append text) family alive all =
+    let P = IsBrought instance cpu (WriteFile other (Some Snapshot) append text ∷ past) in
+    either-are P (is_same instance other && clears_spare (written_snapshot text)) (all_cleared family) family cpu
+    (replicate-are_none P (length family) cpu) all
+spare-are g instance cpu past (MakeInstance name) family alive all = rw alive all
+spare-are g instance cpu past request family alive all = all
 
-rings-are : (g : Config) (instance : Option (List ℕ)) (cpu : ℕ) (past : List Request) → AreBrought instance cpu past (events_of (rings g instance past) cpu)
-rings-are g instance cpu [] = replicate-are_none (IsBrought instance cpu []) g.cpus cpu
-rings-are g instance cpu (request ∷ past) = by (makes instance request) refl (rings-are g instance cpu past)
+-- what either side keeps was put there by emissions that the instance recorded in this life
+rings-are : (g : Config) (instance : Option (List ℕ)) (cpu side : ℕ) (past : List Request)
+    → AreBrought instance cpu past (events_of (rings_of_side g instance side past) cpu)
+rings-are g instance cpu side [] = replicate-are_none (IsBrought instance cpu []) g.cpus cpu
+rings-are g instance cpu side (request ∷ past) = by (makes instance request) refl (rings-are g instance cpu side past)
   where
-    by : (new : Bool) → makes instance request ≡ new → AreBrought instance cpu past (events_of (rings g instance past) cpu)
-        → AreBrought instance cpu (request ∷ past) (events_of (rings_after g instance past request (rings g instance past)) cpu)
-    by true new before = made-are g instance cpu past request (rings g instance past) new
+    family : List (List ring.Event)
+    family = rings_of_side g instance side past
+
+    by : (new : Bool) → makes instance request ≡ new → AreBrought instance cpu past (events_of family cpu)
+        → AreBrought instance cpu (request ∷ past) (events_of (rings_of_side g instance side (request ∷ past)) cpu)
+    by true new before =
+        subst (λ (f : List (List ring.Event)). AreBrought instance cpu (request ∷ past) (events_of f cpu)) (sym (side-made g instance side past request new))
+        (replicate-are_none (IsBrought instance cpu (request ∷ past)) g.cpus cpu)
     by false alive before =
-        after-are g instance cpu past request (rings g instance past) alive
-        (older-are instance cpu past request (events_of (rings g instance past) cpu) alive before)
+        let older = older-are instance cpu past request (events_of family cpu) alive before in
+        either-are (IsBrought instance cpu (request ∷ past)) (side == live_side instance past) (rings_after g instance past request family)
+        (spare_after g instance request family) cpu
+        (after-are g instance cpu past request family alive older) (spare-are g instance cpu past request family alive older)
 
 -- ---- the emission that brought it
 
@@ -252,13 +269,24 @@ emitted-shows g entries instance cpu bytes in_range legal found =
     legal_then : IsLegalNewestFirst g (found.entry ∷ found.before)
     legal_then = legal-before g found.later (found.entry ∷ found.before) (subst (IsLegalNewestFirst g) found.cut legal)
 
-pub kept_records_show_emissions : KeptWerePut → KeptRecordsShowEmissions
-kept_records_show_emissions kept_were_put g entries instance cpu in_range legal = λ i r inside.
+side_records_show_emissions : KeptWerePut → (g : Config) (entries : List Entry) (instance : Option (List ℕ)) (side cpu : ℕ) → IsInRange g
+    → IsLegalNewestFirst g entries
+    → All (λ (r : Reading). ShowsEmission instance cpu entries (record_line (declared_events (requests_of entries)) cpu r.rec))
+    (cpu_readings g.pages g.page_bytes (rings_of_side g instance side (requests_of entries)) cpu)
+side_records_show_emissions kept_were_put g entries instance side cpu in_range legal = λ i r inside.
     let past = requests_of entries in
     let test : List ℕ → Bool = was_brought instance cpu past in
-    let events : List ring.Event = events_of (rings g instance past) cpu in
+    let events : List ring.Event = events_of (rings_of_side g instance side past) cpu in
     let put : All (λ (e : ring.Event). puts_pass test e ≡ true) events =
-    All-from_recursion (λ (e : ring.Event). puts_pass test e ≡ true) events (rings-are g instance cpu past) in
-    let readings = kept_readings g instance cpu past in
+    All-from_recursion (λ (e : ring.Event). puts_pass test e ≡ true) events (rings-are g instance cpu side past) in
+    let readings = cpu_readings g.pages g.page_bytes (rings_of_side g instance side past) cpu in
     emitted-shows g entries instance cpu (get_or readings i r).rec in_range legal
     (brought-emitted instance cpu entries (get_or readings i r).rec (kept_were_put g.pages g.page_bytes events test put i r inside))
+
+pub kept_records_show_emissions : KeptWerePut → KeptRecordsShowEmissions
+kept_records_show_emissions kept_were_put g entries instance cpu in_range legal =
+    side_records_show_emissions kept_were_put g entries instance (live_side instance (requests_of entries)) cpu in_range legal
+
+pub kept_spare_records_show_emissions : KeptWerePut → KeptSpareRecordsShowEmissions
+kept_spare_records_show_emissions kept_were_put g entries instance cpu in_range legal =
+    side_records_show_emissions kept_were_put g entries instance (1 - live_side instance (requests_of entries)) cpu in_range legal

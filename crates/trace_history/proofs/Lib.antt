@@ -1,9 +1,13 @@
 pub mod EventLists
 pub mod Events
 pub mod Examples
+pub mod Exchanges
 pub mod Families
 pub mod KeptEmissions
 pub mod LegalEvents
 pub mod PipeReads
 pub mod ShownRecords
+pub mod Sides
+pub mod Spares
 pub mod StandingFilters
+pub mod Triggered

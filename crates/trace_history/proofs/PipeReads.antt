@@ -1,5 +1,5 @@
 -- What is kept after pipe reads.
-use Rattle.std.proofs.Common.{◌≡◌, ℕ, zero, suc, ◌≤◌, ◌==◌, Bool, true, false, nat_lt, List, [], ◌∷◌, ◌++◌, length, map, replicate, set, take, None, Some, Option, refl, sym, ap, subst, arith, eq-eqb, eqb-true, ltb-true}
+use Rattle.std.proofs.Common.{◌≡◌, ℕ, zero, suc, ◌≤◌, ◌==◌, Bool, true, false, nat_lt, if◌then◌else◌, List, [], ◌∷◌, ◌++◌, length, map, replicate, set, take, None, Some, Option, refl, sym, ap, ◌∙◌, subst, arith, eq-eqb, eqb-true, ltb-true}
 use Rattle.std.proofs.lemmas.List.{get_or_past, length-set}
 use Rattle.std.proofs.lemmas.Bool.{ltb-false}
 use Rattle.std.proofs.lemmas.Slice.Eq.{bytes_eq-Decides}
@@ -10,8 +10,12 @@ use Rattle.trace_buffer.specs.Families.{CpuReading, on_cpu, events_of, cpu_readi
 use Rattle.trace_buffer.specs.Laws.{ReadsConsumeWhatTheyTake, CpuReadsConsumeWhatTheyTake, OtherCpusStay}
 use Rattle.trace_buffer.specs.Orders.{taken_of_cpu, after_cpu_reads}
 use Rattle.trace_history.specs.Laws.{those_of, PipeReadsConsumeWhatTheyShow, WholePipeReadsConsumeWhatTheyShow}
-use Rattle.trace_history.specs.Rings.{up_to_limit, rings}
+use Rattle.trace_history.specs.Rings.{up_to_limit, pipe_read, cpu_pipe_read, rings_after_read, rings}
 use Rattle.trace_history.specs.Settings.{is_same}
+use Rattle.trace_command.specs.Paths.{File, TracePipe, CpuTracePipe}
+use Rattle.trace_command.specs.Requests.{Request, ReadFile}
+use Rattle.trace_command.specs.declared.command.Config.{Config}
+use Rattle.trace_history.proofs.Sides.{rings-stay}
 
 -- ---- one CPU's readings among those of all
 
@@ -69,17 +73,27 @@ one-shown consumed stay pages page_bytes cpu family reads other = by (cpu == oth
 
 -- ---- the theorems
 
-is_same-self : (instance : Option (List ℕ)) → is_same instance instance ≡ true
+pub is_same-self : (instance : Option (List ℕ)) → is_same instance instance ≡ true
 is_same-self None = refl
 is_same-self (Some name) = (bytes_eq-Decides name name).1 refl
 
+-- a read of a file of the instance neither makes it nor exchanges its sides
+after_read : (g : Config) (past : List Request) (instance : Option (List ℕ)) (file : Option File) (limit : Option ℕ)
+    → rings g instance (ReadFile instance file limit ∷ past) ≡ rings_after_read g limit file (rings g instance past)
+after_read g past instance file limit =
+    (rings-stay g instance past (ReadFile instance file limit) refl refl).live
+    ∙ ap (λ (same : Bool). if same then rings_after_read g limit file (rings g instance past) else rings g instance past) (is_same-self instance)
+
 pub pipe_reads_consume_what_they_show : CpuReadsConsumeWhatTheyTake → OtherCpusStay → PipeReadsConsumeWhatTheyShow
 pipe_reads_consume_what_they_show consumed stay g past instance cpu other limit =
-    rw (is_same-self instance)
-    (one-shown consumed stay g.pages g.page_bytes cpu (rings g instance past)
-    (up_to_limit limit (length (cpu_readings g.pages g.page_bytes (rings g instance past) cpu))) other)
+    let family = rings g instance past in
+    one-shown consumed stay g.pages g.page_bytes cpu family (up_to_limit limit (length (cpu_readings g.pages g.page_bytes family cpu))) other
+    ∙ ap (λ (after : List (List Event)). those_of other (cpu_pipe_read g cpu limit family).taken
+    ++ map (on_cpu other) (cpu_readings g.pages g.page_bytes after other)) (sym (after_read g past instance (Some (CpuTracePipe cpu)) limit))
 
 pub whole_pipe_reads_consume_what_they_show : ReadsConsumeWhatTheyTake → WholePipeReadsConsumeWhatTheyShow
 whole_pipe_reads_consume_what_they_show consumed g past instance cpu limit =
-    rw (is_same-self instance)
-    (consumed g.pages g.page_bytes (up_to_limit limit (kept_count g.pages g.page_bytes (rings g instance past))) cpu (rings g instance past))
+    let family = rings g instance past in
+    consumed g.pages g.page_bytes (up_to_limit limit (kept_count g.pages g.page_bytes family)) cpu family
+    ∙ ap (λ (after : List (List Event)). those_of cpu (pipe_read g limit family).taken
+    ++ map (on_cpu cpu) (cpu_readings g.pages g.page_bytes after cpu)) (sym (after_read g past instance (Some TracePipe) limit))

@@ -18,7 +18,7 @@ use Rattle.trace_command.specs.Configs.{IsInRange}
 use Rattle.trace_history.specs.History.{requests_of, IsEntry, IsLegalNewestFirst}
 use Rattle.trace_history.specs.Laws.{RecordsShowTheirRows}
 use Rattle.trace_command.specs.Requests.{Request, Emission, MakeInstance, RemoveInstance, WriteFile, ReadFile, request_of, FitsItsTypes}
-use Rattle.trace_history.specs.Rings.{record_bytes, Emitted, emitted, emitted_event, emitted_row}
+use Rattle.trace_history.specs.Emissions.{record_bytes, Emitted, emitted, emitted_event, emitted_row}
 use Rattle.trace_record.specs.Record.{padding}
 use Rattle.trace_history.specs.Settings.{NumberedEvent, event_named, declares, declared_events, ticks, now_of}
 use Rattle.trace_history.specs.Declarations.{IsFit}

@@ -11,7 +11,7 @@ use Rattle.trace_history.specs.History.{answer_with_room, missing_event, unless_
 use Rattle.trace_history.specs.Laws.{FiltersAreOfTheirEvents, FiltersHoldAsTheirTrees}
 use Rattle.trace_command.specs.Paths.{File, EventFilter, EventsFilter}
 use Rattle.trace_command.specs.Requests.{Request, WriteFile, request_of}
-use Rattle.trace_history.specs.Rings.{filter_holds}
+use Rattle.trace_history.specs.Emissions.{filter_holds}
 use Rattle.trace_history.specs.Settings.{NumberedEvent, set_by, is_same, makes, event_named, declares, declared_events, clears_filter, can_take, written_filter, written_to_all, sets_filter, filter_of}
 use Rattle.trace_command.specs.declared.command.Config.{Config}
 use Rattle.trace_command.specs.declared.command.Entry.{Entry}

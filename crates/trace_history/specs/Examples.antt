@@ -1,5 +1,5 @@
 -- Scripts with the answers that the definitions give them, worked by hand. The checker computes them.
-use Rattle.std.specs.Prelude.{◌≡◌, ℕ, pos, false, is_ok, if◌then◌else◌, List, [], ◌∷◌, ◌++◌, map, flat_map, Some, None, Result, Ok, Err, codes}
+use Rattle.std.specs.Prelude.{◌≡◌, ℕ, pos, true, false, is_ok, if◌then◌else◌, List, [], ◌∷◌, ◌++◌, map, flat_map, Some, None, Result, Ok, Err, codes}
 use Rattle.trace_format.specs.declared.pair.Pair.{Pair}
 use Rattle.trace_command.specs.Requests.{Request, request_of}
 use Rattle.trace_command.specs.declared.command.Command.{Command}
@@ -12,12 +12,12 @@ use Rattle.trace_command.specs.declared.refusal.Refusal.TheVariants.{NoSuchField
 use Rattle.trace_history.specs.History.{answer}
 
 -- a command and the answer to it
-pub record Exchange : Type 0 where
+pub record Turn : Type 0 where
   pub command : Command
   pub answer : Result Reply Refusal
 
 infix 90 ◌gives◌
-abbrev pub ◌gives◌ : Command → Result Reply Refusal → Exchange
+abbrev pub ◌gives◌ : Command → Result Reply Refusal → Turn
 command gives answer = record { command = command; answer = answer }
 
 -- the answers to commands, one after another, after this past: a request that is refused is not done
@@ -28,7 +28,7 @@ answers_after g past (command ∷ commands) =
     answered ∷ answers_after g (if is_ok answered then request_of command ∷ past else past) commands
 
 -- a script's commands have the answers that stand beside them
-abbrev pub IsAnswered : Config → List Exchange → Type 0
+abbrev pub IsAnswered : Config → List Turn → Type 0
 IsAnswered g script = answers_after g [] (map (λ x. x.command) script) ≡ map (λ x. x.answer) script
 
 -- ---- commands and answers
@@ -39,6 +39,10 @@ small cpus = record { cpus = cpus; pages = 2; page_bytes = 64; history_limit = 1
 
 abbrev pub echo : List ℕ → List ℕ → Command
 echo text path = Write path false text
+
+-- likewise by `>>`
+abbrev pub append : List ℕ → List ℕ → Command
+append text path = Write path true text
 
 abbrev pub cat : List ℕ → Command
 cat path = Read path None
@@ -65,38 +69,48 @@ abbrev pub shows : List (List ℕ) → Result Reply Refusal
 shows lines = Ok (Text (flat_map (λ line. line ++ codes "\n") lines))
 
 -- `tick` is declared and switched on
-abbrev pub with_tick : List Exchange → List Exchange
+abbrev pub with_tick : List Turn → List Turn
 with_tick script =
     echo (codes "tick u64 n") (codes "synthetic_events") gives done
     ∷ echo (codes "1") (codes "events/synthetic/tick/enable") gives done
     ∷ script
+
+-- what `trace` and `snapshot` show: how many records are kept and were written, how many CPUs there are, and a line for each record
+abbrev pub traced : List ℕ → List ℕ → List (List ℕ) → List (List ℕ)
+traced counts cpus lines =
+    codes "# tracer: nop"
+    ∷ codes "#"
+    ∷ (codes "# entries-in-buffer/entries-written: " ++ counts ++ codes "   #P:" ++ cpus)
+    ∷ codes "#"
+    ∷ lines
+
+-- the statistics of a ring that lost and dropped nothing and was not read
+abbrev pub counted : List ℕ → List ℕ → List ℕ → List ℕ → List (List ℕ)
+counted entries bytes oldest now =
+    (codes "entries: " ++ entries)
+    ∷ codes "overrun: 0"
+    ∷ codes "commit overrun: 0"
+    ∷ (codes "bytes: " ++ bytes)
+    ∷ (codes "oldest event ts: " ++ oldest)
+    ∷ (codes "now ts: " ++ now)
+    ∷ codes "dropped events: 0"
+    ∷ codes "read events: 0"
+    ∷ []
 
 -- ---- scripts
 
 -- what `trace` shows of two CPUs
 abbrev pub both_traced : List (List ℕ)
 both_traced =
-    codes "# tracer: nop"
-    ∷ codes "#"
-    ∷ codes "# entries-in-buffer/entries-written: 3/3   #P:2"
-    ∷ codes "#"
-    ∷ codes "7 [001] 1: tick: n=1"
-    ∷ codes "7 [000] 2: tick: n=2"
-    ∷ codes "7 [001] 3: tick: n=3"
-    ∷ []
+    traced (codes "3/3") (codes "2")
+    (codes "7 [001] 1: tick: n=1" ∷ codes "7 [000] 2: tick: n=2" ∷ codes "7 [001] 3: tick: n=3" ∷ [])
 
 -- and what the trace of the second shows after the pipe was read
 abbrev pub second_traced : List (List ℕ)
-second_traced =
-    codes "# tracer: nop"
-    ∷ codes "#"
-    ∷ codes "# entries-in-buffer/entries-written: 1/1   #P:2"
-    ∷ codes "#"
-    ∷ codes "7 [001] 3: tick: n=3"
-    ∷ []
+second_traced = traced (codes "1/1") (codes "2") (codes "7 [001] 3: tick: n=3" ∷ [])
 
 -- `trace` shows the records of all CPUs by time, and a pipe consumes them in that order
-abbrev pub merged_reads : List Exchange
+abbrev pub merged_reads : List Turn
 merged_reads =
     with_tick (tick 1 (codes "1") gives done
     ∷ tick 0 (codes "2") gives done
@@ -108,32 +122,14 @@ merged_reads =
 
 -- the statistics of a ring that nothing came to, after one emission
 abbrev pub nothing_counted : List (List ℕ)
-nothing_counted =
-    codes "entries: 0"
-    ∷ codes "overrun: 0"
-    ∷ codes "commit overrun: 0"
-    ∷ codes "bytes: 0"
-    ∷ codes "oldest event ts: 0"
-    ∷ codes "now ts: 1"
-    ∷ codes "dropped events: 0"
-    ∷ codes "read events: 0"
-    ∷ []
+nothing_counted = counted (codes "0") (codes "0") (codes "0") (codes "1")
 
 -- and of one that the second emission came to
 abbrev pub one_counted : List (List ℕ)
-one_counted =
-    codes "entries: 1"
-    ∷ codes "overrun: 0"
-    ∷ codes "commit overrun: 0"
-    ∷ codes "bytes: 24"
-    ∷ codes "oldest event ts: 2"
-    ∷ codes "now ts: 2"
-    ∷ codes "dropped events: 0"
-    ∷ codes "read events: 0"
-    ∷ []
+one_counted = counted (codes "1") (codes "24") (codes "2") (codes "2")
 
 -- an emission reaches each instance that records it, and an instance begins with nothing switched on
-abbrev pub instances : List Exchange
+abbrev pub instances : List Turn
 instances =
     with_tick (Mkdir (codes "instances/a") gives done
     ∷ tick 0 (codes "1") gives done
@@ -147,7 +143,7 @@ instances =
     ∷ [])
 
 -- an instance that is made again begins anew
-abbrev pub instance_made_again : List Exchange
+abbrev pub instance_made_again : List Turn
 instance_made_again =
     with_tick (Mkdir (codes "instances/a") gives done
     ∷ echo (codes "1") (codes "instances/a/events/enable") gives done
@@ -161,7 +157,7 @@ instance_made_again =
     ∷ [])
 
 -- nothing is recorded while `tracing_on` is 0, and the clock goes on
-abbrev pub recording_off : List Exchange
+abbrev pub recording_off : List Turn
 recording_off =
     with_tick (tick 0 (codes "1") gives done
     ∷ echo (codes "0") (codes "tracing_on") gives done
@@ -194,7 +190,7 @@ two_left =
     ∷ []
 
 -- records that were lost to overwriting are told before the next one that a pipe shows
-abbrev pub lost_line_after_overrun : List Exchange
+abbrev pub lost_line_after_overrun : List Turn
 lost_line_after_overrun =
     with_tick (tick 0 (codes "1") gives done
     ∷ tick 0 (codes "2") gives done
@@ -210,17 +206,10 @@ lost_line_after_overrun =
 
 -- what `trace` shows of three emissions where the filter held of the first and the third
 abbrev pub two_passed : List (List ℕ)
-two_passed =
-    codes "# tracer: nop"
-    ∷ codes "#"
-    ∷ codes "# entries-in-buffer/entries-written: 2/2   #P:1"
-    ∷ codes "#"
-    ∷ codes "7 [000] 1: tri: a=1 b=0 c=4"
-    ∷ codes "7 [000] 3: tri: a=0 b=2 c=3"
-    ∷ []
+two_passed = traced (codes "2/2") (codes "1") (codes "7 [000] 1: tri: a=1 b=0 c=4" ∷ codes "7 [000] 3: tri: a=0 b=2 c=3" ∷ [])
 
 -- `&&` binds tighter than `||`, and a filter that is refused leaves the one that stands
-abbrev pub precedence_and_kept_filter : List Exchange
+abbrev pub precedence_and_kept_filter : List Turn
 precedence_and_kept_filter =
     echo (codes "tri u32 a; u32 b; u32 c") (codes "synthetic_events") gives done
     ∷ echo (codes "1") (codes "events/synthetic/tri/enable") gives done

@@ -1,8 +1,9 @@
 -- The answer that the requests done so far give a request, and which histories are legal. The newest request comes first.
 use Rattle.std.specs.Prelude.{ℕ, ◌<◌, ◌^◌, nat_lt, Bool, true, false, not, ◌&&◌, is_some, IsOk, if◌then◌else◌, List, [], ◌∷◌, ◌++◌, length, map, flat_map, reverse, All, Option, Some, None, Result, Ok, Err, codes, ⊤}
 use Rattle.std.specs.List.{list_all, list_any}
+use Rattle.std.specs.Option.{option_map, option_to_list}
 use Rattle.trace_buffer.specs.Families.{cpu_stats}
-use Rattle.trace_command.specs.Paths.{File, Trace, CpuTrace, TracePipe, CpuTracePipe, CpuStats, Overwrite, TraceOptions, TracingOn, SyntheticEvents, EventsEnable, EventsFilter, EventEnable, EventFilter, EventFormat}
+use Rattle.trace_command.specs.Paths.{File, Trace, CpuTrace, TracePipe, CpuTracePipe, CpuStats, Overwrite, TraceOptions, TracingOn, Snapshot, SyntheticEvents, EventsEnable, EventsFilter, EventEnable, EventFilter, EventTrigger, EventFormat}
 use Rattle.trace_filter.specs.declared.fault.FilterFault.{FilterFault}
 use Rattle.trace_filter.specs.Filters.{Parsed, answer_of}
 use Rattle.trace_lex.specs.Blanks.{trimmed}
@@ -17,18 +18,27 @@ use Rattle.trace_format.specs.declared.pair.Pair.{Pair}
 use Rattle.trace_text.specs.BufferText.{trace_text, pipe_text}
 use Rattle.trace_text.specs.DeclarationText.{declaration_text}
 use Rattle.trace_text.specs.FormatText.{format_text}
+use Rattle.trace_text.specs.SnapshotText.{snapshot_text}
 use Rattle.trace_text.specs.StatsText.{stats_text}
+use Rattle.trace_text.specs.TriggerText.{trigger_text}
+use Rattle.trace_text.specs.TriggerText as texts
+use Rattle.trace_trigger.specs.TriggerTexts.{said_of}
+use Rattle.trace_trigger.specs.declared.fault.TriggerFault.{TriggerFault}
+use Rattle.trace_trigger.specs.declared.trigger.TriggerText.{TriggerText}
+use Rattle.trace_trigger.specs.declared.trigger.TriggerText.TheVariants.{Nothing, Attach, Remove}
 use Rattle.trace_command.specs.Requests.{Request, Emission, MakeInstance, RemoveInstance, WriteFile, ReadFile, request_of, FitsItsTypes}
 use Rattle.trace_history.specs.Settings.{NumberedEvent, event_named, declared_events, written_flag, written_option, written_tracing, instance_names, is_there, is_enabled, clears_filter, can_take, filter_of, overwrites, is_tracing, now_of}
-use Rattle.trace_command.specs.Refusals.{refusal_of_catalog, refusal_of_filter}
-use Rattle.trace_history.specs.Rings.{rings, pipe_read, cpu_pipe_read}
+use Rattle.trace_command.specs.Refusals.{refusal_of_catalog, refusal_of_filter, refusal_of_trigger}
+use Rattle.trace_history.specs.Rings.{rings, spare_rings, pipe_read, cpu_pipe_read}
+use Rattle.trace_history.specs.Snapshots.{SnapshotWrite, Frees, Takes, Empties, written_snapshot}
+use Rattle.trace_history.specs.Triggers.{Trigger, trigger_of, has_trigger, times_left}
 use Rattle.trace_command.specs.declared.command.Command.{Command}
 use Rattle.trace_command.specs.declared.command.Config.{Config}
 use Rattle.trace_command.specs.declared.command.Entry.{Entry}
 use Rattle.trace_command.specs.declared.command.Reply.{Reply}
 use Rattle.trace_command.specs.declared.command.Reply.TheVariants.{Done, Text}
 use Rattle.trace_command.specs.declared.refusal.Refusal.{Refusal}
-use Rattle.trace_command.specs.declared.refusal.Refusal.TheVariants.{NoSuchFile, NotReadable, NotWritable, BadValue, NoSuchEvent, BadDefinition, TooMany, InstanceExists, NoSuchInstance, Busy, NoSuchCpu, BadRow, HistoryFull}
+use Rattle.trace_command.specs.declared.refusal.Refusal.TheVariants.{NoSuchFile, NotReadable, NotWritable, BadValue, NoSuchEvent, BadDefinition, TriggerExists, NoSuchTrigger, TooMany, InstanceExists, NoSuchInstance, Busy, NoSuchCpu, BadRow, HistoryFull}
 
 -- ---- emissions
 
@@ -98,23 +108,51 @@ option_answer text = if is_some (written_option text) then Ok Done else Err BadV
 unfoldable pub tracing_answer : List ℕ → Result Reply Refusal
 tracing_answer text = if is_some (written_tracing text) then Ok Done else Err BadValue
 
--- what a write to a file answers: to a trace any string is done, to a pipe, to statistics and to a format none. It depends on no setting of
--- the instance.
-abbrev pub write_answer : Config → List Request → Bool → List ℕ → File → Result Reply Refusal
-write_answer g past append text Trace = Ok Done
-write_answer g past append text (CpuTrace cpu) = Ok Done
-write_answer g past append text TracePipe = Err NotWritable
-write_answer g past append text (CpuTracePipe cpu) = Err NotWritable
-write_answer g past append text (CpuStats cpu) = Err NotWritable
-write_answer g past append text Overwrite = switch_answer text
-write_answer g past append text TraceOptions = option_answer text
-write_answer g past append text TracingOn = tracing_answer text
-write_answer g past append text SyntheticEvents = declaration_answer g past append text
-write_answer g past append text (EventEnable event) = switch_answer text
-write_answer g past append text EventsEnable = switch_answer text
-write_answer g past append text EventsFilter = filter_of_all_answer text (declared_events past)
-write_answer g past append text (EventFilter event) = named_filter_answer text (event_named event past)
-write_answer g past append text (EventFormat event) = Err NotWritable
+-- a number that is written to `snapshot`: the spare is not freed while some event has a trigger that needs it
+abbrev pub spare_answer : Bool → Option SnapshotWrite → Result Reply Refusal
+spare_answer in_use None = Err BadValue
+spare_answer in_use (Some Frees) = if in_use then Err Busy else Ok Done
+spare_answer in_use (Some Takes) = Ok Done
+spare_answer in_use (Some Empties) = Ok Done
+
+unfoldable pub snapshot_answer : Option (List ℕ) → List Request → List ℕ → Result Reply Refusal
+snapshot_answer instance past text = spare_answer (has_trigger instance past) (written_snapshot text)
+
+-- a trigger text, for an event that has a trigger or none
+abbrev pub said_answer : Option Trigger → Result TriggerText TriggerFault → Result Reply Refusal
+said_answer attached (Err fault) = Err (refusal_of_trigger fault)
+said_answer attached (Ok Nothing) = Ok Done
+said_answer None (Ok (Attach spec)) = Ok Done
+said_answer (Some t) (Ok (Attach spec)) = Err TriggerExists
+said_answer None (Ok Remove) = Err NoSuchTrigger
+said_answer (Some t) (Ok Remove) = Ok Done
+
+unfoldable pub trigger_answer : Option (List ℕ) → List Request → List ℕ → Definition → Result Reply Refusal
+trigger_answer instance past text event = said_answer (trigger_of instance event past) (said_of event text)
+
+-- the event's name is one that was declared
+abbrev pub named_trigger_answer : Option (List ℕ) → List Request → List ℕ → Option NumberedEvent → Result Reply Refusal
+named_trigger_answer instance past text None = Err NoSuchEvent
+named_trigger_answer instance past text (Some k) = trigger_answer instance past text k.event
+
+-- what a write to a file of an instance answers: to a trace any string is done, to a pipe, to statistics and to a format none
+abbrev pub write_answer : Config → Option (List ℕ) → List Request → Bool → List ℕ → File → Result Reply Refusal
+write_answer g instance past append text Trace = Ok Done
+write_answer g instance past append text (CpuTrace cpu) = Ok Done
+write_answer g instance past append text TracePipe = Err NotWritable
+write_answer g instance past append text (CpuTracePipe cpu) = Err NotWritable
+write_answer g instance past append text (CpuStats cpu) = Err NotWritable
+write_answer g instance past append text Overwrite = switch_answer text
+write_answer g instance past append text TraceOptions = option_answer text
+write_answer g instance past append text TracingOn = tracing_answer text
+write_answer g instance past append text Snapshot = snapshot_answer instance past text
+write_answer g instance past append text SyntheticEvents = declaration_answer g past append text
+write_answer g instance past append text (EventEnable event) = switch_answer text
+write_answer g instance past append text EventsEnable = switch_answer text
+write_answer g instance past append text EventsFilter = filter_of_all_answer text (declared_events past)
+write_answer g instance past append text (EventFilter event) = named_filter_answer text (event_named event past)
+write_answer g instance past append text (EventTrigger event) = named_trigger_answer instance past text (event_named event past)
+write_answer g instance past append text (EventFormat event) = Err NotWritable
 
 -- ---- what each file shows
 
@@ -142,6 +180,10 @@ shown_pipe g instance past limit = pipe_text (declared_events past) (pipe_read g
 -- and a read of a CPU's pipe
 unfoldable pub shown_cpu_pipe : Config → Option (List ℕ) → List Request → ℕ → Option ℕ → List ℕ
 shown_cpu_pipe g instance past cpu limit = pipe_text (declared_events past) (cpu_pipe_read g cpu limit (rings g instance past)).taken
+
+-- what `snapshot` shows: the spare's records
+unfoldable pub shown_snapshot : Config → Option (List ℕ) → List Request → List ℕ
+shown_snapshot g instance past = snapshot_text (declared_events past) g.pages g.page_bytes (spare_rings g instance past)
 
 -- the word of the option
 unfoldable pub option_text : Bool → List ℕ
@@ -171,6 +213,15 @@ abbrev pub format_of_event : Option NumberedEvent → List ℕ
 format_of_event None = []
 format_of_event (Some k) = format_text k.id k.event
 
+-- a trigger as its file shows it: how often it acts from now on, and its filter
+abbrev pub shown_trigger : List Request → Definition → Trigger → texts.Trigger
+shown_trigger past event t = texts.Snapshot (times_left event t past) (option_map (λ (filter : Parsed). filter.text) t.spec.filter)
+
+-- the triggers of an event; its name is one that was declared
+abbrev pub triggers_of_event : Option (List ℕ) → List Request → Option NumberedEvent → List ℕ
+triggers_of_event instance past None = []
+triggers_of_event instance past (Some k) = trigger_text (map (shown_trigger past k.event) (option_to_list (trigger_of instance k.event past)))
+
 -- a read of a file of an instance
 abbrev pub read_answer : Config → Option (List ℕ) → List Request → Option ℕ → File → Result Reply Refusal
 read_answer g instance past limit Trace = whole_text limit (shown_trace g instance past None)
@@ -181,12 +232,14 @@ read_answer g instance past limit (CpuStats cpu) = whole_text limit (cpu_stats_t
 read_answer g instance past limit Overwrite = whole_text limit (flag_text (overwrites instance past))
 read_answer g instance past limit TraceOptions = whole_text limit (option_text (overwrites instance past))
 read_answer g instance past limit TracingOn = whole_text limit (flag_text (is_tracing instance past))
+read_answer g instance past limit Snapshot = whole_text limit (shown_snapshot g instance past)
 read_answer g instance past limit SyntheticEvents = whole_text limit (declarations_text past)
 read_answer g instance past limit (EventEnable event) = whole_text limit (flag_text (is_enabled instance event past))
 read_answer g instance past limit EventsEnable =
     whole_text limit (switches_text (map (λ event. is_enabled instance event.name past) (declared_events past)))
 read_answer g instance past limit EventsFilter = Err NotReadable
 read_answer g instance past limit (EventFilter event) = whole_text limit (filter_text (filter_of instance event past))
+read_answer g instance past limit (EventTrigger event) = whole_text limit (triggers_of_event instance past (event_named event past))
 read_answer g instance past limit (EventFormat event) = whole_text limit (format_of_event (event_named event past))
 
 -- ---- instances made and removed
@@ -227,6 +280,7 @@ missing g past (CpuTracePipe cpu) = missing_cpu g cpu
 missing g past (CpuStats cpu) = missing_cpu g cpu
 missing g past (EventEnable event) = missing_event past event
 missing g past (EventFilter event) = missing_event past event
+missing g past (EventTrigger event) = missing_event past event
 missing g past (EventFormat event) = missing_event past event
 missing g past _ = None
 
@@ -249,7 +303,7 @@ abbrev pub answer_with_room : Config → List Request → Request → Result Rep
 answer_with_room g past (Emission name cpu pid pairs) = emission_answer g past name cpu pairs
 answer_with_room g past (MakeInstance name) = make_answer past name
 answer_with_room g past (RemoveInstance name) = remove_answer past name
-answer_with_room g past (WriteFile instance file append text) = instance_answer instance past (file_answer g past (write_answer g past append text) file)
+answer_with_room g past (WriteFile instance file append text) = instance_answer instance past (file_answer g past (write_answer g instance past append text) file)
 answer_with_room g past (ReadFile instance file limit) = instance_answer instance past (file_answer g past (read_answer g instance past limit) file)
 
 -- what would be done is refused where the history is full

@@ -1,17 +1,22 @@
--- What the words of the answers mean in legal histories, and what pipe reads consume after any requests. The newest entry comes first.
-use Rattle.std.specs.Prelude.{◌≡◌, ◌↔◌, ℕ, ◌==◌, ℤ, IsTrue, false, List, ◌∷◌, ◌++◌, length, map, All, Option, Some}
+-- What the words of the answers mean in legal histories, and after any requests what pipe reads consume and which records snapshots move. The newest
+-- entry comes first.
+use Rattle.std.specs.Prelude.{◌≡◌, ◌↔◌, ℕ, ◌==◌, ℤ, Bool, IsTrue, true, false, List, ◌∷◌, ◌++◌, length, map, All, Option, Some}
 use Rattle.std.specs.List.{filter, list_any}
 use Rattle.page_ring.specs.Account.{Reading}
 use Rattle.trace_buffer.specs.Families.{CpuReading, on_cpu, cpu_readings}
+use Rattle.trace_lex.specs.Decimals.{written_number}
 use Rattle.trace_filter.specs.Filters.{IsFilter, Passes}
 use Rattle.trace_format.specs.Cells.{Cells, IsRowOf, payload_of}
 use Rattle.trace_text.specs.RecordText.{record_line, row_line}
 use Rattle.trace_command.specs.Configs.{IsInRange}
 use Rattle.trace_history.specs.History.{requests_of, IsLegalNewestFirst}
-use Rattle.trace_command.specs.Paths.{TracePipe, CpuTracePipe}
-use Rattle.trace_command.specs.Requests.{Request, ReadFile, request_of}
-use Rattle.trace_history.specs.Rings.{Emitted, emitted, emitted_bytes, filter_holds, is_recorded, rings, pipe_read, cpu_pipe_read}
-use Rattle.trace_history.specs.Settings.{NumberedEvent, event_named, declared_events, filter_of, makes}
+use Rattle.trace_command.specs.Paths.{TracePipe, CpuTracePipe, Snapshot}
+use Rattle.trace_command.specs.Requests.{Request, WriteFile, ReadFile, request_of}
+use Rattle.trace_history.specs.Emissions.{Emitted, emitted, emitted_bytes, filter_holds, is_recorded}
+use Rattle.trace_history.specs.Rings.{new_rings, with_emitted, rings, other_rings, pipe_read, cpu_pipe_read}
+use Rattle.trace_history.specs.Settings.{NumberedEvent, event_named, declared_events, filter_of, is_same, makes}
+use Rattle.trace_history.specs.Snapshots.{exchanges, has_spare}
+use Rattle.trace_history.specs.Triggers.{acts, trigger_of, has_trigger}
 use Rattle.trace_command.specs.declared.command.Config.{Config}
 use Rattle.trace_command.specs.declared.command.Entry.{Entry}
 
@@ -43,9 +48,13 @@ RecordsShowTheirRows =
     → IsInRange g → IsLegalNewestFirst g (entry ∷ before) → emitted (requests_of before) (request_of entry.command) ≡ Some e
     → record_line (declared_events (requests_of (later ++ entry ∷ before))) e.cpu (emitted_bytes e) ≡ emitted_line e
 
--- the records that a CPU's ring of an instance keeps, as consuming reads find them
+-- the records that a CPU's ring of an instance's live side keeps, as consuming reads find them
 abbrev pub kept_readings : Config → Option (List ℕ) → ℕ → List Request → List Reading
 kept_readings g instance cpu past = cpu_readings g.pages g.page_bytes (rings g instance past) cpu
+
+-- and those that a ring of the other side keeps
+abbrev pub spare_readings : Config → Option (List ℕ) → ℕ → List Request → List Reading
+spare_readings g instance cpu past = cpu_readings g.pages g.page_bytes (other_rings g instance past) cpu
 
 -- a line shows an emission of the history: one on this CPU, in this life of the instance, that the instance recorded. The line is that of the
 -- emission's row, with the number of its process and the time at which it came.
@@ -61,12 +70,63 @@ pub record ShowsEmission (instance : Option (List ℕ)) (cpu : ℕ) (entries : L
   pub recorded : IsTrue (is_recorded instance (requests_of before) e)
   pub shown : line ≡ emitted_line e
 
--- the line of each record that is kept shows an emission
+-- the line of each record that the live side keeps shows an emission
 abbrev pub KeptRecordsShowEmissions : Type 0
 KeptRecordsShowEmissions =
     (g : Config) (entries : List Entry) (instance : Option (List ℕ)) (cpu : ℕ) → IsInRange g → IsLegalNewestFirst g entries
     → All (λ (r : Reading). ShowsEmission instance cpu entries (record_line (declared_events (requests_of entries)) cpu r.rec))
     (kept_readings g instance cpu (requests_of entries))
+
+-- and so does the line of each record that the other side keeps
+abbrev pub KeptSpareRecordsShowEmissions : Type 0
+KeptSpareRecordsShowEmissions =
+    (g : Config) (entries : List Entry) (instance : Option (List ℕ)) (cpu : ℕ) → IsInRange g → IsLegalNewestFirst g entries
+    → All (λ (r : Reading). ShowsEmission instance cpu entries (record_line (declared_events (requests_of entries)) cpu r.rec))
+    (spare_readings g instance cpu (requests_of entries))
+
+-- ---- snapshots
+
+-- A write of 1 to `snapshot` exchanges the sides. What was live is the other side now and what was the other side is live, each with all of its
+-- records and counts. Nothing is copied or emptied.
+abbrev pub SnapshotsSwapTheSides : Type 0
+SnapshotsSwapTheSides =
+    (g : Config) (past : List Request) (instance : Option (List ℕ)) (append : Bool) (text : List ℕ) → written_number text ≡ Some 1
+    → (rings g instance (WriteFile instance (Some Snapshot) append text ∷ past) ≡ other_rings g instance past)
+    × (other_rings g instance (WriteFile instance (Some Snapshot) append text ∷ past) ≡ rings g instance past)
+
+-- An emission that makes a trigger act exchanges them too. The record that it brings, if it is recorded, goes to the side that was live.
+abbrev pub TriggersSwapTheSides : Type 0
+TriggersSwapTheSides =
+    (g : Config) (past : List Request) (instance : Option (List ℕ)) (request : Request) (e : Emitted) → emitted past request ≡ Some e
+    → acts past e (trigger_of instance e.k.event past) ≡ true
+    → (rings g instance (request ∷ past) ≡ other_rings g instance past)
+    × (other_rings g instance (request ∷ past) ≡ with_emitted instance past (Some e) (rings g instance past))
+
+-- whether a request writes to `snapshot` of an instance
+abbrev pub writes_snapshot : Option (List ℕ) → Request → Bool
+writes_snapshot instance (WriteFile other (Some Snapshot) append text) = is_same instance other
+writes_snapshot instance request = false
+
+-- nothing else reaches the other side: it stays as it is until a number is written to `snapshot`, a trigger acts or the instance is made anew
+abbrev pub SnapshotsStay : Type 0
+SnapshotsStay =
+    (g : Config) (past : List Request) (instance : Option (List ℕ)) (request : Request)
+    → makes instance request ≡ false → writes_snapshot instance request ≡ false → exchanges instance past request ≡ false
+    → other_rings g instance (request ∷ past) ≡ other_rings g instance past
+
+-- in a legal history a spare is there to exchange with where an event has a trigger
+abbrev pub TriggersHaveTheirSpare : Type 0
+TriggersHaveTheirSpare =
+    (g : Config) (entries : List Entry) (instance : Option (List ℕ)) → IsLegalNewestFirst g entries
+    → has_trigger instance (requests_of entries) ≡ true → has_spare instance (requests_of entries) ≡ true
+
+-- and where there is none the other side is empty, so a spare that is made is as new
+abbrev pub SparesBeginEmpty : Type 0
+SparesBeginEmpty =
+    (g : Config) (entries : List Entry) (instance : Option (List ℕ)) → IsLegalNewestFirst g entries
+    → has_spare instance (requests_of entries) ≡ false → other_rings g instance (requests_of entries) ≡ new_rings g
+
+-- ---- pipe reads
 
 -- of records of all CPUs those of one
 abbrev pub those_of : ℕ → List CpuReading → List CpuReading

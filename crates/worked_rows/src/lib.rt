@@ -31,3 +31,7 @@ mod rows;
 mod sessions;
 #[cfg(test)]
 mod sizes;
+#[cfg(test)]
+mod snapshots;
+#[cfg(test)]
+mod spares;

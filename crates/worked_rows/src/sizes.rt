@@ -15,16 +15,8 @@ struct Written {
     want: String,
 }
 
-/// Declares so many events, the last of them `tick`.
-fn many_events(alloc: Global, count: u32) -> Result<Written, Refused> {
-    let mut script = String::new(alloc);
-    let mut want = String::new(alloc);
-    for i in 1..count {
-        script.push_str(&format!(in alloc; "echo 'e{i} u64 n' >> synthetic_events\n")?)?;
-        want.push_str(&format!(in alloc; "e{i} u64 n\n")?)?;
-    }
-    script.push_str(
-        "\
+/// What a script with many events ends with: the last of them is `tick`.
+const LAST_OF_MANY: &str = "\
 echo 'tick u64 n' >> synthetic_events
 cat synthetic_events
 echo 1 > events/enable
@@ -34,8 +26,24 @@ emit 0 7 tick n=2
 cat events/synthetic/tick/filter
 cat events/synthetic/tick/format
 cat trace_pipe
-",
-    )?;
+";
+
+/// The script.
+fn many_declared(alloc: Global, count: u32) -> Result<String, Refused> {
+    let mut script = String::new(alloc);
+    for i in 1..count {
+        script.push_str(&format!(in alloc; "echo 'e{i} u64 n' >> synthetic_events\n")?)?;
+    }
+    script.push_str(LAST_OF_MANY)?;
+    Ok(script)
+}
+
+/// What it writes.
+fn many_shown(alloc: Global, count: u32) -> Result<String, Refused> {
+    let mut want = String::new(alloc);
+    for i in 1..count {
+        want.push_str(&format!(in alloc; "e{i} u64 n\n")?)?;
+    }
     want.push_str(&format!(in alloc;
         "\
 tick u64 n
@@ -49,7 +57,15 @@ format:
 7 [000] 2: tick: n=2
 "
     )?)?;
-    Ok(Written { script, want })
+    Ok(want)
+}
+
+/// A script that declares so many events, and what it writes.
+fn many_events(alloc: Global, count: u32) -> Result<Written, Refused> {
+    Ok(Written {
+        script: many_declared(alloc, count)?,
+        want: many_shown(alloc, count)?,
+    })
 }
 
 #[test]
@@ -73,18 +89,45 @@ struct Wide {
     page_bytes: u32,
 }
 
+impl Wide {
+    /// The name of the event.
+    fn event(&self, alloc: Global) -> Result<String, Refused> {
+        repeated(alloc, "e", self.name_bytes)
+    }
+
+    /// What the names of its fields begin with.
+    fn name(&self, alloc: Global) -> Result<String, Refused> {
+        repeated(alloc, "f", self.name_bytes.saturating_sub(2))
+    }
+
+    /// Its fields, as they are declared.
+    fn declared(&self, alloc: Global) -> Result<String, Refused> {
+        let name = self.name(alloc)?;
+        let size = self.field_bytes;
+        let mut fields = String::new(alloc);
+        for i in 10..self.fields.saturating_add(10) {
+            fields.push_str(&format!(in alloc; " char {name}{i}[{size}];")?)?;
+        }
+        Ok(fields)
+    }
+
+    /// The pairs of an emission of it, with the longest texts that its fields take.
+    fn pairs(&self, alloc: Global) -> Result<String, Refused> {
+        let name = self.name(alloc)?;
+        let text = repeated(alloc, "x", self.field_bytes.saturating_sub(1))?;
+        let mut pairs = String::new(alloc);
+        for i in 10..self.fields.saturating_add(10) {
+            pairs.push_str(&format!(in alloc; " {name}{i}={text}")?)?;
+        }
+        Ok(pairs)
+    }
+}
+
 /// An emission of a wide event with the longest texts that its fields take.
 fn wide_event(alloc: Global, wide: &Wide) -> Result<Written, Refused> {
-    let event = repeated(alloc, "e", wide.name_bytes)?;
-    let name = repeated(alloc, "f", wide.name_bytes.saturating_sub(2))?;
-    let text = repeated(alloc, "x", wide.field_bytes.saturating_sub(1))?;
-    let size = wide.field_bytes;
-    let mut fields = String::new(alloc);
-    let mut pairs = String::new(alloc);
-    for i in 10..wide.fields.saturating_add(10) {
-        fields.push_str(&format!(in alloc; " char {name}{i}[{size}];")?)?;
-        pairs.push_str(&format!(in alloc; " {name}{i}={text}")?)?;
-    }
+    let event = wide.event(alloc)?;
+    let fields = wide.declared(alloc)?;
+    let pairs = wide.pairs(alloc)?;
     Ok(Written {
         script: format!(in alloc;
             "\

@@ -1,6 +1,7 @@
 use Rattle.std.proofs.Common.{None, refl}
 use Rattle.trace_book.specs.declared.state.Named.{Named}
-use Rattle.trace_book.proofs.Usable.{stands_new, top_instance_stands}
+use Rattle.trace_book.proofs.NewInstance.{top_instance_stands}
+use Rattle.trace_book.proofs.Usable.{stands_new}
 use Rattle.trace_book.proofs.book.new_state.Goals as goal
 
 pub returns : goal.returns
@@ -9,5 +10,15 @@ returns c =
     let i = c.in_ok-new.field-0 in
     let made = c.in_ok-new.ensures in
     let top : Named = record { name = None; instance = i } in
-    stands_new g _ top c.new-2.ensures refl c.in_ok-vec.ensures.items refl
-    (top_instance_stands g i made.enabled made.filters made.overwrite made.tracing made.stands made.cpus made.pages made.page_bytes made.offers)
+    stands_new g _ top c.new-2.ensures refl c.in_ok-vec.ensures.items refl (top_instance_stands g i (record {
+      enabled = made.enabled;
+      filters = made.filters;
+      triggers = made.triggers;
+      overwrite = made.overwrite;
+      tracing = made.tracing;
+      live = made.live;
+      spare = made.spare;
+      cpus = made.cpus;
+      pages = made.pages;
+      page_bytes = made.page_bytes;
+    }))

@@ -11,5 +11,5 @@ invariant-loop-i l = record {
   came : (k : ℕ) (d : Named) → k < l.i → IsReadied (slice_index_or l.fn.instances k d).instance (slice_index_or l.instances k d).instance;
   left : (k : ℕ) (d : Named) → l.i ≤ k → slice_index_or l.instances k d ≡ slice_index_or l.fn.instances k d;
   room : (k : ℕ) (d : Named) → k < l.i → (slice_index_or l.instances k d).instance.armed ≡ true
-      → l.fn.len ≤ slice_index_or (buffers.readies (slice_index_or l.instances k d).instance.buffer) l.fn.cpu 0;
+      → l.fn.len ≤ slice_index_or (buffers.readies (slice_index_or l.instances k d).instance.sides.live) l.fn.cpu 0;
 }

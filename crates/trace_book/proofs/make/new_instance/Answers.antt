@@ -1,6 +1,7 @@
 use Rattle.std.proofs.Common.{ℕ, Bool, false, List, Option, None, replicate, ap, ◌∙◌}
 use Rattle.trace_filter.specs.Filters.{Parsed}
-use Rattle.trace_book.proofs.Making.{made-stands}
+use Rattle.trace_book.specs.declared.trigger.Trigger.{Trigger}
+use Rattle.trace_book.proofs.NewInstance.{made-stands}
 use Rattle.trace_book.proofs.make.new_instance.Goals as goal
 
 pub returns-clause-stands : goal.returns-clause-stands
@@ -8,5 +9,16 @@ returns-clause-stands c = λ past many.
     let new = c.in_ok-new.ensures in
     let flags : ℕ → List Bool = λ n. replicate n false in
     let filters : ℕ → List (Option Parsed) = λ n. replicate n None in
-    made-stands c.args.config.now past c.args.name.now c.in_ok-new.field-0 (new.enabled ∙ ap flags many) (new.filters ∙ ap filters many) new.overwrite new.tracing
-    new.stands new.cpus new.pages new.page_bytes new.offers
+    let triggers : ℕ → List (Option Trigger) = λ n. replicate n None in
+    made-stands c.args.config.now past c.args.name.now c.in_ok-new.field-0 (record {
+      enabled = new.enabled ∙ ap flags many;
+      filters = new.filters ∙ ap filters many;
+      triggers = new.triggers ∙ ap triggers many;
+      overwrite = new.overwrite;
+      tracing = new.tracing;
+      live = new.live;
+      spare = new.spare;
+      cpus = new.cpus;
+      pages = new.pages;
+      page_bytes = new.page_bytes;
+    })

@@ -1,8 +1,11 @@
-use Rattle.std.proofs.Common.{◌≡◌, ℕ, ◌<◌, List, [], length, IfOk, ap, ◌∙◌, subst}
+use Rattle.std.proofs.Common.{◌≡◌, ℕ, ◌<◌, List, [], length, map, Option, IfOk, ap, ◌∙◌, subst}
 use Rattle.trace_format.specs.Definitions.{Definition}
+use Rattle.std.specs.Option.{option_to_list}
 use Rattle.trace_history.specs.History.{flag_text}
-use Rattle.trace_book.specs.Commands.{shown_filter}
-use Rattle.trace_book.proofs.EventReads.{enabled-at_place, filter-at_place, format-at_place}
+use Rattle.trace_text.specs.TriggerText.{trigger_text}
+use Rattle.trace_book.specs.Commands.{shown_filter, shown_kept}
+use Rattle.trace_book.specs.declared.trigger.Trigger.{Trigger}
+use Rattle.trace_book.proofs.EventReads.{enabled-at_place, filter-at_place, format-at_place, triggers-at_place}
 use Rattle.trace_book.proofs.read.file_text.Goals as goal
 
 pub returns-in-EventEnable : goal.returns-in-EventEnable
@@ -31,3 +34,13 @@ returns-in-EventFormat c = λ g name past is there.
     let d : Definition = record { name = []; fields = [] } in
     rw c.in-EventFormat.is
     (subst (λ (t : List ℕ). IfOk c.format.result (λ text. text ≡ t)) (format-at_place g name past source event d is inside) (c.format.ensures d))
+
+pub returns-in-EventTrigger : goal.returns-in-EventTrigger
+returns-in-EventTrigger c = λ g name past is there.
+    let source = c.args.source in
+    let event = c.in-EventTrigger.event in
+    let inside : event < length source.catalog.now = rw c.in-EventTrigger.is at there in
+    rw c.in-EventTrigger.is
+    (subst (λ (t : List ℕ). IfOk c.triggers.result (λ text. text ≡ t))
+    (ap (λ (trigger : Option Trigger). trigger_text (map shown_kept (option_to_list trigger))) c.trigger.ensures
+    ∙ triggers-at_place g name past source event is inside) c.triggers.ensures)

@@ -6,6 +6,8 @@ use Rattle.trace_book.specs.Emissions.{IsAhead}
 use Rattle.trace_book.specs.Found.{numbered}
 use Rattle.trace_book.specs.declared.change.Pending.{Pending}
 use Rattle.trace_book.proofs.Emitting.{named-found, answers-emission, is-emission, ready-emission, fit-at}
+use Rattle.trace_command.specs.Requests.{Emission}
+use Rattle.trace_book.proofs.Alike.{state_alike-stands}
 use Rattle.trace_book.proofs.state.State.prepare_emission.Goals as goal
 
 pub returns-clause-prepared : goal.returns-clause-prepared
@@ -33,5 +35,6 @@ returns-clause-prepared c = λ past stands.
     c.in_ok-pending.ensures.alike ahead in (
       answers-emission g past name c.args.cpu pairs (numbered found) row inside (named-found g old past name found stands c.in-Some.ensures.named) built,
       emission,
-      ready-emission g old new found.index row c.args.cpu c.args.pid pending ahead short,
+      ready-emission g old new past (Emission name c.args.cpu c.args.pid pairs) found.index row c.args.cpu c.args.pid pending
+          (state_alike-stands g old new past c.in_ok-pending.ensures.alike stands) emission ahead short,
     )

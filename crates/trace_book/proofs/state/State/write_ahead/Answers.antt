@@ -1,13 +1,13 @@
 use Rattle.std.proofs.Common.{◌≡◌, ℕ, ◌+◌, ◌<◌, List, length, All, get_or, refl, sym, ◌∙◌, subst, to_z, of_z, w32, rules}
 use Rattle.std.proofs.lemmas.Int.{to_z-of_z}
-use Rattle.trace_history.specs.Rings.{record_bytes}
+use Rattle.trace_history.specs.Emissions.{record_bytes}
 use Rattle.trace_book.specs.States.{EachCame, HasRoom}
 use Rattle.trace_book.specs.Emissions.{IsArmedFor, IsReadied}
 use Rattle.trace_book.specs.Instances.{IsAlike}
-use Rattle.trace_book.specs.Rows.{records}
+use Rattle.trace_book.specs.Rows.{fires, records}
 use Rattle.trace_book.specs.declared.change.Pending.{Pending}
 use Rattle.trace_book.specs.declared.state.Named.{Named}
-use Rattle.trace_book.proofs.Emitting.{alike-each, armed-each, is-ahead, room-each, written-over}
+use Rattle.trace_book.proofs.Emitting.{alike-each, armed-each, fires-each, is-ahead, room-each, written-over}
 use Rattle.trace_book.proofs.state.State.write_ahead.Goals as goal
 
 pub returns-in_err-ready_each-clause-alike : goal.returns-in_err-ready_each-clause-alike
@@ -73,4 +73,7 @@ returns-clause-ahead c =
     (subst (λ (is : List Named). (k : ℕ) (d : Named) → k < length old
     → (get_or is k d).instance.armed ≡ records (get_or old k d).instance c.args.index c.args.row.now c.args.cpu c.args.pid) after
     (armed-each c.args.index c.args.row.now c.args.cpu c.args.pid old armed new came readied))
+    (subst (λ (is : List Named). (k : ℕ) (d : Named) → k < length old
+    → (get_or is k d).instance.fires ≡ fires (get_or old k d).instance c.args.index c.args.row.now c.args.cpu c.args.pid) after
+    (fires-each c.args.index c.args.row.now c.args.cpu c.args.pid old armed new came readied))
     refl bytes c.in_ok-bytes.ensures.is_record (subst (All (λ (n : Named). HasRoom pending n.instance)) after ready)

@@ -1,13 +1,13 @@
 use Rattle.std.proofs.Common.{◌≡◌, ℕ, ◌≤◌, ◌<◌, length, slice_index_or}
-use Rattle.trace_book.specs.States.{IsWritten}
+use Rattle.trace_book.specs.States.{IsDelivered}
 use Rattle.trace_book.specs.declared.state.Named.{Named}
-use Rattle.trace_book.proofs.state.write_each.Given as goal
+use Rattle.trace_book.proofs.state.deliver_each.Given as goal
 
 abbrev pub invariant-loop-i : goal.invariant-loop-i
 invariant-loop-i l = record {
   many : length l.instances ≡ length l.fn.instances;
   names : (k : ℕ) (d : Named) → (slice_index_or l.instances k d).name ≡ (slice_index_or l.fn.instances k d).name;
   came : (k : ℕ) (d : Named) → k < l.i
-      → IsWritten l.fn.pending (slice_index_or l.fn.instances k d).instance (slice_index_or l.instances k d).instance;
+      → IsDelivered l.fn.delivery (slice_index_or l.fn.instances k d).instance (slice_index_or l.instances k d).instance;
   left : (k : ℕ) (d : Named) → l.i ≤ k → slice_index_or l.instances k d ≡ slice_index_or l.fn.instances k d;
 }

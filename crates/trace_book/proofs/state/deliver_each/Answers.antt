@@ -1,7 +1,7 @@
 use Rattle.std.proofs.Common.{arith, refl, ◌∙◌, length-set, get_or-set_other, ◌≢◌}
-use Rattle.trace_book.specs.States.{IsWritten}
+use Rattle.trace_book.specs.States.{IsDelivered}
 use Rattle.trace_book.proofs.EachInstance.{came_more, names_more}
-use Rattle.trace_book.proofs.state.write_each.Goals as goal
+use Rattle.trace_book.proofs.state.deliver_each.Goals as goal
 
 pub loop-i-preserved : goal.loop-i-preserved
 loop-i-preserved c =
@@ -9,6 +9,13 @@ loop-i-preserved c =
     let read = c.index-instances-i.result in record {
       many = length-set _ _ _ ∙ was.many;
       names = names_more c.args.instances.now c.loop-i.instances c.loop-i.i read _ (omega arith) refl was.names;
-      came = came_more (IsWritten c.args.pending.now) c.args.instances.now c.loop-i.instances c.loop-i.i read _ (omega arith) c.write.ensures was.came was.left;
+      came = came_more (IsDelivered c.args.delivery.now) c.args.instances.now c.loop-i.instances c.loop-i.i read _ (omega arith)
+          c.deliver.ensures was.came was.left;
       left = λ k d above. let other : k ≢ c.loop-i.i = omega arith in rw get_or-set_other (was.left k d (omega arith));
     }
+
+pub deliver-requires-clause-record : goal.deliver-requires-clause-record
+deliver-requires-clause-record c =
+    let was = c.loop-i.invariant in
+    let read = c.index-instances-i.result in
+    rw (was.left c.loop-i.i read (omega arith)) (c.requires.record c.loop-i.i read (omega (arith, was.many)))

@@ -1,0 +1,77 @@
+//! Triggers as an instance keeps them (events.rst, "Event triggers").
+
+ghost use Rattle.std.specs.Prelude.{◌≡◌, ◌-◌, Some, option_copied};
+ghost use Rattle.trace_history.specs.Triggers as triggers;
+ghost use Rattle.trace_book.specs.Rows.{kept_acts, kept_holds};
+ghost use Rattle.trace_book.specs.States.{counted_down};
+ghost use Rattle.trace_book.specs.Commands.{shown_kept};
+ghost use Rattle.trace_text.specs.ShownTriggers.{shown_trigger};
+
+use trace_filter::Filter;
+use trace_format::Row;
+use trace_text::Shown;
+use trace_trigger::SnapshotTrigger;
+
+/// A trigger that takes a snapshot for each emission of its event that its filter passes: so many times more, or without end.
+#[derive(Drop)]
+pub(crate) struct Trigger {
+    pub left: Option<u32>,
+    pub filter: Option<Filter>,
+}
+
+impl From<SnapshotTrigger> for Trigger {
+    ghost from_gives = { λ written trigger. trigger ≡ record { left = written.count; filter = written.filter } };
+
+    fn from(written: SnapshotTrigger) -> Trigger {
+        Trigger {
+            left: written.count,
+            filter: written.filter,
+        }
+    }
+}
+
+impl Trigger {
+    /// The trigger as its file shows it.
+    pub(crate) fn shown(&self) -> Shown<'_>
+        ensures { shown_trigger result ≡ shown_kept self.now }
+    {
+        Shown::Snapshot {
+            left: self.left.map(u64::from),
+            filter: self.filter.as_ref().map(|filter| filter.text()),
+        }
+    }
+
+    /// Whether the trigger acts on an emission of its event.
+    pub(crate) fn acts(&self, row: &Row, cpu: u32, pid: i32) -> bool
+        ensures { result ≡ kept_acts (Some self.now) row.now cpu pid }
+    {
+        is_left(self.left) && passes(self.filter.as_ref(), row, cpu, pid)
+    }
+
+    /// Counts that the trigger acted.
+    pub(crate) fn count_down(&mut self)
+        ensures { Some self.new ≡ counted_down (Some self.old) }
+    {
+        if let Some(left) = self.left {
+            self.left = Some(left.saturating_sub(1));
+        }
+    }
+}
+
+// Whether there is a time left.
+fn is_left(left: Option<u32>) -> bool
+    ensures { result ≡ triggers.is_left left }
+{
+    left != Some(0)
+}
+
+/// Whether an emission passes a filter, if there is one.
+#[tactic(auto, unfolding(crate::specs::Rows::kept_holds))]
+pub(crate) fn passes(filter: Option<&Filter>, row: &Row, cpu: u32, pid: i32) -> bool
+    ensures { result ≡ kept_holds (option_copied filter.entry) row.now cpu pid }
+{
+    match filter {
+        Some(filter) => filter.passes(row, cpu, pid),
+        None => true,
+    }
+}

@@ -1,0 +1,395 @@
+-- A spare is there where an event has a trigger, and without one the other side is empty.
+use Rattle.std.proofs.Common.{◌≡◌, ◌⊎◌, inl, inr, ℕ, suc, ◌+◌, ◌-◌, ◌<◌, Bool, true, false, ◌&&◌, ◌||◌, if◌then◌else◌, List, [], ◌∷◌, length, replicate, get_or, bytes_eq, is_some, Option, None, Some, unwrap_or, IsOk, Result, Ok, Err, refl, sym, ap, ◌∙◌, subst, arith, true≢false}
+use Rattle.std.specs.List.{list_any}
+use Rattle.std.specs.Option.{option_to_list}
+use Rattle.std.proofs.lemmas.Bool.{and_parts}
+use Rattle.std.proofs.lemmas.List.{length-replicate}
+use Rattle.std.proofs.lemmas.List.Folds.{list_any_at}
+use Rattle.std.proofs.lemmas.Slice.Eq.{bytes_eq-Decides}
+use Rattle.page_ring.specs.Events as ring
+use Rattle.trace_buffer.specs.Families.{all_cleared}
+use Rattle.trace_format.specs.Definitions.{Definition}
+use Rattle.trace_format.specs.Cells.{Cells}
+use Rattle.trace_format.specs.Rows.{row_of}
+use Rattle.trace_trigger.specs.TriggerTexts.{said_of}
+use Rattle.trace_trigger.specs.declared.fault.TriggerFault.{TriggerFault}
+use Rattle.trace_trigger.specs.declared.trigger.TriggerText.{TriggerText}
+use Rattle.trace_trigger.specs.declared.trigger.TriggerText.TheVariants.{Nothing, Attach, Remove}
+use Rattle.trace_command.specs.Paths.{File, Snapshot, EventTrigger}
+use Rattle.trace_command.specs.Requests.{Request, Emission, MakeInstance, WriteFile, request_of}
+use Rattle.trace_command.specs.declared.command.Config.{Config}
+use Rattle.trace_command.specs.declared.command.Entry.{Entry}
+use Rattle.trace_history.specs.Emissions.{Emitted, emitted, emitted_event, emitted_row}
+use Rattle.trace_history.specs.History.{answer_with_room, missing_event, unless_refused, spare_answer, snapshot_answer, named_trigger_answer, requests_of, IsLegalNewestFirst}
+use Rattle.trace_history.specs.Laws.{TriggersHaveTheirSpare, SparesBeginEmpty}
+use Rattle.trace_history.specs.Rings.{new_rings, spare_after, other_rings}
+use Rattle.trace_history.specs.Settings.{NumberedEvent, is_same, makes, set_by, event_named, declares, declared_events, now_of}
+use Rattle.trace_history.specs.Snapshots.{SnapshotWrite, Frees, Takes, Empties, written_snapshot, takes_snapshot, clears_spare, spare_written, spare_armed, spare_armed_for, sets_spare, has_spare, is_exchanged_by, exchanges, live_side}
+use Rattle.trace_history.specs.Triggers.{Trigger, written_trigger, sets_trigger, trigger_of, has_trigger, acts}
+use Rattle.trace_history.proofs.Events.{named_in-fewer, place_of_id}
+use Rattle.trace_history.proofs.EventLists.{named_at}
+use Rattle.trace_history.proofs.LegalEvents.{done-had_room, asked-done, named_in-more, named-is_numbered, legal-events}
+use Rattle.trace_history.proofs.PipeReads.{is_same-self}
+use Rattle.trace_history.proofs.Sides.{rings-stay, rings-made, side-has_all_cpus}
+
+-- ---- one instance by two names
+
+same-instance : (instance other : Option (List ℕ)) → is_same instance other ≡ true → instance ≡ other
+same-instance None None same = refl
+same-instance (Some name) (Some other) same = ap Some ((bytes_eq-Decides name other).0 same)
+same-instance None (Some other) same = absurd (cc)
+same-instance (Some name) None same = absurd (cc)
+
+-- ---- the events that are declared
+
+-- a test of all events that one of them passes
+named-passes : (test : Definition → Bool) (past : List Request) (name : List ℕ) (k : NumberedEvent) → event_named name past ≡ Some k → test k.event ≡ true
+    → list_any test (declared_events past) ≡ true
+named-passes test past name k found passes =
+    let events = declared_events past in
+    let numbered = named-is_numbered events name k found in
+    let place = place_of_id events name k.id k.event numbered.named numbered.there in
+    list_any_at test events (k.id - 1) k.event place.inside (ap test (sym place.there) ∙ passes)
+
+-- ---- what a write sets of a trigger
+
+said-armed : (number : ℕ) (said : Result TriggerText TriggerFault) (t : Trigger) → written_trigger number said ≡ Some (Some t) → spare_armed said ≡ Some true
+said-armed number (Ok (Attach spec)) t is = refl
+said-armed number (Ok Remove) t is = absurd (cc)
+said-armed number (Ok Nothing) t is = absurd (cc)
+said-armed number (Err fault) t is = absurd (cc)
+
+-- a write that attaches a trigger to a declared event makes a spare
+sets-armed : (k : NumberedEvent) (past : List Request) (file : File) (text : List ℕ) (t : Trigger) → event_named k.event.name past ≡ Some k
+    → sets_trigger k.event past file text ≡ Some (Some t) → sets_spare past file text ≡ Some true
+sets-armed k past (EventTrigger name) text t there is = by (bytes_eq k.event.name name) refl is
+  where
+    by : (same : Bool) → bytes_eq k.event.name name ≡ same
+        → (if same then written_trigger (length past) (said_of k.event text) else None) ≡ Some (Some t) → spare_armed_for (event_named name past) text ≡ Some true
+    by true same h =
+        let e : k.event.name ≡ name = (bytes_eq-Decides k.event.name name).0 same in
+        let found : event_named name past ≡ Some k = ap (λ (n : List ℕ). event_named n past) (sym e) ∙ there in
+        ap (λ (o : Option NumberedEvent). spare_armed_for o text) found ∙ said-armed (length past) (said_of k.event text) t h
+    by false same h = absurd (cc)
+sets-armed k past _ text t there is = absurd (cc)
+
+set-armed : (instance : Option (List ℕ)) (k : NumberedEvent) (past : List Request) (request : Request) (t : Trigger) → event_named k.event.name past ≡ Some k
+    → set_by instance (sets_trigger k.event past) request ≡ Some (Some t) → set_by instance (sets_spare past) request ≡ Some true
+set-armed instance k past (WriteFile other (Some file) append text) t there is = by (is_same instance other) is
+  where
+    by : (same : Bool) → (if same then sets_trigger k.event past file text else None) ≡ Some (Some t)
+        → (if same then sets_spare past file text else None) ≡ Some true
+    by true h = sets-armed k past file text t there h
+    by false h = absurd (cc)
+set-armed instance k past _ t there is = absurd (cc)
+
+-- a write that is done sets none for an event that is not declared
+sets-none : (g : Config) (other : Option (List ℕ)) (past : List Request) (append : Bool) (file : File) (text : List ℕ) (event : Definition)
+    → IsOk (answer_with_room g past (WriteFile other (Some file) append text)) → event_named event.name past ≡ None → sets_trigger event past file text ≡ None
+sets-none g other past append (EventTrigger name) text event done none = by (bytes_eq event.name name) refl
+  where
+    asked : IsOk (unless_refused (missing_event past name) (named_trigger_answer other past text (event_named name past)))
+    asked = asked-done other past (unless_refused (missing_event past name) (named_trigger_answer other past text (event_named name past))) done
+
+    by : (same : Bool) → bytes_eq event.name name ≡ same → (if same then written_trigger (length past) (said_of event text) else None) ≡ None
+    by false same = refl
+    by true same =
+        let e : event.name ≡ name = (bytes_eq-Decides event.name name).0 same in
+        let found : event_named name past ≡ None = ap (λ (n : List ℕ). event_named n past) (sym e) ∙ none in
+        absurd (let h = rw found at asked in cc)
+sets-none g other past append _ text event done none = refl
+
+set-none : (g : Config) (instance : Option (List ℕ)) (past : List Request) (request : Request) (event : Definition) → IsOk (answer_with_room g past request)
+    → event_named event.name past ≡ None → set_by instance (sets_trigger event past) request ≡ None
+set-none g instance past (WriteFile other (Some file) append text) event done none = by (is_same instance other)
+  where
+    by : (same : Bool) → (if same then sets_trigger event past file text else None) ≡ None
+    by true = sets-none g other past append file text event done none
+    by false = refl
+set-none g instance past _ event done none = refl
+
+-- ---- a spare that is freed
+
+-- the write that freed it
+pub record IsFreed (instance : Option (List ℕ)) (request : Request) : Type 0 where
+  pub append : Bool
+  pub text : List ℕ
+  pub is : request ≡ WriteFile instance (Some Snapshot) append text
+  pub frees : written_snapshot text ≡ Some Frees
+
+written-frees : (write : Option SnapshotWrite) → spare_written write ≡ Some false → write ≡ Some Frees
+written-frees (Some Frees) is = refl
+written-frees (Some Takes) is = absurd (cc)
+written-frees (Some Empties) is = absurd (cc)
+written-frees None is = absurd (cc)
+
+said-arms : (said : Result TriggerText TriggerFault) → spare_armed said ≡ Some false → ⊥
+said-arms (Ok (Attach spec)) is = cc
+said-arms (Ok Remove) is = cc
+said-arms (Ok Nothing) is = cc
+said-arms (Err fault) is = cc
+
+armed-for : (found : Option NumberedEvent) (text : List ℕ) → spare_armed_for found text ≡ Some false → ⊥
+armed-for None text is = cc
+armed-for (Some k) text is = said-arms (said_of k.event text) is
+
+pub set-freed : (instance : Option (List ℕ)) (past : List Request) (request : Request) → set_by instance (sets_spare past) request ≡ Some false
+    → IsFreed instance request
+set-freed instance past (WriteFile other (Some Snapshot) append text) is = by (is_same instance other) refl is
+  where
+    by : (same : Bool) → is_same instance other ≡ same → (if same then spare_written (written_snapshot text) else None) ≡ Some false
+        → IsFreed instance (WriteFile other (Some Snapshot) append text)
+    by true same h = record {
+      append = append;
+      text = text;
+      is = ap (λ (o : Option (List ℕ)). let r : Request = WriteFile o (Some Snapshot) append text in r) (sym (same-instance instance other same));
+      frees = written-frees (written_snapshot text) h;
+    }
+    by false same h = absurd (cc)
+set-freed instance past (WriteFile other (Some (EventTrigger name)) append text) is = by (is_same instance other) is
+  where
+    by : (same : Bool) → (if same then spare_armed_for (event_named name past) text else None) ≡ Some false
+        → IsFreed instance (WriteFile other (Some (EventTrigger name)) append text)
+    by true h = absurd (armed-for (event_named name past) text h)
+    by false h = absurd (cc)
+set-freed instance past (WriteFile other (Some file) append text) is = by (is_same instance other) is
+  where
+    by : (same : Bool) → (if same then sets_spare past file text else None) ≡ Some false
+        → IsFreed instance (WriteFile other (Some file) append text)
+    by true h = absurd (cc)
+    by false h = absurd (cc)
+set-freed instance past _ is = absurd (cc)
+
+-- it is freed only where no event has a trigger
+freed-unused : (g : Config) (instance : Option (List ℕ)) (past : List Request) (append : Bool) (text : List ℕ)
+    → IsOk (answer_with_room g past (WriteFile instance (Some Snapshot) append text)) → written_snapshot text ≡ Some Frees → has_trigger instance past ≡ false
+unfolding snapshot_answer
+freed-unused g instance past append text done frees =
+    let asked : IsOk (spare_answer (has_trigger instance past) (written_snapshot text)) =
+    asked-done instance past (spare_answer (has_trigger instance past) (written_snapshot text)) done in
+    by (has_trigger instance past) (subst (λ (w : Option SnapshotWrite). IsOk (spare_answer (has_trigger instance past) w)) frees asked)
+  where
+    by : (used : Bool) → IsOk (spare_answer used (Some Frees)) → used ≡ false
+    by true h = absurd (cc)
+    by false h = refl
+
+-- ---- an event's trigger and the spare
+
+-- an event has no trigger before it is declared, and then a spare is there while it has one
+record IsArmed (instance : Option (List ℕ)) (past : List Request) (k : NumberedEvent) : Type 0 where
+  untriggered : event_named k.event.name past ≡ None → trigger_of instance k.event past ≡ None
+  armed : (t : Trigger) → event_named k.event.name past ≡ Some k → trigger_of instance k.event past ≡ Some t → has_spare instance past ≡ true
+
+-- a setting after a request
+abbrev left : {A : Type 0} → A → Bool → Option A → A → A
+left default new set before = if new then default else unwrap_or set before
+
+armed-after : (g : Config) (instance : Option (List ℕ)) (past : List Request) (request : Request) (k : NumberedEvent) → IsOk (answer_with_room g past request)
+    → IsArmed instance past k → IsArmed instance (request ∷ past) k
+armed-after g instance past request k done before = record { untriggered = untriggered; armed = armed }
+  where
+    set_trigger : Option (Option Trigger)
+    set_trigger = set_by instance (sets_trigger k.event past) request
+
+    set_spare : Option Bool
+    set_spare = set_by instance (sets_spare past) request
+
+    none_left : (new : Bool) → event_named k.event.name past ≡ None → left None new set_trigger (trigger_of instance k.event past) ≡ None
+    none_left true none = refl
+    none_left false none =
+        ap (λ (o : Option (Option Trigger)). unwrap_or o (trigger_of instance k.event past)) (set-none g instance past request k.event done none)
+        ∙ before.untriggered none
+
+    untriggered : event_named k.event.name (request ∷ past) ≡ None → trigger_of instance k.event (request ∷ past) ≡ None
+    untriggered none =
+        none_left (makes instance request) (named_in-fewer k.event.name (declared_events past) (option_to_list (declares request)) none)
+
+    -- what the request frees, it frees where the event has no trigger
+    freed : (t : Trigger) → event_named k.event.name past ≡ Some k → trigger_of instance k.event past ≡ Some t → set_spare ≡ Some false → ⊥
+    freed t there attached frees =
+        let free = set-freed instance past request frees in
+        let unused : has_trigger instance past ≡ false =
+        freed-unused g instance past free.append free.text (subst (λ (r : Request). IsOk (answer_with_room g past r)) free.is done) free.frees in
+        let used : has_trigger instance past ≡ true =
+        named-passes (λ (event : Definition). is_some (trigger_of instance event past)) past k.event.name k there (ap is_some attached) in
+        true≢false (sym used ∙ unused)
+
+    by_spare : (t : Trigger) → event_named k.event.name past ≡ Some k → trigger_of instance k.event past ≡ Some t → (set : Option Bool) → set_spare ≡ set
+        → unwrap_or set (has_spare instance past) ≡ true
+    by_spare t there attached None is = before.armed t there attached
+    by_spare t there attached (Some true) is = refl
+    by_spare t there attached (Some false) is = absurd (freed t there attached is)
+
+    by_trigger : (t : Trigger) → event_named k.event.name past ≡ Some k → (set : Option (Option Trigger)) → set_trigger ≡ set
+        → unwrap_or set (trigger_of instance k.event past) ≡ Some t → unwrap_or set_spare (has_spare instance past) ≡ true
+    by_trigger t there None is h = by_spare t there h set_spare refl
+    by_trigger t there (Some None) is h = absurd (cc)
+    by_trigger t there (Some (Some new)) is h =
+        ap (λ (o : Option Bool). unwrap_or o (has_spare instance past)) (set-armed instance k past request new there is)
+
+    by_life : (t : Trigger) → event_named k.event.name past ≡ Some k → (new : Bool) → makes instance request ≡ new
+        → left None new set_trigger (trigger_of instance k.event past) ≡ Some t → left false new set_spare (has_spare instance past) ≡ true
+    by_life t there true new h = absurd (cc)
+    by_life t there false new h = by_trigger t there set_trigger refl h
+
+    armed : (t : Trigger) → event_named k.event.name (request ∷ past) ≡ Some k → trigger_of instance k.event (request ∷ past) ≡ Some t
+        → has_spare instance (request ∷ past) ≡ true
+    armed t there attached = by (event_named k.event.name past) refl
+      where
+        more : List Definition
+        more = option_to_list (declares request)
+
+        by : (old : Option NumberedEvent) → event_named k.event.name past ≡ old → has_spare instance (request ∷ past) ≡ true
+        by None none = absurd (let h : None ≡ Some t = sym (none_left (makes instance request) none) ∙ attached in cc)
+        by (Some old) was =
+            let e : Some old ≡ Some k = sym (named_in-more k.event.name (declared_events past) more old was) ∙ there in
+            by_life t (was ∙ e) (makes instance request) refl attached
+
+armed-legal : (g : Config) (entries : List Entry) (instance : Option (List ℕ)) (k : NumberedEvent) → IsLegalNewestFirst g entries
+    → IsArmed instance (requests_of entries) k
+armed-legal g [] instance k legal = record { untriggered = λ none. refl; armed = λ t there attached. absurd (cc) }
+armed-legal g (entry ∷ entries) instance k legal =
+    armed-after g instance (requests_of entries) (request_of entry.command) k
+    (done-had_room g (requests_of entries) (request_of entry.command) legal.2).0 (armed-legal g entries instance k legal.3)
+
+-- an event among the declared ones that passes a test
+record IsPassed (test : Definition → Bool) (events : List Definition) : Type 0 where
+  place : ℕ
+  event : Definition
+  inside : place < length events
+  there : get_or events place event ≡ event
+  passes : test event ≡ true
+
+passed-in : (test : Definition → Bool) (events : List Definition) → list_any test events ≡ true → IsPassed test events
+passed-in test [] is = absurd (cc)
+passed-in test (event ∷ events) is = by (test event) refl is (passed-in test events)
+  where
+    by : (first : Bool) → test event ≡ first → (first || list_any test events) ≡ true → (list_any test events ≡ true → IsPassed test events)
+        → IsPassed test (event ∷ events)
+    by true here h rest = record { place = 0; event = event; inside = omega arith; there = refl; passes = here }
+    by false here h rest =
+        let found = rest h in
+        record { place = suc found.place; event = found.event; inside = omega (arith, found.inside); there = found.there; passes = found.passes }
+
+value_of-some : {A : Type 0} (o : Option A) (P : Type 0) → is_some o ≡ true → ((x : A) → o ≡ Some x → P) → P
+value_of-some None P is then_P = absurd (cc)
+value_of-some (Some x) P is then_P = then_P x refl
+
+pub triggers_have_their_spare : TriggersHaveTheirSpare
+triggers_have_their_spare g entries instance legal has =
+    let past = requests_of entries in
+    let events = declared_events past in
+    let found = passed-in (λ (event : Definition). is_some (trigger_of instance event past)) events has in
+    let k : NumberedEvent = record { id = suc found.place; event = found.event } in
+    let there : event_named found.event.name past ≡ Some k =
+    subst (λ (event : Definition). event_named event.name past ≡ Some (let n : NumberedEvent = record { id = suc found.place; event = event } in n)) found.there
+    (named_at events found.place found.event (legal-events g entries legal).are found.inside) in
+    value_of-some (trigger_of instance found.event past) (has_spare instance past ≡ true) found.passes
+    (λ t attached. (armed-legal g entries instance k legal).armed t there attached)
+
+-- ---- without a spare
+
+-- new rings stay so on the other side
+new-stay : (g : Config) (instance : Option (List ℕ)) (request : Request) → spare_after g instance request (new_rings g) ≡ new_rings g
+new-stay g instance (WriteFile other (Some Snapshot) append text) = by (is_same instance other && clears_spare (written_snapshot text))
+  where
+    by : (clears : Bool) → (if clears then all_cleared (new_rings g) else new_rings g) ≡ new_rings g
+    by true =
+        let none : List ring.Event = [] in
+        ap (λ (n : ℕ). let rings : List (List ring.Event) = replicate n none in rings) (length-replicate g.cpus none)
+    by false = refl
+new-stay g instance (MakeInstance name) = by (makes instance (MakeInstance name))
+  where
+    by : (new : Bool) → (if new then new_rings g else new_rings g) ≡ new_rings g
+    by true = refl
+    by false = refl
+new-stay g instance request = refl
+
+-- a spare that is freed is emptied
+freed-new : (g : Config) (instance : Option (List ℕ)) (past : List Request) (request : Request) → IsFreed instance request
+    → spare_after g instance request (other_rings g instance past) ≡ new_rings g
+freed-new g instance past request free =
+    let none : List ring.Event = [] in
+    let family = other_rings g instance past in
+    ap (λ (r : Request). spare_after g instance r family) free.is
+    ∙ rw (is_same-self instance, free.frees)
+    (ap (λ (n : ℕ). let rings : List (List ring.Event) = replicate n none in rings) (side-has_all_cpus g instance (1 - live_side instance past) past))
+
+takes-spare : (write : Option SnapshotWrite) → takes_snapshot write ≡ true → spare_written write ≡ Some true
+takes-spare (Some Takes) is = refl
+takes-spare (Some Frees) is = absurd (cc)
+takes-spare (Some Empties) is = absurd (cc)
+takes-spare None is = absurd (cc)
+
+-- what exchanges the sides makes a spare, or is an emission on which a trigger acts
+exchange-armed : (instance : Option (List ℕ)) (past : List Request) (request : Request) → exchanges instance past request ≡ true
+    → (set_by instance (sets_spare past) request ≡ Some true)
+    ⊎ ((is_exchanged_by instance past (emitted past request) ≡ true) × (set_by instance (sets_spare past) request ≡ None))
+exchange-armed instance past (WriteFile other (Some Snapshot) append text) is =
+    let parts = and_parts (is_same instance other) (takes_snapshot (written_snapshot text)) is in
+    inl (rw parts.0 (takes-spare (written_snapshot text) parts.1))
+exchange-armed instance past (Emission name cpu pid pairs) is = inr (is, refl)
+exchange-armed instance past _ is = absurd (cc)
+
+-- Without a spare the other side is empty, where it was so and a trigger that acts has a spare.
+pub empty-after : (g : Config) (instance : Option (List ℕ)) (past : List Request) (request : Request)
+    → (is_exchanged_by instance past (emitted past request) ≡ true → has_spare instance past ≡ true)
+    → (has_spare instance past ≡ false → other_rings g instance past ≡ new_rings g)
+    → has_spare instance (request ∷ past) ≡ false → other_rings g instance (request ∷ past) ≡ new_rings g
+empty-after g instance past request acting before without = by_life (makes instance request) refl without
+  where
+    set_spare : Option Bool
+    set_spare = set_by instance (sets_spare past) request
+
+    by_set : (set : Option Bool) → set_spare ≡ set → unwrap_or set (has_spare instance past) ≡ false
+        → spare_after g instance request (other_rings g instance past) ≡ new_rings g
+    by_set None is h = ap (spare_after g instance request) (before h) ∙ new-stay g instance request
+    by_set (Some true) is h = absurd (cc)
+    by_set (Some false) is h = freed-new g instance past request (set-freed instance past request is)
+
+    no_exchange : unwrap_or set_spare (has_spare instance past) ≡ false
+        → (set_spare ≡ Some true) ⊎ ((is_exchanged_by instance past (emitted past request) ≡ true) × (set_spare ≡ None)) → ⊥
+    no_exchange h (inl set) = let e = rw set at h in cc
+    no_exchange h (inr acts) =
+        let e : has_spare instance past ≡ false = rw acts.1 at h in
+        true≢false (sym (acting acts.0) ∙ e)
+
+    by_exchange : (flips : Bool) → makes instance request ≡ false → exchanges instance past request ≡ flips
+        → unwrap_or set_spare (has_spare instance past) ≡ false → other_rings g instance (request ∷ past) ≡ new_rings g
+    by_exchange true alive is h = absurd (no_exchange h (exchange-armed instance past request is))
+    by_exchange false alive is h = (rings-stay g instance past request alive is).spare ∙ by_set set_spare refl h
+
+    by_life : (new : Bool) → makes instance request ≡ new → left false new set_spare (has_spare instance past) ≡ false
+        → other_rings g instance (request ∷ past) ≡ new_rings g
+    by_life true new h = (rings-made g instance past request new).spare
+    by_life false alive h = by_exchange (exchanges instance past request) alive refl h
+
+-- an emission on which a trigger acts is one of a declared event that has it
+pub acting-has_trigger : (instance : Option (List ℕ)) (past : List Request) (request : Request)
+    → is_exchanged_by instance past (emitted past request) ≡ true → has_trigger instance past ≡ true
+acting-has_trigger instance past (Emission name cpu pid pairs) is = by (event_named name past) refl is
+  where
+    by_trigger : (e : Emitted) (o : Option Trigger) → trigger_of instance e.k.event past ≡ o → event_named name past ≡ Some e.k
+        → acts past e o ≡ true → has_trigger instance past ≡ true
+    by_trigger e None was there h = absurd (cc)
+    by_trigger e (Some t) was there h =
+        named-passes (λ (event : Definition). is_some (trigger_of instance event past)) past name e.k there (ap is_some was)
+
+    by_row : (k : NumberedEvent) (row : Result Cells (List ℕ)) → event_named name past ≡ Some k
+        → is_exchanged_by instance past (emitted_row (now_of past + 1) cpu pid k row) ≡ true → has_trigger instance past ≡ true
+    by_row k (Err missing) there h = absurd (cc)
+    by_row k (Ok row) there h =
+        by_trigger (record { k = k; row = row; cpu = cpu; pid = pid; timestamp = now_of past + 1 }) (trigger_of instance k.event past) refl there h
+
+    by : (found : Option NumberedEvent) → event_named name past ≡ found
+        → is_exchanged_by instance past (emitted_event (now_of past + 1) cpu pid pairs found) ≡ true → has_trigger instance past ≡ true
+    by None none h = absurd (cc)
+    by (Some k) there h = by_row k (row_of k.event pairs) there h
+acting-has_trigger instance past _ is = absurd (cc)
+
+pub spares_begin_empty : SparesBeginEmpty
+spares_begin_empty g [] instance legal without = refl
+spares_begin_empty g (entry ∷ entries) instance legal without =
+    empty-after g instance (requests_of entries) (request_of entry.command)
+    (λ acting. triggers_have_their_spare g entries instance legal.3 (acting-has_trigger instance (requests_of entries) (request_of entry.command) acting))
+    (spares_begin_empty g entries instance legal.3) without
