@@ -1,0 +1,18 @@
+use Rattle.std.proofs.Common.{◌≡◌, ap, ◌∙◌, List, ℤ, map, rules}
+use Rattle.trace_format.specs.Cells.{Datum, datum_of}
+use Rattle.trace_filter.specs.Truth.{Emission}
+use Rattle.trace_hist.specs.Hits.{Hit, cell_of, number_at}
+use Rattle.trace_hist.proofs.stored.StoredHit.of_row.Goals as goal
+
+same_hit : (key cells : List Datum) (numbers read : List ℤ) → key ≡ cells → numbers ≡ read
+    → (let hit : Hit = record { key = key; numbers = numbers } in hit) ≡ record { key = cells; numbers = read }
+same_hit key cells numbers read e f =
+    ap (λ (k : List Datum). let hit : Hit = record { key = k; numbers = numbers } in hit) e
+    ∙ ap (λ (n : List ℤ). let hit : Hit = record { key = cells; numbers = n } in hit) f
+
+pub returns : goal.returns
+returns c =
+    let e : Emission = record { values = c.args.row.now.values; cpu = c.args.cpu; pid = c.args.pid } in
+    let key : map datum_of c.in_ok-key.key.items ≡ map (cell_of e) c.args.spec.now.key_sources.items = search rules in
+    let numbers : c.in_ok-numbers.numbers.items ≡ map (number_at e) c.args.spec.now.value_sources.items = search rules in
+    same_hit _ _ _ _ key numbers

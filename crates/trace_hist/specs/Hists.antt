@@ -1,0 +1,25 @@
+-- What a caller sees of a histogram, and when that agrees with a list of rows.
+use Rattle.std.specs.Prelude.{◌≡◌, ℕ, ◌+◌, Bool, List, Option, Some}
+use Rattle.trace_filter.specs.Truth.{Emission}
+use Rattle.trace_hist.specs.declared.spec.HistSpec.{HistSpec}
+use Rattle.trace_hist.specs.Hits.{Hit, hit_of}
+use Rattle.trace_hist.specs.Groups.{Table, grouped}
+
+-- a histogram as contracts see it: its trigger, whether it is paused, its entries and totals, and the row that memory was taken for
+pub record Seen : Type 0 where
+  pub spec : HistSpec
+  pub paused : Bool
+  pub table : Table
+  pub next : Option Hit
+
+-- its entries and totals are those of the rows
+unfoldable pub StandsFor : Seen → List Emission → Type 0
+StandsFor hist rows = hist.table ≡ grouped hist.spec rows
+
+-- memory was taken for a row
+unfoldable pub IsReserved : Seen → Emission → Type 0
+IsReserved hist emission = hist.next ≡ Some (hit_of hist.spec emission)
+
+-- how many rows were counted since it was new or cleared
+abbrev pub counted : Seen → ℕ
+counted hist = hist.table.hits + hist.table.dropped

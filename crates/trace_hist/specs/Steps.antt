@@ -1,0 +1,38 @@
+-- What one more row does to a histogram: the way in which it is kept. That this agrees with the grouping of all rows is proved in
+-- proofs/GroupLaws.antt.
+use Rattle.std.specs.Prelude.{ℕ, pos, ◌+◌, Bool, true, false, nat_lt, if◌then◌else◌, List, [], ◌∷◌, ◌++◌, length, map, replicate, None}
+use Rattle.trace_format.specs.Cells.{Datum}
+use Rattle.trace_hist.specs.Hits.{Hit}
+use Rattle.trace_hist.specs.Groups.{Entry, Table, same_key, is_among, added}
+use Rattle.trace_hist.specs.Hists.{Seen}
+
+abbrev pub bumped : Hit → Entry → Entry
+bumped hit entry = if same_key entry.key hit.key
+    then record { key = entry.key; hitcount = entry.hitcount + 1; sums = added entry.sums hit.numbers }
+    else entry
+
+abbrev pub first_entry : ℕ → Hit → Entry
+first_entry width hit = record { key = hit.key; hitcount = 1; sums = added (replicate width (pos 0)) hit.numbers }
+
+abbrev pub entry_keys : Table → List (List Datum)
+entry_keys table = map (λ (entry : Entry). entry.key) table.entries
+
+-- by whether the row's key has an entry, and whether there is room for one
+abbrev pub stepped : Bool → Bool → ℕ → Table → Hit → Table
+stepped true room width table hit =
+    record { entries = map (bumped hit) table.entries; hits = table.hits + 1; dropped = table.dropped }
+stepped false true width table hit =
+    record { entries = table.entries ++ first_entry width hit ∷ []; hits = table.hits + 1; dropped = table.dropped }
+stepped false false width table hit = record { entries = table.entries; hits = table.hits; dropped = table.dropped + 1 }
+
+abbrev pub after_row : ℕ → ℕ → Table → Hit → Table
+after_row size width table hit =
+    stepped (is_among (entry_keys table) hit.key) (nat_lt (length table.entries) size) width table hit
+
+abbrev pub after_hit : Seen → Hit → Seen
+after_hit hist hit = record {
+  spec = hist.spec;
+  paused = hist.paused;
+  table = after_row hist.spec.size (length hist.spec.value_sources.items) hist.table hit;
+  next = None;
+}

@@ -1,0 +1,16 @@
+//! Hist triggers: counts and sums of an event's emissions by key (histogram.rst).
+//!
+//! A `HistSpec` is what a trigger says, and a `Hist` is its histogram. Contracts say what a histogram holds by the list of the rows that
+//! were counted into it; `specs/Groups.antt` says from scratch what such a list comes to.
+#![tactic(auto)]
+
+mod hist;
+mod source;
+mod spec;
+mod stored;
+#[cfg(test)]
+mod tests;
+
+pub use hist::{Hist, Totals};
+pub use spec::{Action, HistSpec, SortKey};
+pub use trace_format::Text;

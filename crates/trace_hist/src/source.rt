@@ -1,0 +1,81 @@
+//! Where a key or a value of a trigger stands in an emission.
+
+ghost use Rattle.std.specs.Prelude.{◌≡◌, map, IfOk};
+ghost use Rattle.trace_format.specs.Cells.{datum_of};
+ghost use Rattle.trace_hist.specs.Hits as hits;
+
+use std::alloc::{AllocError, Global};
+use trace_format::Value;
+
+/// What a name of a trigger means.
+#[derive(Clone, Copy, Debug, PartialEq, Eq)]
+pub(crate) enum Source {
+    /// `common_pid`.
+    Pid,
+    /// `common_cpu`.
+    Cpu,
+    /// A field, by its place in the event.
+    Field(usize),
+}
+
+/// A copy of a value.
+fn copy(alloc: Global, value: &Value) -> Result<Value, AllocError>
+    ensures { IfOk result (λ copied. datum_of copied ≡ datum_of value.now) }
+{
+    match value {
+        Value::Num(number) => Ok(Value::Num(*number)),
+        Value::Text(bytes) => Ok(Value::Text(Vec::from_slice(alloc, bytes)?)),
+    }
+}
+
+/// The value of a field, or 0 where no field has the place.
+fn field_cell(alloc: Global, values: &[Value], place: usize) -> Result<Value, AllocError>
+    ensures { IfOk result (λ cell. datum_of cell ≡ hits.field_cell (map datum_of values.now) place) }
+{
+    match values.get(place) {
+        Some(value) => copy(alloc, value),
+        None => Ok(Value::Num(0)),
+    }
+}
+
+/// The number in a field, or 0 where no number has the place.
+fn field_number(values: &[Value], place: usize) -> i128
+    ensures { result ≡ hits.number_of (hits.field_cell (map datum_of values.now) place) }
+{
+    match values.get(place) {
+        Some(Value::Num(number)) => *number,
+        _ => 0,
+    }
+}
+
+impl Source {
+    /// The value of an emission that is meant.
+    pub(crate) fn cell(
+        self,
+        alloc: Global,
+        values: &[Value],
+        cpu: u32,
+        pid: i32,
+    ) -> Result<Value, AllocError>
+        ensures { IfOk result (λ cell. datum_of cell
+            ≡ hits.cell_of (record { values = map datum_of values.now; cpu = cpu; pid = pid }) self) }
+    {
+        match self {
+            Source::Pid => Ok(Value::Num(i128::from(pid))),
+            Source::Cpu => Ok(Value::Num(i128::from(cpu))),
+            Source::Field(place) => field_cell(alloc, values, place),
+        }
+    }
+
+    /// The number of an emission that is meant.
+    pub(crate) fn number(self, values: &[Value], cpu: u32, pid: i32) -> i128
+        ensures { result
+            ≡ hits.number_at (record { values = map datum_of values.now; cpu = cpu; pid = pid }) self }
+    {
+        match self {
+            Source::Pid => i128::from(pid),
+            Source::Cpu => i128::from(cpu),
+            Source::Field(place) => field_number(values, place),
+        }
+    }
+}

@@ -1,0 +1,102 @@
+//! What is kept of a row that was counted.
+
+ghost use Rattle.std.specs.Prelude.{◌≡◌, map, IfOk};
+ghost use Rattle.trace_format.specs.Cells.{datum_of};
+ghost use Rattle.trace_hist.specs.Hits.{hit_of, cell_of, number_at};
+ghost use Rattle.trace_hist.specs.Groups as groups;
+ghost use Rattle.trace_hist.specs.Stored.{hit_in, is_stored};
+
+use crate::source::Source;
+use crate::spec::HistSpec;
+use std::alloc::{AllocError, Global};
+use trace_format::{Row, Value};
+
+/// The cells of a row's key, and the numbers that are summed.
+#[derive(Debug, Drop)]
+pub(crate) struct StoredHit {
+    pub(crate) key: Vec<Value>,
+    pub(crate) numbers: Vec<i128>,
+}
+
+impl StoredHit {
+    /// What a trigger reads of a row that was emitted on a CPU by a process.
+    pub(crate) fn of_row(
+        alloc: Global,
+        spec: &HistSpec,
+        row: &Row,
+        cpu: u32,
+        pid: i32,
+    ) -> Result<StoredHit, AllocError>
+        ensures { IfOk result (λ hit. hit_in hit
+            ≡ hit_of spec.now (record { values = row.now.values; cpu = cpu; pid = pid })) }
+    {
+        let values = row.values();
+        let key = key_of(alloc, &spec.key_sources, values, cpu, pid)?;
+        let numbers = numbers_of(alloc, &spec.value_sources, values, cpu, pid)?;
+        Ok(StoredHit { key, numbers })
+    }
+}
+
+fn key_of(
+    alloc: Global,
+    sources: &[Source],
+    values: &[Value],
+    cpu: u32,
+    pid: i32,
+) -> Result<Vec<Value>, AllocError>
+    ensures { IfOk result (λ key. map datum_of key.items
+        ≡ map (cell_of (record { values = map datum_of values.now; cpu = cpu; pid = pid })) sources.now) }
+{
+    let mut key = Vec::with_capacity(alloc, sources.len())?;
+    for source in sources {
+        key.push(source.cell(alloc, values, cpu, pid)?)?;
+    }
+    Ok(key)
+}
+
+fn numbers_of(
+    alloc: Global,
+    sources: &[Source],
+    values: &[Value],
+    cpu: u32,
+    pid: i32,
+) -> Result<Vec<i128>, AllocError>
+    ensures { IfOk result (λ numbers. numbers.items
+        ≡ map (number_at (record { values = map datum_of values.now; cpu = cpu; pid = pid })) sources.now) }
+{
+    sources
+        .iter()
+        .map(|source| source.number(values, cpu, pid))
+        .collect(alloc)
+}
+
+/// Whether two values are the same.
+fn is_same_cell(left: &Value, right: &Value) -> bool
+    ensures { result ≡ groups.same_cell (datum_of left.now) (datum_of right.now) }
+{
+    match (left, right) {
+        (Value::Num(left), Value::Num(right)) => left == right,
+        (Value::Text(left), Value::Text(right)) => left.as_slice() == right.as_slice(),
+        _ => false,
+    }
+}
+
+/// Whether two keys are the same.
+fn is_same_key(left: &[Value], right: &[Value]) -> bool
+    ensures { result ≡ groups.same_key (map datum_of left.now) (map datum_of right.now) }
+{
+    match (left, right) {
+        ([], []) => true,
+        ([first, left @ ..], [second, right @ ..]) => {
+            is_same_cell(first, second) && is_same_key(left, right)
+        }
+        _ => false,
+    }
+}
+
+/// Whether a row with this key was counted.
+pub(crate) fn is_known(hits: &[StoredHit], key: &[Value]) -> bool
+    ensures { result ≡ is_stored hits.now (map datum_of key.now) }
+{
+    hits.iter().any(|hit| is_same_key(key, &hit.key))
+}

@@ -1,0 +1,142 @@
+//! Worked histograms: rows that are counted, dropped and passed over, with the entries that they come to.
+ghost use Rattle.std.specs.Prelude.{◌≡◌};
+
+use super::*;
+use crate::source::Source;
+use std::alloc::{AllocError, Global};
+use std::process::Abort;
+use std::test::Fail;
+use trace_format::{EventDef, Pair, Row};
+
+/// The row of an event whose fields have these values, as `n=1 m=2`.
+fn row(alloc: Global, event: &EventDef, fields: &str) -> Result<Row, Fail> {
+    let mut pairs = Vec::new(alloc);
+    for field in fields.split(' ') {
+        let (name, value) = field.split_once('=').ok_or("a field has an `=`")?;
+        pairs.push(Pair {
+            name: Text::from_slice(alloc, name.as_bytes())?,
+            value: Text::from_slice(alloc, value.as_bytes())?,
+        })?;
+    }
+    Ok(Row::build(alloc, event, &pairs)?)
+}
+
+/// A trigger of the first field as the key, with no values and no filter.
+fn by_first_field(alloc: Global, name: &str, size: u32, action: Action) -> Result<HistSpec, Fail> {
+    Ok(HistSpec {
+        keys: vec![in alloc; Text::from_slice(alloc, name.as_bytes())?]?,
+        values: Vec::new(alloc),
+        sort: Vec::new(alloc),
+        size,
+        action,
+        filter: None,
+        key_sources: vec![in alloc; Source::Field(0)]?,
+        value_sources: Vec::new(alloc),
+    })
+}
+
+/// Counts a row, on CPU 0 for process 7.
+fn count(hist: &mut Hist, row: &Row) -> Result<(), AllocError> {
+    hist.reserve_hit(row, 0, 7)?;
+    let totals = hist.totals();
+    if totals.hits < 1000 && totals.dropped < 1000 {
+        hist.hit(row, 0, 7);
+    }
+    Ok(())
+}
+
+/// Counts rows of `tick u64 n` with the numbers from `first` to `last`.
+fn count_ticks(
+    alloc: Global,
+    hist: &mut Hist,
+    event: &EventDef,
+    first: u64,
+    last: u64,
+) -> Result<(), Fail> {
+    for n in first..=last {
+        let fields = format!(in alloc; "n={n}")?;
+        let row = row(alloc, event, fields.as_str())?;
+        count(hist, &row)?;
+    }
+    Ok(())
+}
+
+/// Hits, entries and dropped rows.
+fn told(alloc: Global, hist: &Hist) -> Result<String, AllocError> {
+    let Totals {
+        hits,
+        entries,
+        dropped,
+    } = hist.totals();
+    format!(in alloc; "{hits} {entries} {dropped}")
+}
+
+/// With room for 128 entries, the keys 129 and 130 are dropped, and the second row of key 1 is counted.
+#[test]
+fn full_table(rt: HostRuntime) -> Result<(), Fail> {
+    let event = EventDef::parse(rt.alloc(), b"tick u64 n")?;
+    let spec = by_first_field(rt.alloc(), "n", 128, Action::Attach)?;
+    let mut hist = Hist::new(rt.alloc(), spec)?;
+    count_ticks(rt.alloc(), &mut hist, &event, 1, 130)?;
+    count_ticks(rt.alloc(), &mut hist, &event, 1, 1)?;
+    assert_eq!(rt; told(rt.alloc(), &hist)?.as_str(), "129 128 2");
+    Ok(())
+}
+
+/// A row that comes during a pause is not counted; emptying leaves the pause.
+#[test]
+fn pause_and_clear(rt: HostRuntime) -> Result<(), Fail> {
+    let event = EventDef::parse(rt.alloc(), b"tick u64 n")?;
+    let spec = by_first_field(rt.alloc(), "n", 128, Action::Attach)?;
+    let mut hist = Hist::new(rt.alloc(), spec)?;
+    count_ticks(rt.alloc(), &mut hist, &event, 1, 1)?;
+    hist.pause();
+    count_ticks(rt.alloc(), &mut hist, &event, 2, 2)?;
+    hist.resume();
+    count_ticks(rt.alloc(), &mut hist, &event, 3, 3)?;
+    assert_eq!(rt; told(rt.alloc(), &hist)?.as_str(), "2 2 0");
+    hist.pause();
+    hist.clear();
+    assert!(rt; hist.is_paused());
+    assert_eq!(rt; told(rt.alloc(), &hist)?.as_str(), "0 0 0");
+    Ok(())
+}
+
+/// A trigger that asks for a pause begins with one.
+#[test]
+fn new_and_paused(rt: HostRuntime) -> Result<(), Fail> {
+    let event = EventDef::parse(rt.alloc(), b"tick u64 n")?;
+    let spec = by_first_field(rt.alloc(), "n", 128, Action::Pause)?;
+    let mut hist = Hist::new(rt.alloc(), spec)?;
+    count_ticks(rt.alloc(), &mut hist, &event, 1, 1)?;
+    assert_eq!(rt; told(rt.alloc(), &hist)?.as_str(), "0 0 0");
+    assert_eq!(rt; hist.spec().size, 128);
+    Ok(())
+}
+
+/// String keys: five rows of three keys.
+#[test]
+fn string_keys(rt: HostRuntime) -> Result<(), Fail> {
+    let event = EventDef::parse(rt.alloc(), b"move char who[8]; s64 d")?;
+    let spec = by_first_field(rt.alloc(), "who", 2048, Action::Attach)?;
+    let mut hist = Hist::new(rt.alloc(), spec)?;
+    for fields in "who=b d=-5,who=a d=2,who=b d=1,who=a d=-9,who=c d=0".split(',') {
+        let row = row(rt.alloc(), &event, fields)?;
+        if hist.spec().passes(&row, 0, 7) {
+            count(&mut hist, &row)?;
+        }
+    }
+    assert_eq!(rt; told(rt.alloc(), &hist)?.as_str(), "5 3 0");
+    Ok(())
+}
+
+/// Triggers are the same whatever their sizes and what they ask for; not with other keys.
+#[test]
+fn same_triggers(rt: HostRuntime) -> Result<(), Fail> {
+    let left = by_first_field(rt.alloc(), "n", 128, Action::Attach)?;
+    let right = by_first_field(rt.alloc(), "n", 256, Action::Clear)?;
+    let other = by_first_field(rt.alloc(), "m", 128, Action::Attach)?;
+    assert!(rt; left.same(&right));
+    assert!(rt; !left.same(&other));
+    Ok(())
+}
