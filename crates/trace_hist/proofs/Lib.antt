@@ -1,3 +1,5 @@
 pub mod Keys
 pub mod GroupLaws
 pub mod Counting
+pub mod Printing
+pub mod PieceLemmas

@@ -1,6 +1,11 @@
 pub mod Groups
+pub mod HistAttributes
+pub mod HistNames
+pub mod HistPieces
+pub mod HistSizes
 pub mod Hists
 pub mod Hits
+pub mod PrintOrder
 pub mod Steps
 pub mod Stored
 pub mod Triggers

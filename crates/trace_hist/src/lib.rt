@@ -4,13 +4,20 @@
 //! were counted into it; `specs/Groups.antt` says from scratch what such a list comes to.
 #![tactic(auto)]
 
+mod attribute;
+mod entry;
 mod hist;
+mod named;
+mod piece;
+mod size;
+mod sort;
 mod source;
 mod spec;
 mod stored;
 #[cfg(test)]
 mod tests;
 
+pub use entry::HistEntry;
 pub use hist::{Hist, Totals};
 pub use spec::{Action, HistSpec, SortKey};
 pub use trace_format::Text;

@@ -3,6 +3,7 @@
 ghost use Rattle.std.specs.Prelude.{◌≡◌, ◌↔◌, Option, Some, None, IsTrue, option_map};
 ghost use Rattle.trace_hist.specs.Triggers.{IsSame, is_passed, filter_text};
 
+use crate::sort::SortRule;
 use crate::source::Source;
 use trace_filter::Filter;
 use trace_format::{Row, Text};
@@ -47,6 +48,8 @@ pub struct HistSpec {
     // What the keys' names mean, in order, and the values'.
     pub(crate) key_sources: Vec<Source>,
     pub(crate) value_sources: Vec<Source>,
+    // What the sort keys mean, in order.
+    pub(crate) sort_sources: Vec<SortRule>,
 }
 
 impl HistSpec {

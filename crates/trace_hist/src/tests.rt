@@ -2,11 +2,15 @@
 ghost use Rattle.std.specs.Prelude.{◌≡◌};
 
 use super::*;
+use crate::named::meaning_of;
+use crate::piece::cut_at;
+use crate::size::rounded_size;
+use crate::sort::{SortRule, SortSource, sort_entries};
 use crate::source::Source;
 use std::alloc::{AllocError, Global};
 use std::process::Abort;
 use std::test::Fail;
-use trace_format::{EventDef, Pair, Row};
+use trace_format::{EventDef, Pair, Row, Value};
 
 /// The row of an event whose fields have these values, as `n=1 m=2`.
 fn row(alloc: Global, event: &EventDef, fields: &str) -> Result<Row, Fail> {
@@ -32,6 +36,7 @@ fn by_first_field(alloc: Global, name: &str, size: u32, action: Action) -> Resul
         filter: None,
         key_sources: vec![in alloc; Source::Field(0)]?,
         value_sources: Vec::new(alloc),
+        sort_sources: Vec::new(alloc),
     })
 }
 
@@ -138,5 +143,108 @@ fn same_triggers(rt: HostRuntime) -> Result<(), Fail> {
     let other = by_first_field(rt.alloc(), "m", 128, Action::Attach)?;
     assert!(rt; left.same(&right));
     assert!(rt; !left.same(&other));
+    Ok(())
+}
+
+/// An entry of one number as its key.
+fn entry(alloc: Global, key: i128, hitcount: u64, sum: i128) -> Result<HistEntry, AllocError> {
+    Ok(HistEntry {
+        key: vec![in alloc; Value::Num(key)]?,
+        hitcount,
+        sums: vec![in alloc; sum]?,
+    })
+}
+
+/// By falling hitcount, then by the first value; entries that tie stay in order.
+#[test]
+fn print_order(rt: HostRuntime) -> Result<(), Fail> {
+    let alloc = rt.alloc();
+    let mut entries = vec![in alloc;
+        entry(alloc, 7, 1, 4)?,
+        entry(alloc, 5, 2, 9)?,
+        entry(alloc, 6, 1, -3)?,
+        entry(alloc, 4, 1, 4)?,
+    ]?;
+    let rules = [
+        SortRule {
+            source: SortSource::Hitcount,
+            descending: true,
+        },
+        SortRule {
+            source: SortSource::Value(0),
+            descending: false,
+        },
+    ];
+    sort_entries(&mut entries, &rules)?;
+    let mut sums = String::new(alloc);
+    for entry in &entries {
+        for cell in &entry.key {
+            if let Value::Num(key) = cell {
+                sums.push_str(format!(in alloc; "{key} ")?.as_str())?;
+            }
+        }
+    }
+    assert_eq!(rt; sums.as_str(), "5 6 7 4 ");
+    Ok(())
+}
+
+/// Sizes as asked for, each with its room, or `-` where it is refused.
+const SIZES: &str = "\
+0@-
+64@-
+65@128
+128@128
+129@256
+2048@2048
+2049@4096
+65537@131072
+131072@131072
+131073@-
+18446744073709551615@-";
+
+#[test]
+fn sizes(rt: HostRuntime) -> Result<(), Fail> {
+    for line in SIZES.lines() {
+        let (asked, want) = line.split_once('@').ok_or("a line has two parts")?;
+        let asked: u64 = asked.parse()?;
+        let found = match rounded_size(asked) {
+            Some(size) => format!(in rt.alloc(); "{size}")?,
+            None => format!(in rt.alloc(); "-")?,
+        };
+        assert_eq!(rt; found.as_str(), want, "at {line}");
+    }
+    Ok(())
+}
+
+/// Strings that begin at byte 5, each with the places and lengths of its parts.
+const CUTS: &str = "\
+@5+0
+keys=n@5+6
+:keys=n@5+0 6+6
+keys=n:@5+6 12+0
+keys=n:vals=d:pause@5+6 12+6 19+5";
+
+#[test]
+fn parts_and_places(rt: HostRuntime) -> Result<(), Fail> {
+    for line in CUTS.lines() {
+        let (text, want) = line.split_once('@').ok_or("a line has two parts")?;
+        let mut found = String::new(rt.alloc());
+        for piece in &cut_at(rt.alloc(), b':', 5, text.as_bytes())? {
+            let blank = if found.is_empty() { "" } else { " " };
+            let len = piece.bytes.as_bytes().len();
+            found.push_str(format!(in rt.alloc(); "{blank}{}+{len}", piece.at)?.as_str())?;
+        }
+        assert_eq!(rt; found.as_str(), want, "at {line}");
+    }
+    Ok(())
+}
+
+#[test]
+fn names_of_an_event(rt: HostRuntime) -> Result<(), Fail> {
+    let event = EventDef::parse(rt.alloc(), b"move char who[8]; s64 d")?;
+    assert!(rt; meaning_of(event.fields(), b"who").is_some_and(|named| named.is_text));
+    assert!(rt; meaning_of(event.fields(), b"d").is_some_and(|named| !named.is_text));
+    assert!(rt; meaning_of(event.fields(), b"common_pid").is_some());
+    assert!(rt; meaning_of(event.fields(), b"hitcount").is_none());
     Ok(())
 }

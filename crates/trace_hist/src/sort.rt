@@ -1,0 +1,110 @@
+//! The order in which entries are printed.
+
+ghost use Rattle.std.specs.Prelude.{◌≡◌, map, OnOk, false};
+ghost use Rattle.trace_format.specs.Cells.{datum_of};
+ghost use Rattle.trace_hist.specs.Hits.{field_cell};
+ghost use Rattle.trace_hist.specs.PrintOrder as order;
+
+use crate::entry::HistEntry;
+use std::alloc::AllocError;
+use std::cmp::Ordering;
+use trace_format::Value as Cell;
+
+/// What entries are sorted by.
+#[derive(Clone, Copy, Debug, PartialEq, Eq)]
+pub(crate) enum SortSource {
+    /// A key, by its place among the keys.
+    Key(usize),
+    /// A value's sum, by its place among the values.
+    Value(usize),
+    /// The hitcount.
+    Hitcount,
+}
+
+/// A sort key, as it is looked up.
+#[derive(Clone, Copy, Debug, PartialEq, Eq)]
+pub(crate) struct SortRule {
+    pub(crate) source: SortSource,
+    /// Whether greater ones come first.
+    pub(crate) descending: bool,
+}
+
+fn compare_cells(left: &Cell, right: &Cell) -> Ordering
+    ensures { result ≡ order.datum_cmp (datum_of left.now) (datum_of right.now) }
+{
+    match (left, right) {
+        (Cell::Num(left), Cell::Num(right)) => left.cmp(right),
+        (Cell::Num(_), Cell::Text(_)) => Ordering::Less,
+        (Cell::Text(_), Cell::Num(_)) => Ordering::Greater,
+        (Cell::Text(left), Cell::Text(right)) => left.as_slice().cmp(right.as_slice()),
+    }
+}
+
+/// The cell of a key, where 0 stands for one that isn't there.
+fn compare_keys(left: &[Cell], right: &[Cell], place: usize) -> Ordering
+    ensures { result ≡ order.datum_cmp (field_cell (map datum_of left.now) place)
+        (field_cell (map datum_of right.now) place) }
+{
+    let none = Cell::Num(0);
+    let left = left.get(place).unwrap_or(&none);
+    let right = right.get(place).unwrap_or(&none);
+    compare_cells(left, right)
+}
+
+fn sum_at(sums: &[i128], place: usize) -> i128
+    ensures { result ≡ order.sum_at sums.now place }
+{
+    match sums.get(place) {
+        Some(sum) => *sum,
+        None => 0,
+    }
+}
+
+impl SortSource {
+    fn compare(self, left: &HistEntry, right: &HistEntry) -> Ordering
+        ensures { result ≡ order.directed false self (order.entry_in left.now) (order.entry_in right.now) }
+    {
+        match self {
+            SortSource::Key(place) => compare_keys(&left.key, &right.key, place),
+            SortSource::Value(place) => sum_at(&left.sums, place).cmp(&sum_at(&right.sums, place)),
+            SortSource::Hitcount => left.hitcount.cmp(&right.hitcount),
+        }
+    }
+}
+
+impl SortRule {
+    fn compare(self, left: &HistEntry, right: &HistEntry) -> Ordering
+        ensures { result ≡ order.directed self.descending self.source
+            (order.entry_in left.now) (order.entry_in right.now) }
+    {
+        if self.descending {
+            self.source.compare(right, left)
+        } else {
+            self.source.compare(left, right)
+        }
+    }
+}
+
+/// By each sort key in turn.
+fn compare(rules: &[SortRule], left: &HistEntry, right: &HistEntry) -> Ordering
+    ensures { result ≡ order.entry_cmp rules.now (order.entry_in left.now) (order.entry_in right.now) }
+{
+    match rules {
+        [] => Ordering::Equal,
+        [rule, rules @ ..] => match rule.compare(left, right) {
+            Ordering::Equal => compare(rules, left, right),
+            decided => decided,
+        },
+    }
+}
+
+/// Puts entries into print order.
+pub(crate) fn sort_entries(
+    entries: &mut Vec<HistEntry>,
+    rules: &[SortRule],
+) -> Result<(), AllocError>
+    ensures { OnOk result (order.IsPrintOrder rules.now
+        (map order.entry_in entries.old.items) (map order.entry_in entries.new.items)) }
+{
+    entries.sort_by(|left, right| compare(rules, left, right))
+}
