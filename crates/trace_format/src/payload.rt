@@ -92,7 +92,7 @@ pub(crate) fn decode_values(
 ) -> Result<Option<Vec<Value>>, AllocError>
     ensures { IfOk result (λ found. option_map (λ v. map datum_of v.items) found ≡ values_from (map (λ f. f.kind) fields.now) bytes.now) }
 {
-    let mut values = Vec::new(alloc);
+    let mut values = Vec::with_capacity(alloc, fields.len())?;
     let mut rest = bytes;
     for field in fields {
         let size = field.kind.size();

@@ -125,5 +125,9 @@ fn refusal(alloc: Global, def: &EventDef, pairs: &[Pair]) -> RowFault
 fn kinds_of(alloc: Global, fields: &[Field]) -> Result<Vec<Kind>, AllocError>
     ensures { IfOk result (λ v. v.items ≡ map (λ f. f.kind) fields.now) }
 {
-    fields.iter().map(|field| field.kind).collect(alloc)
+    let mut kinds = Vec::with_capacity(alloc, fields.len())?;
+    for field in fields {
+        kinds.push(field.kind)?;
+    }
+    Ok(kinds)
 }
