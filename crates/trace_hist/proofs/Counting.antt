@@ -4,7 +4,7 @@ use Rattle.std.proofs.lemmas.Bool.{lt-ltb, le-ltb}
 use Rattle.std.proofs.lemmas.List.{map-append, length-append}
 use Rattle.trace_format.specs.Cells.{Datum, datum_of}
 use Rattle.trace_filter.specs.Truth.{Emission}
-use Rattle.trace_hist.specs.declared.spec.HistSpec.{HistSpec}
+use Rattle.trace_hist.specs.HistSpecs.{SpecSeen}
 use Rattle.trace_hist.specs.declared.stored.StoredHit.{StoredHit}
 use Rattle.trace_hist.specs.declared.hist.Hist.TheInside.{Inside}
 use Rattle.trace_hist.specs.Hits.{Hit, hit_of}
@@ -19,21 +19,21 @@ pub is_stored-is : (hits : List StoredHit) (key : List Datum) → is_stored hits
 is_stored-is [] key = refl
 is_stored-is (stored ∷ hits) key = ap (λ b. same_key key (map datum_of stored.key.items) || b) (is_stored-is hits key)
 
-width_of : HistSpec → ℕ
-width_of spec = length spec.value_sources.items
+width_of : SpecSeen → ℕ
+width_of spec = length spec.value_sources
 
 table_in : Inside → Table
-table_in h = table_of (length h.spec.value_sources.items) (map hit_in h.hits.items) h.dropped
+table_in h = table_of (length h.spec.value_sources) (map hit_in h.hits.items) h.dropped
 
 row_in : Inside → StoredHit → Table
-row_in h next = after_row h.spec.size (length h.spec.value_sources.items)
-    (table_of (length h.spec.value_sources.items) (map hit_in h.hits.items) h.dropped) (hit_in next)
+row_in h next = after_row h.spec.size (length h.spec.value_sources)
+    (table_of (length h.spec.value_sources) (map hit_in h.hits.items) h.dropped) (hit_in next)
 
 -- what a histogram is seen as, where the row that memory was taken for was counted
 pub after_hit-is : (h : Inside) (now : Seen) (next : StoredHit) (hit : Hit) (table : Table) (left : Option StoredHit) → seen h ≡ now
     → h.next ≡ Some next → now.next ≡ Some hit → left ≡ None
-    → table ≡ after_row h.spec.size (length h.spec.value_sources.items)
-    (table_of (length h.spec.value_sources.items) (map hit_in h.hits.items) h.dropped) (hit_in next)
+    → table ≡ after_row h.spec.size (length h.spec.value_sources)
+    (table_of (length h.spec.value_sources) (map hit_in h.hits.items) h.dropped) (hit_in next)
     → (let after : Seen = record { spec = h.spec; paused = h.paused; table = table; next = option_map hit_in left } in after) ≡ after_hit now hit
 after_hit-is h now next hit table left view there is none e =
     let same : Some hit ≡ Some (hit_in next) = sym is ∙ sym (ap (λ (s : Seen). s.next) view) ∙ ap (option_map hit_in) there in
@@ -45,12 +45,12 @@ after_hit-is h now next hit table left view there is none e =
 
 row-is : (h : Inside) (next : StoredHit) (known room : Bool) → IsSound h → is_stored h.hits.items (map datum_of next.key.items) ≡ known
     → ltb h.entries h.spec.size ≡ room
-    → after_row h.spec.size (length h.spec.value_sources.items)
-    (table_of (length h.spec.value_sources.items) (map hit_in h.hits.items) h.dropped) (hit_in next)
-    ≡ stepped known room (length h.spec.value_sources.items)
-    (table_of (length h.spec.value_sources.items) (map hit_in h.hits.items) h.dropped) (hit_in next)
+    → after_row h.spec.size (length h.spec.value_sources)
+    (table_of (length h.spec.value_sources) (map hit_in h.hits.items) h.dropped) (hit_in next)
+    ≡ stepped known room (length h.spec.value_sources)
+    (table_of (length h.spec.value_sources) (map hit_in h.hits.items) h.dropped) (hit_in next)
 row-is h next known room sound e f =
-    let width = length h.spec.value_sources.items in
+    let width = length h.spec.value_sources in
     let table = table_of width (map hit_in h.hits.items) h.dropped in
     after_row-is h.spec.size width (map hit_in h.hits.items) (hit_in next) h.dropped h.entries sound.entries
     ∙ ap (λ b. stepped b (ltb h.entries h.spec.size) width table (hit_in next)) (sym (is_stored-is h.hits.items (map datum_of next.key.items)) ∙ e)
@@ -63,11 +63,11 @@ pushed items hits next e = ap (map hit_in) e ∙ map-append hit_in hits (next �
 
 pub table-after_known : (h : Inside) (next : StoredHit) (items : List StoredHit) → IsSound h
     → is_stored h.hits.items (map datum_of next.key.items) ≡ true → items ≡ h.hits.items ++ next ∷ []
-    → table_of (length h.spec.value_sources.items) (map hit_in items) h.dropped
-    ≡ after_row h.spec.size (length h.spec.value_sources.items)
-    (table_of (length h.spec.value_sources.items) (map hit_in h.hits.items) h.dropped) (hit_in next)
+    → table_of (length h.spec.value_sources) (map hit_in items) h.dropped
+    ≡ after_row h.spec.size (length h.spec.value_sources)
+    (table_of (length h.spec.value_sources) (map hit_in h.hits.items) h.dropped) (hit_in next)
 table-after_known h next items sound known e =
-    let width = length h.spec.value_sources.items in
+    let width = length h.spec.value_sources in
     let among = sym (is_stored-is h.hits.items (map datum_of next.key.items)) ∙ known in
     ap (λ l. table_of width l h.dropped) (pushed items h.hits.items next e)
     ∙ table-known width (map hit_in h.hits.items) (hit_in next) h.dropped (ltb h.entries h.spec.size) among
@@ -75,11 +75,11 @@ table-after_known h next items sound known e =
 
 pub table-after_new : (h : Inside) (next : StoredHit) (items : List StoredHit) → IsSound h
     → is_stored h.hits.items (map datum_of next.key.items) ≡ false → h.entries < h.spec.size → items ≡ h.hits.items ++ next ∷ []
-    → table_of (length h.spec.value_sources.items) (map hit_in items) h.dropped
-    ≡ after_row h.spec.size (length h.spec.value_sources.items)
-    (table_of (length h.spec.value_sources.items) (map hit_in h.hits.items) h.dropped) (hit_in next)
+    → table_of (length h.spec.value_sources) (map hit_in items) h.dropped
+    ≡ after_row h.spec.size (length h.spec.value_sources)
+    (table_of (length h.spec.value_sources) (map hit_in h.hits.items) h.dropped) (hit_in next)
 table-after_new h next items sound new room e =
-    let width = length h.spec.value_sources.items in
+    let width = length h.spec.value_sources in
     let apart = sym (is_stored-is h.hits.items (map datum_of next.key.items)) ∙ new in
     ap (λ l. table_of width l h.dropped) (pushed items h.hits.items next e)
     ∙ table-new width (map hit_in h.hits.items) (hit_in next) h.dropped apart
@@ -87,9 +87,9 @@ table-after_new h next items sound new room e =
 
 pub table-after_full : (h : Inside) (next : StoredHit) → IsSound h
     → is_stored h.hits.items (map datum_of next.key.items) ≡ false → h.spec.size ≤ h.entries
-    → table_of (length h.spec.value_sources.items) (map hit_in h.hits.items) (h.dropped + 1)
-    ≡ after_row h.spec.size (length h.spec.value_sources.items)
-    (table_of (length h.spec.value_sources.items) (map hit_in h.hits.items) h.dropped) (hit_in next)
+    → table_of (length h.spec.value_sources) (map hit_in h.hits.items) (h.dropped + 1)
+    ≡ after_row h.spec.size (length h.spec.value_sources)
+    (table_of (length h.spec.value_sources) (map hit_in h.hits.items) h.dropped) (hit_in next)
 table-after_full h next sound new full = sym (row-is h next false false sound new (le-ltb _ _ full))
 
 pub entries-known : (h : Inside) (next : StoredHit) (items : List StoredHit) → IsSound h
@@ -127,7 +127,7 @@ pub stands-after_hit : (hist : Seen) (rows : List Emission) (emission : Emission
 unfolding StandsFor grouped
 stands-after_hit hist rows emission stands =
     let size = hist.spec.size in
-    let width = length hist.spec.value_sources.items in
+    let width = length hist.spec.value_sources in
     let hit = hit_of hist.spec emission in
     ap (λ t. after_row size width t hit) stands
     ∙ sym (group-push size width (map (hit_of hist.spec) rows) hit)

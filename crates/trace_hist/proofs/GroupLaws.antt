@@ -19,11 +19,11 @@ summed-push : (sums : List ℤ) (hits : List Hit) (hit : Hit) → summed sums (h
 summed-push sums [] hit = refl
 summed-push sums (h ∷ hits) hit = summed-push (added sums h.numbers) hits hit
 
-with_key-same : (key : List Datum) (hits : List Hit) (hit : Hit) → same_key key hit.key ≡ true → with_key key (hits ++ hit ∷ []) ≡ with_key key hits ++ hit ∷ []
+pub with_key-same : (key : List Datum) (hits : List Hit) (hit : Hit) → same_key key hit.key ≡ true → with_key key (hits ++ hit ∷ []) ≡ with_key key hits ++ hit ∷ []
 with_key-same key hits hit h =
     filter-append (λ (x : Hit). same_key key x.key) hits (hit ∷ []) ∙ ap (λ l. with_key key hits ++ l) (cond-true _ (hit ∷ []) [] h)
 
-with_key-other : (key : List Datum) (hits : List Hit) (hit : Hit) → same_key key hit.key ≡ false → with_key key (hits ++ hit ∷ []) ≡ with_key key hits
+pub with_key-other : (key : List Datum) (hits : List Hit) (hit : Hit) → same_key key hit.key ≡ false → with_key key (hits ++ hit ∷ []) ≡ with_key key hits
 with_key-other key hits hit h =
     filter-append (λ (x : Hit). same_key key x.key) hits (hit ∷ [])
     ∙ ap (λ l. with_key key hits ++ l) (cond-false _ (hit ∷ []) [] h) ∙ append-nil (with_key key hits)
@@ -94,7 +94,7 @@ entry_of-first width hits hit h =
 pub keys_of-push : (hits : List Hit) (hit : Hit) → keys_of (hits ++ hit ∷ []) ≡ keys_of hits ++ hit.key ∷ []
 keys_of-push hits hit = map-append (λ (h : Hit). h.key) hits (hit ∷ [])
 
-entry_keys-of : (width : ℕ) (hits : List Hit) (keys : List (List Datum)) → map (λ (e : Entry). e.key) (map (entry_of width hits) keys) ≡ keys
+pub entry_keys-of : (width : ℕ) (hits : List Hit) (keys : List (List Datum)) → map (λ (e : Entry). e.key) (map (entry_of width hits) keys) ≡ keys
 entry_keys-of width hits [] = refl
 entry_keys-of width hits (key ∷ keys) = ap (λ l. key ∷ l) (entry_keys-of width hits keys)
 

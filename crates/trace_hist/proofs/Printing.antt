@@ -1,20 +1,19 @@
 -- Print order: comparing is an order, and a stable sort gives that order.
-use Rattle.std.proofs.Common.{◌≡◌, ℕ, zero, suc, ◌+◌, ◌≤◌, ◌<◌, Bool, true, false, cond, List, [], ◌∷◌, length, map, filter, get_or, is_lt, refl, sym, ap, ◌∙◌, subst, arith}
-use Rattle.std.specs.declared.cmp.Ordering.{Ordering}
-use Rattle.std.specs.declared.cmp.Ordering.TheVariants.{Less, Equal, Greater}
-use Rattle.std.specs.Ordering.{int_cmp, ordering_reverse}
+use Rattle.std.proofs.Common.{◌≡◌, ◌+◌, ◌<◌, Bool, true, false, cond, List, [], ◌∷◌, length, map, filter, get_or, refl, sym, ap, ◌∙◌, arith}
+use Rattle.std.specs.declared.cmp.Ordering.TheVariants.{Less, Equal}
+use Rattle.std.specs.Ordering.{ordering_reverse}
 use Rattle.std.specs.Cmp.{IsTotalOrder, IsStrictWeakOrder, int_cmp_total, on_total, back_total, then_total}
-use Rattle.std.specs.Cmp.Lexicographic.{slice_cmp, nat_list_cmp_total}
+use Rattle.std.specs.Cmp.Lexicographic.{nat_list_cmp_total}
 use Rattle.std.specs.List.Sorted.{ties, IsPermutation, IsSortedBy, IsStableBy}
 use Rattle.std.proofs.lemmas.List.{length-map, get_or-map}
 use Rattle.std.proofs.lemmas.List.Elements.{All-map}
 use Rattle.std.proofs.lemmas.List.Sorted.{ranks_by, IsPermutation-map}
 use Rattle.trace_format.specs.Cells.{Datum, Whole, Bytes}
-use Rattle.trace_hist.specs.declared.entry.HistEntry.{HistEntry}
+use Rattle.trace_hist.specs.declared.entry.HistRow.{HistRow}
 use Rattle.trace_hist.specs.declared.sort.SortSource.{SortSource}
 use Rattle.trace_hist.specs.declared.sort.SortRule.{SortRule}
 use Rattle.trace_hist.specs.Groups.{Entry}
-use Rattle.trace_hist.specs.PrintOrder.{datum_cmp, sort_cell, directed, entry_cmp, comes_before, entry_in, IsPrintOrder}
+use Rattle.trace_hist.specs.PrintOrder.{datum_cmp, sort_cell, directed, entry_cmp, comes_before, row_in, IsPrintOrder}
 
 -- ---- comparing is an order
 
@@ -52,8 +51,8 @@ pub entry_cmp_total : (rules : List SortRule) → IsTotalOrder (entry_cmp rules)
 entry_cmp_total [] = record { antisymm = λ x y. refl; trans = λ x y z p q. p; congr = λ x y z p. refl }
 entry_cmp_total (rule ∷ rules) = then_total (directed_total rule.descending rule.source) (entry_cmp_total rules)
 
-pub entry_order : (rules : List SortRule) → IsStrictWeakOrder (λ (x y : HistEntry). comes_before rules (entry_in x) (entry_in y))
-entry_order rules = ranks_by (entry_cmp_total rules) entry_in
+pub entry_order : (rules : List SortRule) → IsStrictWeakOrder (λ (x y : HistRow). comes_before rules (row_in x) (row_in y))
+entry_order rules = ranks_by (entry_cmp_total rules) row_in
 
 -- ---- a stable sort of the program's entries
 
@@ -66,7 +65,7 @@ module _ {X Y : Type 0} (f : X → Y) where
       ∙ ap (λ y. lt (f (get_or (x ∷ xs) (k + 1) x)) y) (get_or-map f (x ∷ xs) k x d (omega (arith, inside)))
       ∙ h k x le inside
 
-  filter-over : (test : Y → Bool) (xs : List X) → filter test (map f xs) ≡ map f (filter (λ x. test (f x)) xs)
+  pub filter-over : (test : Y → Bool) (xs : List X) → filter test (map f xs) ≡ map f (filter (λ x. test (f x)) xs)
   filter-over test [] = refl
   filter-over test (x ∷ xs) = by (test (f x)) (filter-over test xs)
     where
@@ -75,15 +74,15 @@ module _ {X Y : Type 0} (f : X → Y) where
       by true e = ap (λ l. f x ∷ l) e
       by false e = e
 
-pub print_order : (rules : List SortRule) (entries printed : List HistEntry) → IsPermutation entries printed
-    → IsSortedBy (λ x y. comes_before rules (entry_in x) (entry_in y)) printed
-    → IsStableBy (λ x y. comes_before rules (entry_in x) (entry_in y)) entries printed
-    → IsPrintOrder rules (map entry_in entries) (map entry_in printed)
+pub print_order : (rules : List SortRule) (entries printed : List HistRow) → IsPermutation entries printed
+    → IsSortedBy (λ x y. comes_before rules (row_in x) (row_in y)) printed
+    → IsStableBy (λ x y. comes_before rules (row_in x) (row_in y)) entries printed
+    → IsPrintOrder rules (map row_in entries) (map row_in printed)
 print_order rules entries printed permutation sorted stable = record {
-  permutation = IsPermutation-map entry_in entries printed permutation;
-  sorted = sorted-map entry_in (comes_before rules) printed sorted;
-  stable = All-map (λ (e : Entry). filter (ties (comes_before rules) e) (map entry_in printed) ≡ filter (ties (comes_before rules) e) (map entry_in entries)) entry_in entries (λ k d lt.
+  permutation = IsPermutation-map row_in entries printed permutation;
+  sorted = sorted-map row_in (comes_before rules) printed sorted;
+  stable = All-map (λ (e : Entry). filter (ties (comes_before rules) e) (map row_in printed) ≡ filter (ties (comes_before rules) e) (map row_in entries)) row_in entries (λ k d lt.
       let x = get_or entries k d in
-      let test = ties (comes_before rules) (entry_in x) in
-      filter-over entry_in test printed ∙ ap (map entry_in) (stable x) ∙ sym (filter-over entry_in test entries));
+      let test = ties (comes_before rules) (row_in x) in
+      filter-over row_in test printed ∙ ap (map row_in) (stable x) ∙ sym (filter-over row_in test entries));
 }

@@ -6,7 +6,7 @@ use Rattle.std.specs.Cmp.Lexicographic.{pointwise}
 use Rattle.std.specs.Ordering.{int_eq}
 use Rattle.trace_format.specs.Cells.{Datum, Whole, Bytes}
 use Rattle.trace_filter.specs.Truth.{Emission}
-use Rattle.trace_hist.specs.declared.spec.HistSpec.{HistSpec}
+use Rattle.trace_hist.specs.HistSpecs.{SpecSeen}
 use Rattle.trace_hist.specs.Hits.{Hit, hit_of}
 
 -- ---- keys
@@ -83,5 +83,5 @@ group size width hits = record {
 }
 
 -- the same of emissions, for a trigger
-unfoldable pub grouped : HistSpec → List Emission → Table
-grouped spec rows = group spec.size (length spec.value_sources.items) (map (hit_of spec) rows)
+unfoldable pub grouped : SpecSeen → List Emission → Table
+grouped spec rows = group spec.size (length spec.value_sources) (map (hit_of spec) rows)

@@ -1,5 +1,5 @@
 -- The attributes of a hist trigger (histogram.rst, "hist triggers"): what stands between the `:` of its first word.
-use Rattle.std.specs.Prelude.{ℕ, ◌+◌, Bool, ◌||◌, nat_lt, if◌then◌else◌, bytes_eq, codes, List, length, map, take, drop}
+use Rattle.std.specs.Prelude.{ℕ, ◌+◌, ◌^◌, ◌<◌, Bool, ◌||◌, nat_lt, if◌then◌else◌, bytes_eq, codes, List, length, map, take, drop}
 use Rattle.std.specs.List.{prefix_len}
 use Rattle.trace_lex.specs.Prefixes.{is_not}
 use Rattle.trace_hist.specs.declared.spec.Action.TheVariants.{Pause, Continue, Clear}
@@ -45,3 +45,7 @@ attribute_of piece = record {
 -- the attributes of a string that begins at a place, separated by `:` (58)
 abbrev pub attributes_at : ℕ → List ℕ → List Attribute
 attributes_at at text = map attribute_of (pieces_of 58 at text)
+
+-- an attribute's value ends at a place of the program
+abbrev pub IsPlaced : Attribute → Type 0
+IsPlaced attribute = attribute.at + attribute.skip + length attribute.value < 2 ^ 64

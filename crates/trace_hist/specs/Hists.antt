@@ -1,13 +1,13 @@
 -- What a caller sees of a histogram, and when that agrees with a list of rows.
 use Rattle.std.specs.Prelude.{◌≡◌, ℕ, ◌+◌, Bool, List, Option, Some}
 use Rattle.trace_filter.specs.Truth.{Emission}
-use Rattle.trace_hist.specs.declared.spec.HistSpec.{HistSpec}
+use Rattle.trace_hist.specs.HistSpecs.{SpecSeen}
 use Rattle.trace_hist.specs.Hits.{Hit, hit_of}
 use Rattle.trace_hist.specs.Groups.{Table, grouped}
 
 -- a histogram as contracts see it: its trigger, whether it is paused, its entries and totals, and the row that memory was taken for
 pub record Seen : Type 0 where
-  pub spec : HistSpec
+  pub spec : SpecSeen
   pub paused : Bool
   pub table : Table
   pub next : Option Hit

@@ -4,7 +4,7 @@ use Rattle.trace_format.specs.Cells.{Datum, Whole, Bytes}
 use Rattle.trace_filter.specs.Truth.{Emission}
 use Rattle.trace_hist.specs.declared.source.Source.{Source}
 use Rattle.trace_hist.specs.declared.source.Source.TheVariants.{Pid, Cpu, Field}
-use Rattle.trace_hist.specs.declared.spec.HistSpec.{HistSpec}
+use Rattle.trace_hist.specs.HistSpecs.{SpecSeen}
 
 pub record Hit : Type 0 where
   pub key : List Datum
@@ -28,8 +28,8 @@ number_of (Bytes bytes) = pos 0
 abbrev pub number_at : Emission → Source → ℤ
 number_at emission source = number_of (cell_of emission source)
 
-abbrev pub hit_of : HistSpec → Emission → Hit
+abbrev pub hit_of : SpecSeen → Emission → Hit
 hit_of spec emission = record {
-  key = map (cell_of emission) spec.key_sources.items;
-  numbers = map (number_at emission) spec.value_sources.items;
+  key = map (cell_of emission) spec.key_sources;
+  numbers = map (number_at emission) spec.value_sources;
 }

@@ -1,6 +1,6 @@
 -- In which order a histogram's entries are printed (histogram.rst, "hist triggers"): by the sort keys in turn, those that tie in order of first
 -- occurrence. Which list it is, is said of the whole list, with no sort.
-use Rattle.std.specs.Prelude.{◌≡◌, ℕ, ℤ, pos, Bool, true, false, List, [], ◌∷◌, map, filter, unwrap_or, slice_get}
+use Rattle.std.specs.Prelude.{◌≡◌, ℕ, ℤ, pos, Bool, true, false, if◌then◌else◌, List, [], ◌∷◌, map, filter, unwrap_or, slice_get}
 use Rattle.std.specs.List.{All}
 use Rattle.std.specs.List.Sorted.{IsPermutation, IsSorted, ties}
 use Rattle.std.specs.declared.cmp.Ordering.{Ordering}
@@ -8,7 +8,7 @@ use Rattle.std.specs.declared.cmp.Ordering.TheVariants.{Less, Equal, Greater}
 use Rattle.std.specs.Ordering.{int_cmp, nat_cmp, is_lt, ordering_then}
 use Rattle.std.specs.Cmp.Lexicographic.{slice_cmp}
 use Rattle.trace_format.specs.Cells.{Datum, Whole, Bytes, datum_of}
-use Rattle.trace_hist.specs.declared.entry.HistEntry.{HistEntry}
+use Rattle.trace_hist.specs.declared.entry.HistRow.{HistRow}
 use Rattle.trace_hist.specs.declared.sort.SortSource.{SortSource}
 use Rattle.trace_hist.specs.declared.sort.SortSource.TheVariants.{Key, Value, Hitcount}
 use Rattle.trace_hist.specs.declared.sort.SortRule.{SortRule}
@@ -16,8 +16,8 @@ use Rattle.trace_hist.specs.Hits.{field_cell}
 use Rattle.trace_hist.specs.Groups.{Entry}
 
 -- what the program's entry is
-abbrev pub entry_in : HistEntry → Entry
-entry_in entry = record { key = map datum_of entry.key.items; hitcount = entry.hitcount; sums = entry.sums.items }
+abbrev pub row_in : HistRow → Entry
+row_in entry = record { key = map datum_of entry.keys.items; hitcount = entry.hitcount; sums = entry.sums.items }
 
 -- numbers by value, texts by bytes. (One sort key gives numbers alone, or texts alone.)
 abbrev pub datum_cmp : Datum → Datum → Ordering
@@ -53,3 +53,16 @@ pub record IsPrintOrder (rules : List SortRule) (entries printed : List Entry) :
   pub permutation : IsPermutation entries printed
   pub sorted : IsSorted (entry_cmp rules) printed
   pub stable : All (λ entry. filter (ties (comes_before rules) entry) printed ≡ filter (ties (comes_before rules) entry) entries) entries
+
+-- ---- the one such list
+
+-- an entry put before those of a list that do not come before it
+abbrev pub before_later : List SortRule → Entry → List Entry → List Entry
+before_later rules entry [] = entry ∷ []
+before_later rules entry (other ∷ entries) =
+    if comes_before rules other entry then other ∷ before_later rules entry entries else entry ∷ other ∷ entries
+
+-- entries in print order, which is the one list that `IsPrintOrder` allows
+unfoldable pub printed : List SortRule → List Entry → List Entry
+printed rules [] = []
+printed rules (entry ∷ entries) = before_later rules entry (printed rules entries)

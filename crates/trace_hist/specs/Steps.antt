@@ -33,6 +33,6 @@ abbrev pub after_hit : Seen → Hit → Seen
 after_hit hist hit = record {
   spec = hist.spec;
   paused = hist.paused;
-  table = after_row hist.spec.size (length hist.spec.value_sources.items) hist.table hit;
+  table = after_row hist.spec.size (length hist.spec.value_sources) hist.table hit;
   next = None;
 }

@@ -24,7 +24,7 @@ abbrev pub seen : Inside → Seen
 seen h = record {
   spec = h.spec;
   paused = h.paused;
-  table = table_of (length h.spec.value_sources.items) (map hit_in h.hits.items) h.dropped;
+  table = table_of (length h.spec.value_sources) (map hit_in h.hits.items) h.dropped;
   next = option_map hit_in h.next;
 }
 

@@ -1,6 +1,7 @@
 //! The attributes of a hist trigger: what stands between the `:` of its first word.
 
 ghost use Rattle.std.specs.Prelude.{◌≡◌, ◌≤◌, ◌<◌, ◌+◌, ◌^◌, IfOk, length, map};
+ghost use Rattle.std.specs.List.{All};
 ghost use Rattle.trace_hist.specs.HistAttributes as attributes;
 
 use crate::piece::{Piece, cut_at};
@@ -98,7 +99,8 @@ pub(crate) fn attributes_at(
     text: &[u8],
 ) -> Result<Vec<Attribute>, AllocError>
     requires { at + length text.now < 2 ^ 64 }
-    ensures { IfOk result (λ found. found.items ≡ attributes.attributes_at at text.now) }
+    ensures value { IfOk result (λ found. found.items ≡ attributes.attributes_at at text.now) }
+    ensures placed { IfOk result (λ found. All attributes.IsPlaced found.items) }
 {
     let pieces = cut_at(alloc, b':', at, text)?;
     let mut found = Vec::with_capacity(alloc, pieces.len())?;

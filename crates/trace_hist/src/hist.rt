@@ -1,14 +1,17 @@
 //! Histograms.
 
-ghost use Rattle.std.specs.Prelude.{◌≡◌, ◌<◌, ◌+◌, ◌^◌, ◌++◌, List, [], ◌∷◌, IfOk, OnOk, OnErr, length};
+ghost use Rattle.std.specs.Prelude.{◌≡◌, ◌<◌, ◌+◌, ◌^◌, ◌++◌, List, [], ◌∷◌, IfOk, OnOk, OnErr, length, map};
 ghost use Rattle.std.specs.Prelude.{IsTrue, ◌↔◌, IsSome, Some, false, true};
 ghost use Rattle.trace_filter.specs.Truth.{Emission};
 ghost use Rattle.trace_hist.specs.declared.spec.Action.TheVariants as actions;
 ghost use Rattle.trace_hist.specs.Groups.{grouped};
 ghost use Rattle.trace_hist.specs.Hits.{Hit};
+ghost use Rattle.trace_hist.specs.PrintOrder.{row_in, printed};
 ghost use Rattle.trace_hist.specs.Steps.{after_hit};
 ghost use Rattle.trace_hist.specs.Hists.{StandsFor, IsReserved, counted};
 
+use crate::entries::entries_in_order;
+use crate::entry::HistRow;
 use crate::spec::{Action, HistSpec};
 use crate::stored::{StoredHit, is_known};
 use std::alloc::{AllocError, Global};
@@ -121,7 +124,7 @@ impl Hist {
         };
         if is_known(&self.hits, &next.key) {
             self.hits.push_reserved(next);
-        } else if self.entries < self.spec.size {
+        } else if self.entries < self.spec.size() {
             self.entries += 1;
             self.hits.push_reserved(next);
         } else {
@@ -182,11 +185,22 @@ impl Hist {
         ensures dropped { (rows : List Emission) → StandsFor self.now rows
             → result.dropped ≡ (grouped self.now.spec rows).dropped }
         ensures counted { result.hits + result.dropped ≡ counted self.now }
+        ensures table { (result.hits ≡ self.now.table.hits) × (result.entries ≡ length self.now.table.entries)
+            × (result.dropped ≡ self.now.table.dropped) }
     {
         Totals {
             hits: self.hits.len() as u64,
             entries: u64::from(self.entries),
             dropped: self.dropped,
         }
+    }
+
+    /// The entries in print order: by the sort keys in turn, those that tie in order of first occurrence.
+    pub fn rows(&self) -> Result<Vec<HistRow>, AllocError>
+        ensures rows { (rows : List Emission) → StandsFor self.now rows → IfOk result (λ shown. map row_in shown.items
+            ≡ printed self.now.spec.sort_sources (grouped self.now.spec rows).entries) }
+        ensures table { IfOk result (λ shown. map row_in shown.items ≡ printed self.now.spec.sort_sources self.now.table.entries) }
+    {
+        entries_in_order(self.alloc, &self.spec, &self.hits)
     }
 }

@@ -5,10 +5,20 @@
 #![tactic(auto)]
 
 mod attribute;
+mod entries;
 mod entry;
+mod fault;
 mod hist;
+pub mod laws;
+mod meaning;
 mod named;
+mod number;
+mod parts;
 mod piece;
+mod place;
+mod read;
+#[cfg(test)]
+mod shown;
 mod size;
 mod sort;
 mod source;
@@ -16,8 +26,13 @@ mod spec;
 mod stored;
 #[cfg(test)]
 mod tests;
+pub mod text_laws;
+#[cfg(test)]
+mod texts;
+mod written;
 
-pub use entry::HistEntry;
+pub use entry::HistRow;
+pub use fault::HistFault;
 pub use hist::{Hist, Totals};
 pub use spec::{Action, HistSpec, SortKey};
 pub use trace_format::Text;

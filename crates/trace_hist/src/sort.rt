@@ -5,7 +5,7 @@ ghost use Rattle.trace_format.specs.Cells.{datum_of};
 ghost use Rattle.trace_hist.specs.Hits.{field_cell};
 ghost use Rattle.trace_hist.specs.PrintOrder as order;
 
-use crate::entry::HistEntry;
+use crate::entry::HistRow;
 use std::alloc::AllocError;
 use std::cmp::Ordering;
 use trace_format::Value as Cell;
@@ -61,11 +61,11 @@ fn sum_at(sums: &[i128], place: usize) -> i128
 }
 
 impl SortSource {
-    fn compare(self, left: &HistEntry, right: &HistEntry) -> Ordering
-        ensures { result ≡ order.directed false self (order.entry_in left.now) (order.entry_in right.now) }
+    fn compare(self, left: &HistRow, right: &HistRow) -> Ordering
+        ensures { result ≡ order.directed false self (order.row_in left.now) (order.row_in right.now) }
     {
         match self {
-            SortSource::Key(place) => compare_keys(&left.key, &right.key, place),
+            SortSource::Key(place) => compare_keys(&left.keys, &right.keys, place),
             SortSource::Value(place) => sum_at(&left.sums, place).cmp(&sum_at(&right.sums, place)),
             SortSource::Hitcount => left.hitcount.cmp(&right.hitcount),
         }
@@ -73,9 +73,9 @@ impl SortSource {
 }
 
 impl SortRule {
-    fn compare(self, left: &HistEntry, right: &HistEntry) -> Ordering
+    fn compare(self, left: &HistRow, right: &HistRow) -> Ordering
         ensures { result ≡ order.directed self.descending self.source
-            (order.entry_in left.now) (order.entry_in right.now) }
+            (order.row_in left.now) (order.row_in right.now) }
     {
         if self.descending {
             self.source.compare(right, left)
@@ -86,8 +86,8 @@ impl SortRule {
 }
 
 /// By each sort key in turn.
-fn compare(rules: &[SortRule], left: &HistEntry, right: &HistEntry) -> Ordering
-    ensures { result ≡ order.entry_cmp rules.now (order.entry_in left.now) (order.entry_in right.now) }
+fn compare(rules: &[SortRule], left: &HistRow, right: &HistRow) -> Ordering
+    ensures { result ≡ order.entry_cmp rules.now (order.row_in left.now) (order.row_in right.now) }
 {
     match rules {
         [] => Ordering::Equal,
@@ -99,12 +99,9 @@ fn compare(rules: &[SortRule], left: &HistEntry, right: &HistEntry) -> Ordering
 }
 
 /// Puts entries into print order.
-pub(crate) fn sort_entries(
-    entries: &mut Vec<HistEntry>,
-    rules: &[SortRule],
-) -> Result<(), AllocError>
+pub(crate) fn sort_entries(entries: &mut Vec<HistRow>, rules: &[SortRule]) -> Result<(), AllocError>
     ensures { OnOk result (order.IsPrintOrder rules.now
-        (map order.entry_in entries.old.items) (map order.entry_in entries.new.items)) }
+        (map order.row_in entries.old.items) (map order.row_in entries.new.items)) }
 {
     entries.sort_by(|left, right| compare(rules, left, right))
 }

@@ -4,8 +4,9 @@ ghost use Rattle.std.specs.Prelude.{◌≡◌, map, IfOk};
 ghost use Rattle.trace_format.specs.Cells.{datum_of};
 ghost use Rattle.trace_hist.specs.Hits as hits;
 
+use crate::number::Number;
 use std::alloc::{AllocError, Global};
-use trace_format::Value;
+use trace_format::{Row, Value};
 
 /// What a name of a trigger means.
 #[derive(Clone, Copy, Debug, PartialEq, Eq)]
@@ -19,7 +20,7 @@ pub(crate) enum Source {
 }
 
 /// A copy of a value.
-fn copy(alloc: Global, value: &Value) -> Result<Value, AllocError>
+pub(crate) fn copy(alloc: Global, value: &Value) -> Result<Value, AllocError>
     ensures { IfOk result (λ copied. datum_of copied ≡ datum_of value.now) }
 {
     match value {
@@ -48,6 +49,14 @@ fn field_number(values: &[Value], place: usize) -> i128
     }
 }
 
+/// The number in a row's field.
+fn row_number(row: &Row, place: usize) -> Number
+    ensures { result ≡ hits.number_of (hits.field_cell row.now.values place) }
+{
+    let values = row.values();
+    Number::new(field_number(values, place))
+}
+
 impl Source {
     /// The value of an emission that is meant.
     pub(crate) fn cell(
@@ -68,14 +77,14 @@ impl Source {
     }
 
     /// The number of an emission that is meant.
-    pub(crate) fn number(self, values: &[Value], cpu: u32, pid: i32) -> i128
+    pub(crate) fn number(self, row: &Row, cpu: u32, pid: i32) -> Number
         ensures { result
-            ≡ hits.number_at (record { values = map datum_of values.now; cpu = cpu; pid = pid }) self }
+            ≡ hits.number_at (record { values = row.now.values; cpu = cpu; pid = pid }) self }
     {
         match self {
-            Source::Pid => i128::from(pid),
-            Source::Cpu => i128::from(cpu),
-            Source::Field(place) => field_number(values, place),
+            Source::Pid => Number::new(i128::from(pid)),
+            Source::Cpu => Number::new(i128::from(cpu)),
+            Source::Field(place) => row_number(row, place),
         }
     }
 }

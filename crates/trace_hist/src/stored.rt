@@ -6,6 +6,7 @@ ghost use Rattle.trace_hist.specs.Hits.{hit_of, cell_of, number_at};
 ghost use Rattle.trace_hist.specs.Groups as groups;
 ghost use Rattle.trace_hist.specs.Stored.{hit_in, is_stored};
 
+use crate::number::Number;
 use crate::source::Source;
 use crate::spec::HistSpec;
 use std::alloc::{AllocError, Global};
@@ -15,7 +16,7 @@ use trace_format::{Row, Value};
 #[derive(Debug, Drop)]
 pub(crate) struct StoredHit {
     pub(crate) key: Vec<Value>,
-    pub(crate) numbers: Vec<i128>,
+    pub(crate) numbers: Vec<Number>,
 }
 
 impl StoredHit {
@@ -30,9 +31,8 @@ impl StoredHit {
         ensures { IfOk result (λ hit. hit_in hit
             ≡ hit_of spec.now (record { values = row.now.values; cpu = cpu; pid = pid })) }
     {
-        let values = row.values();
-        let key = key_of(alloc, &spec.key_sources, values, cpu, pid)?;
-        let numbers = numbers_of(alloc, &spec.value_sources, values, cpu, pid)?;
+        let key = key_of(alloc, &spec.key_sources, row.values(), cpu, pid)?;
+        let numbers = numbers_of(alloc, &spec.value_sources, row, cpu, pid)?;
         Ok(StoredHit { key, numbers })
     }
 }
@@ -57,16 +57,16 @@ fn key_of(
 fn numbers_of(
     alloc: Global,
     sources: &[Source],
-    values: &[Value],
+    row: &Row,
     cpu: u32,
     pid: i32,
-) -> Result<Vec<i128>, AllocError>
+) -> Result<Vec<Number>, AllocError>
     ensures { IfOk result (λ numbers. numbers.items
-        ≡ map (number_at (record { values = map datum_of values.now; cpu = cpu; pid = pid })) sources.now) }
+        ≡ map (number_at (record { values = row.now.values; cpu = cpu; pid = pid })) sources.now) }
 {
     sources
         .iter()
-        .map(|source| source.number(values, cpu, pid))
+        .map(|source| source.number(row, cpu, pid))
         .collect(alloc)
 }
 
@@ -82,7 +82,7 @@ fn is_same_cell(left: &Value, right: &Value) -> bool
 }
 
 /// Whether two keys are the same.
-fn is_same_key(left: &[Value], right: &[Value]) -> bool
+pub(crate) fn is_same_key(left: &[Value], right: &[Value]) -> bool
     ensures { result ≡ groups.same_key (map datum_of left.now) (map datum_of right.now) }
 {
     match (left, right) {

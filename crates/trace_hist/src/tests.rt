@@ -13,7 +13,7 @@ use std::test::Fail;
 use trace_format::{EventDef, Pair, Row, Value};
 
 /// The row of an event whose fields have these values, as `n=1 m=2`.
-fn row(alloc: Global, event: &EventDef, fields: &str) -> Result<Row, Fail> {
+pub(crate) fn row(alloc: Global, event: &EventDef, fields: &str) -> Result<Row, Fail> {
     let mut pairs = Vec::new(alloc);
     for field in fields.split(' ') {
         let (name, value) = field.split_once('=').ok_or("a field has an `=`")?;
@@ -41,7 +41,7 @@ fn by_first_field(alloc: Global, name: &str, size: u32, action: Action) -> Resul
 }
 
 /// Counts a row, on CPU 0 for process 7.
-fn count(hist: &mut Hist, row: &Row) -> Result<(), AllocError> {
+pub(crate) fn count(hist: &mut Hist, row: &Row) -> Result<(), AllocError> {
     hist.reserve_hit(row, 0, 7)?;
     let totals = hist.totals();
     if totals.hits < 1000 && totals.dropped < 1000 {
@@ -147,9 +147,9 @@ fn same_triggers(rt: HostRuntime) -> Result<(), Fail> {
 }
 
 /// An entry of one number as its key.
-fn entry(alloc: Global, key: i128, hitcount: u64, sum: i128) -> Result<HistEntry, AllocError> {
-    Ok(HistEntry {
-        key: vec![in alloc; Value::Num(key)]?,
+fn entry(alloc: Global, key: i128, hitcount: u64, sum: i128) -> Result<HistRow, AllocError> {
+    Ok(HistRow {
+        keys: vec![in alloc; Value::Num(key)]?,
         hitcount,
         sums: vec![in alloc; sum]?,
     })
@@ -178,7 +178,7 @@ fn print_order(rt: HostRuntime) -> Result<(), Fail> {
     sort_entries(&mut entries, &rules)?;
     let mut sums = String::new(alloc);
     for entry in &entries {
-        for cell in &entry.key {
+        for cell in &entry.keys {
             if let Value::Num(key) = cell {
                 sums.push_str(format!(in alloc; "{key} ")?.as_str())?;
             }

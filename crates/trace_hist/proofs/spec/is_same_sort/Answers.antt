@@ -9,5 +9,5 @@ use Rattle.trace_hist.proofs.spec.is_same_sort.Goals as goal
 sort_key_decided : (a b : SortKey) → Decides (sort_key_eq.it a b) (a ≡ b)
 sort_key_decided a b = search (rules, bytes_decides)
 
-pub returns : goal.returns
-returns c = slice_eq-Decides sort_key_decided _ _ _ c.eq.ensures
+pub returns-clause-same : goal.returns-clause-same
+returns-clause-same c = slice_eq-Decides sort_key_decided _ _ _ c.eq.ensures

@@ -11,7 +11,7 @@ pub returns-clause-stands : goal.returns-clause-stands
 unfolding StandsFor grouped
 returns-clause-stands c =
     let spec = c.self.inside.spec in
-    let width = length spec.value_sources.items in
+    let width = length spec.value_sources in
     ap (λ (l : List StoredHit). table_of width (map hit_in l) 0) c.clear.ensures.items ∙ table-empty spec.size width
 
 pub returns-clause-reserved : goal.returns-clause-reserved

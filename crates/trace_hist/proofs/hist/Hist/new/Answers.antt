@@ -9,5 +9,5 @@ use Rattle.trace_hist.proofs.hist.Hist.new.Goals as goal
 pub returns-clause-stands : goal.returns-clause-stands
 unfolding StandsFor grouped
 returns-clause-stands c =
-    let width = length c.args.spec.value_sources.items in
+    let width = length c.args.spec.value_sources in
     ap (λ (l : List StoredHit). table_of width (map hit_in l) 0) c.new.ensures.items ∙ table-empty c.args.spec.size width

@@ -9,7 +9,7 @@ use Rattle.trace_hist.proofs.hist.Hist.reserve_hit.Goals as goal
 pub returns-clause-stands : goal.returns-clause-stands
 unfolding StandsFor
 returns-clause-stands c = λ rows h.
-    ap (λ (l : List StoredHit). table_of (length c.self.inside.spec.value_sources.items) (map hit_in l) c.self.inside.dropped) c.reserve.ensures.items
+    ap (λ (l : List StoredHit). table_of (length c.self.inside.spec.value_sources) (map hit_in l) c.self.inside.dropped) c.reserve.ensures.items
     ∙ ap (λ (s : Seen). s.table) c.self.view_is ∙ h ∙ ap (λ (s : Seen). grouped s.spec rows) (sym c.self.view_is)
 
 pub returns-clause-reserved : goal.returns-clause-reserved

@@ -16,7 +16,7 @@ unfolding StandsFor
 returns-clause-entries c = λ rows h.
     let hits = map hit_in c.self.inside.hits.items in
     let count : c.from.result ≡ length (distinct (keys_of hits)) = c.from.ensures ∙ c.self.invariant.entries in
-    count ∙ sym (length-map (distinct (keys_of hits)) (entry_of (length c.self.inside.spec.value_sources.items) hits))
+    count ∙ sym (length-map (distinct (keys_of hits)) (entry_of (length c.self.inside.spec.value_sources) hits))
     ∙ ap (λ (s : Seen). length s.table.entries) c.self.view_is ∙ ap (λ t. length t.entries) h
 
 pub returns-clause-dropped : goal.returns-clause-dropped
@@ -28,3 +28,11 @@ returns-clause-counted c =
     let count : c.len.result ≡ length c.self.inside.hits.items = search rules in
     ap (λ n. n + c.self.inside.dropped) (count ∙ sym (length-map c.self.inside.hits.items hit_in))
     ∙ ap (λ (s : Seen). s.table.hits + s.table.dropped) c.self.view_is
+
+pub returns-clause-table : goal.returns-clause-table
+returns-clause-table c =
+    let hits = map hit_in c.self.inside.hits.items in
+    let count : c.len.result ≡ length c.self.inside.hits.items = search rules in
+    let many : c.from.result ≡ length (distinct (keys_of hits)) = c.from.ensures ∙ c.self.invariant.entries in
+    let width = length c.self.inside.spec.value_sources in
+    (count ∙ sym (length-map c.self.inside.hits.items hit_in) ∙ ap (λ (s : Seen). s.table.hits) c.self.view_is, many ∙ sym (length-map (distinct (keys_of hits)) (entry_of width hits)) ∙ ap (λ (s : Seen). length s.table.entries) c.self.view_is, ap (λ (s : Seen). s.table.dropped) c.self.view_is)

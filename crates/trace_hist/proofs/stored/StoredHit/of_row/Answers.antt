@@ -13,6 +13,6 @@ same_hit key cells numbers read e f =
 pub returns : goal.returns
 returns c =
     let e : Emission = record { values = c.args.row.now.values; cpu = c.args.cpu; pid = c.args.pid } in
-    let key : map datum_of c.in_ok-key.key.items ≡ map (cell_of e) c.args.spec.now.key_sources.items = search rules in
-    let numbers : c.in_ok-numbers.numbers.items ≡ map (number_at e) c.args.spec.now.value_sources.items = search rules in
+    let key : map datum_of c.in_ok-key.key.items ≡ map (cell_of e) c.args.spec.now.key_sources = search rules in
+    let numbers : c.in_ok-numbers.numbers.items ≡ map (number_at e) c.args.spec.now.value_sources = search rules in
     same_hit _ _ _ _ key numbers

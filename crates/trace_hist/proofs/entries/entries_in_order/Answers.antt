@@ -1,0 +1,21 @@
+use Rattle.std.proofs.Common.{◌≡◌, ℕ, length, map, ap, ◌∙◌, List, subst, rules}
+use Rattle.trace_hist.specs.declared.sort.SortRule.{SortRule}
+use Rattle.trace_hist.specs.Groups.{distinct, keys_of, entry_of}
+use Rattle.trace_hist.specs.PrintOrder.{row_in, printed, IsPrintOrder}
+use Rattle.trace_hist.specs.Stored.{hit_in}
+use Rattle.trace_hist.proofs.PrintLaws.{printed_is_in_print_order, one_print_order}
+use Rattle.trace_hist.proofs.entries.entries_in_order.Goals as goal
+
+pub returns : goal.returns
+returns c =
+    let spec = c.args.spec.now in
+    let hits = map hit_in c.args.hits.now in
+    let built = map row_in c.in_ok-entries.entries.items in
+    let shown = map row_in c.sort_entries.new.entries.items in
+    let width : c.len-width.result ≡ length spec.value_sources = search rules in
+    let all : built ≡ map (entry_of c.len-width.result hits) (distinct (keys_of hits)) = search rules in
+    let rules_are : c.deref.result.now ≡ spec.sort_sources = search rules in
+    let order : IsPrintOrder spec.sort_sources built shown =
+    subst (λ (l : List SortRule). IsPrintOrder l built shown) rules_are c.in_ok-sort_entries.ensures in
+    one_print_order spec.sort_sources built (printed spec.sort_sources built) shown (printed_is_in_print_order spec.sort_sources built) order
+    ∙ ap (printed spec.sort_sources) (all ∙ ap (λ (n : ℕ). map (entry_of n hits) (distinct (keys_of hits))) width)
