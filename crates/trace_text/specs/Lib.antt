@@ -9,4 +9,6 @@ pub mod Fronts
 pub mod BufferText
 pub mod SnapshotText
 pub mod TriggerText
+pub mod EntryText
+pub mod HistText
 pub mod ShownTriggers

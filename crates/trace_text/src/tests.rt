@@ -65,17 +65,12 @@ const DECLARATIONS: [(&[u8], &str); 3] = [
     ),
 ];
 
-/// Triggers of an event, each with the text of its file.
-const TRIGGERS: [(&[Shown<'static>], &str); 5] = [
-    (&[], "# Available triggers:\n# hist snapshot\n"),
-    (&[UNLIMITED], "snapshot:unlimited\n"),
-    (&[SPENT], "snapshot:count=0\n"),
-    (&[FILTERED], "snapshot:unlimited if n > 5\n"),
-    (
-        &[COUNTED, UNLIMITED, FILTERED],
-        "snapshot:count=18446744073709551615 if who ~ \"a b*\"\nsnapshot:unlimited\nsnapshot:unlimited if n > 5\n",
-    ),
-];
+/// What three triggers say.
+const COUNTED_AND_OTHERS: &str = "\
+snapshot:count=18446744073709551615 if who ~ \"a b*\"
+snapshot:unlimited
+snapshot:unlimited if n > 5
+";
 
 const UNLIMITED: Shown<'static> = Shown::Snapshot {
     left: None,
@@ -194,7 +189,14 @@ fn declarations(rt: HostRuntime) -> Result<(), Fail> {
 
 #[test]
 fn triggers(rt: HostRuntime) -> Result<(), Fail> {
-    for (shown, text) in TRIGGERS {
+    let triggers: [(&[Shown<'static>], &str); 5] = [
+        (&[], "# Available triggers:\n# hist snapshot\n"),
+        (&[UNLIMITED], "snapshot:unlimited\n"),
+        (&[SPENT], "snapshot:count=0\n"),
+        (&[FILTERED], "snapshot:unlimited if n > 5\n"),
+        (&[COUNTED, UNLIMITED, FILTERED], COUNTED_AND_OTHERS),
+    ];
+    for (shown, text) in triggers {
         let mut alone = Vec::new(rt.alloc());
         trigger_text(rt.alloc(), shown, &mut alone)?;
         assert!(rt; alone.as_slice() == text.as_bytes(), "at {text}");

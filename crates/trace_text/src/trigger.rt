@@ -1,16 +1,21 @@
 //! The text of an event's `trigger` file.
 
-ghost use Rattle.std.specs.Prelude.{◌≡◌, ◌++◌, map, option_copied, OnOk, OnErr};
+ghost use Rattle.std.specs.Prelude.{◌≡◌, ◌++◌, map, codes, option_copied, OnOk, OnErr};
 ghost use Rattle.std.specs.List.{flat_map};
 ghost use Rattle.trace_text.specs.ShownTriggers.{shown_trigger};
 ghost use Rattle.trace_text.specs.TriggerText as texts;
 
 use crate::append::{append_text, push_number};
+use crate::hist_line::{push_condition, push_hist_line};
 use std::alloc::{AllocError, Global};
+use trace_hist::{Hist, HistSpec};
 
-/// A trigger as the `trigger` file of its event shows it.
-#[derive(Clone, Copy, Debug)]
+/// A trigger as its event's files show it, `trigger` and `hist`.
+#[derive(Clone, Copy)]
 pub enum Shown<'a> {
+    /// A hist trigger and its histogram ("hist triggers" of histogram.rst). The line of the trigger and the names of keys and values are taken
+    /// from the first; entries in print order, totals, and whether it is paused, from the second.
+    Hist(&'a HistSpec, &'a Hist),
     /// A trigger that takes snapshots ("snapshot" of events.rst, "Event triggers").
     Snapshot {
         /// How many snapshots it may still take; no number means no end.
@@ -31,16 +36,18 @@ fn push_left(out: &mut Vec<u8>, left: Option<u64>) -> Result<(), AllocError>
     push_number(out, left)
 }
 
-/// Appends the condition of a trigger with a filter, and of another nothing.
-fn push_condition(out: &mut Vec<u8>, filter: Option<&[u8]>) -> Result<(), AllocError>
-    ensures { OnOk result (out.new.items
-        ≡ out.old.items ++ texts.condition_text (option_copied filter.entry)) }
+/// Appends what a trigger that takes snapshots says.
+fn push_snapshot(
+    out: &mut Vec<u8>,
+    left: Option<u64>,
+    filter: Option<&[u8]>,
+) -> Result<(), AllocError>
+    ensures { OnOk result (out.new.items ≡ out.old.items ++ codes "snapshot:"
+        ++ texts.left_text left ++ texts.condition_text (option_copied filter.entry)) }
 {
-    let Some(filter) = filter else {
-        return Ok(());
-    };
-    out.extend_from_slice(b" if ".as_slice())?;
-    out.extend_from_slice(filter)
+    out.extend_from_slice(b"snapshot:".as_slice())?;
+    push_left(out, left)?;
+    push_condition(out, filter)
 }
 
 /// Appends the line of a trigger.
@@ -49,10 +56,10 @@ fn push_trigger_line(out: &mut Vec<u8>, trigger: &Shown<'_>) -> Result<(), Alloc
     ensures { OnOk result (out.new.items
         ≡ out.old.items ++ texts.trigger_line (shown_trigger trigger.now)) }
 {
-    let Shown::Snapshot { left, filter } = *trigger;
-    out.extend_from_slice(b"snapshot:".as_slice())?;
-    push_left(out, left)?;
-    push_condition(out, filter)?;
+    match *trigger {
+        Shown::Hist(spec, hist) => push_hist_line(out, spec, hist.is_paused())?,
+        Shown::Snapshot { left, filter } => push_snapshot(out, left, filter)?,
+    }
     out.extend_from_slice(b"\n".as_slice())
 }
 
@@ -77,7 +84,8 @@ fn push_available_triggers(out: &mut Vec<u8>) -> Result<(), AllocError>
 }
 
 /// Appends what an event's `trigger` file shows ("Event triggers" of events.rst): a line for each trigger, in the order of `shown`, which is to be
-/// that in which they were attached; or, if there is none, two lines that name the kinds of triggers.
+/// that in which they were attached; or, if there is none, two lines that name the kinds of triggers. A hist trigger's line has its lists as they
+/// were written, with `hitcount` first among the values, the size as it was rounded up, the filter, and whether it is paused.
 ///
 /// It is refused only if it runs out of memory, and `out` is then as it was.
 #[tactic(auto, unfolding(crate::specs::TriggerText::trigger_text))]

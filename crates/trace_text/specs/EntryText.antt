@@ -1,0 +1,36 @@
+-- The line of an entry of a histogram (histogram.rst, "hist triggers"). How wide numbers and strings are was chosen by this project.
+use Rattle.std.specs.Prelude.{ℕ, ◌-◌, ℤ, List, ◌++◌, length, replicate, codes}
+use Rattle.std.specs.Fmt.{decimal, signed_decimal}
+use Rattle.std.specs.List.{flat_map, join_by, zip}
+use Rattle.trace_format.specs.Cells.{Datum, Whole, Bytes}
+use Rattle.trace_hist.specs.Groups.{Entry}
+
+-- the blanks (32) that fill up a string to so many places; none for a longer string, since `-` stops at 0
+abbrev pub fill : ℕ → List ℕ → List ℕ
+fill places text = replicate (places - length text) 32
+
+abbrev pub on_the_right : ℕ → List ℕ → List ℕ
+on_the_right places text = fill places text ++ text
+
+abbrev pub on_the_left : ℕ → List ℕ → List ℕ
+on_the_left places text = text ++ fill places text
+
+-- numbers on the right of 10 places, strings on the left of 16
+abbrev pub key_value : Datum → List ℕ
+key_value (Whole n) = on_the_right 10 (signed_decimal n)
+key_value (Bytes bytes) = on_the_left 16 bytes
+
+-- a key's name and value
+abbrev pub key_text : List ℕ × Datum → List ℕ
+key_text key = key.0 ++ codes ": " ++ key_value key.1
+
+-- a value's name and sum
+abbrev pub sum_text : List ℕ × ℤ → List ℕ
+sum_text sum = codes "  " ++ sum.0 ++ codes ": " ++ on_the_right 10 (signed_decimal sum.1)
+
+-- an entry of a trigger with these keys and values
+unfoldable pub entry_line : List (List ℕ) → List (List ℕ) → Entry → List ℕ
+entry_line keys values entry =
+    codes "{ " ++ join_by key_text (codes ", ") (zip keys entry.key)
+    ++ codes " } hitcount: " ++ on_the_right 10 (decimal entry.hitcount)
+    ++ flat_map sum_text (zip values entry.sums) ++ codes "\n"

@@ -1,0 +1,119 @@
+//! The line of an entry of a histogram.
+
+ghost use Rattle.std.specs.Prelude.{◌≡◌, ◌++◌, ◌-◌, map, replicate, codes, OnOk};
+ghost use Rattle.std.specs.List.{flat_map, join_by, zip};
+ghost use Rattle.trace_format.specs.Cells.{datum_of};
+ghost use Rattle.trace_hist.specs.PrintOrder.{row_in};
+ghost use Rattle.trace_text.specs.EntryText as texts;
+
+use itoa::{Buffer, Integer};
+use std::alloc::AllocError;
+use trace_format::{Text, Value};
+use trace_hist::{HistRow, HistSpec};
+
+/// Appends so many blanks.
+fn push_blanks(out: &mut Vec<u8>, count: usize) -> Result<(), AllocError>
+    ensures { OnOk result (out.new.items ≡ out.old.items ++ replicate count 32) }
+{
+    for _ in 0..count {
+        out.push(b' ')?;
+    }
+    Ok(())
+}
+
+/// Appends a number on the right of 10 places.
+fn push_number_on_the_right<N: Integer>(out: &mut Vec<u8>, n: N) -> Result<(), AllocError>
+    ensures { OnOk result (out.new.items ≡ out.old.items ++ texts.on_the_right 10 (N.text n)) }
+{
+    let mut buffer = Buffer::new();
+    let digits = buffer.format(n).as_bytes();
+    push_blanks(out, 10usize.saturating_sub(digits.len()))?;
+    out.extend_from_slice(digits)
+}
+
+/// Appends the value of a key.
+fn push_key_value(out: &mut Vec<u8>, value: &Value) -> Result<(), AllocError>
+    ensures { OnOk result (out.new.items ≡ out.old.items ++ texts.key_value (datum_of value.now)) }
+{
+    match value {
+        Value::Num(number) => push_number_on_the_right(out, *number),
+        Value::Text(bytes) => {
+            out.extend_from_slice(bytes)?;
+            push_blanks(out, 16usize.saturating_sub(bytes.len()))
+        }
+    }
+}
+
+/// Appends a key's name and value.
+fn push_key(out: &mut Vec<u8>, name: &Text, value: &Value) -> Result<(), AllocError>
+    ensures { OnOk result (out.new.items
+        ≡ out.old.items ++ texts.key_text (name.now, datum_of value.now)) }
+{
+    out.extend_from_slice(name.as_bytes())?;
+    out.extend_from_slice(b": ".as_slice())?;
+    push_key_value(out, value)
+}
+
+/// Appends keys that follow another one.
+fn push_further_keys(out: &mut Vec<u8>, names: &[Text], values: &[Value]) -> Result<(), AllocError>
+    ensures { OnOk result (out.new.items ≡ out.old.items ++ flat_map
+        (λ key. codes ", " ++ texts.key_text key) (zip names.now (map datum_of values.now))) }
+{
+    for (name, value) in names.iter().zip(values) {
+        out.extend_from_slice(b", ".as_slice())?;
+        push_key(out, name, value)?;
+    }
+    Ok(())
+}
+
+/// Appends keys with `, ` between each two.
+fn push_keys(out: &mut Vec<u8>, names: &[Text], values: &[Value]) -> Result<(), AllocError>
+    ensures { OnOk result (out.new.items ≡ out.old.items
+        ++ join_by texts.key_text (codes ", ") (zip names.now (map datum_of values.now))) }
+{
+    let (Some((name, names)), Some((value, values))) = (names.split_first(), values.split_first())
+    else {
+        return Ok(());
+    };
+    push_key(out, name, value)?;
+    push_further_keys(out, names, values)
+}
+
+/// Appends a value's name and sum.
+fn push_sum(out: &mut Vec<u8>, name: &Text, sum: i128) -> Result<(), AllocError>
+    ensures { OnOk result (out.new.items ≡ out.old.items ++ texts.sum_text (name.now, sum)) }
+{
+    out.extend_from_slice(b"  ".as_slice())?;
+    out.extend_from_slice(name.as_bytes())?;
+    out.extend_from_slice(b": ".as_slice())?;
+    push_number_on_the_right(out, sum)
+}
+
+/// Appends values, each with its sum.
+fn push_sums(out: &mut Vec<u8>, names: &[Text], sums: &[i128]) -> Result<(), AllocError>
+    ensures { OnOk result (out.new.items
+        ≡ out.old.items ++ flat_map texts.sum_text (zip names.now sums.now)) }
+{
+    for (name, sum) in names.iter().zip(sums) {
+        push_sum(out, name, *sum)?;
+    }
+    Ok(())
+}
+
+/// Appends the line of an entry of a trigger.
+#[tactic(auto, unfolding(crate::specs::EntryText::entry_line))]
+pub(crate) fn push_entry_line(
+    out: &mut Vec<u8>,
+    spec: &HistSpec,
+    entry: &HistRow,
+) -> Result<(), AllocError>
+    ensures { OnOk result (out.new.items
+        ≡ out.old.items ++ texts.entry_line spec.now.keys spec.now.values (row_in entry.now)) }
+{
+    out.extend_from_slice(b"{ ".as_slice())?;
+    push_keys(out, spec.keys(), &entry.keys)?;
+    out.extend_from_slice(b" } hitcount: ".as_slice())?;
+    push_number_on_the_right(out, entry.hitcount)?;
+    push_sums(out, spec.values(), &entry.sums)?;
+    out.extend_from_slice(b"\n".as_slice())
+}

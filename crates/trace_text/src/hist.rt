@@ -1,0 +1,109 @@
+//! The text of an event's `hist` file.
+
+ghost use Rattle.std.specs.Prelude.{◌≡◌, ◌++◌, codes, map, OnOk, OnErr};
+ghost use Rattle.std.specs.List.{flat_map, filter_map, join_by};
+ghost use Rattle.trace_hist.specs.PrintOrder.{row_in};
+ghost use Rattle.trace_text.specs.EntryText.{entry_line};
+ghost use Rattle.trace_text.specs.HistText as texts;
+ghost use Rattle.trace_text.specs.ShownTriggers.{shown_hist, shown_trigger};
+
+use crate::append::{append_text, push_number};
+use crate::entry::push_entry_line;
+use crate::hist_line::push_hist_line;
+use crate::trigger::Shown;
+use std::alloc::{AllocError, Global};
+use trace_hist::{Hist, HistRow, HistSpec};
+
+/// Appends the lines before the entries, which show the trigger.
+#[tactic(auto, unfolding(crate::specs::HistText::hist_head))]
+fn push_hist_head(out: &mut Vec<u8>, spec: &HistSpec, hist: &Hist) -> Result<(), AllocError>
+    ensures { OnOk result (out.new.items
+        ≡ out.old.items ++ texts.hist_head (shown_hist spec.now hist.now)) }
+{
+    out.extend_from_slice(b"# event histogram\n#\n# trigger info: ".as_slice())?;
+    push_hist_line(out, spec, hist.is_paused())?;
+    out.extend_from_slice(b"\n#\n\n".as_slice())
+}
+
+/// Appends entries, a line each.
+fn push_entries(out: &mut Vec<u8>, spec: &HistSpec, entries: &[HistRow]) -> Result<(), AllocError>
+    ensures { OnOk result (out.new.items ≡ out.old.items
+        ++ flat_map (entry_line spec.now.keys spec.now.values) (map row_in entries.now)) }
+{
+    for entry in entries {
+        push_entry_line(out, spec, entry)?;
+    }
+    Ok(())
+}
+
+/// Appends the line of one of the totals.
+#[tactic(auto, unfolding(crate::specs::HistText::total_line))]
+fn push_total(out: &mut Vec<u8>, name: &str, count: u64) -> Result<(), AllocError>
+    ensures { OnOk result (out.new.items ≡ out.old.items ++ texts.total_line name.now count) }
+{
+    out.extend_from_slice(b"    ".as_slice())?;
+    out.extend_from_slice(name.as_bytes())?;
+    out.extend_from_slice(b": ".as_slice())?;
+    push_number(out, count)?;
+    out.extend_from_slice(b"\n".as_slice())
+}
+
+/// Appends the totals.
+#[tactic(auto, unfolding(crate::specs::HistText::totals_text))]
+fn push_totals(out: &mut Vec<u8>, hist: &Hist) -> Result<(), AllocError>
+    ensures { OnOk result (out.new.items ≡ out.old.items ++ texts.totals_text hist.now.table) }
+{
+    let totals = hist.totals();
+    out.extend_from_slice(b"Totals:\n".as_slice())?;
+    push_total(out, "Hits", totals.hits)?;
+    push_total(out, "Entries", totals.entries)?;
+    push_total(out, "Dropped", totals.dropped)
+}
+
+/// Appends a trigger with its entries and totals.
+#[tactic(auto, unfolding(crate::specs::HistText::one_hist))]
+fn push_hist(out: &mut Vec<u8>, spec: &HistSpec, hist: &Hist) -> Result<(), AllocError>
+    ensures { OnOk result (out.new.items
+        ≡ out.old.items ++ texts.one_hist (shown_hist spec.now hist.now)) }
+{
+    let entries = hist.rows()?;
+    push_hist_head(out, spec, hist)?;
+    push_entries(out, spec, &entries)?;
+    out.extend_from_slice(b"\n".as_slice())?;
+    push_totals(out, hist)
+}
+
+/// Appends the histograms of the hist triggers with an empty line between each two.
+fn push_hists(out: &mut Vec<u8>, shown: &[Shown<'_>]) -> Result<(), AllocError>
+    ensures { OnOk result (out.new.items ≡ out.old.items ++ join_by texts.one_hist (codes "\n")
+        (filter_map texts.hist_of (map shown_trigger shown.now))) }
+{
+    let mut is_first = true;
+    for trigger in shown {
+        let Shown::Hist(spec, hist) = *trigger else {
+            continue;
+        };
+        if !is_first {
+            out.extend_from_slice(b"\n".as_slice())?;
+        }
+        push_hist(out, spec, hist)?;
+        is_first = false;
+    }
+    Ok(())
+}
+
+/// Appends what an event's `hist` file shows ("hist triggers" of histogram.rst): each hist trigger of `shown` with its entries in print order and
+/// its totals, with an empty line between each two, in the order of `shown`, which is to be that in which they were attached. Without a hist
+/// trigger it appends nothing.
+///
+/// It is refused only if it runs out of memory, and `out` is then as it was.
+#[tactic(auto, unfolding(crate::specs::HistText::hist_text))]
+pub fn hist_text(alloc: Global, shown: &[Shown<'_>], out: &mut Vec<u8>) -> Result<(), AllocError>
+    ensures text { OnOk result (out.new.items
+        ≡ out.old.items ++ texts.hist_text (map shown_trigger shown.now)) }
+    ensures refused { OnErr result (out.new.items ≡ out.old.items) }
+{
+    let mut text = Vec::new(alloc);
+    push_hists(&mut text, shown)?;
+    append_text(out, text)
+}

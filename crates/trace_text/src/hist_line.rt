@@ -1,0 +1,150 @@
+//! What a hist trigger says, as it is shown.
+
+ghost use Rattle.std.specs.Prelude.{◌≡◌, ◌∷◌, ◌++◌, codes, option_copied, OnOk};
+ghost use Rattle.std.specs.Fmt.{decimal};
+ghost use Rattle.std.specs.List.{flat_map, join_by};
+ghost use Rattle.trace_hist.specs.Triggers.{filter_text};
+ghost use Rattle.trace_text.specs.TriggerText as texts;
+
+use crate::append::push_number;
+use std::alloc::AllocError;
+use trace_format::Text;
+use trace_hist::{HistSpec, SortKey};
+
+/// Appends names that follow another one.
+fn push_further_names(out: &mut Vec<u8>, names: &[Text]) -> Result<(), AllocError>
+    ensures { OnOk result (out.new.items
+        ≡ out.old.items ++ flat_map (λ name. codes "," ++ name) names.now) }
+{
+    for name in names {
+        out.extend_from_slice(b",".as_slice())?;
+        out.extend_from_slice(name.as_bytes())?;
+    }
+    Ok(())
+}
+
+/// Appends names with a `,` between each two.
+fn push_names(out: &mut Vec<u8>, names: &[Text]) -> Result<(), AllocError>
+    ensures { OnOk result (out.new.items ≡ out.old.items ++ texts.with_commas names.now) }
+{
+    let Some((first, further)) = names.split_first() else {
+        return Ok(());
+    };
+    out.extend_from_slice(first.as_bytes())?;
+    push_further_names(out, further)
+}
+
+/// Appends values, with `hitcount` as the first.
+fn push_values(out: &mut Vec<u8>, values: &[Text]) -> Result<(), AllocError>
+    ensures { OnOk result (out.new.items
+        ≡ out.old.items ++ texts.with_commas (codes "hitcount" ∷ values.now)) }
+{
+    out.extend_from_slice(b"hitcount".as_slice())?;
+    push_further_names(out, values)
+}
+
+/// Appends a sort key, with its direction if that is descending.
+fn push_sort_key(out: &mut Vec<u8>, key: &SortKey) -> Result<(), AllocError>
+    ensures { OnOk result (out.new.items ≡ out.old.items ++ texts.sort_text key.now) }
+{
+    out.extend_from_slice(key.name.as_bytes())?;
+    if key.descending {
+        out.extend_from_slice(b".descending".as_slice())?;
+    }
+    Ok(())
+}
+
+/// Appends sort keys that follow another one.
+fn push_further_sort_keys(out: &mut Vec<u8>, keys: &[SortKey]) -> Result<(), AllocError>
+    ensures { OnOk result (out.new.items
+        ≡ out.old.items ++ flat_map (λ key. codes "," ++ texts.sort_text key) keys.now) }
+{
+    for key in keys {
+        out.extend_from_slice(b",".as_slice())?;
+        push_sort_key(out, key)?;
+    }
+    Ok(())
+}
+
+/// Appends sort keys with a `,` between each two.
+fn push_sort_keys(out: &mut Vec<u8>, keys: &[SortKey]) -> Result<(), AllocError>
+    ensures { OnOk result (out.new.items
+        ≡ out.old.items ++ join_by texts.sort_text (codes ",") keys.now) }
+{
+    let Some((first, further)) = keys.split_first() else {
+        return Ok(());
+    };
+    push_sort_key(out, first)?;
+    push_further_sort_keys(out, further)
+}
+
+/// Appends the condition of a trigger with a filter, and of another nothing.
+pub(crate) fn push_condition(out: &mut Vec<u8>, filter: Option<&[u8]>) -> Result<(), AllocError>
+    ensures { OnOk result (out.new.items
+        ≡ out.old.items ++ texts.condition_text (option_copied filter.entry)) }
+{
+    let Some(filter) = filter else {
+        return Ok(());
+    };
+    out.extend_from_slice(b" if ".as_slice())?;
+    out.extend_from_slice(filter)
+}
+
+/// Appends how many entries there may be.
+fn push_size(out: &mut Vec<u8>, spec: &HistSpec) -> Result<(), AllocError>
+    ensures { OnOk result (out.new.items
+        ≡ out.old.items ++ codes ":size=" ++ decimal spec.now.size) }
+{
+    out.extend_from_slice(b":size=".as_slice())?;
+    push_number(out, spec.size())
+}
+
+/// Appends the condition of a hist trigger with a filter, and of another nothing.
+fn push_filter(out: &mut Vec<u8>, spec: &HistSpec) -> Result<(), AllocError>
+    ensures { OnOk result (out.new.items
+        ≡ out.old.items ++ texts.condition_text (filter_text spec.now.filter)) }
+{
+    match spec.filter() {
+        Some(filter) => push_condition(out, Some(filter.text())),
+        None => Ok(()),
+    }
+}
+
+/// Appends whether a trigger is paused.
+fn push_state(out: &mut Vec<u8>, is_paused: bool) -> Result<(), AllocError>
+    ensures { OnOk result (out.new.items ≡ out.old.items ++ texts.state_text is_paused) }
+{
+    let state = if is_paused {
+        b" [paused]".as_slice()
+    } else {
+        b" [active]".as_slice()
+    };
+    out.extend_from_slice(state)
+}
+
+/// Appends the lists of a hist trigger, with `hitcount` first among its values.
+fn push_lists(out: &mut Vec<u8>, spec: &HistSpec) -> Result<(), AllocError>
+    ensures { OnOk result (out.new.items ≡ out.old.items ++ texts.lists_text spec.now) }
+{
+    out.extend_from_slice(b"hist:keys=".as_slice())?;
+    push_names(out, spec.keys())?;
+    out.extend_from_slice(b":vals=".as_slice())?;
+    push_values(out, spec.values())?;
+    out.extend_from_slice(b":sort=".as_slice())?;
+    push_sort_keys(out, spec.sort())
+}
+
+/// Appends what a hist trigger says, and whether it is paused.
+#[tactic(auto, unfolding(crate::specs::TriggerText::hist_line))]
+pub(crate) fn push_hist_line(
+    out: &mut Vec<u8>,
+    spec: &HistSpec,
+    is_paused: bool,
+) -> Result<(), AllocError>
+    ensures { OnOk result (out.new.items ≡ out.old.items ++ texts.hist_line spec.now is_paused) }
+{
+    push_lists(out, spec)?;
+    push_size(out, spec)?;
+    push_filter(out, spec)?;
+    push_state(out, is_paused)
+}
