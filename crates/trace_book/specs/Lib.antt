@@ -1,7 +1,5 @@
-pub mod KeptHists
 pub mod Instances
 pub mod Changes
-pub mod Attaching
 pub mod Rows
 pub mod States
 pub mod Files

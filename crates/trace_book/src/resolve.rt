@@ -36,7 +36,6 @@ pub(crate) enum File {
     EventEnable(usize),
     EventFilter(usize),
     EventTrigger(usize),
-    EventHist(usize),
     EventFormat(usize),
 }
 
@@ -150,7 +149,6 @@ fn found_file(catalog: &Catalog, cpus: u32, named: Place<'_>) -> Result<Option<F
         Place::EventEnable(name) => File::EventEnable(event_place(catalog, name)?),
         Place::EventFilter(name) => File::EventFilter(event_place(catalog, name)?),
         Place::EventTrigger(name) => File::EventTrigger(event_place(catalog, name)?),
-        Place::EventHist(name) => File::EventHist(event_place(catalog, name)?),
         Place::EventFormat(name) => File::EventFormat(event_place(catalog, name)?),
     };
     Ok(Some(file))

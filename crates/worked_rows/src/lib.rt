@@ -14,13 +14,7 @@ mod events;
 #[cfg(test)]
 mod fakes;
 #[cfg(test)]
-mod filled_hists;
-#[cfg(test)]
 mod filters;
-#[cfg(test)]
-mod hist_spares;
-#[cfg(test)]
-mod hists;
 #[cfg(test)]
 mod instances;
 #[cfg(test)]
@@ -41,5 +35,3 @@ mod sizes;
 mod snapshots;
 #[cfg(test)]
 mod spares;
-#[cfg(test)]
-mod triggers;

@@ -14,7 +14,6 @@ returns c =
       enabled = made.enabled;
       filters = made.filters;
       triggers = made.triggers;
-      hists = made.hists;
       overwrite = made.overwrite;
       tracing = made.tracing;
       live = made.live;
