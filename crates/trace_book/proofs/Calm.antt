@@ -11,6 +11,7 @@ use Rattle.trace_command.specs.Requests.{Request, MakeInstance, RemoveInstance, 
 use Rattle.trace_command.specs.declared.command.Config.{Config}
 use Rattle.trace_snapshot.specs.Sides.{SideFamilies}
 use Rattle.trace_history.specs.Emissions.{emitted}
+use Rattle.trace_history.specs.HistTriggers.{written_to}
 use Rattle.trace_history.specs.Rings.{other_rings, rings, rings_after, rings_after_write, spare_after, spare_rings}
 use Rattle.trace_history.specs.Settings.{declared_events, is_enabled, is_same, is_tracing, kept_filter, makes, overwrites, set_by, sets_filter, sets_overwrite, sets_tracing, switches}
 use Rattle.trace_history.specs.Snapshots.{exchanges, has_spare, sets_spare}
@@ -19,11 +20,13 @@ use Rattle.trace_history.specs.Triggers.{sets_trigger, times_left, trigger_of}
 use Rattle.trace_history.proofs.EventLists.{map-agrees}
 use Rattle.trace_history.proofs.Sides.{rings-stay}
 use Rattle.trace_history.proofs.Triggered.{number-before, times_left-same}
-use Rattle.trace_book.specs.Changes.{IsEffect, filters_after, flags_after, overwrite_after, rings_changed, sides_changed, tracing_after, triggers_after}
+use Rattle.trace_book.specs.Changes.{IsEffect, filters_after, flags_after, hists_after, overwrite_after, rings_changed, sides_changed, tracing_after, triggers_after}
 use Rattle.trace_book.specs.Instances.{IsSpared, kept_as, kept_trigger, side_families}
+use Rattle.trace_book.specs.KeptHists.{KeptHist, kept_hists}
 use Rattle.trace_book.specs.declared.change.InstanceChange.{InstanceChange}
 use Rattle.trace_book.specs.declared.change.InstanceChange.TheVariants.{Keep}
 use Rattle.trace_book.specs.declared.trigger.Trigger.{Trigger}
+use Rattle.trace_book.proofs.HistSteps.{kept-hists-calm}
 
 -- an event for places outside of a list
 pub no_event : Definition
@@ -41,11 +44,11 @@ pub trigger-stays : (name : Option (List ℕ)) (past : List Request) (request : 
     → trigger_of name event (request ∷ past) ≡ trigger_of name event past
 trigger-stays name past request event is = rw (is.alive, is.sets) refl
 
-kept-as_left : (past : List Request) (request : Request) (event : Definition) (trigger : Option triggers.Trigger)
+pub kept-as_left : (past : List Request) (request : Request) (event : Definition) (trigger : Option triggers.Trigger)
     → ((t : triggers.Trigger) → trigger ≡ Some t → times_left event t (request ∷ past) ≡ times_left event t past)
     → option_map (kept_as (request ∷ past) event) trigger ≡ option_map (kept_as past event) trigger
 kept-as_left past request event None left = refl
-kept-as_left past request event (Some t) left = λ i. Some (record { left = left t refl i; filter = t.spec.filter })
+kept-as_left past request event (Some t) left = λ i. Some (record { number = t.number; left = left t refl i; filter = t.spec.filter })
 
 pub kept-stays : (name : Option (List ℕ)) (past : List Request) (request : Request) (event : Definition) → KeepsTrigger name past request event
     → kept_trigger name (request ∷ past) event ≡ kept_trigger name past event
@@ -97,12 +100,22 @@ pub record IsCalm (name : Option (List ℕ)) (past : List Request) (request : Re
   pub stays : exchanges name past request ≡ false
   pub sets : set_by name (sets_spare past) request ≡ None
   pub untouched : (g : Config) (family : List (List Event)) → spare_after g name request family ≡ family
+  pub unwritten : (event : Definition) → written_to name event request ≡ None
+  pub quiet : emitted past request ≡ None
 
 pub calm-triggers : (name : Option (List ℕ)) (past : List Request) (request : Request) → IsCalm name past request
     → map (kept_trigger name (request ∷ past)) (declared_events past) ≡ map (kept_trigger name past) (declared_events past)
 calm-triggers name past request calm =
     map-agrees (kept_trigger name (request ∷ past)) (kept_trigger name past) (declared_events past) no_event
     (λ j inside. kept-stays name past request (get_or (declared_events past) j no_event) (calm.triggers j inside))
+
+-- hist triggers that stay
+pub calm-hists : (name : Option (List ℕ)) (past : List Request) (request : Request) → IsCalm name past request
+    → map (kept_hists name (request ∷ past)) (declared_events past) ≡ map (kept_hists name past) (declared_events past)
+calm-hists name past request calm =
+    map-agrees (kept_hists name (request ∷ past)) (kept_hists name past) (declared_events past) no_event
+    (λ j inside. let event = get_or (declared_events past) j no_event in
+    kept-hists-calm name past request event (record { alive = calm.alive; unwritten = calm.unwritten event }) calm.quiet)
 
 pub calm-spare : (name : Option (List ℕ)) (past : List Request) (request : Request) → IsCalm name past request
     → has_spare name (request ∷ past) ≡ has_spare name past
@@ -131,11 +144,12 @@ calm-spared g name past request calm =
 -- such a change
 pub record IsQuiet (change : InstanceChange) : Type 0 where
   pub triggers : (old : List (Option Trigger)) → triggers_after change old ≡ old
+  pub hists : (old : List (List KeptHist)) → hists_after change old ≡ old
   pub sides : (cpus pages page_bytes : ℕ) (f : SideFamilies)
       → sides_changed cpus pages page_bytes change f ≡ record { live = rings_changed pages page_bytes change f.live; spare = f.spare }
 
 pub quiet-keep : IsQuiet Keep
-quiet-keep = record { triggers = λ old. refl; sides = λ cpus pages page_bytes f. refl }
+quiet-keep = record { triggers = λ old. refl; hists = λ old. refl; sides = λ cpus pages page_bytes f. refl }
 
 -- what else it says of an instance
 pub record IsCalmEffect (g : Config) (name : Option (List ℕ)) (past : List Request) (request : Request) (change : InstanceChange) : Type 0 where
@@ -153,6 +167,7 @@ calm-effect g name past request change calm quiet is = record {
   enabled = is.enabled;
   filters = is.filters;
   triggers = calm-triggers name past request calm ∙ sym (quiet.triggers (map (kept_trigger name past) (declared_events past)));
+  hists = calm-hists name past request calm ∙ sym (quiet.hists (map (kept_hists name past) (declared_events past)));
   overwrite = is.overwrite;
   tracing = is.tracing;
   sides = λ spared. calm-sides g name past request calm
@@ -193,6 +208,8 @@ calm-write name other past file append text quiet = record {
   stays = stays file quiet;
   sets = spare file quiet;
   untouched = untouched file quiet;
+  unwritten = unwritten file quiet;
+  quiet = refl;
 }
   where
     trigger : (f : paths.File) → IsQuietFile f → (event : Definition)
@@ -214,6 +231,10 @@ calm-write name other past file append text quiet = record {
     untouched paths.Snapshot is g family = absurd is
     untouched _ is g family = refl
 
+    unwritten : (f : paths.File) → IsQuietFile f → (event : Definition) → written_to other event (WriteFile name (Some f) append text) ≡ None
+    unwritten (paths.EventTrigger e) is event = absurd is
+    unwritten _ is event = refl
+
 -- and so is one to a file of another instance
 pub calm-other_write : (name other : Option (List ℕ)) (past : List Request) (file : paths.File) (append : Bool) (text : List ℕ)
     → is_same other name ≡ false → IsCalm other past (WriteFile name (Some file) append text)
@@ -223,6 +244,8 @@ calm-other_write name other past file append text is = record {
   stays = stays file;
   sets = rw is refl;
   untouched = untouched file;
+  unwritten = λ event. unwritten file event;
+  quiet = refl;
 }
   where
     stays : (f : paths.File) → exchanges other past (WriteFile name (Some f) append text) ≡ false
@@ -232,6 +255,10 @@ calm-other_write name other past file append text is = record {
     untouched : (f : paths.File) (g : Config) (family : List (List Event)) → spare_after g other (WriteFile name (Some f) append text) family ≡ family
     untouched paths.Snapshot g family = rw is refl
     untouched _ g family = refl
+
+    unwritten : (f : paths.File) (event : Definition) → written_to other event (WriteFile name (Some f) append text) ≡ None
+    unwritten (paths.EventTrigger e) event = rw is refl
+    unwritten _ event = refl
 
 -- ---- all else
 
@@ -243,6 +270,8 @@ calm-read name other past file limit = record {
   stays = refl;
   sets = refl;
   untouched = λ g family. refl;
+  unwritten = λ event. refl;
+  quiet = refl;
 }
 
 pub calm-remove : (name other : Option (List ℕ)) (past : List Request) → IsCalm other past (RemoveInstance name)
@@ -252,6 +281,8 @@ calm-remove name other past = record {
   stays = refl;
   sets = refl;
   untouched = λ g family. untouched name g family;
+  unwritten = λ event. refl;
+  quiet = refl;
 }
   where
     alive : (n : Option (List ℕ)) → makes other (RemoveInstance n) ≡ false
@@ -268,4 +299,6 @@ calm-make name other past is = record {
   stays = refl;
   sets = refl;
   untouched = λ g family. rw is refl;
+  unwritten = λ event. refl;
+  quiet = refl;
 }

@@ -25,8 +25,11 @@ use Rattle.trace_history.specs.Triggers.{is_left, met_by, passes, times_left, tr
 use Rattle.trace_history.proofs.EventLists.{map-agrees, map-set, one_place}
 use Rattle.trace_history.proofs.Sides.{rings-exchanged, rings-stay}
 use Rattle.trace_history.proofs.Triggered.{number-before, times_left-less, times_left-same}
-use Rattle.trace_book.specs.Instances.{InstanceSeen, InstanceStandsFor, IsSpared, WereOffered, kept_as, kept_trigger, side_families}
-use Rattle.trace_book.specs.States.{CanFire, IsDelivered, counted_down, recorded_in}
+use Rattle.trace_filter.specs.Truth.{Emission as Row}
+use Rattle.trace_history.specs.HistTriggers.{counted_row}
+use Rattle.trace_book.specs.Instances.{InstanceSeen, InstanceStandsFor, IsSpared, WereOffered, hists_kept, kept_as, kept_trigger, side_families}
+use Rattle.trace_book.specs.States.{CanFire, IsDelivered, WereOfferedRow, counted_down, recorded_in, row_of}
+use Rattle.trace_book.proofs.HistEmitting.{hists-after}
 use Rattle.trace_book.specs.declared.change.Delivery.{Delivery}
 use Rattle.trace_book.specs.declared.change.Pending.{Pending}
 use Rattle.trace_book.specs.declared.trigger.Trigger.{Trigger}
@@ -39,7 +42,7 @@ kept-same : (past : List Request) (request : Request) (event : Definition) (o : 
     → option_map (kept_as (request ∷ past) event) o ≡ option_map (kept_as past event) o
 kept-same past request event None same = refl
 kept-same past request event (Some t) same =
-    ap (λ (left : Option ℕ). Some (let kept : Trigger = record { left = left; filter = t.spec.filter } in kept)) (same t refl)
+    ap (λ (left : Option ℕ). Some (let kept : Trigger = record { number = t.number; left = left; filter = t.spec.filter } in kept)) (same t refl)
 
 -- an emission of another event does not meet it
 other-kept : (name : Option (List ℕ)) (past : List Request) (ename : List ℕ) (cpu : ℕ) (pid : ℤ) (pairs : List Pair) (e : Emitted) (event : Definition)
@@ -104,7 +107,7 @@ acting-kept name past ename cpu pid pairs e is acting = by (trigger_of name e.k.
     by (Some t) there acts =
         let holds = both-true (is_left (times_left e.k.event t past)) (passes t.spec.filter e) acts in
         let one : met_by e.k.event t.spec.filter (emitted past request) ≡ e ∷ [] = rw (is, self e.k.event.name, holds) refl in
-        ap (λ (left : Option ℕ). Some (let kept : Trigger = record { left = left; filter = t.spec.filter } in kept))
+        ap (λ (left : Option ℕ). Some (let kept : Trigger = record { number = t.number; left = left; filter = t.spec.filter } in kept))
         (times_left-less e.k.event t past request e (number-before name e.k.event past t there) one)
 
 -- no other event has the name
@@ -251,8 +254,8 @@ pub delivered-stands : (g : Config) (name : Option (List ℕ)) (past : List Requ
     → IsPlaceOf (declared_events past) e.k.event.name d.event e.k.event → old.armed ≡ is_recorded name past e
     → old.fires ≡ is_exchanged_by name past (Some e)
     → ((p : Pending) → d.record ≡ Some p → (p.bytes.items ≡ emitted_bytes e) × (p.cpu ≡ e.cpu)) → (d.record ≡ None → old.armed ≡ false)
-    → IsDelivered d old new → InstanceStandsFor g name (request ∷ past) new
-delivered-stands g name past (Emission ename cpu pid pairs) e d old new is are stands place armed fires bytes none came =
+    → row_of d ≡ counted_row e → IsDelivered d old new → InstanceStandsFor g name (request ∷ past) new
+delivered-stands g name past (Emission ename cpu pid pairs) e d old new is are stands place armed fires bytes none row came =
     let request : Request = Emission ename cpu pid pairs in
     let spare : old.fires ≡ true → has_spare name past ≡ true = λ on. spare-there g name past e d.event stands.spared place (sym fires ∙ on) in
     let written = written-rings name past e old.armed old.overwrite d.record (rings g name past) armed stands.overwrite bytes none in
@@ -263,6 +266,9 @@ delivered-stands g name past (Emission ename cpu pid pairs) e d old new is are s
       filters = rw append-nil (came.filters ∙ stands.filters);
       triggers = rw append-nil (came.triggers ∙ triggers-after name past ename cpu pid pairs e d.event old.triggers old.fires is are place stands.triggers
           (sym fires));
+      hists = rw append-nil (hists-after name past ename cpu pid pairs e d.event (hists_kept old.hists) (hists_kept new.hists) is place
+          (λ j inside apart. differs-at (declared_events past) d.event j e.k.event e.k.event are place.inside place.there inside apart) stands.hists
+          (subst (λ (r : Row). WereOfferedRow r d.event (hists_kept old.hists) (hists_kept new.hists)) row came.hists));
       overwrite = came.overwrite ∙ stands.overwrite;
       tracing = came.tracing ∙ stands.tracing;
       sides = subst (λ (f : SideFamilies). snapshot.StandsFor new.sides f) families (came.sides (side_families g name past) stands.sides);
@@ -270,4 +276,4 @@ delivered-stands g name past (Emission ename cpu pid pairs) e d old new is are s
       offered = subst (λ (n : ℕ). WereOffered n new.sides) one (came.offered (length past) stands.offered);
       spared = rw append-nil (spared-after g name past ename cpu pid pairs e old.fires is (sym fires) spare stands.spared);
     }
-delivered-stands g name past request e d old new is are stands place armed fires bytes none came = absurd (cc)
+delivered-stands g name past request e d old new is are stands place armed fires bytes none row came = absurd (cc)

@@ -54,6 +54,7 @@ has_event cpus events file.EventsFilter there = tt
 has_event cpus events (file.EventEnable event) there = there
 has_event cpus events (file.EventFilter event) there = there
 has_event cpus events (file.EventTrigger event) there = there
+has_event cpus events (file.EventHist event) there = there
 has_event cpus events (file.EventFormat event) there = there
 
 -- and it can be read of an instance
@@ -72,7 +73,9 @@ readable g source file.EventsEnable usable there = tt
 readable g source file.EventsFilter usable there = tt
 readable g source (file.EventEnable event) usable there = omega (arith, there, usable.enabled)
 readable g source (file.EventFilter event) usable there = omega (arith, there, usable.filters)
-readable g source (file.EventTrigger event) usable there = omega (arith, there, usable.triggers)
+readable g source (file.EventTrigger event) usable there =
+    (omega (arith, there, usable.triggers), omega (arith, there, usable.hists))
+readable g source (file.EventHist event) usable there = omega (arith, there, usable.hists)
 readable g source (file.EventFormat event) usable there = there
 
 -- ---- what an address answers

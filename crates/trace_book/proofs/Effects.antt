@@ -20,7 +20,7 @@ use Rattle.trace_book.specs.Files.{IsThere, file_at, name_at}
 use Rattle.trace_book.specs.States.{IsPlain, IsUsableInstance}
 use Rattle.trace_book.specs.Instances.{InstanceSeen}
 use Rattle.trace_book.specs.declared.change.InstanceChange.{InstanceChange}
-use Rattle.trace_book.specs.declared.change.InstanceChange.TheVariants.{Keep, Take, TakeCpu, Switch, SwitchAll, SetFilter, SetFilters, SetOverwrite, SetTracing, Clear, ClearCpu, Attach, Detach, TakeSnapshot, FreeSpare, ClearSpare}
+use Rattle.trace_book.specs.declared.change.InstanceChange.TheVariants.{Keep, Take, TakeCpu, Switch, SwitchAll, SetFilter, SetFilters, SetOverwrite, SetTracing, Clear, ClearCpu, Triggers, TakeSnapshot, FreeSpare, ClearSpare}
 use Rattle.trace_book.specs.declared.resolve.File.{File}
 use Rattle.trace_book.specs.declared.resolve.File.TheVariants as file
 use Rattle.trace_book.proofs.Calm.{IsQuiet, IsQuietFile, IsWriteEffect, calm-effect, calm-other_write, calm-read, calm-write, quiet-keep}
@@ -83,6 +83,7 @@ plain_write name events file.EventsFilter append text = record { declares = refl
 plain_write name events (file.EventEnable event) append text = record { declares = refl; made = refl; removed = refl; ticks = refl }
 plain_write name events (file.EventFilter event) append text = record { declares = refl; made = refl; removed = refl; ticks = refl }
 plain_write name events (file.EventTrigger event) append text = record { declares = refl; made = refl; removed = refl; ticks = refl }
+plain_write name events (file.EventHist event) append text = record { declares = refl; made = refl; removed = refl; ticks = refl }
 plain_write name events (file.EventFormat event) append text = record { declares = refl; made = refl; removed = refl; ticks = refl }
 
 -- a declaration empties no ring
@@ -131,11 +132,11 @@ own_read g name past named limit Keep reading is =
     (record { enabled = refl; filters = refl; overwrite = refl; tracing = refl; rings = rw (same_instance name) is })
 own_read g name past named limit (Take most) reading is =
     calm-effect g name past (ReadFile name (Some named) limit) (Take most) (calm-read name name past (Some named) limit)
-    (record { triggers = λ old. refl; sides = λ cpus pages page_bytes f. refl })
+    (record { triggers = λ old. refl; hists = λ old. refl; sides = λ cpus pages page_bytes f. refl })
     (record { enabled = refl; filters = refl; overwrite = refl; tracing = refl; rings = rw (same_instance name) is })
 own_read g name past named limit (TakeCpu cpu most) reading is =
     calm-effect g name past (ReadFile name (Some named) limit) (TakeCpu cpu most) (calm-read name name past (Some named) limit)
-    (record { triggers = λ old. refl; sides = λ cpus pages page_bytes f. refl })
+    (record { triggers = λ old. refl; hists = λ old. refl; sides = λ cpus pages page_bytes f. refl })
     (record { enabled = refl; filters = refl; overwrite = refl; tracing = refl; rings = rw (same_instance name) is })
 own_read g name past named limit (Switch event flag) reading is = absurd reading
 own_read g name past named limit (SwitchAll flag) reading is = absurd reading
@@ -145,8 +146,7 @@ own_read g name past named limit (SetOverwrite flag) reading is = absurd reading
 own_read g name past named limit (SetTracing flag) reading is = absurd reading
 own_read g name past named limit Clear reading is = absurd reading
 own_read g name past named limit (ClearCpu cpu) reading is = absurd reading
-own_read g name past named limit (Attach event trigger) reading is = absurd reading
-own_read g name past named limit (Detach event) reading is = absurd reading
+own_read g name past named limit (Triggers event append change) reading is = absurd reading
 own_read g name past named limit TakeSnapshot reading is = absurd reading
 own_read g name past named limit FreeSpare reading is = absurd reading
 own_read g name past named limit ClearSpare reading is = absurd reading
@@ -180,8 +180,7 @@ lawful_read g events i (SetOverwrite flag) usable reading = absurd reading
 lawful_read g events i (SetTracing flag) usable reading = absurd reading
 lawful_read g events i Clear usable reading = absurd reading
 lawful_read g events i (ClearCpu cpu) usable reading = absurd reading
-lawful_read g events i (Attach event trigger) usable reading = absurd reading
-lawful_read g events i (Detach event) usable reading = absurd reading
+lawful_read g events i (Triggers event append change) usable reading = absurd reading
 lawful_read g events i TakeSnapshot usable reading = absurd reading
 lawful_read g events i FreeSpare usable reading = absurd reading
 lawful_read g events i ClearSpare usable reading = absurd reading
@@ -217,4 +216,5 @@ nothing_missing g past events file.EventsFilter is are there = refl
 nothing_missing g past events (file.EventEnable event) is are there = rw (event_there past events event is are there) refl
 nothing_missing g past events (file.EventFilter event) is are there = rw (event_there past events event is are there) refl
 nothing_missing g past events (file.EventTrigger event) is are there = rw (event_there past events event is are there) refl
+nothing_missing g past events (file.EventHist event) is are there = rw (event_there past events event is are there) refl
 nothing_missing g past events (file.EventFormat event) is are there = rw (event_there past events event is are there) refl

@@ -24,7 +24,9 @@ use Rattle.trace_history.specs.Triggers as triggers
 use Rattle.trace_history.specs.Triggers.{acts, is_left, passes, times_left, trigger_of}
 use Rattle.trace_book.specs.Instances.{InstanceSeen, InstanceStandsFor, IsAlike, kept_as}
 use Rattle.trace_book.specs.Rows.{fires, kept_acts, kept_holds, records}
-use Rattle.trace_book.specs.States.{CanBeWritten, EachCame, HasRoom, IsEmission, IsReady, StandsFor}
+use Rattle.trace_book.specs.KeptHists.{CanCount}
+use Rattle.trace_book.specs.declared.hists.AttachedHist.{AttachedHist}
+use Rattle.trace_book.specs.States.{CanBeWritten, CanCountRow, EachCame, HasRoom, IsEmission, IsReady, StandsFor}
 use Rattle.trace_book.specs.Emissions.{IsAhead, IsArmedFor, IsReadied, IsStateAlike}
 use Rattle.trace_book.specs.Found.{numbered}
 use Rattle.trace_book.specs.declared.change.Change.TheVariants.{Emit}
@@ -44,6 +46,7 @@ alike-armed i m j armed fires is alike =
       enabled = same.enabled;
       filters = same.filters;
       triggers = same.triggers;
+      hists = same.hists;
       overwrite = same.overwrite;
       tracing = same.tracing;
       sides = same.sides;
@@ -71,14 +74,21 @@ pub armed-each : (event : ℕ) (row : Cells) (cpu : ℕ) (pid : ℤ) (old armed 
     → EachCame (IsArmedFor event row cpu pid) old armed → EachCame IsReadied armed new
     → (k : ℕ) (d : Named) → k < length old → (get_or new k d).instance.armed ≡ records (get_or old k d).instance event row cpu pid
 armed-each event row cpu pid old armed new came readied k d inside =
-    (readied.came k d (omega (arith, came.many))).1 ∙ ap (λ (i : InstanceSeen). i.armed) (came.came k d inside)
+    (readied.came k d (omega (arith, came.many))).2 ∙ ap (λ (i : InstanceSeen). i.armed) (came.came k d inside)
 
 -- and is to exchange its sides still exactly if a trigger acts on it
 pub fires-each : (event : ℕ) (row : Cells) (cpu : ℕ) (pid : ℤ) (old armed new : List Named)
     → EachCame (IsArmedFor event row cpu pid) old armed → EachCame IsReadied armed new
     → (k : ℕ) (d : Named) → k < length old → (get_or new k d).instance.fires ≡ fires (get_or old k d).instance event row cpu pid
 fires-each event row cpu pid old armed new came readied k d inside =
-    (readied.came k d (omega (arith, came.many))).2 ∙ ap (λ (i : InstanceSeen). i.fires) (came.came k d inside)
+    (readied.came k d (omega (arith, came.many))).3 ∙ ap (λ (i : InstanceSeen). i.fires) (came.came k d inside)
+
+-- the hist triggers are as they were
+pub hists-each : (event : ℕ) (row : Cells) (cpu : ℕ) (pid : ℤ) (old armed new : List Named)
+    → EachCame (IsArmedFor event row cpu pid) old armed → EachCame IsReadied armed new
+    → (k : ℕ) (d : Named) → k < length old → (get_or new k d).instance.hists ≡ (get_or old k d).instance.hists
+hists-each event row cpu pid old armed new came readied k d inside =
+    (readied.came k d (omega (arith, came.many))).1 ∙ ap (λ (i : InstanceSeen). i.hists) (came.came k d inside)
 
 -- and each that is armed has room
 pub room-each : (event : ℕ) (row : Cells) (cpu : ℕ) (pid : ℤ) (old armed new : List Named) (pending : Pending) (len : ℕ)
@@ -99,11 +109,14 @@ pub is-ahead : (old new : State) (event : ℕ) (row : Cells) (cpu : ℕ) (pid : 
     → (get_or new.instances.items k d).instance.armed ≡ records (get_or old.instances.items k d).instance event row cpu pid)
     → ((k : ℕ) (d : Named) → k < length old.instances.items
     → (get_or new.instances.items k d).instance.fires ≡ fires (get_or old.instances.items k d).instance event row cpu pid)
+    → ((k : ℕ) (d : Named) → k < length old.instances.items
+    → (get_or new.instances.items k d).instance.hists ≡ (get_or old.instances.items k d).instance.hists)
     → p.cpu ≡ cpu → p.bytes.items ≡ record_bytes (old.clock + 1) pid (event + 1) row → IsRecord p.bytes.items
     → All (λ (n : Named). HasRoom p n.instance) new.instances.items → IsAhead old new event row cpu pid (Some p)
-is-ahead old new event row cpu pid p armed firing is bytes is_record room = record {
+is-ahead old new event row cpu pid p armed firing hists is bytes is_record room = record {
   armed = armed;
   fires = firing;
+  hists = hists;
   bytes = λ q e.
       let same : p ≡ q = cc in
       subst (λ (r : Pending). (r.cpu ≡ cpu) × (r.bytes.items ≡ record_bytes (old.clock + 1) pid (event + 1) row) × IsRecord r.bytes.items
@@ -187,7 +200,8 @@ pub is-emission : (g : Config) (old new : State) (past : List Request) (name : L
     (pending : Option Pending) → StandsFor g old past → Some (numbered found) ≡ event_named_in old.catalog name
     → IsPlaceOf old.catalog name found.index found.event.now → row_of found.event.now pairs ≡ Ok row → IsStateAlike old new
     → IsAhead old new found.index row cpu pid pending
-    → IsEmission g past (Emission name cpu pid pairs) new.instances.items (record { event = found.index; «record» = pending })
+    → IsEmission g past (Emission name cpu pid pairs) new.instances.items
+    (record { event = found.index; row = row; cpu = cpu; pid = pid; «record» = pending })
 is-emission g old new past name cpu pid pairs found row pending stands named place built alike ahead = record {
   declares = refl;
   made = refl;
@@ -196,6 +210,9 @@ is-emission g old new past name cpu pid pairs found row pending stands named pla
   e = e;
   emitted = rw (there, built) refl;
   place = own;
+  row = refl;
+  cpu = refl;
+  pid = refl;
   armed = armed;
   fires = firing;
   bytes = λ p is. let of = ahead.bytes p is in (rw (← stands.clock) of.1, of.0);
@@ -238,15 +255,22 @@ can-be-written g old new event row cpu pid (Some p) ahead short = let of = ahead
 
 -- and so all is there for the emission
 pub ready-emission : (g : Config) (old new : State) (past : List Request) (request : Request) (event : ℕ) (row : Cells) (cpu : ℕ) (pid : ℤ)
-    (pending : Option Pending) → StandsFor g new past → IsEmission g past request new.instances.items (record { event = event; «record» = pending })
+    (pending : Option Pending) → StandsFor g new past
+    → IsEmission g past request new.instances.items (record { event = event; row = row; cpu = cpu; pid = pid; «record» = pending })
+    → length new.instances.items ≡ length old.instances.items
+    → All (λ (n : Named). CanCountRow (record { values = row.values; cpu = cpu; pid = pid }) event n.instance) old.instances.items
     → IsAhead old new event row cpu pid pending → ((p : Pending) → pending ≡ Some p → length p.bytes.items ≤ g.page_bytes)
-    → IsReady g new (Emit (record { event = event; «record» = pending }))
-ready-emission g old new past request event row cpu pid pending stands emission ahead short = (
+    → IsReady g new (Emit (record { event = event; row = row; cpu = cpu; pid = pid; «record» = pending }))
+ready-emission g old new past request event row cpu pid pending stands emission many counted ahead short = (
   rw stands.events emission.place.inside,
   can-be-written g old new event row cpu pid pending ahead short,
   λ k d inside.
       let n = get_or new.instances.items k d in
       can-fire g n.name past emission.e event n.instance (stands.each k d inside) emission.place (emission.fires k d inside),
+  λ k d inside.
+      let within : k < length old.instances.items = omega (arith, inside, many) in
+      subst (λ (hists : List (List AttachedHist)). All (CanCount (record { values = row.values; cpu = cpu; pid = pid })) (get_or hists event []))
+      (sym (ahead.hists k d within)) (counted k d within),
 )
 
 -- what holds of each event holds of the one at a place

@@ -1,5 +1,5 @@
 -- What the files of an event and the file of the spare side show is what the requests say.
-use Rattle.std.proofs.Common.{◌≡◌, ℕ, zero, suc, ◌+◌, ◌<◌, Bool, false, List, [], ◌∷◌, length, map, get_or, IfSome, Option, Some, None, option_map, refl, sym, ap, ◌∙◌, arith}
+use Rattle.std.proofs.Common.{◌≡◌, ℕ, zero, suc, ◌+◌, ◌<◌, nat_lt, Bool, true, false, not, if◌then◌else◌, List, [], ◌∷◌, ◌++◌, length, map, filter, get_or, IfSome, Option, Some, None, option_map, refl, sym, ap, ◌∙◌, arith}
 use Rattle.std.proofs.lemmas.List.{get_or-map}
 use Rattle.trace_command.specs.Requests.{Request}
 use Rattle.trace_command.specs.declared.command.Config.{Config}
@@ -8,17 +8,21 @@ use Rattle.trace_format.specs.Definitions.{Definition}
 use Rattle.trace_history.proofs.EventLists.{named_at}
 use Rattle.trace_buffer.specs.Buffers.{Seen}
 use Rattle.trace_text.specs.SnapshotText.{SpareHasShape}
+use Rattle.trace_text.specs.HistText.{hist_text}
 use Rattle.trace_text.specs.TriggerText.{trigger_text}
-use Rattle.trace_history.specs.History.{filter_text, format_of_event, shown_trigger, triggers_of_event}
+use Rattle.trace_history.specs.History.{filter_text, format_of_event, hists_of_event, in_order, shown_hist, shown_trigger, triggers_of_event}
+use Rattle.trace_history.specs.HistTriggers.{HistTrigger, hists_of}
 use Rattle.trace_history.specs.Triggers as history
 use Rattle.trace_history.specs.Triggers.{trigger_of}
 use Rattle.trace_history.specs.Settings.{declared_events, event_named, filter_of, is_enabled, kept_filter}
 use Rattle.trace_text.specs.FormatText.{format_text}
-use Rattle.std.specs.Option.{option_to_list}
-use Rattle.trace_book.specs.Commands.{IsSource, shown_filter, shown_kept}
+use Rattle.trace_book.specs.Commands.{IsSource, kept_in_order, shown_filter, shown_kept_hist}
 use Rattle.trace_book.specs.Instances.{HasShape, kept_as, kept_trigger}
+use Rattle.trace_book.specs.KeptHists.{KeptHist, kept_as as kept_hist, kept_hists, kept_of}
 use Rattle.trace_book.specs.Files.{name_at}
+use Rattle.trace_book.specs.declared.hists.AttachedHist.{AttachedHist}
 use Rattle.trace_book.specs.declared.read.Source.{Source}
+use Rattle.trace_book.specs.declared.trigger.Trigger.{Trigger}
 
 -- an event for places outside of a list
 no_event : Definition
@@ -83,24 +87,81 @@ format-at_place g name past source event d is inside =
     let next : event + 1 ≡ suc event = omega arith in
     rw (called, named, next, is.events) refl
 
--- a kept trigger is shown as the one that was attached
-shown-trigger : (past : List Request) (event : Definition) (t : Option history.Trigger)
-    → map shown_kept (option_to_list (option_map (kept_as past event) t)) ≡ map (shown_trigger past event) (option_to_list t)
-shown-trigger past event None = refl
-shown-trigger past event (Some t) = refl
+-- the kept hist triggers of a test are shown as those that were attached
+shown-hists : (name : Option (List ℕ)) (past : List Request) (event : Definition) (test : KeptHist → Bool) (hists : List HistTrigger)
+    → map shown_kept_hist (filter test (map (kept_hist name past event) hists))
+    ≡ map (shown_hist name past event) (filter (λ (h : HistTrigger). test (kept_hist name past event h)) hists)
+shown-hists name past event test [] = refl
+shown-hists name past event test (h ∷ hists) = by (test (kept_hist name past event h)) (shown-hists name past event test hists)
+  where
+    kept : List KeptHist
+    kept = filter test (map (kept_hist name past event) hists)
 
--- an event's trigger
+    those : List HistTrigger
+    those = filter (λ (t : HistTrigger). test (kept_hist name past event t)) hists
+
+    by : (passes : Bool) → map shown_kept_hist kept ≡ map (shown_hist name past event) those
+        → map shown_kept_hist (if passes then kept_hist name past event h ∷ kept else kept)
+        ≡ map (shown_hist name past event) (if passes then h ∷ those else those)
+    by true rest = λ i. shown_hist name past event h ∷ rest i
+    by false rest = rest
+
+all-hists : (name : Option (List ℕ)) (past : List Request) (event : Definition) (hists : List HistTrigger)
+    → map shown_kept_hist (map (kept_hist name past event) hists) ≡ map (shown_hist name past event) hists
+all-hists name past event [] = refl
+all-hists name past event (h ∷ hists) = λ i. shown_hist name past event h ∷ all-hists name past event hists i
+
+-- kept triggers are shown in the order of those that were attached
+shown-in_order : (name : Option (List ℕ)) (past : List Request) (event : Definition) (t : Option history.Trigger) (hists : List HistTrigger)
+    → kept_in_order (option_map (kept_as past event) t) (map (kept_hist name past event) hists) ≡ in_order name past event t hists
+shown-in_order name past event None hists = all-hists name past event hists
+shown-in_order name past event (Some t) hists =
+    let older = shown-hists name past event (λ (k : KeptHist). nat_lt k.number t.number) hists in
+    let newer = shown-hists name past event (λ (k : KeptHist). not (nat_lt k.number t.number)) hists in
+    λ i. older i ++ shown_trigger past event t ∷ newer i
+
+-- an event's hist triggers
+kept-at_place : (g : Config) (name : Option (List ℕ)) (past : List Request) (source : Source) (event : ℕ) → IsSource g name past source
+    → event < length source.catalog.now → event < length source.instance.now.hists
+    → map kept_of (get_or source.instance.now.hists event []) ≡ kept_hists name past (get_or (declared_events past) event no_event)
+kept-at_place g name past source event is inside there =
+    sym (get_or-map (λ (attached : List AttachedHist). map kept_of attached) source.instance.now.hists event [] [] there)
+    ∙ ap (λ (hists : List (List KeptHist)). get_or hists event []) is.instance.hists
+    ∙ get_or-map (kept_hists name past) (declared_events past) event no_event [] (inside-declared g name past source event is inside)
+
+-- an event's triggers
 pub triggers-at_place : (g : Config) (name : Option (List ℕ)) (past : List Request) (source : Source) (event : ℕ) → IsSource g name past source
-    → event < length source.catalog.now
-    → trigger_text (map shown_kept (option_to_list (get_or source.instance.now.triggers event None)))
+    → event < length source.catalog.now → event < length source.instance.now.hists
+    → trigger_text (kept_in_order (get_or source.instance.now.triggers event None) (map kept_of (get_or source.instance.now.hists event [])))
     ≡ triggers_of_event name past (event_named (name_at source.catalog.now event) past)
-triggers-at_place g name past source event is inside =
+triggers-at_place g name past source event is inside there =
     let within = inside-declared g name past source event is inside in
     let named = named_at (declared_events past) event no_event is.distinct within in
     let called : name_at source.catalog.now event ≡ at_place.name = sym (name-declared g name past source event is inside) in
     let kept : get_or source.instance.now.triggers event None ≡ kept_trigger name past at_place =
-    rw is.instance.triggers (get_or-map (kept_trigger name past) (declared_events past) event no_event None within) in
-    rw (called, named, kept, shown-trigger past at_place (trigger_of name at_place past)) refl
+    ap (λ (ts : List (Option Trigger)). get_or ts event None) is.instance.triggers
+    ∙ get_or-map (kept_trigger name past) (declared_events past) event no_event None within in
+    let shown : trigger_text (kept_in_order (get_or source.instance.now.triggers event None) (map kept_of (get_or source.instance.now.hists event [])))
+    ≡ trigger_text (in_order name past at_place (trigger_of name at_place past) (hists_of name at_place past)) =
+    (λ i. trigger_text (kept_in_order (kept i) (kept-at_place g name past source event is inside there i)))
+    ∙ ap trigger_text (shown-in_order name past at_place (trigger_of name at_place past) (hists_of name at_place past)) in
+    shown ∙ sym (ap (λ (n : List ℕ). triggers_of_event name past (event_named n past)) called ∙ ap (triggers_of_event name past) named)
+  where
+    at_place : Definition
+    at_place = get_or (declared_events past) event no_event
+
+-- and its histograms
+pub hists-at_place : (g : Config) (name : Option (List ℕ)) (past : List Request) (source : Source) (event : ℕ) → IsSource g name past source
+    → event < length source.catalog.now → event < length source.instance.now.hists
+    → hist_text (map shown_kept_hist (map kept_of (get_or source.instance.now.hists event [])))
+    ≡ hists_of_event name past (event_named (name_at source.catalog.now event) past)
+hists-at_place g name past source event is inside there =
+    let within = inside-declared g name past source event is inside in
+    let named = named_at (declared_events past) event no_event is.distinct within in
+    let called : name_at source.catalog.now event ≡ at_place.name = sym (name-declared g name past source event is inside) in
+    ap (λ (kept : List KeptHist). hist_text (map shown_kept_hist kept)) (kept-at_place g name past source event is inside there)
+    ∙ ap hist_text (all-hists name past at_place (hists_of name at_place past))
+    ∙ sym (ap (λ (n : List ℕ). hists_of_event name past (event_named n past)) called ∙ ap (hists_of_event name past) named)
   where
     at_place : Definition
     at_place = get_or (declared_events past) event no_event

@@ -1,6 +1,12 @@
+pub mod HistEmitting
+pub mod HistSteps
+pub mod Attached
+pub mod Answering
 pub mod RecordBytes
+pub mod EachHist
 pub mod EachInstance
 pub mod LiveSide
+pub mod HistChanges
 pub mod NewInstance
 pub mod Steps
 pub mod Delivered

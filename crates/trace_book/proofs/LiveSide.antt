@@ -10,12 +10,12 @@ use Rattle.trace_buffer.specs.Families.{with_events, all_cleared}
 use Rattle.trace_command.specs.declared.command.Config.{Config}
 use Rattle.trace_snapshot.specs.Sides.{SideFamilies, SidesSeen, StandsFor, HasShapeOf, IsSpareOf, IsSpareCleared, exchanged, spare_cleared, with_spare}
 use Rattle.trace_book.specs.Changes.{IsApplied}
-use Rattle.trace_book.specs.Instances.{HasShape, InstanceSeen, IsShaped, WasOffered, WereOffered}
-use Rattle.trace_book.specs.States.{HasRoom, IsDelivered, IsExchanged, IsWritten, counted_down, recorded_in}
+use Rattle.trace_book.specs.Instances.{HasShape, InstanceSeen, IsShaped, WasOffered, WereOffered, hists_kept}
+use Rattle.trace_book.specs.States.{HasRoom, IsDelivered, IsExchanged, IsOffered, IsWritten, WereOfferedRow, counted_down, recorded_in, row_of}
 use Rattle.trace_book.specs.declared.change.Delivery.{Delivery}
-use Rattle.trace_book.specs.declared.change.InstanceChange.TheVariants.{Attach, Clear, ClearSpare, TakeSnapshot}
+use Rattle.trace_book.specs.declared.change.InstanceChange.TheVariants.{Clear, ClearSpare, TakeSnapshot}
 use Rattle.trace_book.specs.declared.change.Pending.{Pending}
-use Rattle.trace_book.specs.declared.trigger.Trigger.{Trigger}
+use Rattle.trace_book.specs.declared.hists.AttachedHist.{AttachedHist}
 use Rattle.trace_book.proofs.EachInstance.{recursion_at}
 
 -- ---- counts
@@ -233,6 +233,7 @@ cleared value old lent new view lends stands cpus pages page_bytes offers =
       enabled = refl;
       filters = refl;
       triggers = refl;
+      hists = refl;
       overwrite = refl;
       tracing = refl;
       sides = λ f s. live-stands old.sides new f (all_cleared f.live) s
@@ -244,23 +245,6 @@ cleared value old lent new view lends stands cpus pages page_bytes offers =
 
 -- ---- changes of the spare side
 
-pub attached : (event : ℕ) (trigger : Trigger) (value old : InstanceSeen) (new : SidesSeen) → old ≡ value → new.live ≡ old.sides.live
-    → ((side : buffers.Seen) → new.spare ≡ Some side → IsSpareOf old.sides old.sides.spare side)
-    → ((f : SideFamilies) → StandsFor old.sides f → StandsFor new (with_spare old.sides.cpus f)) → HasShapeOf old.sides new
-    → IsApplied (Attach event trigger) value (record old { sides = new; triggers = set old.triggers event (Some trigger) })
-attached event trigger value old new view live spare stands shape =
-    subst (λ (v : InstanceSeen). IsApplied (Attach event trigger) v (record old { sides = new; triggers = set old.triggers event (Some trigger) })) view
-    (record {
-      enabled = refl;
-      filters = refl;
-      triggers = refl;
-      overwrite = refl;
-      tracing = refl;
-      sides = stands;
-      shaped = λ g s. armed_shaped g old.sides new live spare shape s;
-      offered = λ most all. armed_offered most old.sides new live spare all;
-    })
-
 pub taken : (value old : InstanceSeen) (new : SidesSeen) → old ≡ value → IsSpareOf old.sides old.sides.spare new.live
     → new.spare ≡ Some old.sides.live
     → ((f : SideFamilies) → StandsFor old.sides f → StandsFor new (exchanged (with_spare old.sides.cpus f))) → HasShapeOf old.sides new
@@ -270,6 +254,7 @@ taken value old new view live spare stands shape =
       enabled = refl;
       filters = refl;
       triggers = refl;
+      hists = refl;
       overwrite = refl;
       tracing = refl;
       sides = stands;
@@ -285,6 +270,7 @@ emptied value old new view live spare stands shape =
       enabled = refl;
       filters = refl;
       triggers = refl;
+      hists = refl;
       overwrite = refl;
       tracing = refl;
       sides = stands;
@@ -318,13 +304,38 @@ accepted_some pending p old new some w = record {
   offered = w.offered;
 }
 
+-- and then the row was offered to the hist triggers of the event
+pub record IsTakenIn (d : Delivery) (old new : InstanceSeen) : Type 0 where
+  pub rest : new ≡ record old { hists = new.hists; sides = new.sides }
+  pub hists : WereOfferedRow (row_of d) d.event (hists_kept old.hists) (hists_kept new.hists)
+  pub sides : (f : SideFamilies) → StandsFor old.sides f
+      → StandsFor new.sides (record { live = recorded_in old.armed old.overwrite d.record f.live; spare = f.spare })
+  pub shaped : (g : Config) → IsShaped g old.sides → IsShaped g new.sides
+  pub offered : (most : ℕ) → WereOffered most old.sides → WereOffered (most + 1) new.sides
+
+pub taken_in : (d : Delivery) (old between new : InstanceSeen) → IsAccepted d.record old between → IsOffered d between new → IsTakenIn d old new
+taken_in d old between new a o = record {
+  rest = o.rest ∙ ap (λ (i : InstanceSeen). record i { hists = new.hists }) a.rest
+      ∙ ap (λ (s : SidesSeen). record old { hists = new.hists; sides = s }) (sym same);
+  hists = subst (λ (h : List (List AttachedHist)). WereOfferedRow (row_of d) d.event (hists_kept h) (hists_kept new.hists))
+      (ap (λ (i : InstanceSeen). i.hists) a.rest) o.hists;
+  sides = λ f s. subst (λ (n : SidesSeen). StandsFor n (record { live = recorded_in old.armed old.overwrite d.record f.live; spare = f.spare }))
+      (sym same) (a.sides f s);
+  shaped = λ g s. subst (IsShaped g) (sym same) (a.shaped g s);
+  offered = λ most all. subst (WereOffered (most + 1)) (sym same) (a.offered most all);
+}
+  where
+    same : new.sides ≡ between.sides
+    same = ap (λ (i : InstanceSeen). i.sides) o.rest
+
 -- and the sides stay where the trigger does not act
-pub delivered_still : (d : Delivery) (old new : InstanceSeen) → IsAccepted d.record old new → new.fires ≡ false → IsDelivered d old new
+pub delivered_still : (d : Delivery) (old new : InstanceSeen) → IsTakenIn d old new → new.fires ≡ false → IsDelivered d old new
 delivered_still d old new a still =
     let off : old.fires ≡ false = sym (ap (λ (i : InstanceSeen). i.fires) a.rest) ∙ still in record {
       enabled = ap (λ (i : InstanceSeen). i.enabled) a.rest;
       filters = ap (λ (i : InstanceSeen). i.filters) a.rest;
       triggers = rw off (ap (λ (i : InstanceSeen). i.triggers) a.rest);
+      hists = a.hists;
       overwrite = ap (λ (i : InstanceSeen). i.overwrite) a.rest;
       tracing = ap (λ (i : InstanceSeen). i.tracing) a.rest;
       sides = λ f s. rw off (a.sides f s);
@@ -333,7 +344,7 @@ delivered_still d old new a still =
     }
 
 -- and are exchanged where it does
-pub delivered_exchanged : (d : Delivery) (old between new : InstanceSeen) → IsAccepted d.record old between → between.fires ≡ true
+pub delivered_exchanged : (d : Delivery) (old between new : InstanceSeen) → IsTakenIn d old between → between.fires ≡ true
     → IsExchanged d.event between new → IsDelivered d old new
 delivered_exchanged d old between new a fires x =
     let on : old.fires ≡ true = sym (ap (λ (i : InstanceSeen). i.fires) a.rest) ∙ fires in record {
@@ -341,6 +352,8 @@ delivered_exchanged d old between new a fires x =
       filters = ap (λ (i : InstanceSeen). i.filters) x.rest ∙ ap (λ (i : InstanceSeen). i.filters) a.rest;
       triggers = rw on (ap (λ (i : InstanceSeen). i.triggers) x.rest
           ∙ ap (λ (i : InstanceSeen). set i.triggers d.event (counted_down (get_or i.triggers d.event None))) a.rest);
+      hists = subst (λ (h : List (List AttachedHist)). WereOfferedRow (row_of d) d.event (hists_kept old.hists) (hists_kept h))
+          (sym (ap (λ (i : InstanceSeen). i.hists) x.rest)) a.hists;
       overwrite = ap (λ (i : InstanceSeen). i.overwrite) x.rest ∙ ap (λ (i : InstanceSeen). i.overwrite) a.rest;
       tracing = ap (λ (i : InstanceSeen). i.tracing) x.rest ∙ ap (λ (i : InstanceSeen). i.tracing) a.rest;
       sides = λ f s. rw on (x.sides (record { live = recorded_in old.armed old.overwrite d.record f.live; spare = f.spare }) (a.sides f s));

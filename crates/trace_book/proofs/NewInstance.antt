@@ -1,5 +1,5 @@
 -- An instance as it is made stands for no request, and for the request that makes it.
-use Rattle.std.proofs.Common.{◌≡◌, ℕ, suc, ◌≤◌, Bool, true, false, if◌then◌else◌, List, [], ◌∷◌, length, replicate, is_some, Option, Some, None, IfSome, refl, sym, ◌∙◌, subst, append-nil}
+use Rattle.std.proofs.Common.{◌≡◌, ℕ, zero, suc, ◌≤◌, Bool, true, false, if◌then◌else◌, List, [], ◌∷◌, length, replicate, is_some, Option, Some, None, IfSome, refl, sym, ◌∙◌, subst, append-nil, ap}
 use Rattle.std.specs.List.{AllByRecursion, list_any}
 use Rattle.std.specs.Str.{bytes_eq}
 use Rattle.std.proofs.lemmas.Bool.{false≢true}
@@ -16,7 +16,8 @@ use Rattle.trace_history.specs.Triggers.{trigger_of}
 use Rattle.trace_history.proofs.EventLists.{map-constant}
 use Rattle.trace_history.proofs.Sides.{AreMade, rings-made}
 use Rattle.trace_snapshot.specs.Sides.{IsNewSide, SpareStandsFor}
-use Rattle.trace_book.specs.Instances.{HasShape, InstanceSeen, InstanceStandsFor, IsShaped, WasOffered, WereOffered, kept_trigger}
+use Rattle.trace_book.specs.Instances.{HasShape, InstanceSeen, InstanceStandsFor, IsShaped, WasOffered, WereOffered, hists_kept, kept_trigger}
+use Rattle.trace_book.specs.KeptHists.{KeptHist, kept_hists}
 use Rattle.trace_book.proofs.LiveSide.{all-none}
 
 -- an instance as it is made, where so many events are declared
@@ -24,6 +25,7 @@ pub record IsNew (g : Config) (events : ℕ) (i : InstanceSeen) : Type 0 where
   pub enabled : i.enabled ≡ replicate events false
   pub filters : i.filters ≡ replicate events None
   pub triggers : i.triggers ≡ replicate events None
+  pub hists : i.hists ≡ replicate events []
   pub overwrite : i.overwrite ≡ true
   pub tracing : i.tracing ≡ true
   pub live : IsNewSide g.cpus g.pages g.page_bytes i.sides.live
@@ -59,6 +61,7 @@ top_instance_stands g i new = record {
   enabled = new.enabled;
   filters = new.filters;
   triggers = new.triggers;
+  hists = ap hists_kept new.hists;
   overwrite = new.overwrite;
   tracing = new.tracing;
   sides = record { live = new.live.stands; spare = spareless i None new.spare refl };
@@ -78,6 +81,10 @@ no_spare : (has : Bool) (family : List (List Event)) → has ≡ false → (if h
 no_spare false family is = refl
 no_spare true family is = absurd (false≢true (sym is))
 
+none_kept : (events : ℕ) → hists_kept (replicate events []) ≡ replicate events []
+none_kept zero = refl
+none_kept (suc events) = ap (λ (l : List (List KeptHist)). [] ∷ l) (none_kept events)
+
 no_event : Definition
 no_event = record { name = []; fields = [] }
 
@@ -89,6 +96,8 @@ made-stands g past name i new = record {
       ∙ sym (map-constant (λ (e : Definition). is_enabled (Some name) e.name now) false events no_event (λ j inside. rw itself refl)));
   filters = rw append-nil (new.filters ∙ sym (map-constant (kept_filter (Some name) now) None events no_event (λ j inside. rw itself refl)));
   triggers = rw append-nil (new.triggers ∙ sym (map-constant (kept_trigger (Some name) now) None events no_event (λ j inside. rw itself refl)));
+  hists = rw append-nil (ap hists_kept new.hists ∙ none_kept (length events)
+      ∙ sym (map-constant (kept_hists (Some name) now) [] events no_event (λ j inside. rw itself refl)));
   overwrite = rw itself new.overwrite;
   tracing = rw itself new.tracing;
   sides = record {

@@ -27,14 +27,16 @@ use Rattle.trace_history.proofs.Sides.{rings-exchanged, rings-stay, side-has_all
 use Rattle.trace_book.specs.Changes.{IsEffect}
 use Rattle.trace_book.specs.Commands.{IsWriteChange}
 use Rattle.trace_book.specs.Instances.{InstanceSeen, InstanceStandsFor, IsSpared, kept_as, kept_trigger}
+use Rattle.trace_book.specs.KeptHists.{kept_hists}
 use Rattle.trace_book.specs.declared.change.InstanceChange.TheVariants.{ClearSpare, FreeSpare, TakeSnapshot}
 use Rattle.trace_book.specs.declared.trigger.Trigger.{Trigger}
 use Rattle.trace_book.proofs.Calm.{KeepsTrigger, any-passes, kept-stays, no_event, same_families, trigger-stays}
 use Rattle.trace_book.proofs.Effects.{same_instance}
+use Rattle.trace_book.proofs.HistSteps.{kept-hists-calm}
 
 -- ---- options
 
-some-mapped : {A B : Type 0} (f : A → B) (o : Option A) → is_some (option_map f o) ≡ is_some o
+pub some-mapped : {A B : Type 0} (f : A → B) (o : Option A) → is_some (option_map f o) ≡ is_some o
 some-mapped f None = refl
 some-mapped f (Some x) = refl
 
@@ -151,6 +153,13 @@ snapshot-triggers name past append text =
     (λ j inside. kept-stays name past (snapshot_request name append text) (get_or (declared_events past) j no_event)
     (snapshot-quiet name past append text (get_or (declared_events past) j no_event)))
 
+snapshot-hists : (name : Option (List ℕ)) (past : List Request) (append : Bool) (text : List ℕ)
+    → map (kept_hists name (snapshot_request name append text ∷ past)) (declared_events past) ≡ map (kept_hists name past) (declared_events past)
+snapshot-hists name past append text =
+    map-agrees (kept_hists name (snapshot_request name append text ∷ past)) (kept_hists name past) (declared_events past) no_event
+    (λ j inside. kept-hists-calm name past (snapshot_request name append text) (get_or (declared_events past) j no_event)
+    (record { alive = refl; unwritten = refl }) refl)
+
 -- an event has a trigger after it only where it had one
 snapshot-has_trigger : (name : Option (List ℕ)) (past : List Request) (append : Bool) (text : List ℕ)
     → list_any (λ (e : Definition). is_some (trigger_of name e (snapshot_request name append text ∷ past))) (declared_events past) ≡ true
@@ -187,6 +196,7 @@ takes-effect g name past append text takes =
       enabled = settings.enabled;
       filters = settings.filters;
       triggers = snapshot-triggers name past append text;
+      hists = snapshot-hists name past append text;
       overwrite = settings.overwrite;
       tracing = settings.tracing;
       sides = λ spared. families
@@ -212,6 +222,7 @@ frees-effect g name past append text frees unarmed =
       enabled = settings.enabled;
       filters = settings.filters;
       triggers = snapshot-triggers name past append text;
+      hists = snapshot-hists name past append text;
       overwrite = settings.overwrite;
       tracing = settings.tracing;
       sides = λ spared. families;
@@ -239,6 +250,7 @@ empties-effect g name past append text empties =
       enabled = settings.enabled;
       filters = settings.filters;
       triggers = snapshot-triggers name past append text;
+      hists = snapshot-hists name past append text;
       overwrite = settings.overwrite;
       tracing = settings.tracing;
       sides = λ spared. families

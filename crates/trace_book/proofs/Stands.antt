@@ -19,7 +19,8 @@ use Rattle.trace_history.specs.Settings.{declares, declared_events, instance_nam
 use Rattle.trace_history.proofs.EventLists.{AreEvents-push}
 use Rattle.trace_history.proofs.Events.{fit-push}
 use Rattle.trace_book.specs.Instances.{InstanceSeen, InstanceStandsFor}
-use Rattle.trace_book.specs.States.{IsChangeOf, IsDeclared, IsEmission, IsFresh, IsMade, IsPrepared, IsReady, IsRemoved, IsStep, StandsFor, names_of}
+use Rattle.trace_book.specs.States.{IsChangeOf, IsDeclared, IsEmission, IsFresh, IsMade, IsPrepared, IsReady, IsRemoved, IsStep, StandsFor, names_of, row_of}
+use Rattle.trace_history.specs.HistTriggers.{counted_row}
 use Rattle.trace_book.specs.declared.change.Change.{Change}
 use Rattle.trace_book.specs.declared.change.Change.TheVariants.{Declare, Make, Remove, Instance, Emit}
 use Rattle.trace_book.specs.declared.change.InstanceChange.{InstanceChange}
@@ -29,7 +30,7 @@ use Rattle.trace_book.specs.declared.state.Prepared.{Prepared}
 use Rattle.trace_book.specs.declared.state.State.{State}
 use Rattle.trace_book.proofs.EachInstance.{distinct-push, distinct-without, length-names_of, name_at, names-same, names-without, not_born, others_differ, some_names}
 use Rattle.trace_book.proofs.Delivered.{delivered-stands}
-use Rattle.trace_book.proofs.Steps.{declared-stands, effect-stands, event_named-before, kept-stands, unfiltered_after, unknown_after, untriggered_after}
+use Rattle.trace_book.proofs.Steps.{declared-stands, effect-stands, event_named-before, kept-stands, unfiltered_after, unknown_after, untriggered_after, unwatched_after}
 
 -- ---- events
 
@@ -114,6 +115,9 @@ state-after g old new past request reply declared stands given is fresh catalog 
   untriggered = λ name event none.
       let before = event_named-before event.name past request none in
       untriggered_after g past request reply name event given before (stands.untriggered name event before);
+  unwatched = λ name event none.
+      let before = event_named-before event.name past request none in
+      unwatched_after g past request reply name event given before (stands.unwatched name event before);
   clock = clock ∙ ap (λ (n : ℕ). n + ticks request) stands.clock;
   early = let small = ticks-le request in omega (arith, small, clock, stands.early);
   names = instances.names;
@@ -150,6 +154,7 @@ declare_stands g old new past request reply event stands given is step =
     (unknown_after g past request reply name event.name given none (stands.unknown name event.name none))
     (unfiltered_after g past request reply name event.name given none (stands.unfiltered name event.name none))
     (untriggered_after g past request reply name event given none (stands.untriggered name event none))
+    (unwatched_after g past request reply name event given none (stands.unwatched name event none))
     (stands.each k d inside))))
 
 make_stands : (g : Config) (old new : State) (past : List Request) (request : Request) (reply : Reply) (named : Named)
@@ -244,11 +249,12 @@ emit_stands : (g : Config) (old new : State) (past : List Request) (request : Re
     → IsStep old new (Emit delivery) → StandsFor g new (request ∷ past)
 emit_stands g old new past request reply delivery stands given is step =
     let came = step.2 in
+    let row : row_of delivery ≡ counted_row is.e = λ i. record { values = is.row i; cpu = is.cpu i; pid = is.pid i } in
     let each : (k : ℕ) (d : Named) → k < length old.instances.items
     → InstanceStandsFor g (get_or old.instances.items k d).name (request ∷ past) (get_or new.instances.items k d).instance = λ k d inside.
     let n = get_or old.instances.items k d in
     delivered-stands g n.name past request is.e delivery n.instance (get_or new.instances.items k d).instance is.emitted stands.distinct
-    (stands.each k d inside) is.place (is.armed k d inside) (is.fires k d inside) is.bytes (λ none. is.none none k d inside) (came.came k d inside) in
+    (stands.each k d inside) is.place (is.armed k d inside) (is.fires k d inside) is.bytes (λ none. is.none none k d inside) row (came.came k d inside) in
     state-after g old new past request reply None stands given is.declares (none_fresh g past) (catalog-same old new step.0)
     (omega (arith, is.ticks, step.1))
     (same_instances g old new.instances.items past request stands is.made is.removed came.many came.names each)

@@ -1,5 +1,5 @@
 -- What one request more leaves of settings, and of an instance.
-use Rattle.std.proofs.Common.{◌≡◌, ℕ, suc, ◌+◌, Bool, true, false, ◌||◌, cond, List, [], ◌∷◌, ◌++◌, length, map, is_some, Option, Some, None, unwrap_or, Result, Ok, Err, refl, sym, ap, ◌∙◌, subst, arith, append-nil}
+use Rattle.std.proofs.Common.{◌≡◌, ℕ, suc, ◌+◌, Bool, true, false, ◌||◌, ◌&&◌, cond, List, [], ◌∷◌, ◌++◌, length, map, is_some, Option, Some, None, unwrap_or, Result, Ok, Err, refl, sym, ap, ◌∙◌, subst, arith, append-nil}
 use Rattle.std.proofs.lemmas.Bool.{false≢true}
 use Rattle.std.proofs.lemmas.List.{map-append}
 use Rattle.std.proofs.lemmas.List.Folds.{list_any-append}
@@ -22,7 +22,11 @@ use Rattle.trace_history.specs.Settings.{declares, declared_events, event_named,
 use Rattle.trace_history.specs.Triggers as triggers
 use Rattle.trace_history.specs.Triggers.{sets_trigger, trigger_of}
 use Rattle.trace_history.proofs.Events.{named_in-fewer}
-use Rattle.trace_book.specs.Changes.{IsApplied, IsEffect, flags_after, filters_after, triggers_after, overwrite_after, tracing_after}
+use Rattle.trace_history.specs.HistTriggers as watched
+use Rattle.trace_history.specs.HistTriggers.{HistTrigger, Written, hists_of, written_to}
+use Rattle.trace_book.specs.KeptHists.{KeptHist, kept_as as kept_hist, kept_hists, kept_of}
+use Rattle.trace_book.specs.declared.hists.AttachedHist.{AttachedHist}
+use Rattle.trace_book.specs.Changes.{IsApplied, IsEffect, flags_after, filters_after, hists_after, triggers_after, overwrite_after, tracing_after}
 use Rattle.trace_book.specs.Instances.{InstanceSeen, InstanceStandsFor, IsSpared, WereOffered, kept_as, kept_trigger, side_families}
 use Rattle.trace_book.specs.States.{with_event}
 use Rattle.trace_book.specs.declared.change.InstanceChange.{InstanceChange}
@@ -113,6 +117,20 @@ not_triggered g past (WriteFile other (Some file) append text) reply name event 
     is_known _ _ NoSuchEvent NoSuchInstance _ reply own))
 not_triggered g past request reply name event given none = refl
 
+and-false : (b : Bool) → (b && false) ≡ false
+and-false true = refl
+and-false false = refl
+
+-- nor writes its trigger file
+not_written : (g : Config) (past : List Request) (request : Request) (reply : Reply) (name : Option (List ℕ)) (event : Definition)
+    → answer_with_room g past request ≡ Ok reply → event_named event.name past ≡ None → written_to name event request ≡ None
+not_written g past (WriteFile other (Some (EventTrigger n)) append text) reply name event given none =
+    let differ : bytes_eq event.name n ≡ false = other_name past event.name n none (is_known _ _ NoSuchEvent NoSuchInstance _ reply given) in
+    let unwritten : (is_same name other && bytes_eq event.name n) ≡ false =
+    ap (λ (b : Bool). is_same name other && b) differ ∙ and-false (is_same name other) in
+    rw unwritten refl
+not_written g past request reply name event given none = refl
+
 -- a setting that no request set keeps its default
 cond_default : {A : Type 0} (b : Bool) (default : A) (set : Option A) (old : A) → set ≡ None → old ≡ default → cond b default (unwrap_or set old) ≡ default
 cond_default true default set old none is = refl
@@ -139,6 +157,17 @@ untriggered_after g past request reply name event given none is =
     cond_default (makes name request) None (set_by name (sets_trigger event past) request) (trigger_of name event past)
     (not_triggered g past request reply name event given none) is
 
+pub unwatched_after : (g : Config) (past : List Request) (request : Request) (reply : Reply) (name : Option (List ℕ)) (event : Definition)
+    → answer_with_room g past request ≡ Ok reply → event_named event.name past ≡ None → hists_of name event past ≡ []
+    → hists_of name event (request ∷ past) ≡ []
+unwatched_after g past request reply name event given none is =
+    by (makes name request) (written_to name event request) (not_written g past request reply name event given none)
+  where
+    by : (new : Bool) (written : Option Written) → written ≡ None
+        → cond new [] (watched.hists_after event (length past) written (hists_of name event past)) ≡ []
+    by true written unwritten = refl
+    by false written unwritten = rw unwritten is
+
 -- ---- an instance
 
 -- at most so many are at most one more
@@ -162,6 +191,7 @@ effect-stands g name past request change old new nothing effect stands applied =
   enabled = rw (nothing, append-nil) (applied.enabled ∙ ap (flags_after change) stands.enabled ∙ sym effect.enabled);
   filters = rw (nothing, append-nil) (applied.filters ∙ ap (filters_after change) stands.filters ∙ sym effect.filters);
   triggers = rw (nothing, append-nil) (applied.triggers ∙ ap (triggers_after change) stands.triggers ∙ sym effect.triggers);
+  hists = rw (nothing, append-nil) (applied.hists ∙ ap (hists_after change) stands.hists ∙ sym effect.hists);
   overwrite = applied.overwrite ∙ ap (overwrite_after change) stands.overwrite ∙ sym effect.overwrite;
   tracing = applied.tracing ∙ ap (tracing_after change) stands.tracing ∙ sym effect.tracing;
   sides = subst (λ (f : SideFamilies). snapshot.StandsFor new.sides f) (sym (effect.sides stands.spared))
@@ -176,6 +206,7 @@ keeps i = record {
   enabled = refl;
   filters = refl;
   triggers = refl;
+  hists = refl;
   overwrite = refl;
   tracing = refl;
   sides = λ families stands. stands;
@@ -213,8 +244,8 @@ spared-more g name past events event none spared = record {
 pub declared-stands : (g : Config) (name : Option (List ℕ)) (past : List Request) (request : Request) (event : Definition) (i : InstanceSeen)
     → declares request ≡ Some event → IsEffect g name past request Keep → is_enabled name event.name (request ∷ past) ≡ false
     → filter_of name event.name (request ∷ past) ≡ None → trigger_of name event (request ∷ past) ≡ None
-    → InstanceStandsFor g name past i → InstanceStandsFor g name (request ∷ past) (with_event i)
-declared-stands g name past request event i declared effect off none idle stands = record {
+    → hists_of name event (request ∷ past) ≡ [] → InstanceStandsFor g name past i → InstanceStandsFor g name (request ∷ past) (with_event i)
+declared-stands g name past request event i declared effect off none idle unwatched stands = record {
   enabled = rw (declared, map-append)
       (ap (λ (flags : List Bool). flags ++ false ∷ []) (stands.enabled ∙ sym effect.enabled)
       ∙ ap (λ (flag : Bool). map (λ (e : Definition). is_enabled name e.name (request ∷ past)) (declared_events past) ++ flag ∷ []) (sym off));
@@ -225,6 +256,10 @@ declared-stands g name past request event i declared effect off none idle stands
       (ap (λ (kept : List (Option Trigger)). kept ++ None ∷ []) (stands.triggers ∙ sym effect.triggers)
       ∙ ap (λ (t : Option triggers.Trigger). map (kept_trigger name (request ∷ past)) (declared_events past) ++ option_map (kept_as (request ∷ past) event) t ∷ [])
       (sym idle));
+  hists = rw declared (map-append (λ (attached : List AttachedHist). map kept_of attached) i.hists ([] ∷ [])
+      ∙ ap (λ (kept : List (List KeptHist)). kept ++ [] ∷ []) (stands.hists ∙ sym effect.hists)
+      ∙ ap (λ (hists : List HistTrigger). map (kept_hists name (request ∷ past)) (declared_events past) ++ map (kept_hist name (request ∷ past) event) hists ∷ [])
+      (sym unwatched) ∙ sym (map-append (kept_hists name (request ∷ past)) (declared_events past) (event ∷ [])));
   overwrite = stands.overwrite ∙ sym effect.overwrite;
   tracing = stands.tracing ∙ sym effect.tracing;
   sides = subst (λ (f : SideFamilies). snapshot.StandsFor i.sides f) (sym (effect.sides stands.spared)) stands.sides;

@@ -1,5 +1,5 @@
 -- A state that stands for a past is fit for one more command, and a new state stands for none.
-use Rattle.std.proofs.Common.{◌≡◌, ℕ, ◌<◌, ◌≤◌, ◌^◌, Bool, false, List, [], ◌∷◌, length, All, Option, Some, None, refl, sym, ap, ◌∙◌, subst, arith}
+use Rattle.std.proofs.Common.{◌≡◌, ℕ, ◌+◌, ◌<◌, ◌≤◌, ◌^◌, nat_lt, Bool, true, false, not, ◌&&◌, if◌then◌else◌, List, [], ◌∷◌, ◌++◌, length, length-append, map, All, Option, Some, None, refl, sym, ap, ◌∙◌, subst, arith}
 use Rattle.std.proofs.lemmas.List.{length-map}
 use Rattle.std.proofs.lemmas.List.Elements.{All-cons, All-nil, All-same}
 use Rattle.std.specs.List.{AllByRecursion, IsDistinct}
@@ -13,7 +13,18 @@ use Rattle.trace_command.specs.declared.command.Config.{Config}
 use Rattle.trace_history.specs.Declarations.{IsFit}
 use Rattle.trace_history.specs.Settings.{declared_events, instance_names, is_enabled, is_same, kept_filter}
 use Rattle.trace_book.specs.Instances.{InstanceSeen, InstanceStandsFor, kept_trigger}
-use Rattle.trace_book.specs.States.{HasFew, IsUsable, IsUsableInstance, StandsFor, names_of}
+use Rattle.std.proofs.lemmas.List.Filters.{length-filter_both}
+use Rattle.trace_filter.specs.Truth.{Emission}
+use Rattle.trace_hist.specs.Groups.{admitted, grouped, is_among}
+use Rattle.trace_hist.specs.HistSpecs.{SpecSeen}
+use Rattle.trace_hist.specs.Hists.{counted}
+use Rattle.trace_hist.specs.Hits.{Hit, hit_of}
+use Rattle.trace_history.specs.Emissions.{Emitted, emitted}
+use Rattle.trace_history.specs.HistTriggers.{HistTrigger, asked_by, counted_by, counted_row, empties, hists_of, hits_of, is_paused, written_to}
+use Rattle.trace_history.specs.Triggers.{passes}
+use Rattle.trace_book.specs.KeptHists.{HasRoomToCount, KeptHist, kept_as, kept_hists, kept_of}
+use Rattle.trace_book.specs.declared.hists.AttachedHist.{AttachedHist}
+use Rattle.trace_book.specs.States.{HasFew, HasFewRows, IsUsable, IsUsableInstance, StandsFor, names_of}
 use Rattle.trace_book.specs.declared.state.Named.{Named}
 use Rattle.trace_book.specs.declared.state.State.{State}
 use Rattle.trace_book.specs.declared.trigger.Trigger.{Trigger}
@@ -50,6 +61,8 @@ usable_instance g state past name i events stands = record {
       ∙ ap (λ (l : List Definition). length l) (sym events);
   triggers = ap (λ (l : List (Option Trigger)). length l) stands.triggers ∙ length-map (declared_events past) (kept_trigger name past)
       ∙ ap (λ (l : List Definition). length l) (sym events);
+  hists = sym (length-map i.hists (λ (attached : List AttachedHist). map kept_of attached)) ∙ ap (λ (l : List (List KeptHist)). length l) stands.hists
+      ∙ length-map (declared_events past) (kept_hists name past) ∙ ap (λ (l : List Definition). length l) (sym events);
   shaped = stands.shaped;
 }
 
@@ -79,6 +92,69 @@ pub few_from_stands : (g : Config) (state : State) (past : List Request) → Sta
     → All (λ (n : Named). HasFew n.instance) state.instances.items
 few_from_stands g state past stands short = λ k d inside. few_offers (length past) _ short (stands.each k d inside).offered.0
 
+-- a grouping has as many hits and dropped rows as there are rows
+all_counted : (spec : SpecSeen) (rows : List Emission) → (grouped spec rows).hits + (grouped spec rows).dropped ≡ length rows
+unfolding grouped
+all_counted spec rows =
+    let hits = map (hit_of spec) rows in
+    let among : Hit → Bool = λ hit. is_among (admitted spec.size hits) hit.key in
+    length-filter_both among (λ (hit : Hit). not (among hit)) (λ (hit : Hit). refl) hits ∙ length-map rows (hit_of spec)
+
+-- and a trigger counts at most one row of a request
+one_counted : (event : Definition) (t : HistTrigger) (paused : Bool) (e : Option Emitted) → length (counted_by event t paused e) ≤ 1
+one_counted event t true e = omega arith
+one_counted event t false None = omega arith
+one_counted event t false (Some e) = by (bytes_eq event.name e.k.event.name && passes t.spec.filter e)
+  where
+    by : (meets : Bool) → length (map counted_row (if meets then e ∷ [] else [])) ≤ 1
+    by true = omega arith
+    by false = omega arith
+
+hits_within : (name : Option (List ℕ)) (event : Definition) (t : HistTrigger) (past : List Request) → length (hits_of name event t past) ≤ length past
+hits_within name event t [] = omega arith
+hits_within name event t (request ∷ past) =
+    by (nat_lt t.number (length past)) (empties (asked_by event t (written_to name event request))) (hits_within name event t past)
+  where
+    by : (older emptied : Bool) → length (hits_of name event t past) ≤ length past
+        → length (if older then (if emptied then [] else hits_of name event t past ++ counted_by event t (is_paused name event t past) (emitted past request)) else [])
+        ≤ length (request ∷ past)
+    by false emptied before = omega arith
+    by true true before = omega arith
+    by true false before =
+        let one = one_counted event t (is_paused name event t past) (emitted past request) in
+        let all = length-append (hits_of name event t past) (counted_by event t (is_paused name event t past) (emitted past request)) in
+        omega (arith, before, one, all)
+
+few_kept : (name : Option (List ℕ)) (event : Definition) (past : List Request) (hists : List HistTrigger) (attached : List AttachedHist)
+    → map kept_of attached ≡ map (kept_as name past event) hists → length past < 2 ^ 32 → All HasRoomToCount attached
+few_kept name event past [] [] same short = λ k d inside. absurd (omega (arith, inside))
+few_kept name event past [] (a ∷ attached) same short = absurd (cc)
+few_kept name event past (t ∷ hists) [] same short = absurd (cc)
+few_kept name event past (t ∷ hists) (a ∷ attached) same short =
+    let first : kept_of a ≡ kept_as name past event t = cc in
+    let rest : map kept_of attached ≡ map (kept_as name past event) hists = cc in
+    let table : a.hist.table ≡ grouped t.spec (hits_of name event t past) = ap (λ (k : KeptHist). k.table) first in
+    let all = all_counted t.spec (hits_of name event t past) in
+    let within = hits_within name event t past in
+    let few : counted a.hist < 2 ^ 32 = rw table (omega (arith, all, within, short)) in
+    All-cons HasRoomToCount a attached few (few_kept name event past hists attached rest short)
+
+few_rows : (name : Option (List ℕ)) (past : List Request) (events : List Definition) (hists : List (List AttachedHist))
+    → map (λ (attached : List AttachedHist). map kept_of attached) hists ≡ map (kept_hists name past) events → length past < 2 ^ 32
+    → All (λ (attached : List AttachedHist). All HasRoomToCount attached) hists
+few_rows name past [] [] same short = λ k d inside. absurd (omega (arith, inside))
+few_rows name past [] (h ∷ hists) same short = absurd (cc)
+few_rows name past (event ∷ events) [] same short = absurd (cc)
+few_rows name past (event ∷ events) (h ∷ hists) same short =
+    let first : map kept_of h ≡ kept_hists name past event = cc in
+    let rest : map (λ (attached : List AttachedHist). map kept_of attached) hists ≡ map (kept_hists name past) events = cc in
+    All-cons (λ (attached : List AttachedHist). All HasRoomToCount attached) h hists (few_kept name event past (hists_of name event past) h first short)
+    (few_rows name past events hists rest short)
+
+pub few_rows_from_stands : (g : Config) (state : State) (past : List Request) → StandsFor g state past → length past < 2 ^ 32
+    → All (λ (n : Named). HasFewRows n.instance) state.instances.items
+few_rows_from_stands g state past stands short = λ k d inside. few_rows _ past (declared_events past) _ (stands.each k d inside).hists short
+
 pub early_from_stands : (g : Config) (state : State) (past : List Request) → StandsFor g state past → length past < 2 ^ 32 → state.clock < 2 ^ 32
 early_from_stands g state past stands short = omega (arith, stands.early, short)
 
@@ -97,6 +173,7 @@ stands_new g state top events clock instances name stands =
       unknown = λ other event none. refl;
       unfiltered = λ other event none. refl;
       untriggered = λ other event none. refl;
+      unwatched = λ other event none. refl;
       clock = clock;
       early = omega (arith, clock);
       names = ap names_of instances ∙ ap (λ (n : Option (List ℕ)). n ∷ []) name;

@@ -41,7 +41,7 @@ clears-trace g instance past text true = (
 )
 clears-trace g instance past text false = (
   refl,
-  own_write g instance past paths.Trace false text Clear tt (record { triggers = λ old. refl; sides = λ cpus pages page_bytes f. refl })
+  own_write g instance past paths.Trace false text Clear tt (record { triggers = λ old. refl; hists = λ old. refl; sides = λ cpus pages page_bytes f. refl })
       (record { enabled = λ old. refl; filters = λ old. refl; overwrite = λ old. refl; tracing = λ old. refl; rings = λ old. refl }),
   λ i usable. tt,
 )
@@ -56,7 +56,7 @@ clears-cpu g instance past text cpu there true = (
 )
 clears-cpu g instance past text cpu there false = (
   refl,
-  own_write g instance past (paths.CpuTrace cpu) false text (ClearCpu cpu) tt (record { triggers = λ old. refl; sides = λ cpus pages page_bytes f. refl })
+  own_write g instance past (paths.CpuTrace cpu) false text (ClearCpu cpu) tt (record { triggers = λ old. refl; hists = λ old. refl; sides = λ cpus pages page_bytes f. refl })
       (record { enabled = λ old. refl; filters = λ old. refl; overwrite = λ old. refl; tracing = λ old. refl; rings = λ old. refl }),
   λ i usable. rw usable.shaped.live.cpus there,
 )
@@ -99,7 +99,7 @@ unfolding switch_answer
 sets-overwrite g instance past append text flag needed =
     let is = needed-some (written_flag text) flag needed in (
       rw is refl,
-      own_write g instance past paths.Overwrite append text (SetOverwrite flag) tt (record { triggers = λ old. refl; sides = λ cpus pages page_bytes f. refl })
+      own_write g instance past paths.Overwrite append text (SetOverwrite flag) tt (record { triggers = λ old. refl; hists = λ old. refl; sides = λ cpus pages page_bytes f. refl })
           (record { enabled = λ old. refl; filters = λ old. refl; overwrite = λ old. rw is refl; tracing = λ old. refl; rings = λ old. same-rings append paths.Overwrite old refl }),
       λ i usable. tt,
     )
@@ -110,7 +110,7 @@ unfolding option_answer
 sets-option g instance past append text flag needed =
     let is = needed-some (written_option text) flag needed in (
       rw is refl,
-      own_write g instance past paths.TraceOptions append text (SetOverwrite flag) tt (record { triggers = λ old. refl; sides = λ cpus pages page_bytes f. refl })
+      own_write g instance past paths.TraceOptions append text (SetOverwrite flag) tt (record { triggers = λ old. refl; hists = λ old. refl; sides = λ cpus pages page_bytes f. refl })
           (record { enabled = λ old. refl; filters = λ old. refl; overwrite = λ old. rw is refl; tracing = λ old. refl; rings = λ old. same-rings append paths.TraceOptions old refl }),
       λ i usable. tt,
     )
@@ -121,7 +121,7 @@ unfolding tracing_answer
 sets-tracing g instance past append text flag needed =
     let is = needed-some (written_tracing text) flag needed in (
       rw is refl,
-      own_write g instance past paths.TracingOn append text (SetTracing flag) tt (record { triggers = λ old. refl; sides = λ cpus pages page_bytes f. refl })
+      own_write g instance past paths.TracingOn append text (SetTracing flag) tt (record { triggers = λ old. refl; hists = λ old. refl; sides = λ cpus pages page_bytes f. refl })
           (record { enabled = λ old. refl; filters = λ old. refl; overwrite = λ old. refl; tracing = λ old. rw is refl; rings = λ old. same-rings append paths.TracingOn old refl }),
       λ i usable. tt,
     )
@@ -155,7 +155,7 @@ switches-all g instance past append text flag distinct needed =
     (λ j inside. rw (named_at events j no_event distinct inside, is) refl)
     ∙ ap (λ (n : ℕ). replicate n flag) (sym (length-map events (λ (event : Definition). old event.name))) in (
       rw is refl,
-      own_write g instance past paths.EventsEnable append text (SwitchAll flag) tt (record { triggers = λ old. refl; sides = λ cpus pages page_bytes f. refl })
+      own_write g instance past paths.EventsEnable append text (SwitchAll flag) tt (record { triggers = λ old. refl; hists = λ old. refl; sides = λ cpus pages page_bytes f. refl })
           (record { enabled = enabled; filters = λ old. refl; overwrite = λ old. refl; tracing = λ old. refl; rings = λ old. same-rings append paths.EventsEnable old refl }),
       λ i usable. tt,
     )
@@ -166,7 +166,7 @@ pub switches-one : (g : Config) (instance : Option (List ℕ)) (past : List Requ
 unfolding switch_answer
 switches-one g instance past append text index flag distinct inside needed = (
   rw is refl,
-  own_write g instance past (paths.EventEnable name) append text (Switch index flag) tt (record { triggers = λ old. refl; sides = λ cpus pages page_bytes f. refl })
+  own_write g instance past (paths.EventEnable name) append text (Switch index flag) tt (record { triggers = λ old. refl; hists = λ old. refl; sides = λ cpus pages page_bytes f. refl })
       (record {
         enabled = λ old. map-set (λ (event : Definition). old event.name) (switched old) flag events index no_event inside (here old) (others old);
         filters = λ old. refl;
@@ -205,7 +205,7 @@ pub sets-one : (g : Config) (instance : Option (List ℕ)) (past : List Request)
     → IsWriteChange g instance past append text (paths.EventFilter (name_at (declared_events past) index)) (Ok (SetFilter index kept))
 sets-one g instance past append text index event kept distinct inside at written = (
   done,
-  own_write g instance past (paths.EventFilter name) append text (SetFilter index kept) tt (record { triggers = λ old. refl; sides = λ cpus pages page_bytes f. refl })
+  own_write g instance past (paths.EventFilter name) append text (SetFilter index kept) tt (record { triggers = λ old. refl; hists = λ old. refl; sides = λ cpus pages page_bytes f. refl })
       (record {
         enabled = λ old. refl;
         filters = λ old. map-set (λ (e : Definition). option_map (parsed_of e) (old e.name)) (filtered old) kept events index event inside (here old) (others old);
@@ -270,7 +270,7 @@ pub sets-all : (g : Config) (instance : Option (List ℕ)) (past : List Request)
     → IsWriteChange g instance past append text paths.EventsFilter (Ok (SetFilters changes))
 sets-all g instance past append text changes distinct are done = (
   done,
-  own_write g instance past paths.EventsFilter append text (SetFilters changes) tt (record { triggers = λ old. refl; sides = λ cpus pages page_bytes f. refl })
+  own_write g instance past paths.EventsFilter append text (SetFilters changes) tt (record { triggers = λ old. refl; hists = λ old. refl; sides = λ cpus pages page_bytes f. refl })
       (record {
         enabled = λ old. refl;
         filters = filters;

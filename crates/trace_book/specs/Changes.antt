@@ -1,5 +1,5 @@
 -- What a request that is done changes: of one instance, and of the whole.
-use Rattle.std.specs.Prelude.{◌≡◌, ℕ, ◌<◌, min, slice_set, replicate, Bool, true, false, List, [], ◌∷◌, length, map, Option, Some, None, if◌then◌else◌, ⊤}
+use Rattle.std.specs.Prelude.{◌≡◌, ℕ, ◌<◌, min, slice_index_or, slice_set, replicate, Bool, true, false, List, [], ◌∷◌, ◌++◌, length, map, Option, Some, None, if◌then◌else◌, ⊤}
 use Rattle.page_ring.specs.Events.{Event}
 use Rattle.trace_buffer.specs.Buffers as buffers
 use Rattle.trace_buffer.specs.Families.{with_cleared, all_cleared, cpu_readings, kept_count}
@@ -11,10 +11,13 @@ use Rattle.trace_command.specs.declared.command.Config.{Config}
 use Rattle.trace_snapshot.specs.Sides as snapshot
 use Rattle.trace_snapshot.specs.Sides.{SideFamilies, exchanged, spare_cleared, with_spare, without_spare}
 use Rattle.trace_history.specs.Settings.{clears_filter, can_take, declared_events, is_enabled, is_tracing, kept_filter, overwrites}
-use Rattle.trace_book.specs.Instances.{InstanceSeen, IsShaped, IsSpared, WereOffered, kept_trigger, side_families}
+use Rattle.trace_book.specs.Instances.{InstanceSeen, IsShaped, IsSpared, WereOffered, hists_kept, kept_trigger, side_families}
+use Rattle.trace_book.specs.KeptHists.{KeptHist, asked_same, kept_hists, kept_of, without_same}
 use Rattle.trace_book.specs.declared.trigger.Trigger.{Trigger}
 use Rattle.trace_book.specs.declared.change.InstanceChange.{InstanceChange}
-use Rattle.trace_book.specs.declared.change.InstanceChange.TheVariants.{Switch, SwitchAll, SetFilter, SetFilters, Attach, Detach, SetOverwrite, SetTracing, Clear, ClearCpu, Take, TakeCpu, TakeSnapshot, FreeSpare, ClearSpare}
+use Rattle.trace_book.specs.declared.change.InstanceChange.TheVariants.{Switch, SwitchAll, SetFilter, SetFilters, Triggers, SetOverwrite, SetTracing, Clear, ClearCpu, Take, TakeCpu, TakeSnapshot, FreeSpare, ClearSpare}
+use Rattle.trace_book.specs.declared.change.TriggerChange.{TriggerChange}
+use Rattle.trace_book.specs.declared.change.TriggerChange.TheVariants.{Attach, Detach, AttachHist, DetachHist, AskHist}
 use Rattle.trace_book.specs.declared.change.FilterChange.{FilterChange}
 use Rattle.trace_book.specs.declared.change.FilterChange.TheVariants as filter
 
@@ -50,11 +53,30 @@ filters_after (SetFilter index new) filters = slice_set filters index new
 filters_after (SetFilters changes) filters = changed_filters changes.items filters
 filters_after change filters = filters
 
+-- an event's trigger for snapshots after a change of its triggers
+abbrev pub trigger_changed : TriggerChange → Option Trigger → Option Trigger
+trigger_changed (Attach trigger) old = Some trigger
+trigger_changed Detach old = None
+trigger_changed change old = old
+
 -- the triggers after a change
 abbrev pub triggers_after : InstanceChange → List (Option Trigger) → List (Option Trigger)
-triggers_after (Attach index trigger) triggers = slice_set triggers index (Some trigger)
-triggers_after (Detach index) triggers = slice_set triggers index None
+triggers_after (Triggers index append (Attach trigger)) triggers = slice_set triggers index (Some trigger)
+triggers_after (Triggers index append Detach) triggers = slice_set triggers index None
 triggers_after change triggers = triggers
+
+-- the hist triggers of an event after a change, of those that `>` or `>>` left
+abbrev pub hists_changed : TriggerChange → List KeptHist → List KeptHist
+hists_changed (AttachHist attached) hists = hists ++ kept_of attached ∷ []
+hists_changed (DetachHist spec) hists = without_same spec hists
+hists_changed (AskHist spec) hists = map (asked_same spec) hists
+hists_changed change hists = hists
+
+-- those of each event
+abbrev pub hists_after : InstanceChange → List (List KeptHist) → List (List KeptHist)
+hists_after (Triggers index append change) hists =
+    slice_set hists index (hists_changed change (if append then slice_index_or hists index [] else []))
+hists_after change hists = hists
 
 abbrev pub overwrite_after : InstanceChange → Bool → Bool
 overwrite_after (SetOverwrite flag) overwrite = flag
@@ -74,7 +96,7 @@ rings_changed pages page_bytes change family = family
 
 -- both sides after a change
 abbrev pub sides_changed : ℕ → ℕ → ℕ → InstanceChange → SideFamilies → SideFamilies
-sides_changed cpus pages page_bytes (Attach index trigger) f = with_spare cpus f
+sides_changed cpus pages page_bytes (Triggers index append (Attach trigger)) f = with_spare cpus f
 sides_changed cpus pages page_bytes TakeSnapshot f = exchanged (with_spare cpus f)
 sides_changed cpus pages page_bytes FreeSpare f = without_spare f
 sides_changed cpus pages page_bytes ClearSpare f = spare_cleared f
@@ -85,8 +107,7 @@ abbrev pub IsLawful : InstanceSeen → InstanceChange → Type 0
 IsLawful i (Switch index flag) = index < length i.enabled
 IsLawful i (SetFilter index new) = index < length i.filters
 IsLawful i (SetFilters changes) = length changes.items ≡ length i.filters
-IsLawful i (Attach index trigger) = index < length i.triggers
-IsLawful i (Detach index) = index < length i.triggers
+IsLawful i (Triggers index append change) = (index < length i.triggers) × (index < length i.hists)
 IsLawful i (ClearCpu cpu) = cpu < buffers.cpus i.sides.live
 IsLawful i (TakeCpu cpu limit) = cpu < buffers.cpus i.sides.live
 IsLawful i change = ⊤
@@ -96,6 +117,7 @@ pub record IsApplied (change : InstanceChange) (old new : InstanceSeen) : Type 0
   pub enabled : new.enabled ≡ flags_after change old.enabled
   pub filters : new.filters ≡ filters_after change old.filters
   pub triggers : new.triggers ≡ triggers_after change old.triggers
+  pub hists : hists_kept new.hists ≡ hists_after change (hists_kept old.hists)
   pub overwrite : new.overwrite ≡ overwrite_after change old.overwrite
   pub tracing : new.tracing ≡ tracing_after change old.tracing
   pub sides : (families : SideFamilies) → snapshot.StandsFor old.sides families
@@ -111,6 +133,7 @@ pub record IsEffect (g : Config) (name : Option (List ℕ)) (past : List Request
       ≡ flags_after change (map (λ event. is_enabled name event.name past) (declared_events past))
   pub filters : map (kept_filter name (request ∷ past)) (declared_events past) ≡ filters_after change (map (kept_filter name past) (declared_events past))
   pub triggers : map (kept_trigger name (request ∷ past)) (declared_events past) ≡ triggers_after change (map (kept_trigger name past) (declared_events past))
+  pub hists : map (kept_hists name (request ∷ past)) (declared_events past) ≡ hists_after change (map (kept_hists name past) (declared_events past))
   pub overwrite : overwrites name (request ∷ past) ≡ overwrite_after change (overwrites name past)
   pub tracing : is_tracing name (request ∷ past) ≡ tracing_after change (is_tracing name past)
   pub sides : IsSpared g name (declared_events past) past

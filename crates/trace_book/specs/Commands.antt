@@ -1,6 +1,7 @@
 -- What is prepared for a write to a file, and for a read of one.
-use Rattle.std.specs.Prelude.{◌≡◌, ℕ, ◌<◌, ◌++◌, Bool, List, [], length, map, Option, Some, None, Result, Ok, Err, codes, ⊤}
+use Rattle.std.specs.Prelude.{◌≡◌, ℕ, ◌<◌, ◌++◌, ◌∷◌, nat_lt, not, Bool, List, [], length, map, Option, Some, None, Result, Ok, Err, codes, ⊤}
 use Rattle.std.specs.Option.{option_map}
+use Rattle.std.specs.List.{filter}
 use Rattle.trace_filter.specs.Filters.{Parsed, parsed_of}
 use Rattle.trace_format.specs.Definitions.{Definition}
 use Rattle.trace_command.specs.Paths.{File}
@@ -13,10 +14,11 @@ use Rattle.trace_command.specs.declared.command.Config.{Config}
 use Rattle.trace_command.specs.declared.command.Reply.TheVariants.{Done}
 use Rattle.trace_command.specs.declared.refusal.Refusal.{Refusal}
 use Rattle.trace_command.specs.declared.refusal.Refusal.TheVariants.{BadValue}
-use Rattle.trace_history.specs.History.{cpu_stats_text, filter_answer, filter_text, flag_text, format_of_event, option_text, read_answer, shown_snapshot, shown_trace, switches_text, triggers_of_event, write_answer}
+use Rattle.trace_history.specs.History.{cpu_stats_text, filter_answer, filter_text, flag_text, format_of_event, option_text, read_answer, shown_snapshot, shown_trace, switches_text, hists_of_event, triggers_of_event, write_answer}
 use Rattle.trace_history.specs.Rings.{rings, rings_after_read}
 use Rattle.trace_history.specs.Settings.{declared_events, event_named, filter_of, is_enabled, is_tracing, now_of, overwrites, written_filter}
 use Rattle.trace_book.specs.Instances.{InstanceSeen, InstanceStandsFor}
+use Rattle.trace_book.specs.KeptHists.{KeptHist}
 use Rattle.trace_book.specs.Changes.{IsEffect, IsLawful, rings_changed}
 use Rattle.trace_book.specs.States.{IsUsableInstance}
 use Rattle.trace_book.specs.declared.change.InstanceChange.{InstanceChange}
@@ -68,6 +70,17 @@ shown_filter (Some kept) = kept.text ++ codes "\n"
 abbrev pub shown_kept : Trigger → texts.Trigger
 shown_kept t = texts.Snapshot t.left (option_map (λ (filter : Parsed). filter.text) t.filter)
 
+-- a kept hist trigger as its files show it
+abbrev pub shown_kept_hist : KeptHist → texts.Trigger
+shown_kept_hist k = texts.Hist (record { spec = k.spec; rules = k.spec.sort_sources; paused = k.paused; table = k.table })
+
+-- triggers in the order in which they were attached
+abbrev pub kept_in_order : Option Trigger → List KeptHist → List texts.Trigger
+kept_in_order None hists = map shown_kept_hist hists
+kept_in_order (Some t) hists =
+    map shown_kept_hist (filter (λ (k : KeptHist). nat_lt k.number t.number) hists)
+    ++ shown_kept t ∷ map shown_kept_hist (filter (λ (k : KeptHist). not (nat_lt k.number t.number)) hists)
+
 -- what files are read from agrees with the requests done so far: the events, the clock and the instance of this name
 pub record IsSource (g : Config) (name : Option (List ℕ)) (past : List Request) (source : Source) : Type 0 where
   pub events : source.catalog.now ≡ declared_events past
@@ -82,7 +95,8 @@ IsReadable source (found.CpuTracePipe cpu) = cpu < buffers.cpus source.instance.
 IsReadable source (found.CpuStats cpu) = cpu < buffers.cpus source.instance.now.sides.live
 IsReadable source (found.EventEnable event) = event < length source.instance.now.enabled
 IsReadable source (found.EventFilter event) = event < length source.instance.now.filters
-IsReadable source (found.EventTrigger event) = event < length source.instance.now.triggers
+IsReadable source (found.EventTrigger event) = (event < length source.instance.now.triggers) × (event < length source.instance.now.hists)
+IsReadable source (found.EventHist event) = event < length source.instance.now.hists
 IsReadable source (found.EventFormat event) = event < length source.catalog.now
 IsReadable source file = ⊤
 
@@ -99,5 +113,6 @@ text_of g name past paths.EventsEnable = switches_text (map (λ event. is_enable
 text_of g name past (paths.EventFilter event) = filter_text (filter_of name event past)
 text_of g name past paths.Snapshot = shown_snapshot g name past
 text_of g name past (paths.EventTrigger event) = triggers_of_event name past (event_named event past)
+text_of g name past (paths.EventHist event) = hists_of_event name past (event_named event past)
 text_of g name past (paths.EventFormat event) = format_of_event (event_named event past)
 text_of g name past file = []

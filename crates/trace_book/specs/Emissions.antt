@@ -16,7 +16,7 @@ IsArmedFor event row cpu pid i j = j ≡ record i { armed = records i event row 
 
 -- room was made, perhaps
 abbrev pub IsReadied : InstanceSeen → InstanceSeen → Type 0
-IsReadied i j = IsAlike i j × (j.armed ≡ i.armed) × (j.fires ≡ i.fires)
+IsReadied i j = IsAlike i j × (j.hists ≡ i.hists) × (j.armed ≡ i.armed) × (j.fires ≡ i.fires)
 
 -- a state agrees with another in all but room and what is being prepared
 pub record IsStateAlike (old new : State) : Type 0 where
@@ -24,7 +24,8 @@ pub record IsStateAlike (old new : State) : Type 0 where
   pub clock : new.clock ≡ old.clock
   pub instances : EachCame IsAlike old.instances.items new.instances.items
 
--- each instance is armed exactly if it records the emission, and is to exchange its sides exactly if a trigger acts on it; and what was written ahead is the emission's record, for which each armed
+-- each instance is armed exactly if it records the emission, and is to exchange its sides exactly if a trigger acts on it; and its hist
+-- triggers are as they were. What was written ahead is the emission's record, for which each armed
 -- instance has room; nothing was, where none is armed
 pub record IsAhead (old new : State) (event : ℕ) (row : Cells) (cpu : ℕ) (pid : ℤ) (pending : Option Pending) : Type 0 where
   pub armed : (k : ℕ) (d : Named) → k < length old.instances.items
@@ -34,4 +35,6 @@ pub record IsAhead (old new : State) (event : ℕ) (row : Cells) (cpu : ℕ) (pi
   pub bytes : (p : Pending) → pending ≡ Some p
       → (p.cpu ≡ cpu) × (p.bytes.items ≡ record_bytes (old.clock + 1) pid (event + 1) row) × IsRecord p.bytes.items
       × All (λ (n : Named). HasRoom p n.instance) new.instances.items
+  pub hists : (k : ℕ) (d : Named) → k < length old.instances.items
+      → (slice_index_or new.instances.items k d).instance.hists ≡ (slice_index_or old.instances.items k d).instance.hists
   pub none : pending ≡ None → All (λ (n : Named). n.instance.armed ≡ false) new.instances.items

@@ -39,6 +39,7 @@ file_at events file.EventsFilter = paths.EventsFilter
 file_at events (file.EventEnable event) = paths.EventEnable (name_at events event)
 file_at events (file.EventFilter event) = paths.EventFilter (name_at events event)
 file_at events (file.EventTrigger event) = paths.EventTrigger (name_at events event)
+file_at events (file.EventHist event) = paths.EventHist (name_at events event)
 file_at events (file.EventFormat event) = paths.EventFormat (name_at events event)
 
 -- its CPU or its event is there
@@ -49,6 +50,7 @@ IsThere cpus events (file.CpuStats cpu) = cpu < cpus
 IsThere cpus events (file.EventEnable event) = event < length events
 IsThere cpus events (file.EventFilter event) = event < length events
 IsThere cpus events (file.EventTrigger event) = event < length events
+IsThere cpus events (file.EventHist event) = event < length events
 IsThere cpus events (file.EventFormat event) = event < length events
 IsThere cpus events _ = ⊤
 
@@ -57,6 +59,7 @@ abbrev pub HasEvent : List Definition → File → Type 0
 HasEvent events (file.EventEnable event) = event < length events
 HasEvent events (file.EventFilter event) = event < length events
 HasEvent events (file.EventTrigger event) = event < length events
+HasEvent events (file.EventHist event) = event < length events
 HasEvent events (file.EventFormat event) = event < length events
 HasEvent events _ = ⊤
 

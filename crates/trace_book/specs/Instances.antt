@@ -14,14 +14,17 @@ use Rattle.trace_history.specs.Rings.{rings, other_rings, spare_rings}
 use Rattle.trace_history.specs.Snapshots.{has_spare}
 use Rattle.trace_history.specs.Triggers as triggers
 use Rattle.trace_history.specs.Triggers.{times_left, trigger_of}
+use Rattle.trace_book.specs.declared.hists.AttachedHist.{AttachedHist}
 use Rattle.trace_book.specs.declared.trigger.Trigger.{Trigger}
+use Rattle.trace_book.specs.KeptHists.{KeptHist, kept_hists, kept_of}
 
--- which events are enabled, their filters and their triggers, in order of declaration; whether records may overwrite older ones, and whether it
+-- which events are enabled, their filters, their triggers for snapshots and their hist triggers, in order of declaration; whether records may overwrite older ones, and whether it
 -- records at all; its rings; and whether it is to record the emission that is being prepared, and whether that makes a trigger act
 pub record InstanceSeen : Type 0 where
   pub enabled : List Bool
   pub filters : List (Option Parsed)
   pub triggers : List (Option Trigger)
+  pub hists : List (List AttachedHist)
   pub overwrite : Bool
   pub tracing : Bool
   pub sides : SidesSeen
@@ -53,10 +56,14 @@ WereOffered most s = WasOffered most s.live × IfSome s.spare (WasOffered most)
 
 -- a trigger as an instance keeps it
 abbrev pub kept_as : List Request → Definition → triggers.Trigger → Trigger
-kept_as past event t = record { left = times_left event t past; filter = t.spec.filter }
+kept_as past event t = record { number = t.number; left = times_left event t past; filter = t.spec.filter }
 
 abbrev pub kept_trigger : Option (List ℕ) → List Request → Definition → Option Trigger
 kept_trigger name past event = option_map (kept_as past event) (trigger_of name event past)
+
+-- the hist triggers of each event
+abbrev pub hists_kept : List (List AttachedHist) → List (List KeptHist)
+hists_kept hists = map (λ attached. map kept_of attached) hists
 
 -- what happened to the rings of each side
 abbrev pub side_families : Config → Option (List ℕ) → List Request → SideFamilies
@@ -72,6 +79,7 @@ pub record InstanceStandsFor (g : Config) (name : Option (List ℕ)) (past : Lis
   pub enabled : i.enabled ≡ map (λ event. is_enabled name event.name past) (declared_events past)
   pub filters : i.filters ≡ map (kept_filter name past) (declared_events past)
   pub triggers : i.triggers ≡ map (kept_trigger name past) (declared_events past)
+  pub hists : hists_kept i.hists ≡ map (kept_hists name past) (declared_events past)
   pub overwrite : i.overwrite ≡ overwrites name past
   pub tracing : i.tracing ≡ is_tracing name past
   pub sides : snapshot.StandsFor i.sides (side_families g name past)
@@ -84,6 +92,7 @@ pub record IsAlike (old new : InstanceSeen) : Type 0 where
   pub enabled : new.enabled ≡ old.enabled
   pub filters : new.filters ≡ old.filters
   pub triggers : new.triggers ≡ old.triggers
+  pub hists : hists_kept new.hists ≡ hists_kept old.hists
   pub overwrite : new.overwrite ≡ old.overwrite
   pub tracing : new.tracing ≡ old.tracing
   pub sides : (families : SideFamilies) → snapshot.StandsFor old.sides families → snapshot.StandsFor new.sides families

@@ -1,5 +1,7 @@
+pub mod KeptHists
 pub mod Instances
 pub mod Changes
+pub mod Attaching
 pub mod Rows
 pub mod States
 pub mod Files

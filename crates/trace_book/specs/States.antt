@@ -21,7 +21,10 @@ use Rattle.trace_history.specs.Emissions.{Emitted, emitted, emitted_bytes, is_re
 use Rattle.trace_history.specs.History.{answer_with_room}
 use Rattle.trace_history.specs.Snapshots.{is_exchanged_by}
 use Rattle.trace_history.specs.Triggers.{trigger_of}
-use Rattle.trace_book.specs.Instances.{InstanceSeen, InstanceStandsFor, IsShaped, WereOffered}
+use Rattle.trace_history.specs.HistTriggers.{hists_of}
+use Rattle.trace_filter.specs.Truth.{Emission}
+use Rattle.trace_book.specs.KeptHists.{KeptHist, AreHit, CanCount, HasRoomToCount}
+use Rattle.trace_book.specs.Instances.{InstanceSeen, InstanceStandsFor, IsShaped, WereOffered, hists_kept}
 use Rattle.trace_book.specs.Changes.{IsEffect, IsApplied, IsLawful}
 use Rattle.trace_book.specs.declared.change.Change.{Change}
 use Rattle.trace_book.specs.declared.change.Change.TheVariants.{Declare, Make, Remove, Instance, Emit}
@@ -46,6 +49,7 @@ pub record StandsFor (g : Config) (state : State) (past : List Request) : Type 0
   pub unknown : (name : Option (List ℕ)) (event : List ℕ) → event_named event past ≡ None → is_enabled name event past ≡ false
   pub unfiltered : (name : Option (List ℕ)) (event : List ℕ) → event_named event past ≡ None → filter_of name event past ≡ None
   pub untriggered : (name : Option (List ℕ)) (event : Definition) → event_named event.name past ≡ None → trigger_of name event past ≡ None
+  pub unwatched : (name : Option (List ℕ)) (event : Definition) → event_named event.name past ≡ None → hists_of name event past ≡ []
   pub clock : state.clock ≡ now_of past
   pub early : state.clock ≤ length past
   pub names : names_of state.instances.items ≡ None ∷ map (λ (name : List ℕ). Some name) (instance_names past)
@@ -58,6 +62,7 @@ pub record IsUsableInstance (g : Config) (events : ℕ) (i : InstanceSeen) : Typ
   pub enabled : length i.enabled ≡ events
   pub filters : length i.filters ≡ events
   pub triggers : length i.triggers ≡ events
+  pub hists : length i.hists ≡ events
   pub shaped : IsShaped g i.sides
 
 -- what every state of a book has, so that a command can be prepared without its past
@@ -80,14 +85,19 @@ pub record IsUnchanged (old new : State) : Type 0 where
   pub clock : new.clock ≡ old.clock
   pub instances : new.instances.items ≡ old.instances.items
 
--- an instance with one more event, which is disabled and has no filter and no trigger
+-- an instance with one more event, which is disabled and has no filter and no triggers
 abbrev pub with_event : InstanceSeen → InstanceSeen
-with_event i = record i { enabled = i.enabled ++ false ∷ []; filters = i.filters ++ None ∷ []; triggers = i.triggers ++ None ∷ [] }
+with_event i = record i {
+  enabled = i.enabled ++ false ∷ [];
+  filters = i.filters ++ None ∷ [];
+  triggers = i.triggers ++ None ∷ [];
+  hists = i.hists ++ [] ∷ [];
+}
 
 -- a trigger that acted acts once less
 abbrev pub counted_down : Option Trigger → Option Trigger
 counted_down None = None
-counted_down (Some t) = Some (record { left = option_map (λ times. times - 1) t.left; filter = t.filter })
+counted_down (Some t) = Some (record { number = t.number; left = option_map (λ times. times - 1) t.left; filter = t.filter })
 
 -- the live side's rings after an emission: with its record, if there is one and the instance is armed
 abbrev pub recorded_in : Bool → Bool → Option Pending → List (List ring.Event) → List (List ring.Event)
@@ -116,12 +126,29 @@ delivered_to i d f =
     let written : SideFamilies = record { live = recorded_in i.armed i.overwrite d.record f.live; spare = f.spare } in
     if i.fires then exchanged written else written
 
--- an emission reached an instance: its record is written if the instance is armed, and then the event's trigger acts if the emission makes it
+-- the row of an emission, as a histogram takes it
+abbrev pub row_of : Delivery → Emission
+row_of d = record { values = d.row.values; cpu = d.cpu; pid = d.pid }
+
+-- the hist triggers of the event at a place were offered an emission, and the others are as they were
+pub record WereOfferedRow (emission : Emission) (event : ℕ) (old new : List (List KeptHist)) : Type 0 where
+  pub many : length new ≡ length old
+  pub there : AreHit emission (slice_index_or old event []) (slice_index_or new event [])
+  pub others : (k : ℕ) → k < length old → (k ≡ event → ⊥) → slice_index_or new k [] ≡ slice_index_or old k []
+
+-- the row of an emission was offered to the hist triggers of its event
+pub record IsOffered (d : Delivery) (old new : InstanceSeen) : Type 0 where
+  pub rest : new ≡ record old { hists = new.hists }
+  pub hists : WereOfferedRow (row_of d) d.event (hists_kept old.hists) (hists_kept new.hists)
+
+-- an emission reached an instance: its record is written if the instance is armed; then the event's hist triggers are offered its row; and then
+-- the event's trigger for snapshots acts if the emission makes it
 pub record IsDelivered (d : Delivery) (old new : InstanceSeen) : Type 0 where
   pub enabled : new.enabled ≡ old.enabled
   pub filters : new.filters ≡ old.filters
   pub triggers : new.triggers
       ≡ (if old.fires then slice_set old.triggers d.event (counted_down (slice_index_or old.triggers d.event None)) else old.triggers)
+  pub hists : WereOfferedRow (row_of d) d.event (hists_kept old.hists) (hists_kept new.hists)
   pub overwrite : new.overwrite ≡ old.overwrite
   pub tracing : new.tracing ≡ old.tracing
   pub sides : (families : SideFamilies) → snapshot.StandsFor old.sides families → snapshot.StandsFor new.sides (delivered_to old d families)
@@ -220,6 +247,9 @@ pub record IsEmission (g : Config) (past : List Request) (request : Request) (in
   pub e : Emitted
   pub emitted : emitted past request ≡ Some e
   pub place : IsPlaceOf (declared_events past) e.k.event.name d.event e.k.event
+  pub row : d.row.values ≡ e.row.values
+  pub cpu : d.cpu ≡ e.cpu
+  pub pid : d.pid ≡ e.pid
   pub armed : All (λ (n : Named). n.instance.armed ≡ is_recorded n.name past e) instances
   pub fires : All (λ (n : Named). n.instance.fires ≡ is_exchanged_by n.name past (Some e)) instances
   pub bytes : (p : Pending) → d.record ≡ Some p → (p.bytes.items ≡ emitted_bytes e) × (p.cpu ≡ e.cpu)
@@ -256,6 +286,14 @@ IsWritable i None = ⊤
 IsWritable i (Some pending) =
     IsRecord pending.bytes.items × (length pending.bytes.items ≤ i.sides.live.page_bytes) × HasRoom pending i
 
+-- the hist triggers of the event at a place have the memory to count an emission
+abbrev pub CanCountRow : Emission → ℕ → InstanceSeen → Type 0
+CanCountRow emission event i = All (CanCount emission) (slice_index_or i.hists event [])
+
+-- each histogram counted few rows
+abbrev pub HasFewRows : InstanceSeen → Type 0
+HasFewRows i = All (λ hists. All HasRoomToCount hists) i.hists
+
 -- an instance whose sides are to be exchanged has a spare
 abbrev pub CanFire : InstanceSeen → Type 0
 CanFire i = i.fires ≡ true → is_some i.sides.spare ≡ true
@@ -270,6 +308,7 @@ IsReady g state (Instance place change) = (place < length state.instances.items)
 IsReady g state (Emit delivery) =
     (delivery.event < length state.catalog) × CanBeWritten g state.instances.items delivery.record
     × All (λ (n : Named). CanFire n.instance) state.instances.items
+    × All (λ (n : Named). CanCountRow (row_of delivery) delivery.event n.instance) state.instances.items
 
 -- what was prepared for a request, or why it is refused
 abbrev pub IsPrepared : Config → List Request → Request → State → Result Prepared Refusal → Type 0

@@ -73,7 +73,12 @@ impl Book {
         ensures refused { OnErr result (self.new.entries ≡ self.old.entries) }
         ensures config { self.new.config ≡ self.old.config }
     {
-        let Prepared { change, reply } = self.state.prepare(self.alloc, &self.config, &command)?;
+        let Prepared { change, reply } = self.state.prepare(
+            self.alloc,
+            &self.config,
+            self.entries.len() as u64,
+            &command,
+        )?;
         if self.entries.len() as u64 >= self.config.history_limit {
             return Err(Refusal::HistoryFull);
         }

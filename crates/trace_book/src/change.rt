@@ -3,10 +3,12 @@
 ghost use Rattle.std.specs.Prelude.{◌≡◌};
 ghost use Rattle.trace_book.specs.Changes as changes;
 
+use crate::hists::AttachedHist;
 use crate::state::Named;
 use crate::trigger::Trigger;
 use trace_filter::Filter;
-use trace_format::EventDef;
+use trace_format::{EventDef, Row};
+use trace_hist::HistSpec;
 
 /// What a command changes.
 #[derive(Drop)]
@@ -35,10 +37,8 @@ pub(crate) enum InstanceChange {
     SetFilter(usize, Option<Filter>),
     /// Each event's filter is changed.
     SetFilters(Vec<FilterChange>),
-    /// An event gets this trigger, and the instance a spare side if it has none.
-    Attach(usize, Trigger),
-    /// An event's trigger is removed.
-    Detach(usize),
+    /// An event's triggers are changed; its hist triggers are taken away first, but not where the text is appended.
+    Triggers(usize, bool, TriggerChange),
     /// Records may overwrite older ones, or not.
     SetOverwrite(bool),
     /// Emissions are recorded, or not.
@@ -57,6 +57,22 @@ pub(crate) enum InstanceChange {
     FreeSpare,
     /// The spare side is emptied, if there is one.
     ClearSpare,
+}
+
+/// What becomes of an event's triggers.
+#[derive(Drop)]
+pub(crate) enum TriggerChange {
+    Keep,
+    /// The event gets this trigger for snapshots, and the instance a spare side if it has none.
+    Attach(Trigger),
+    /// The event's trigger for snapshots is removed.
+    Detach,
+    /// The event gets one more hist trigger.
+    AttachHist(AttachedHist),
+    /// The hist triggers that say the same are removed.
+    DetachHist(HistSpec),
+    /// What a text asks for is done to the hist triggers that say the same.
+    AskHist(HistSpec),
 }
 
 /// What becomes of an event's filter.
@@ -87,11 +103,14 @@ impl FilterChange {
     }
 }
 
-/// What an emission brings to the instances: its record, which is written in each one that is armed, if one is; and the place of its event,
-/// whose trigger acts in each one whose sides it exchanges.
+/// What an emission brings to the instances: the place of its event, whose trigger acts in each one whose sides it exchanges; its row, which the
+/// event's hist triggers are offered, with its CPU and its process; and its record, which is written in each one that is armed, if one is.
 #[derive(Drop)]
 pub(crate) struct Delivery {
     pub event: usize,
+    pub row: Row,
+    pub cpu: u32,
+    pub pid: i32,
     pub record: Option<Pending>,
 }
 

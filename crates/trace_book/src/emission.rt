@@ -1,4 +1,5 @@
-//! Emissions: a row is built once, and each instance that records it has room before any is written to.
+//! Emissions: a row is built once, and each instance that records it has room, and each hist trigger that it reaches has memory, before any is
+//! written to.
 
 ghost use Rattle.std.specs.Prelude.{◌≡◌, ℕ, ◌+◌, ◌<◌, ◌≤◌, ◌^◌, true, false, List, length, All, slice_index_or, Some, IfOk, OnOk};
 ghost use Rattle.trace_buffer.specs.Buffers as buffers;
@@ -8,8 +9,9 @@ ghost use Rattle.trace_command.specs.declared.command.Config.{Config};
 ghost use Rattle.trace_format.specs.Cells.{size_of_all};
 ghost use Rattle.trace_record.specs.Record.{record_size};
 ghost use Rattle.trace_book.specs.Emissions as emissions;
+ghost use Rattle.trace_book.specs.Instances.{IsAlike};
 ghost use Rattle.trace_book.specs.declared.change.Pending.{Pending as PendingHere};
-ghost use Rattle.trace_book.specs.States.{StandsFor, IsPrepared, IsUsable, EachCame};
+ghost use Rattle.trace_book.specs.States.{StandsFor, IsPrepared, IsUsable, EachCame, CanCountRow};
 
 use crate::change::{Change, Delivery, Pending};
 use crate::resolve::find;
@@ -20,7 +22,8 @@ use trace_command::{Config, Refusal, Reply};
 use trace_format::{Pair, Row, payload_size};
 
 impl State {
-    /// Prepares an emission: its CPU, its event, its row, and then room for its record in each instance that records it.
+    /// Prepares an emission: its CPU, its event, its row, then the memory of its hist triggers, and then room for its
+    /// record in each instance that records it.
     #[tactic(auto, unfolding(trace_history::specs::History::emission_answer))]
     pub(crate) fn prepare_emission(
         &mut self,
@@ -46,14 +49,34 @@ impl State {
         let index = found.index;
         let size = payload_size(found.event);
         let row = Row::build(alloc, found.event, pairs)?;
+        self.reserve_hits(index, &row, cpu, pid)?;
         let pending = self.write_ahead(alloc, index, cpu, pid, size, &row)?;
         Ok(Prepared {
             change: Change::Emit(Delivery {
                 event: index,
+                row,
+                cpu,
+                pid,
                 record: pending,
             }),
             reply: Reply::Done,
         })
+    }
+
+    // Takes the memory that the hist triggers of the event at this place need to count a row, in each instance.
+    fn reserve_hits(
+        &mut self,
+        index: usize,
+        row: &Row,
+        cpu: u32,
+        pid: i32,
+    ) -> Result<(), AllocError>
+        requires { All (λ n. index < length n.instance.hists) self.old.instances.items }
+        ensures alike { emissions.IsStateAlike self.old self.new }
+        ensures counted { OnOk result (All (λ n. CanCountRow (record { values = row.now.values; cpu = cpu; pid = pid }) index n.instance)
+            self.new.instances.items) }
+    {
+        reserve_each(&mut self.instances, index, row, cpu, pid)
     }
 
     // The record of an emission of the event at this place, with room for it in each instance that records it; none if no instance does.
@@ -100,6 +123,23 @@ fn arm_each(instances: &mut [Named], event: usize, row: &Row, cpu: u32, pid: i32
         some |= instances[i].instance.arm(event, row, cpu, pid);
     }
     some
+}
+
+fn reserve_each(
+    instances: &mut [Named],
+    event: usize,
+    row: &Row,
+    cpu: u32,
+    pid: i32,
+) -> Result<(), AllocError>
+    requires { All (λ n. event < length n.instance.hists) instances.old }
+    ensures alike { EachCame IsAlike instances.old instances.new }
+    ensures counted { OnOk result (All (λ n. CanCountRow (record { values = row.now.values; cpu = cpu; pid = pid }) event n.instance) instances.new) }
+{
+    for i in 0..instances.len() {
+        instances[i].instance.reserve(event, row, cpu, pid)?;
+    }
+    Ok(())
 }
 
 // Makes room for a record of this length in each instance that is armed.

@@ -11,11 +11,13 @@ ghost use Rattle.trace_snapshot.specs.Sides.{IsNewSide};
 ghost use Rattle.trace_book.specs.Instances.{InstanceSeen, IsAlike};
 ghost use Rattle.trace_book.specs.Changes as changes;
 ghost use Rattle.trace_book.specs.Changes.{changed_filters};
+ghost use Rattle.trace_book.specs.declared.change.InstanceChange.TheVariants as changed;
 ghost use Rattle.trace_book.specs.Rows as rows;
 ghost use Rattle.trace_book.specs.Rows.{kept_holds};
-ghost use Rattle.trace_book.specs.States.{CanFire, IsDelivered, IsExchanged, IsWritable, IsWritten, HasRoom, HasFew, with_event};
+ghost use Rattle.trace_book.specs.States.{CanCountRow, CanFire, HasFewRows, row_of, IsDelivered, IsOffered, IsExchanged, IsWritable, IsWritten, HasRoom, HasFew, with_event};
 
-use crate::change::{Delivery, FilterChange, InstanceChange, Pending};
+use crate::change::{Delivery, FilterChange, InstanceChange, Pending, TriggerChange};
+use crate::hists::EventHists;
 use crate::trigger::{Trigger, passes};
 use page_ring::RingStats;
 use std::alloc::{AllocError, Global};
@@ -31,9 +33,11 @@ pub(crate) const EVENTS: usize = 64;
 /// A trace instance, as in ftrace.rst, "Instances": each has switches, filters, triggers, options and rings of its own.
 #[derive(Drop)]
 pub struct Instance {
+    alloc: Global,
     enabled: Vec<bool>,
     filters: Vec<Option<Filter>>,
     triggers: Vec<Option<Trigger>>,
+    hists: Vec<EventHists>,
     overwrite: bool,
     tracing: bool,
     sides: Sides,
@@ -49,11 +53,12 @@ impl Model for Instance {
 
     ghost Value = { InstanceSeen };
 
-    ghost view = { λ i. record { enabled = i.enabled.items; filters = i.filters.items; triggers = i.triggers.items; overwrite = i.overwrite; tracing = i.tracing; sides = i.sides; armed = i.armed; fires = i.fires } };
+    ghost view = { λ i. record { enabled = i.enabled.items; filters = i.filters.items; triggers = i.triggers.items; hists = i.hists.items; overwrite = i.overwrite; tracing = i.tracing; sides = i.sides; armed = i.armed; fires = i.fires } };
 
     ghost invariant = { λ i. (vec_len i.enabled ≤ 64) × (64 ≤ vec_capacity i.enabled)
         × (vec_len i.filters ≤ 64) × (64 ≤ vec_capacity i.filters)
-        × (vec_len i.triggers ≤ 64) × (64 ≤ vec_capacity i.triggers) };
+        × (vec_len i.triggers ≤ 64) × (64 ≤ vec_capacity i.triggers)
+        × (vec_len i.hists ≤ 64) × (64 ≤ vec_capacity i.hists) };
 }
 
 impl Instance {
@@ -72,6 +77,7 @@ impl Instance {
         ensures enabled { IfOk result (λ instance. instance.enabled ≡ replicate events false) }
         ensures filters { IfOk result (λ instance. instance.filters ≡ replicate events None) }
         ensures triggers { IfOk result (λ instance. instance.triggers ≡ replicate events None) }
+        ensures hists { IfOk result (λ instance. instance.hists ≡ replicate events []) }
         ensures overwrite { IfOk result (λ instance. instance.overwrite ≡ true) }
         ensures tracing { IfOk result (λ instance. instance.tracing ≡ true) }
         ensures live { IfOk result (λ instance. IsNewSide cpus pages page_bytes instance.sides.live) }
@@ -81,9 +87,11 @@ impl Instance {
         ensures page_bytes { IfOk result (λ instance. instance.sides.page_bytes ≡ page_bytes) }
     {
         let mut instance = Instance {
+            alloc,
             enabled: Vec::with_capacity(alloc, EVENTS)?,
             filters: Vec::with_capacity(alloc, EVENTS)?,
             triggers: Vec::with_capacity(alloc, EVENTS)?,
+            hists: Vec::with_capacity(alloc, EVENTS)?,
             overwrite: true,
             tracing: true,
             sides: Sides::new(alloc, cpus, pages, page_bytes)?,
@@ -134,7 +142,15 @@ impl Instance {
         self.triggers[event].as_ref()
     }
 
-    /// Whether some event has a trigger.
+    /// The hist triggers of the event at this place.
+    pub(crate) fn hists(&self, event: usize) -> &EventHists
+        requires { event < length self.now.hists }
+        ensures { result.now ≡ slice_index_or self.now.hists event [] }
+    {
+        &self.hists[event]
+    }
+
+    /// Whether some event has a trigger for snapshots.
     pub(crate) fn has_trigger(&self) -> bool
         ensures { result ≡ list_any is_some self.now.triggers }
     {
@@ -183,11 +199,13 @@ impl Instance {
         requires enabled { length self.old.enabled < 64 }
         requires filters { length self.old.filters < 64 }
         requires triggers { length self.old.triggers < 64 }
+        requires hists { length self.old.hists < 64 }
         ensures { self.new ≡ with_event self.old }
     {
         self.enabled.push_reserved(false);
         self.filters.push_reserved(None);
         self.triggers.push_reserved(None);
+        self.hists.push_reserved(EventHists::new(self.alloc));
     }
 
     /// Makes a change. The only error is that memory for a spare side is refused, and then nothing is changed.
@@ -202,11 +220,9 @@ impl Instance {
             InstanceChange::SwitchAll(flag) => self.enabled.fill(flag),
             InstanceChange::SetFilter(event, filter) => self.filters[event] = filter,
             InstanceChange::SetFilters(changes) => change_all(&mut self.filters, changes),
-            InstanceChange::Attach(event, trigger) => {
-                self.sides.arm()?;
-                self.triggers[event] = Some(trigger);
+            InstanceChange::Triggers(event, append, change) => {
+                self.change_triggers(event, append, change)?;
             }
-            InstanceChange::Detach(event) => self.triggers[event] = None,
             InstanceChange::SetOverwrite(flag) => self.overwrite = flag,
             InstanceChange::SetTracing(flag) => self.tracing = flag,
             InstanceChange::Clear => self.sides.live_mut().clear(),
@@ -222,6 +238,52 @@ impl Instance {
             InstanceChange::ClearSpare => self.sides.clear_spare(),
         }
         Ok(())
+    }
+
+    // Changes the triggers of the event at this place. Its hist triggers are taken away first, but not where the text is appended.
+    fn change_triggers(
+        &mut self,
+        event: usize,
+        append: bool,
+        change: TriggerChange,
+    ) -> Result<(), AllocError>
+        requires triggers { event < length self.old.triggers }
+        requires hists { event < length self.old.hists }
+        ensures applied { OnOk result (changes.IsApplied (changed.Triggers event append change) self.old self.new) }
+        ensures refused { OnErr result (self.new ≡ self.old) }
+    {
+        match change {
+            TriggerChange::Keep => self.hists[event].keep(append),
+            TriggerChange::Attach(trigger) => {
+                self.sides.arm()?;
+                self.hists[event].keep(append);
+                self.triggers[event] = Some(trigger);
+            }
+            TriggerChange::Detach => {
+                self.hists[event].keep(append);
+                self.triggers[event] = None;
+            }
+            TriggerChange::AttachHist(attached) => self.hists[event].attach(append, attached)?,
+            TriggerChange::DetachHist(spec) => self.hists[event].remove(append, &spec),
+            TriggerChange::AskHist(spec) => self.hists[event].ask(append, &spec),
+        }
+        Ok(())
+    }
+
+    /// Takes the memory that the hist triggers of the event at this place need to count a row.
+    pub(crate) fn reserve(
+        &mut self,
+        event: usize,
+        row: &Row,
+        cpu: u32,
+        pid: i32,
+    ) -> Result<(), AllocError>
+        requires { event < length self.old.hists }
+        ensures alike { IsAlike self.old self.new }
+        ensures rest { self.new ≡ record self.old { hists = self.new.hists } }
+        ensures ready { OnOk result (CanCountRow (record { values = row.now.values; cpu = cpu; pid = pid }) event self.new) }
+    {
+        self.hists[event].reserve(row, cpu, pid)
     }
 
     /// Looks whether an emission of the event at this place is recorded, and whether it makes the event's trigger act; keeps both, and tells
@@ -250,6 +312,7 @@ impl Instance {
         ensures alike { IsAlike self.old self.new }
         ensures armed { self.new.armed ≡ self.old.armed }
         ensures fires { self.new.fires ≡ self.old.fires }
+        ensures hists { self.new.hists ≡ self.old.hists }
         ensures room { OnOk result (self.old.armed ≡ true → len ≤ slice_index_or (buffers.readies self.new.sides.live) cpu 0) }
     {
         if self.armed {
@@ -258,10 +321,13 @@ impl Instance {
         Ok(())
     }
 
-    /// Takes in an emission: its record is written if the instance is armed, over older ones where the ring is full and that is allowed; and
-    /// then the sides are exchanged if it makes its event's trigger act.
+    /// Takes in an emission: its record is written if the instance is armed, over older ones where the ring is full and that is allowed; then
+    /// the event's hist triggers are offered its row; and then the sides are exchanged if it makes the event's trigger for snapshots act.
     pub(crate) fn deliver(&mut self, delivery: &Delivery)
         requires event { delivery.now.event < length self.old.triggers }
+        requires hists { delivery.now.event < length self.old.hists }
+        requires counted { CanCountRow (row_of delivery.now) delivery.now.event self.old }
+        requires few_rows { HasFewRows self.old }
         requires record { IsWritable self.old delivery.now.record }
         requires few { HasFew self.old }
         requires spare { CanFire self.old }
@@ -270,6 +336,7 @@ impl Instance {
         if let Some(pending) = &delivery.record {
             self.write(pending);
         }
+        self.offer(delivery);
         if self.fires {
             self.exchange(delivery.event);
         }
@@ -289,6 +356,16 @@ impl Instance {
                 .live_mut()
                 .put(pending.cpu, &pending.bytes, self.overwrite);
         }
+    }
+
+    // Offers the row of an emission to the hist triggers of its event.
+    fn offer(&mut self, delivery: &Delivery)
+        requires hists { delivery.now.event < length self.old.hists }
+        requires counted { CanCountRow (row_of delivery.now) delivery.now.event self.old }
+        requires few_rows { HasFewRows self.old }
+        ensures { IsOffered delivery.now self.old self.new }
+    {
+        self.hists[delivery.event].hit(&delivery.row, delivery.cpu, delivery.pid);
     }
 
     // Exchanges the sides for the trigger of the event at this place, which acts once less.

@@ -1,15 +1,18 @@
 //! The book: it does a tracer's commands, and keeps their history and what that has come to.
 #![tactic(auto)]
 
+mod attach;
 mod book;
 mod change;
 mod emission;
+mod hists;
 mod instance;
 mod make;
 mod prepare;
 mod read;
 mod resolve;
 mod row;
+mod shown;
 mod state;
 #[cfg(test)]
 mod tests;

@@ -15,7 +15,7 @@ use crate::change::{Change, InstanceChange};
 use crate::read::{Shown, Source, declarations, read_file};
 use crate::resolve::Target;
 use crate::state::{Prepared, State};
-use crate::write::written_change;
+use crate::write::{Written, written_change};
 use std::alloc::Global;
 use trace_command::{Command, Config, Refusal, Reply};
 use trace_format::EventDef;
@@ -26,12 +26,13 @@ impl State {
         &mut self,
         alloc: Global,
         config: &Config,
+        number: u64,
         command: &Command,
     ) -> Result<Prepared, Refusal>
         requires usable { IsUsable config.now self.old }
         requires in_range { IsInRange config.now }
         ensures alike { IsStateAlike self.old self.new }
-        ensures prepared { (past : List Request) → StandsFor config.now self.old past
+        ensures prepared { (past : List Request) → length past ≡ number → StandsFor config.now self.old past
             → IsPrepared config.now past (requests.request_of command.now) self.new result }
         ensures fits { OnOk result (requests.FitsItsTypes (requests.request_of command.now)) }
     {
@@ -52,7 +53,14 @@ impl State {
             Command::Mkdir(path) => self.prepare_make(alloc, config, path.as_bytes()),
             Command::Rmdir(path) => self.prepare_remove(path.as_bytes()),
             Command::Write { path, append, text } => {
-                self.prepare_write(alloc, config, path.as_bytes(), *append, text.as_bytes())
+                let text = text.as_bytes();
+                let append = *append;
+                let written = Written {
+                    number,
+                    append,
+                    text,
+                };
+                self.prepare_write(alloc, config, path.as_bytes(), written)
             }
             Command::Read { path, limit } => {
                 self.prepare_read(alloc, config, path.as_bytes(), *limit)
@@ -65,15 +73,20 @@ impl State {
         alloc: Global,
         config: &Config,
         path: &[u8],
-        append: bool,
-        text: &[u8],
+        written: Written<'_>,
     ) -> Result<Prepared, Refusal>
         requires usable { IsUsable config.now self.now }
-        ensures { (past : List Request) → StandsFor config.now self.now past
-            → IsPrepared config.now past (WriteFile (paths.address_of path.now).instance (paths.address_of path.now).file append text.now) self.now result }
+        ensures { (past : List Request) → length past ≡ written.entry.number → StandsFor config.now self.now past
+            → IsPrepared config.now past (WriteFile (paths.address_of path.now).instance (paths.address_of path.now).file written.entry.append written.entry.text.now)
+            self.now result }
     {
         match self.resolve(config, path)? {
-            Target::Declarations => self.prepare_declaration(alloc, config, append, text),
+            Target::Declarations => self.prepare_declaration(
+                alloc,
+                config,
+                written.append,
+                written.text,
+            ),
             Target::Of(place, file) => Ok(Prepared {
                 change: Change::Instance(
                     place,
@@ -82,8 +95,7 @@ impl State {
                         &self.catalog,
                         &self.instances[place].instance,
                         file,
-                        append,
-                        text,
+                        written,
                     )?,
                 ),
                 reply: Reply::Done,

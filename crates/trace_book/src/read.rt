@@ -1,6 +1,6 @@
 //! Reads of the files of an instance.
 
-ghost use Rattle.std.specs.Prelude.{◌≡◌, ℕ, ◌+◌, ◌<◌, ◌≤◌, List, length, map, slice_index_or, option_copied, Option, Some, None, IfOk, IfSome};
+ghost use Rattle.std.specs.Prelude.{◌≡◌, ℕ, ◌+◌, ◌<◌, ◌≤◌, List, [], length, map, slice_index_or, option_copied, Option, Some, None, IfOk, IfSome};
 ghost use Rattle.trace_command.specs.Requests.{Request};
 ghost use Rattle.trace_command.specs.Paths as paths;
 ghost use Rattle.trace_command.specs.declared.command.Config.{Config};
@@ -11,19 +11,24 @@ ghost use Rattle.trace_format.specs.Definitions.{Definition};
 ghost use Rattle.std.specs.Option.{option_to_list};
 ghost use Rattle.trace_text.specs.FormatText as texts;
 ghost use Rattle.trace_text.specs.TriggerText.{trigger_text as trigger_text_of};
-ghost use Rattle.trace_book.specs.Commands.{IsRead, IsReadable, IsSource, shown_kept, text_of};
+ghost use Rattle.trace_text.specs.HistText.{hist_text as hist_text_of};
+ghost use Rattle.trace_book.specs.KeptHists.{kept_of};
+ghost use Rattle.trace_book.specs.Commands.{IsRead, IsReadable, IsSource, kept_in_order, shown_kept_hist, text_of};
 ghost use Rattle.trace_book.specs.Files.{IsThere, file_at};
 
 use crate::change::InstanceChange;
+use crate::hists::EventHists;
 use crate::instance::Instance;
 use crate::resolve::{File, event_at};
+use crate::shown::{shown_hists, shown_in_order};
 use crate::text::{filter_text, flag_text, mixture_text, option_text, push_declarations};
-use crate::trigger::Trigger;
 use std::alloc::{AllocError, Global};
 use trace_command::{Refusal, Reply};
 use trace_format::Catalog;
 use trace_lex::Text;
-use trace_text::{format_text, pipe_text, snapshot_text, stats_text, trace_text, trigger_text};
+use trace_text::{
+    format_text, hist_text, pipe_text, snapshot_text, stats_text, trace_text, trigger_text,
+};
 
 /// What a read shows, and what it changes of the instance: only a pipe consumes.
 #[derive(Drop)]
@@ -89,7 +94,8 @@ fn file_text(alloc: Global, source: Source<'_>, file: File) -> Result<Text, Allo
         File::EventsEnable => mixture_text(alloc, instance.none_on(), instance.some_off()),
         File::EventEnable(event) => flag_text(alloc, instance.is_enabled(event)),
         File::EventFilter(event) => filter_text(alloc, instance.filter(event)),
-        File::EventTrigger(event) => triggers(alloc, instance.trigger(event)),
+        File::EventTrigger(event) => triggers(alloc, instance, event),
+        File::EventHist(event) => histograms(alloc, instance.hists(event)),
         File::EventFormat(event) => format(alloc, source.catalog, event),
         File::TracePipe | File::CpuTracePipe(_) | File::EventsFilter => Ok(Text::new(alloc)),
     }
@@ -149,15 +155,30 @@ fn snapshot(alloc: Global, source: Source<'_>) -> Result<Text, AllocError>
     Ok(Text::from(out))
 }
 
-// The triggers of an event, of which there is at most one.
-fn triggers(alloc: Global, trigger: Option<&Trigger>) -> Result<Text, AllocError>
-    ensures { IfOk result (λ text. text ≡ trigger_text_of (map shown_kept (option_to_list (option_copied trigger.entry)))) }
+// The triggers of an event, in the order in which they were attached.
+fn triggers(alloc: Global, instance: &Instance, event: usize) -> Result<Text, AllocError>
+    requires triggers { event < length instance.now.triggers }
+    requires hists { event < length instance.now.hists }
+    ensures { IfOk result (λ text. text ≡ trigger_text_of (kept_in_order (slice_index_or instance.now.triggers event None)
+        (map kept_of (slice_index_or instance.now.hists event [])))) }
 {
+    let shown = shown_in_order(
+        alloc,
+        instance.trigger(event),
+        instance.hists(event).as_slice(),
+    )?;
     let mut out = Vec::new(alloc);
-    match trigger {
-        Some(trigger) => trigger_text(alloc, &[trigger.shown()], &mut out)?,
-        None => trigger_text(alloc, &[], &mut out)?,
-    }
+    trigger_text(alloc, &shown, &mut out)?;
+    Ok(Text::from(out))
+}
+
+// The hist triggers of an event with their entries and totals.
+fn histograms(alloc: Global, hists: &EventHists) -> Result<Text, AllocError>
+    ensures { IfOk result (λ text. text ≡ hist_text_of (map shown_kept_hist (map kept_of hists.now))) }
+{
+    let shown = shown_hists(alloc, hists.as_slice())?;
+    let mut out = Vec::new(alloc);
+    hist_text(alloc, &shown, &mut out)?;
     Ok(Text::from(out))
 }
 

@@ -36,6 +36,7 @@ pub(crate) enum File {
     EventEnable(usize),
     EventFilter(usize),
     EventTrigger(usize),
+    EventHist(usize),
     EventFormat(usize),
 }
 
@@ -149,6 +150,7 @@ fn found_file(catalog: &Catalog, cpus: u32, named: Place<'_>) -> Result<Option<F
         Place::EventEnable(name) => File::EventEnable(event_place(catalog, name)?),
         Place::EventFilter(name) => File::EventFilter(event_place(catalog, name)?),
         Place::EventTrigger(name) => File::EventTrigger(event_place(catalog, name)?),
+        Place::EventHist(name) => File::EventHist(event_place(catalog, name)?),
         Place::EventFormat(name) => File::EventFormat(event_place(catalog, name)?),
     };
     Ok(Some(file))

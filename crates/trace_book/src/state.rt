@@ -44,6 +44,7 @@ impl State {
         requires ready { states.IsReady config.now self.old change }
         requires early { self.old.clock < 2 ^ 32 }
         requires few { All (λ n. states.HasFew n.instance) self.old.instances.items }
+        requires few_rows { All (λ n. states.HasFewRows n.instance) self.old.instances.items }
         ensures done { OnOk result (states.IsStep self.old self.new change) }
         ensures refused { OnErr result (states.IsUnchanged self.old self.new) }
         ensures memory { IfErr result (λ r. r ≡ refusal.Memory) }
@@ -69,7 +70,8 @@ impl State {
 
 // Takes one more event into each instance.
 fn add_event(instances: &mut [Named])
-    requires { All (λ n. (length n.instance.enabled < 64) × (length n.instance.filters < 64) × (length n.instance.triggers < 64)) instances.old }
+    requires { All (λ n. (length n.instance.enabled < 64) × (length n.instance.filters < 64) × (length n.instance.triggers < 64)
+        × (length n.instance.hists < 64)) instances.old }
     ensures { states.EachCame (λ i j. j ≡ states.with_event i) instances.old instances.new }
 {
     for i in 0..instances.len() {
@@ -95,6 +97,9 @@ fn change_one(
 fn deliver_each(instances: &mut [Named], delivery: &Delivery)
     requires event { All (λ n. delivery.now.event < length n.instance.triggers) instances.old }
     requires record { All (λ n. states.IsWritable n.instance delivery.now.record) instances.old }
+    requires hists { All (λ n. delivery.now.event < length n.instance.hists) instances.old }
+    requires counted { All (λ n. states.CanCountRow (states.row_of delivery.now) delivery.now.event n.instance) instances.old }
+    requires few_rows { All (λ n. states.HasFewRows n.instance) instances.old }
     requires few { All (λ n. states.HasFew n.instance) instances.old }
     requires spare { All (λ n. states.CanFire n.instance) instances.old }
     ensures { states.EachCame (states.IsDelivered delivery.now) instances.old instances.new }

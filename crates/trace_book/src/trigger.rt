@@ -15,22 +15,24 @@ use trace_trigger::SnapshotTrigger;
 /// A trigger that takes a snapshot for each emission of its event that its filter passes: so many times more, or without end.
 #[derive(Drop)]
 pub(crate) struct Trigger {
+    /// How many requests had been done before the one that attached it.
+    pub number: u64,
     pub left: Option<u32>,
     pub filter: Option<Filter>,
 }
 
-impl From<SnapshotTrigger> for Trigger {
-    ghost from_gives = { λ written trigger. trigger ≡ record { left = written.count; filter = written.filter } };
-
-    fn from(written: SnapshotTrigger) -> Trigger {
+impl Trigger {
+    /// The trigger that a text writes, as the request of this number.
+    pub(crate) fn new(number: u64, written: SnapshotTrigger) -> Trigger
+        ensures { result ≡ record { number = number; left = written.count; filter = written.filter } }
+    {
         Trigger {
+            number,
             left: written.count,
             filter: written.filter,
         }
     }
-}
 
-impl Trigger {
     /// The trigger as its file shows it.
     pub(crate) fn shown(&self) -> Shown<'_>
         ensures { shown_trigger result ≡ shown_kept self.now }

@@ -17,16 +17,23 @@ ghost use Rattle.trace_book.specs.Files.{HasEvent, IsThere, file_at, name_at};
 ghost use Rattle.trace_book.specs.Instances.{InstanceStandsFor};
 ghost use Rattle.trace_book.specs.declared.change.InstanceChange.TheVariants as change;
 
+use crate::attach::EventTriggers;
 use crate::change::{FilterChange, InstanceChange};
 use crate::instance::Instance;
 use crate::resolve::{File, event_at};
-use crate::trigger::Trigger;
 use std::alloc::{AllocError, Global};
 use trace_command::Refusal;
 use trace_filter::{Filter, FilterFault};
 use trace_format::{Catalog, EventDef};
 use trace_lex::{trim, written_number};
-use trace_trigger::TriggerText;
+
+/// A text that is written to a file, as the request of this number (how many requests were done before it), and whether it is appended.
+#[derive(Clone, Copy)]
+pub(crate) struct Written<'a> {
+    pub number: u64,
+    pub append: bool,
+    pub text: &'a [u8],
+}
 
 /// What a write to a file of an instance changes of it.
 pub(crate) fn written_change(
@@ -34,16 +41,17 @@ pub(crate) fn written_change(
     catalog: &Catalog,
     instance: &Instance,
     file: File,
-    append: bool,
-    text: &[u8],
+    written: Written<'_>,
 ) -> Result<InstanceChange, Refusal>
     requires few { length catalog.now ≤ 64 }
     requires event { HasEvent catalog.now file }
     requires triggers { length instance.now.triggers ≡ length catalog.now }
-    ensures { (g : Config) (name : Option (List ℕ)) (past : List Request) → catalog.now ≡ declared_events past → AreEvents [] catalog.now
+    requires hists { length instance.now.hists ≡ length catalog.now }
+    ensures { (g : Config) (name : Option (List ℕ)) (past : List Request) → length past ≡ written.entry.number → catalog.now ≡ declared_events past → AreEvents [] catalog.now
         → InstanceStandsFor g name past instance.now
-        → IsThere g.cpus catalog.now file → IsWriteChange g name past append text.now (file_at catalog.now file) result }
+        → IsThere g.cpus catalog.now file → IsWriteChange g name past written.entry.append written.entry.text.now (file_at catalog.now file) result }
 {
+    let Written { text, append, .. } = written;
     match file {
         File::Trace => Ok(cleared(append, InstanceChange::Clear)),
         File::CpuTrace(cpu) => Ok(cleared(append, InstanceChange::ClearCpu(cpu))),
@@ -61,7 +69,12 @@ pub(crate) fn written_change(
             let filter = written_filter(alloc, text, event_at(catalog, event))?;
             Ok(InstanceChange::SetFilter(event, filter))
         }
-        File::EventTrigger(event) => written_trigger(alloc, catalog, instance, event, text),
+        File::EventTrigger(event) => {
+            let triggers = EventTriggers::of(instance, event);
+            let change = triggers.written(alloc, event_at(catalog, event), written)?;
+            Ok(InstanceChange::Triggers(event, append, change))
+        }
+        File::EventHist(_) => Err(Refusal::NotWritable),
         File::EventFormat(_) => Err(Refusal::NotWritable),
     }
 }
@@ -79,33 +92,6 @@ fn written_snapshot(instance: &Instance, text: &[u8]) -> Result<InstanceChange, 
         Some(0) => Ok(InstanceChange::FreeSpare),
         Some(1) => Ok(InstanceChange::TakeSnapshot),
         Some(_) => Ok(InstanceChange::ClearSpare),
-    }
-}
-
-// What a trigger text changes that is written for the event at this place (events.rst, "Event triggers"). An event has at most one trigger
-// for snapshots.
-#[tactic(auto, unfolding(trace_history::specs::History::trigger_answer))]
-fn written_trigger(
-    alloc: Global,
-    catalog: &Catalog,
-    instance: &Instance,
-    event: usize,
-    text: &[u8],
-) -> Result<InstanceChange, Refusal>
-    requires few { length catalog.now ≤ 64 }
-    requires event { event < length catalog.now }
-    requires triggers { length instance.now.triggers ≡ length catalog.now }
-    ensures { (g : Config) (name : Option (List ℕ)) (past : List Request) (append : Bool) → catalog.now ≡ declared_events past
-        → AreEvents [] catalog.now → InstanceStandsFor g name past instance.now
-        → IsWriteChange g name past append text.now (EventTrigger (name_at catalog.now event)) result }
-{
-    let attached = instance.trigger(event).is_some();
-    match TriggerText::parse(alloc, text, event_at(catalog, event))? {
-        TriggerText::Nothing => Ok(InstanceChange::Keep),
-        TriggerText::Attach(_) if attached => Err(Refusal::TriggerExists),
-        TriggerText::Attach(trigger) => Ok(InstanceChange::Attach(event, Trigger::from(trigger))),
-        TriggerText::Remove if attached => Ok(InstanceChange::Detach(event)),
-        TriggerText::Remove => Err(Refusal::NoSuchTrigger),
     }
 }
 

@@ -28,6 +28,7 @@ pub data File : Type 0 where
   EventEnable : List ℕ → File
   EventFilter : List ℕ → File
   EventTrigger : List ℕ → File
+  EventHist : List ℕ → File
   EventFormat : List ℕ → File
 
 -- the number in `cpuN`: decimal, without leading zeros
@@ -72,7 +73,8 @@ event_file event name =
     if bytes_eq name (codes "enable") then Some (EventEnable event)
     else (if bytes_eq name (codes "filter") then Some (EventFilter event)
     else (if bytes_eq name (codes "trigger") then Some (EventTrigger event)
-    else (if bytes_eq name (codes "format") then Some (EventFormat event) else None)))
+    else (if bytes_eq name (codes "hist") then Some (EventHist event)
+    else (if bytes_eq name (codes "format") then Some (EventFormat event) else None))))
 
 -- the file that the parts of a path name
 abbrev pub file_in : List (List ℕ) → Option File

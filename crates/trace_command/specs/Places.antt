@@ -2,7 +2,7 @@
 use Rattle.std.specs.Prelude.{ℕ, List, [], Option, Some, None}
 use Rattle.std.specs.Borrow.{Bor}
 use Rattle.trace_lex.specs.Decimals.{value_after}
-use Rattle.trace_command.specs.Paths.{File, Trace, CpuTrace, TracePipe, CpuTracePipe, CpuStats, Overwrite, TraceOptions, TracingOn, Snapshot, SyntheticEvents, EventsEnable, EventsFilter, EventEnable, EventFilter, EventTrigger, EventFormat, Address, parts}
+use Rattle.trace_command.specs.Paths.{File, Trace, CpuTrace, TracePipe, CpuTracePipe, CpuStats, Overwrite, TraceOptions, TracingOn, Snapshot, SyntheticEvents, EventsEnable, EventsFilter, EventEnable, EventFilter, EventTrigger, EventHist, EventFormat, Address, parts}
 use Rattle.std.specs.Option.{option_map}
 use Rattle.trace_command.specs.declared.place.Address.{Address as Borrowed}
 use Rattle.trace_command.specs.declared.place.Place.{Place}
@@ -33,6 +33,7 @@ file_at place.EventsFilter = EventsFilter
 file_at (place.EventEnable name) = EventEnable name.now
 file_at (place.EventFilter name) = EventFilter name.now
 file_at (place.EventTrigger name) = EventTrigger name.now
+file_at (place.EventHist name) = EventHist name.now
 file_at (place.EventFormat name) = EventFormat name.now
 
 -- the bytes of a borrowed string

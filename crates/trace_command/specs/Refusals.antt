@@ -72,6 +72,8 @@ refusal_of_trigger trigger.TooMany = TooMany
 refusal_of_trigger (trigger.FilterSyntax at) = FilterSyntax at
 refusal_of_trigger (trigger.NoSuchField at) = NoSuchField at
 refusal_of_trigger (trigger.WrongOperator at) = WrongOperator at
+refusal_of_trigger (trigger.HistSyntax at) = HistSyntax at
+refusal_of_trigger trigger.BadSize = BadSize
 refusal_of_trigger trigger.Memory = Memory
 
 -- the name that is printed for a refusal
@@ -122,7 +124,8 @@ shown refusal = codes "N" ++ decimal (number_of refusal) ++ codes " " ++ name_of
 -- ---- answers
 
 -- the refusals that are found before a command takes any memory: no such file, instance, CPU or event, an instance that is there already, a
--- file that can't be read or written, and a wrong value. A declaration, a row, a filter and the room in the history may be looked at only after memory was taken.
+-- file that can't be read or written, and a wrong value. A declaration, a row, a filter, a hist trigger and the room in the history may be looked
+-- at only after memory was taken.
 abbrev pub is_found_early : Refusal → Bool
 is_found_early NoSuchFile = true
 is_found_early NoSuchInstance = true

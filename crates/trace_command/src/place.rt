@@ -27,6 +27,7 @@ pub enum Place<'a> {
     EventEnable(&'a [u8]),
     EventFilter(&'a [u8]),
     EventTrigger(&'a [u8]),
+    EventHist(&'a [u8]),
     EventFormat(&'a [u8]),
 }
 
@@ -345,6 +346,9 @@ fn event_place<'a>(event: &'a [u8], name: &[u8]) -> Option<Place<'a>>
     }
     if name == b"trigger".as_slice() {
         return Some(Place::EventTrigger(event));
+    }
+    if name == b"hist".as_slice() {
+        return Some(Place::EventHist(event));
     }
     if name == b"format".as_slice() {
         return Some(Place::EventFormat(event));

@@ -39,17 +39,18 @@ pub enum Refusal {
     FilterSyntax { at: usize },
     /// The event has no field of the name at this byte.
     NoSuchField { at: usize },
-    /// The field does not take the operator at this byte.
+    /// The field does not take the operator at this byte, or it is a string that a hist trigger is to sum.
     WrongOperator { at: usize },
     /// The text is no hist trigger: with what begins at this byte none goes on.
     HistSyntax { at: usize },
-    /// The size of a hist trigger is out of range.
+    /// The size of a hist trigger is out of range: it may have 65 to 131,072 entries, rounded up to a power of two.
     BadSize,
     /// Such a trigger is attached already.
     TriggerExists,
     /// No such trigger is attached.
     NoSuchTrigger,
-    /// There would be too many: over 16 fields of an event, over 64 events, or a filter of over 1,024 bytes or of over 16 open `!` and `(`.
+    /// There would be too many: over 16 fields of an event, over 64 events, over four triggers of an event, a hist trigger of over three keys,
+    /// three values or two sort keys, or a filter of over 1,024 bytes or of over 16 open `!` and `(`.
     TooMany,
     /// An instance of this name is there already.
     InstanceExists,
@@ -133,6 +134,8 @@ impl From<TriggerFault> for Refusal {
             TriggerFault::FilterSyntax { at } => Refusal::FilterSyntax { at },
             TriggerFault::NoSuchField { at } => Refusal::NoSuchField { at },
             TriggerFault::WrongOperator { at } => Refusal::WrongOperator { at },
+            TriggerFault::HistSyntax { at } => Refusal::HistSyntax { at },
+            TriggerFault::BadSize => Refusal::BadSize,
             TriggerFault::Memory => Refusal::Memory,
         }
     }

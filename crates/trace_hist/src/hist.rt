@@ -83,6 +83,7 @@ impl Hist {
         ensures stands { (rows : List Emission) → StandsFor self.old rows → StandsFor self.new rows }
         ensures spec { self.new.spec ≡ self.old.spec }
         ensures paused { self.new.paused ≡ self.old.paused }
+        ensures table { self.new.table ≡ self.old.table }
         ensures counted { counted self.new ≡ counted self.old }
         ensures reserved { OnOk result (IsReserved self.new
             (record { values = row.now.values; cpu = cpu; pid = pid })) }

@@ -3,6 +3,9 @@ pub mod Events
 pub mod Examples
 pub mod Exchanges
 pub mod Families
+pub mod CountedRows
+pub mod HistTriggerExamples
+pub mod HistTriggers
 pub mod KeptEmissions
 pub mod LegalEvents
 pub mod PipeReads

@@ -14,7 +14,7 @@ use Rattle.trace_format.specs.Rows.{row_of}
 use Rattle.trace_trigger.specs.TriggerTexts.{said_of}
 use Rattle.trace_trigger.specs.declared.fault.TriggerFault.{TriggerFault}
 use Rattle.trace_trigger.specs.declared.trigger.TriggerText.{TriggerText}
-use Rattle.trace_trigger.specs.declared.trigger.TriggerText.TheVariants.{Nothing, Attach, Remove}
+use Rattle.trace_trigger.specs.declared.trigger.TriggerText.TheVariants.{Nothing, Attach, Remove, Hist, RemoveHist}
 use Rattle.trace_command.specs.Paths.{File, Snapshot, EventTrigger}
 use Rattle.trace_command.specs.Requests.{Request, Emission, MakeInstance, WriteFile, request_of}
 use Rattle.trace_command.specs.declared.command.Config.{Config}
@@ -34,7 +34,7 @@ use Rattle.trace_history.proofs.Sides.{rings-stay, rings-made, side-has_all_cpus
 
 -- ---- one instance by two names
 
-same-instance : (instance other : Option (List ℕ)) → is_same instance other ≡ true → instance ≡ other
+pub same-instance : (instance other : Option (List ℕ)) → is_same instance other ≡ true → instance ≡ other
 same-instance None None same = refl
 same-instance (Some name) (Some other) same = ap Some ((bytes_eq-Decides name other).0 same)
 same-instance None (Some other) same = absurd (cc)
@@ -57,6 +57,8 @@ said-armed : (number : ℕ) (said : Result TriggerText TriggerFault) (t : Trigge
 said-armed number (Ok (Attach spec)) t is = refl
 said-armed number (Ok Remove) t is = absurd (cc)
 said-armed number (Ok Nothing) t is = absurd (cc)
+said-armed number (Ok (Hist spec)) t is = absurd (cc)
+said-armed number (Ok (RemoveHist spec)) t is = absurd (cc)
 said-armed number (Err fault) t is = absurd (cc)
 
 -- a write that attaches a trigger to a declared event makes a spare
@@ -88,8 +90,8 @@ sets-none : (g : Config) (other : Option (List ℕ)) (past : List Request) (appe
     → IsOk (answer_with_room g past (WriteFile other (Some file) append text)) → event_named event.name past ≡ None → sets_trigger event past file text ≡ None
 sets-none g other past append (EventTrigger name) text event done none = by (bytes_eq event.name name) refl
   where
-    asked : IsOk (unless_refused (missing_event past name) (named_trigger_answer other past text (event_named name past)))
-    asked = asked-done other past (unless_refused (missing_event past name) (named_trigger_answer other past text (event_named name past))) done
+    asked : IsOk (unless_refused (missing_event past name) (named_trigger_answer other past append text (event_named name past)))
+    asked = asked-done other past (unless_refused (missing_event past name) (named_trigger_answer other past append text (event_named name past))) done
 
     by : (same : Bool) → bytes_eq event.name name ≡ same → (if same then written_trigger (length past) (said_of event text) else None) ≡ None
     by false same = refl
@@ -127,6 +129,8 @@ said-arms : (said : Result TriggerText TriggerFault) → spare_armed said ≡ So
 said-arms (Ok (Attach spec)) is = cc
 said-arms (Ok Remove) is = cc
 said-arms (Ok Nothing) is = cc
+said-arms (Ok (Hist spec)) is = cc
+said-arms (Ok (RemoveHist spec)) is = cc
 said-arms (Err fault) is = cc
 
 armed-for : (found : Option NumberedEvent) (text : List ℕ) → spare_armed_for found text ≡ Some false → ⊥

@@ -6,7 +6,7 @@ use Rattle.trace_format.specs.Definitions.{Definition}
 use Rattle.trace_trigger.specs.TriggerTexts.{said_of}
 use Rattle.trace_trigger.specs.declared.fault.TriggerFault.{TriggerFault}
 use Rattle.trace_trigger.specs.declared.trigger.TriggerText.{TriggerText}
-use Rattle.trace_trigger.specs.declared.trigger.TriggerText.TheVariants.{Nothing, Attach, Remove}
+use Rattle.trace_trigger.specs.declared.trigger.TriggerText.TheVariants.{Nothing, Attach, Remove, Hist, RemoveHist}
 use Rattle.trace_command.specs.Paths.{File, EventTrigger}
 use Rattle.trace_command.specs.Requests.{Request, WriteFile}
 use Rattle.trace_history.specs.Emissions.{Emitted, emitted}
@@ -19,6 +19,8 @@ said-number : (number : ℕ) (said : Result TriggerText TriggerFault) (t : Trigg
 said-number number (Ok (Attach spec)) t is = cc
 said-number number (Ok Remove) t is = absurd (cc)
 said-number number (Ok Nothing) t is = absurd (cc)
+said-number number (Ok (Hist spec)) t is = absurd (cc)
+said-number number (Ok (RemoveHist spec)) t is = absurd (cc)
 said-number number (Err fault) t is = absurd (cc)
 
 sets-number : (event : Definition) (past : List Request) (file : File) (text : List ℕ) (t : Trigger)

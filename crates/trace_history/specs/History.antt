@@ -1,11 +1,14 @@
 -- The answer that the requests done so far give a request, and which histories are legal. The newest request comes first.
-use Rattle.std.specs.Prelude.{ℕ, ◌<◌, ◌^◌, nat_lt, Bool, true, false, not, ◌&&◌, is_some, IsOk, if◌then◌else◌, List, [], ◌∷◌, ◌++◌, length, map, flat_map, reverse, All, Option, Some, None, Result, Ok, Err, codes, ⊤}
-use Rattle.std.specs.List.{list_all, list_any}
-use Rattle.std.specs.Option.{option_map, option_to_list}
+use Rattle.std.specs.Prelude.{ℕ, ◌+◌, ◌<◌, ◌^◌, nat_lt, Bool, true, false, not, ◌&&◌, ◌||◌, is_some, IsOk, if◌then◌else◌, List, [], ◌∷◌, ◌++◌, length, map, flat_map, reverse, All, Option, Some, None, Result, Ok, Err, codes, ⊤}
+use Rattle.std.specs.List.{filter, list_all, list_any}
+use Rattle.std.specs.Option.{option_map}
 use Rattle.trace_buffer.specs.Families.{cpu_stats}
-use Rattle.trace_command.specs.Paths.{File, Trace, CpuTrace, TracePipe, CpuTracePipe, CpuStats, Overwrite, TraceOptions, TracingOn, Snapshot, SyntheticEvents, EventsEnable, EventsFilter, EventEnable, EventFilter, EventTrigger, EventFormat}
+use Rattle.trace_command.specs.Paths.{File, Trace, CpuTrace, TracePipe, CpuTracePipe, CpuStats, Overwrite, TraceOptions, TracingOn, Snapshot, SyntheticEvents, EventsEnable, EventsFilter, EventEnable, EventFilter, EventTrigger, EventHist, EventFormat}
 use Rattle.trace_filter.specs.declared.fault.FilterFault.{FilterFault}
 use Rattle.trace_filter.specs.Filters.{Parsed, answer_of}
+use Rattle.trace_hist.specs.HistSpecs.{SpecSeen}
+use Rattle.trace_hist.specs.declared.spec.Action.{Action}
+use Rattle.trace_hist.specs.declared.spec.Action.TheVariants.{Attach as AttachIt, Continue, Clear}
 use Rattle.trace_lex.specs.Blanks.{trimmed}
 use Rattle.trace_lex.specs.Names.{is_name}
 use Rattle.trace_format.specs.Catalogs.{id_for}
@@ -18,6 +21,7 @@ use Rattle.trace_format.specs.declared.pair.Pair.{Pair}
 use Rattle.trace_text.specs.BufferText.{trace_text, pipe_text}
 use Rattle.trace_text.specs.DeclarationText.{declaration_text}
 use Rattle.trace_text.specs.FormatText.{format_text}
+use Rattle.trace_text.specs.HistText.{hist_text}
 use Rattle.trace_text.specs.SnapshotText.{snapshot_text}
 use Rattle.trace_text.specs.StatsText.{stats_text}
 use Rattle.trace_text.specs.TriggerText.{trigger_text}
@@ -25,13 +29,14 @@ use Rattle.trace_text.specs.TriggerText as texts
 use Rattle.trace_trigger.specs.TriggerTexts.{said_of}
 use Rattle.trace_trigger.specs.declared.fault.TriggerFault.{TriggerFault}
 use Rattle.trace_trigger.specs.declared.trigger.TriggerText.{TriggerText}
-use Rattle.trace_trigger.specs.declared.trigger.TriggerText.TheVariants.{Nothing, Attach, Remove}
+use Rattle.trace_trigger.specs.declared.trigger.TriggerText.TheVariants.{Nothing, Attach, Remove, Hist, RemoveHist}
 use Rattle.trace_command.specs.Requests.{Request, Emission, MakeInstance, RemoveInstance, WriteFile, ReadFile, request_of, FitsItsTypes}
 use Rattle.trace_history.specs.Settings.{NumberedEvent, event_named, declared_events, written_flag, written_option, written_tracing, instance_names, is_there, is_enabled, clears_filter, can_take, filter_of, overwrites, is_tracing, now_of}
 use Rattle.trace_command.specs.Refusals.{refusal_of_catalog, refusal_of_filter, refusal_of_trigger}
 use Rattle.trace_history.specs.Rings.{rings, spare_rings, pipe_read, cpu_pipe_read}
 use Rattle.trace_history.specs.Snapshots.{SnapshotWrite, Frees, Takes, Empties, written_snapshot}
 use Rattle.trace_history.specs.Triggers.{Trigger, trigger_of, has_trigger, times_left}
+use Rattle.trace_history.specs.HistTriggers.{HistTrigger, has_same, kept_by, hists_of, is_paused, table_of}
 use Rattle.trace_command.specs.declared.command.Command.{Command}
 use Rattle.trace_command.specs.declared.command.Config.{Config}
 use Rattle.trace_command.specs.declared.command.Entry.{Entry}
@@ -118,24 +123,57 @@ spare_answer in_use (Some Empties) = Ok Done
 unfoldable pub snapshot_answer : Option (List ℕ) → List Request → List ℕ → Result Reply Refusal
 snapshot_answer instance past text = spare_answer (has_trigger instance past) (written_snapshot text)
 
--- a trigger text, for an event that has a trigger or none
-abbrev pub said_answer : Option Trigger → Result TriggerText TriggerFault → Result Reply Refusal
-said_answer attached (Err fault) = Err (refusal_of_trigger fault)
-said_answer attached (Ok Nothing) = Ok Done
-said_answer None (Ok (Attach spec)) = Ok Done
-said_answer (Some t) (Ok (Attach spec)) = Err TriggerExists
-said_answer None (Ok Remove) = Err NoSuchTrigger
-said_answer (Some t) (Ok Remove) = Ok Done
+-- how many triggers an event may have in an instance, of all kinds
+abbrev pub most_triggers : ℕ
+most_triggers = 4
 
-unfoldable pub trigger_answer : Option (List ℕ) → List Request → List ℕ → Definition → Result Reply Refusal
-trigger_answer instance past text event = said_answer (trigger_of instance event past) (said_of event text)
+abbrev pub trigger_count : Option Trigger → List HistTrigger → ℕ
+trigger_count None hists = length hists
+trigger_count (Some t) hists = length hists + 1
+
+-- one more trigger
+abbrev pub room_answer : Option Trigger → List HistTrigger → Result Reply Refusal
+room_answer attached hists = if nat_lt (trigger_count attached hists) most_triggers then Ok Done else Err TooMany
+
+-- what is asked of a hist trigger that is attached
+abbrev pub asked_answer : Action → Result Reply Refusal
+asked_answer AttachIt = Err TriggerExists
+asked_answer action = Ok Done
+
+-- and of one that is not: to go on or to be emptied is asked in vain
+abbrev pub new_hist_answer : Option Trigger → List HistTrigger → Action → Result Reply Refusal
+new_hist_answer attached hists Continue = Err NoSuchTrigger
+new_hist_answer attached hists Clear = Err NoSuchTrigger
+new_hist_answer attached hists action = room_answer attached hists
+
+abbrev pub hist_answer : Option Trigger → List HistTrigger → SpecSeen → Result Reply Refusal
+hist_answer attached hists spec = if has_same spec hists then asked_answer spec.action else new_hist_answer attached hists spec.action
+
+-- a hist trigger is removed: by `>`, which takes all of them away, whether there is the same one or not
+abbrev pub remove_hist_answer : Bool → List HistTrigger → SpecSeen → Result Reply Refusal
+remove_hist_answer append hists spec = if not append || has_same spec hists then Ok Done else Err NoSuchTrigger
+
+-- a trigger text, for an event with this trigger for snapshots, if it has one, and with the hist triggers that `>` or `>>` leaves
+abbrev pub said_answer : Bool → Option Trigger → List HistTrigger → Result TriggerText TriggerFault → Result Reply Refusal
+said_answer append attached hists (Err fault) = Err (refusal_of_trigger fault)
+said_answer append attached hists (Ok Nothing) = Ok Done
+said_answer append None hists (Ok (Attach spec)) = room_answer None hists
+said_answer append (Some t) hists (Ok (Attach spec)) = Err TriggerExists
+said_answer append None hists (Ok Remove) = Err NoSuchTrigger
+said_answer append (Some t) hists (Ok Remove) = Ok Done
+said_answer append attached hists (Ok (Hist spec)) = hist_answer attached hists spec
+said_answer append attached hists (Ok (RemoveHist spec)) = remove_hist_answer append hists spec
+
+unfoldable pub trigger_answer : Option (List ℕ) → List Request → Bool → List ℕ → Definition → Result Reply Refusal
+trigger_answer instance past append text event =
+    said_answer append (trigger_of instance event past) (kept_by append (hists_of instance event past)) (said_of event text)
 
 -- the event's name is one that was declared
-abbrev pub named_trigger_answer : Option (List ℕ) → List Request → List ℕ → Option NumberedEvent → Result Reply Refusal
-named_trigger_answer instance past text None = Err NoSuchEvent
-named_trigger_answer instance past text (Some k) = trigger_answer instance past text k.event
+abbrev pub named_trigger_answer : Option (List ℕ) → List Request → Bool → List ℕ → Option NumberedEvent → Result Reply Refusal
+named_trigger_answer instance past append text None = Err NoSuchEvent
+named_trigger_answer instance past append text (Some k) = trigger_answer instance past append text k.event
 
--- what a write to a file of an instance answers: to a trace any string is done, to a pipe, to statistics and to a format none
+-- what a write to a file of an instance answers: to a trace any string is done, to a pipe, to statistics, to a histogram and to a format none
 abbrev pub write_answer : Config → Option (List ℕ) → List Request → Bool → List ℕ → File → Result Reply Refusal
 write_answer g instance past append text Trace = Ok Done
 write_answer g instance past append text (CpuTrace cpu) = Ok Done
@@ -151,7 +189,8 @@ write_answer g instance past append text (EventEnable event) = switch_answer tex
 write_answer g instance past append text EventsEnable = switch_answer text
 write_answer g instance past append text EventsFilter = filter_of_all_answer text (declared_events past)
 write_answer g instance past append text (EventFilter event) = named_filter_answer text (event_named event past)
-write_answer g instance past append text (EventTrigger event) = named_trigger_answer instance past text (event_named event past)
+write_answer g instance past append text (EventTrigger event) = named_trigger_answer instance past append text (event_named event past)
+write_answer g instance past append text (EventHist event) = Err NotWritable
 write_answer g instance past append text (EventFormat event) = Err NotWritable
 
 -- ---- what each file shows
@@ -213,14 +252,36 @@ abbrev pub format_of_event : Option NumberedEvent → List ℕ
 format_of_event None = []
 format_of_event (Some k) = format_text k.id k.event
 
--- a trigger as its file shows it: how often it acts from now on, and its filter
+-- a trigger for snapshots as its file shows it: how often it acts from now on, and its filter
 abbrev pub shown_trigger : List Request → Definition → Trigger → texts.Trigger
 shown_trigger past event t = texts.Snapshot (times_left event t past) (option_map (λ (filter : Parsed). filter.text) t.spec.filter)
+
+-- a hist trigger as its files show it
+abbrev pub shown_hist : Option (List ℕ) → List Request → Definition → HistTrigger → texts.Trigger
+shown_hist instance past event t = texts.Hist (record {
+  spec = t.spec;
+  paused = is_paused instance event t past;
+  table = table_of instance event t past;
+  rules = t.spec.sort_sources;
+})
+
+-- triggers in the order in which they were attached: the hist triggers that are older than the one for snapshots, that one, and the newer ones
+abbrev pub in_order : Option (List ℕ) → List Request → Definition → Option Trigger → List HistTrigger → List texts.Trigger
+in_order instance past event None hists = map (shown_hist instance past event) hists
+in_order instance past event (Some t) hists =
+    map (shown_hist instance past event) (filter (λ h. nat_lt h.number t.number) hists)
+    ++ shown_trigger past event t ∷ map (shown_hist instance past event) (filter (λ h. not (nat_lt h.number t.number)) hists)
 
 -- the triggers of an event; its name is one that was declared
 abbrev pub triggers_of_event : Option (List ℕ) → List Request → Option NumberedEvent → List ℕ
 triggers_of_event instance past None = []
-triggers_of_event instance past (Some k) = trigger_text (map (shown_trigger past k.event) (option_to_list (trigger_of instance k.event past)))
+triggers_of_event instance past (Some k) =
+    trigger_text (in_order instance past k.event (trigger_of instance k.event past) (hists_of instance k.event past))
+
+-- its histograms
+abbrev pub hists_of_event : Option (List ℕ) → List Request → Option NumberedEvent → List ℕ
+hists_of_event instance past None = []
+hists_of_event instance past (Some k) = hist_text (map (shown_hist instance past k.event) (hists_of instance k.event past))
 
 -- a read of a file of an instance
 abbrev pub read_answer : Config → Option (List ℕ) → List Request → Option ℕ → File → Result Reply Refusal
@@ -240,6 +301,7 @@ read_answer g instance past limit EventsEnable =
 read_answer g instance past limit EventsFilter = Err NotReadable
 read_answer g instance past limit (EventFilter event) = whole_text limit (filter_text (filter_of instance event past))
 read_answer g instance past limit (EventTrigger event) = whole_text limit (triggers_of_event instance past (event_named event past))
+read_answer g instance past limit (EventHist event) = whole_text limit (hists_of_event instance past (event_named event past))
 read_answer g instance past limit (EventFormat event) = whole_text limit (format_of_event (event_named event past))
 
 -- ---- instances made and removed
@@ -281,6 +343,7 @@ missing g past (CpuStats cpu) = missing_cpu g cpu
 missing g past (EventEnable event) = missing_event past event
 missing g past (EventFilter event) = missing_event past event
 missing g past (EventTrigger event) = missing_event past event
+missing g past (EventHist event) = missing_event past event
 missing g past (EventFormat event) = missing_event past event
 missing g past _ = None
 

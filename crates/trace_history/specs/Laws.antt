@@ -1,22 +1,30 @@
 -- What the words of the answers mean in legal histories, and after any requests what pipe reads consume and which records snapshots move. The newest
 -- entry comes first.
-use Rattle.std.specs.Prelude.{◌≡◌, ◌↔◌, ℕ, ◌==◌, ℤ, Bool, IsTrue, true, false, List, ◌∷◌, ◌++◌, length, map, All, Option, Some}
-use Rattle.std.specs.List.{filter, list_any}
+use Rattle.std.specs.Prelude.{◌≡◌, ◌↔◌, ℕ, ◌==◌, ◌<◌, ◌≤◌, ℤ, Bool, IsTrue, true, false, ◌&&◌, is_some, bytes_eq, List, [], ◌∷◌, ◌++◌, length, map, All, Option, Some, None, Ok}
+use Rattle.std.specs.List.{AllPairs, filter, list_any}
 use Rattle.page_ring.specs.Account.{Reading}
 use Rattle.trace_buffer.specs.Families.{CpuReading, on_cpu, cpu_readings}
 use Rattle.trace_lex.specs.Decimals.{written_number}
 use Rattle.trace_filter.specs.Filters.{IsFilter, Passes}
+use Rattle.trace_filter.specs.Truth.{Emission}
 use Rattle.trace_format.specs.Cells.{Cells, IsRowOf, payload_of}
+use Rattle.trace_format.specs.Definitions.{Definition}
+use Rattle.trace_hist.specs.HistSpecs.{SpecSeen}
+use Rattle.trace_hist.specs.Triggers.{IsSame}
+use Rattle.trace_hist.specs.declared.spec.Action.TheVariants.{Clear}
 use Rattle.trace_text.specs.RecordText.{record_line, row_line}
+use Rattle.trace_trigger.specs.TriggerTexts.{said_of}
+use Rattle.trace_trigger.specs.declared.trigger.TriggerText.TheVariants.{Hist}
 use Rattle.trace_command.specs.Configs.{IsInRange}
-use Rattle.trace_history.specs.History.{requests_of, IsLegalNewestFirst}
-use Rattle.trace_command.specs.Paths.{TracePipe, CpuTracePipe, Snapshot}
+use Rattle.trace_history.specs.History.{trigger_count, requests_of, IsLegalNewestFirst}
+use Rattle.trace_command.specs.Paths.{TracePipe, CpuTracePipe, Snapshot, EventTrigger}
 use Rattle.trace_command.specs.Requests.{Request, WriteFile, ReadFile, request_of}
 use Rattle.trace_history.specs.Emissions.{Emitted, emitted, emitted_bytes, filter_holds, is_recorded}
 use Rattle.trace_history.specs.Rings.{new_rings, with_emitted, rings, other_rings, pipe_read, cpu_pipe_read}
 use Rattle.trace_history.specs.Settings.{NumberedEvent, event_named, declared_events, filter_of, is_same, makes}
 use Rattle.trace_history.specs.Snapshots.{exchanges, has_spare}
-use Rattle.trace_history.specs.Triggers.{acts, trigger_of, has_trigger}
+use Rattle.trace_history.specs.Triggers.{acts, passes, trigger_of, has_trigger}
+use Rattle.trace_history.specs.HistTriggers.{HistTrigger, hists_of, written_to, asked_by, is_paused, empties, counted_row, hits_of}
 use Rattle.trace_command.specs.declared.command.Config.{Config}
 use Rattle.trace_command.specs.declared.command.Entry.{Entry}
 
@@ -114,7 +122,7 @@ SnapshotsStay =
     → makes instance request ≡ false → writes_snapshot instance request ≡ false → exchanges instance past request ≡ false
     → other_rings g instance (request ∷ past) ≡ other_rings g instance past
 
--- in a legal history a spare is there to exchange with where an event has a trigger
+-- in a legal history a spare is there to exchange with where an event has a trigger for snapshots
 abbrev pub TriggersHaveTheirSpare : Type 0
 TriggersHaveTheirSpare =
     (g : Config) (entries : List Entry) (instance : Option (List ℕ)) → IsLegalNewestFirst g entries
@@ -148,3 +156,91 @@ WholePipeReadsConsumeWhatTheyShow =
     → map (on_cpu cpu) (kept_readings g instance cpu past)
     ≡ those_of cpu (pipe_read g limit (rings g instance past)).taken
     ++ map (on_cpu cpu) (kept_readings g instance cpu (ReadFile instance (Some TracePipe) limit ∷ past))
+
+-- ---- hist triggers
+
+-- in a legal history an event has at most four triggers in an instance, those of both kinds together
+abbrev pub AtMostFourTriggers : Type 0
+AtMostFourTriggers =
+    (g : Config) (entries : List Entry) (instance : Option (List ℕ)) (name : List ℕ) (k : NumberedEvent)
+    → IsLegalNewestFirst g entries → event_named name (requests_of entries) ≡ Some k
+    → trigger_count (trigger_of instance k.event (requests_of entries)) (hists_of instance k.event (requests_of entries)) ≤ 4
+
+-- no two hist triggers of an event say the same
+abbrev pub HistTriggersDiffer : Type 0
+HistTriggersDiffer =
+    (instance : Option (List ℕ)) (event : Definition) (past : List Request)
+    → AllPairs (λ earlier later. IsSame earlier.spec later.spec → ⊥) (hists_of instance event past)
+
+-- they are in the order in which they were attached
+abbrev pub HistTriggersAreInOrder : Type 0
+HistTriggersAreInOrder =
+    (instance : Option (List ℕ)) (event : Definition) (past : List Request)
+    → AllPairs (λ earlier later. earlier.number < later.number) (hists_of instance event past)
+    × All (λ t. t.number < length past) (hists_of instance event past)
+
+-- whether a request asks something of a hist trigger, and whether it empties it
+abbrev pub asks : Option (List ℕ) → Definition → HistTrigger → Request → Bool
+asks instance event t request = is_some (asked_by event t (written_to instance event request))
+
+abbrev pub clears : Option (List ℕ) → Definition → HistTrigger → Request → Bool
+clears instance event t request = empties (asked_by event t (written_to instance event request))
+
+-- whether a hist trigger meets an emission: it is one of its event, and its filter holds
+abbrev pub meets : Definition → HistTrigger → Emitted → Bool
+meets event t e = bytes_eq event.name e.k.event.name && passes t.spec.filter e
+
+-- a row is that of an emission that a trigger met after it was attached and last emptied, and while it was not paused
+pub record IsRowOfEmission (instance : Option (List ℕ)) (event : Definition) (t : HistTrigger) (past : List Request) (row : Emission) : Type 0 where
+  pub later : List Request
+  pub request : Request
+  pub before : List Request
+  pub cut : past ≡ later ++ request ∷ before
+  pub attached : t.number < length before
+  pub kept : list_any (clears instance event t) later ≡ false
+  pub active : is_paused instance event t before ≡ false
+  pub e : Emitted
+  pub emission : emitted before request ≡ Some e
+  pub met : meets event t e ≡ true
+  pub shown : row ≡ counted_row e
+
+-- each row that a trigger counted is that of such an emission
+abbrev pub CountedRowsAreOfEmissions : Type 0
+CountedRowsAreOfEmissions =
+    (instance : Option (List ℕ)) (event : Definition) (t : HistTrigger) (past : List Request)
+    → All (IsRowOfEmission instance event t past) (hits_of instance event t past)
+
+-- And the row of each such emission is counted, after the rows that were counted before it. Whether the emission was recorded is not asked: its
+-- event may be disabled, the event's filter may not hold, recording may be off.
+abbrev pub EmissionsAreCounted : Type 0
+EmissionsAreCounted =
+    (instance : Option (List ℕ)) (event : Definition) (t : HistTrigger) (later : List Request) (request : Request) (before : List Request) (e : Emitted)
+    → t.number < length before → list_any (clears instance event t) later ≡ false → is_paused instance event t before ≡ false
+    → emitted before request ≡ Some e → meets event t e ≡ true
+    → (rest : List Emission) × (hits_of instance event t (later ++ request ∷ before) ≡ hits_of instance event t before ++ counted_row e ∷ rest)
+
+-- until something is asked of a trigger that is paused, it stays so and counts nothing, whatever else is done
+abbrev pub PausesCountNothing : Type 0
+PausesCountNothing =
+    (instance : Option (List ℕ)) (event : Definition) (t : HistTrigger) (later past : List Request)
+    → t.number < length past → is_paused instance event t past ≡ true → list_any (asks instance event t) later ≡ false
+    → (is_paused instance event t (later ++ past) ≡ true) × (hits_of instance event t (later ++ past) ≡ hits_of instance event t past)
+
+-- where a trigger is asked to be emptied, no row is left, and it is paused if it was before
+abbrev pub ClearsLeaveNone : Type 0
+ClearsLeaveNone =
+    (instance : Option (List ℕ)) (event : Definition) (t : HistTrigger) (past : List Request) (text : List ℕ) (spec : SpecSeen)
+    → t.number < length past → said_of event text ≡ Ok (Hist spec) → IsSame spec t.spec → spec.action ≡ Clear
+    → (hits_of instance event t (WriteFile instance (Some (EventTrigger event.name)) true text ∷ past) ≡ [])
+    × (is_paused instance event t (WriteFile instance (Some (EventTrigger event.name)) true text ∷ past) ≡ is_paused instance event t past)
+
+-- A request that does not write to the event's own trigger file, in the same instance, leaves which hist triggers there are and which of them are
+-- paused, and what they counted too, unless it is an emission: no switch and no filter of the event and nothing that another instance is asked
+-- changes them.
+abbrev pub OtherRequestsLeaveHistTriggers : Type 0
+OtherRequestsLeaveHistTriggers =
+    (instance : Option (List ℕ)) (event : Definition) (t : HistTrigger) (past : List Request) (request : Request)
+    → makes instance request ≡ false → written_to instance event request ≡ None → t.number < length past
+    → (hists_of instance event (request ∷ past) ≡ hists_of instance event past)
+    × (is_paused instance event t (request ∷ past) ≡ is_paused instance event t past)
+    × (emitted past request ≡ None → hits_of instance event t (request ∷ past) ≡ hits_of instance event t past)

@@ -2,9 +2,11 @@ pub mod Settings
 pub mod Declarations
 pub mod Emissions
 pub mod Triggers
+pub mod HistTriggers
 pub mod Snapshots
 pub mod Rings
 pub mod History
 pub mod Laws
 pub mod Examples
 pub mod SnapshotExamples
+pub mod HistTriggerExamples

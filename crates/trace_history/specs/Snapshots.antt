@@ -67,7 +67,7 @@ spare_written (Some Frees) = Some false
 spare_written (Some Takes) = Some true
 spare_written _ = None
 
--- whether there is one after a trigger text was written
+-- whether there is one after a trigger text was written: a hist trigger needs none
 abbrev pub spare_armed : Result TriggerText TriggerFault → Option Bool
 spare_armed (Ok (Attach spec)) = Some true
 spare_armed _ = None
@@ -76,7 +76,7 @@ abbrev pub spare_armed_for : Option NumberedEvent → List ℕ → Option Bool
 spare_armed_for None text = None
 spare_armed_for (Some k) text = spare_armed (said_of k.event text)
 
--- a snapshot makes a spare, and so does a trigger that is attached
+-- a snapshot makes a spare, and so does a trigger for snapshots that is attached
 abbrev pub sets_spare : List Request → File → List ℕ → Option Bool
 sets_spare past Snapshot text = spare_written (written_snapshot text)
 sets_spare past (EventTrigger name) text = spare_armed_for (event_named name past) text

@@ -1,5 +1,5 @@
--- The triggers of an instance's events, and the emissions that they meet (events.rst, "Event triggers"). The newest request comes first.
-use Rattle.std.specs.Prelude.{ℕ, ◌-◌, nat_lt, Bool, true, false, ◌&&◌, if◌then◌else◌, List, [], ◌∷◌, ◌++◌, length, Option, Some, None, is_some, Result, Ok, Err}
+-- The triggers for snapshots of an instance's events, and the emissions that triggers meet (events.rst, "Event triggers"). The newest request comes first.
+use Rattle.std.specs.Prelude.{ℕ, ◌-◌, nat_lt, Bool, true, false, ◌&&◌, if◌then◌else◌, List, [], ◌∷◌, ◌++◌, length, Option, Some, None, is_some, Result, Ok}
 use Rattle.std.specs.List.{list_any}
 use Rattle.std.specs.Option.{option_map}
 use Rattle.std.specs.Str.{bytes_eq}
@@ -10,7 +10,7 @@ use Rattle.trace_trigger.specs.TriggerTexts.{said_of}
 use Rattle.trace_trigger.specs.declared.fault.TriggerFault.{TriggerFault}
 use Rattle.trace_trigger.specs.declared.trigger.SnapshotTrigger.{SnapshotTrigger}
 use Rattle.trace_trigger.specs.declared.trigger.TriggerText.{TriggerText}
-use Rattle.trace_trigger.specs.declared.trigger.TriggerText.TheVariants.{Nothing, Attach, Remove}
+use Rattle.trace_trigger.specs.declared.trigger.TriggerText.TheVariants.{Attach, Remove}
 use Rattle.trace_command.specs.Paths.{File, EventTrigger}
 use Rattle.trace_command.specs.Requests.{Request}
 use Rattle.trace_history.specs.Emissions.{Emitted, emitted}
@@ -23,12 +23,11 @@ pub record Trigger : Type 0 where
   pub number : ℕ
   pub spec : SnapshotTrigger
 
--- what is set by a text that is written after so many requests: a trigger is attached, the one that is there is removed, or nothing
+-- what is set for snapshots by a text that is written after so many requests: a trigger is attached, the one that is there is removed, or nothing
 abbrev pub written_trigger : ℕ → Result TriggerText TriggerFault → Option (Option Trigger)
 written_trigger number (Ok (Attach spec)) = Some (Some (record { number = number; spec = spec }))
 written_trigger number (Ok Remove) = Some None
-written_trigger number (Ok Nothing) = None
-written_trigger number (Err fault) = None
+written_trigger number said = None
 
 -- what a write after this past sets of an event's trigger
 abbrev pub sets_trigger : Definition → List Request → File → List ℕ → Option (Option Trigger)

@@ -3,7 +3,8 @@
 
 ghost use Rattle.trace_history.specs.Examples.{small, IsAnswered, merged_reads, instances, instance_made_again, recording_off, lost_line_after_overrun, precedence_and_kept_filter};
 ghost use Rattle.trace_history.specs.SnapshotExamples.{two_snapshots, counted_trigger, unlimited_trigger, removed_trigger, trigger_of_disabled_event, refused_triggers, sides_of_an_instance};
-ghost use Rattle.trace_history.specs.Laws.{FiltersAreOfTheirEvents, FiltersHoldAsTheirTrees, RecordsShowTheirRows, KeptRecordsShowEmissions, KeptSpareRecordsShowEmissions, SnapshotsSwapTheSides, TriggersSwapTheSides, SnapshotsStay, TriggersHaveTheirSpare, SparesBeginEmpty, PipeReadsConsumeWhatTheyShow, WholePipeReadsConsumeWhatTheyShow};
+ghost use Rattle.trace_history.specs.HistTriggerExamples.{shown_triggers, refused_hist_triggers, paused_and_cleared, counted_unrecorded, histograms_of_an_instance, removed_hist_triggers, hist_triggers_anew, four_triggers};
+ghost use Rattle.trace_history.specs.Laws.{FiltersAreOfTheirEvents, FiltersHoldAsTheirTrees, RecordsShowTheirRows, KeptRecordsShowEmissions, KeptSpareRecordsShowEmissions, SnapshotsSwapTheSides, TriggersSwapTheSides, SnapshotsStay, TriggersHaveTheirSpare, SparesBeginEmpty, PipeReadsConsumeWhatTheyShow, WholePipeReadsConsumeWhatTheyShow, AtMostFourTriggers, HistTriggersDiffer, HistTriggersAreInOrder, CountedRowsAreOfEmissions, EmissionsAreCounted, PausesCountNothing, ClearsLeaveNone, OtherRequestsLeaveHistTriggers};
 
 /// In a legal history the filter that an event has in an instance is one of the event, and it holds of an emission as the trees of its text do.
 pub fn filters_are_of_their_events()
@@ -35,8 +36,8 @@ pub fn exchanges_swap_the_sides()
     ensures stay { SnapshotsStay }
 {}
 
-/// In a legal history an instance has a spare while one of its events has a trigger, and as long as it has none the other side is empty: a spare
-/// that is made begins as new.
+/// In a legal history an instance has a spare while one of its events has a trigger for snapshots, and as long as it has none the other side is
+/// empty: a spare that is made begins as new.
 pub fn spares_are_there_and_begin_empty()
     ensures armed { TriggersHaveTheirSpare }
     ensures empty { SparesBeginEmpty }
@@ -49,6 +50,29 @@ pub fn pipe_reads_consume_what_they_show()
 {
     trace_buffer::laws::reads_consume_what_they_take();
 }
+
+/// In a legal history an event has at most four triggers in an instance. No two of its hist triggers say the same, and they are in the order in
+/// which they were attached.
+pub fn triggers_are_few_and_differ()
+    ensures few { AtMostFourTriggers }
+    ensures differ { HistTriggersDiffer }
+    ensures order { HistTriggersAreInOrder }
+{}
+
+/// A hist trigger counts the rows of just the emissions of its event of which its own filter holds, since it was attached and last emptied and
+/// while it was not paused, in the order in which they came. Whether they are recorded doesn't matter.
+pub fn emissions_are_counted()
+    ensures rows { CountedRowsAreOfEmissions }
+    ensures counted { EmissionsAreCounted }
+{}
+
+/// A pause counts nothing; `clear` leaves no row and ends no pause; and but for what is written to its own trigger file only emissions reach a
+/// hist trigger.
+pub fn only_their_own_file_changes_hist_triggers()
+    ensures pause { PausesCountNothing }
+    ensures clear { ClearsLeaveNone }
+    ensures others { OtherRequestsLeaveHistTriggers }
+{}
 
 /// The definitions can be computed, and they give worked scripts the answers that stand beside them.
 pub fn examples_are_answered()
@@ -65,4 +89,16 @@ pub fn examples_are_answered()
     ensures disabled { IsAnswered (small 1) trigger_of_disabled_event }
     ensures refused { IsAnswered (small 1) refused_triggers }
     ensures sides { IsAnswered (small 1) sides_of_an_instance }
+{}
+
+/// They also give these answers to worked scripts of hist triggers.
+pub fn hist_examples_are_answered()
+    ensures shown { IsAnswered (small 1) shown_triggers }
+    ensures refused { IsAnswered (small 1) refused_hist_triggers }
+    ensures paused { IsAnswered (small 1) paused_and_cleared }
+    ensures unrecorded { IsAnswered (small 1) counted_unrecorded }
+    ensures instance { IsAnswered (small 1) histograms_of_an_instance }
+    ensures removed { IsAnswered (small 1) removed_hist_triggers }
+    ensures anew { IsAnswered (small 1) hist_triggers_anew }
+    ensures four { IsAnswered (small 1) four_triggers }
 {}

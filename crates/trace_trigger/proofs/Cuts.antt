@@ -1,5 +1,5 @@
 -- How lists are cut: after a beginning, and after a run of elements that pass a test.
-use Rattle.std.proofs.Common.{◌≡◌, ℕ, ◌+◌, Bool, true, false, List, [], ◌∷◌, ◌++◌, length, take, drop, Some, None, if◌then◌else◌, bytes_eq, refl, sym, ap, ◌∙◌, one-add}
+use Rattle.std.proofs.Common.{◌≡◌, ℕ, ◌+◌, Bool, true, false, List, [], ◌∷◌, ◌++◌, length, take, drop, Some, None, is_some, if◌then◌else◌, bytes_eq, refl, sym, ap, ◌∙◌, one-add}
 use Rattle.std.specs.List.{prefix_len, AllPass}
 use Rattle.std.proofs.Math.Seq.{take-append_seam, drop-append_seam}
 use Rattle.std.proofs.lemmas.Bool.{cond_both}
@@ -7,7 +7,7 @@ use Rattle.std.proofs.lemmas.List.{take-append-drop}
 use Rattle.std.proofs.lemmas.List.Elements.{All-nil, All-cons}
 use Rattle.std.proofs.lemmas.Slice.Eq.{bytes_eq-Decides}
 use Rattle.trace_lex.proofs.Lists.{BeginsNot, run_ends}
-use Rattle.trace_trigger.specs.TriggerTexts.{after}
+use Rattle.trace_trigger.specs.TriggerTexts.{after, begins}
 
 -- what follows a beginning
 pub after_append : (beginning rest : List ℕ) → after beginning (beginning ++ rest) ≡ Some rest
@@ -23,6 +23,17 @@ after_is beginning text rest is = by (bytes_eq (take (length beginning) text) be
         let begins : take (length beginning) text ≡ beginning = (bytes_eq-Decides _ _).0 e in
         let ends : drop (length beginning) text ≡ rest = cc in
         sym (take-append-drop (length beginning) text) ∙ (λ i. begins i ++ ends i)
+    by false e h = absurd (cc)
+
+-- whether a text begins so
+pub begins_so : (beginning text : List ℕ) → take (length beginning) text ≡ beginning → begins beginning text ≡ true
+begins_so beginning text is = let same : bytes_eq (take (length beginning) text) beginning ≡ true = (bytes_eq-Decides _ _).1 is in rw same refl
+
+pub so_begins : (beginning text : List ℕ) → begins beginning text ≡ true → take (length beginning) text ≡ beginning
+so_begins beginning text is = by (bytes_eq (take (length beginning) text) beginning) refl is
+  where
+    by : (b : Bool) → bytes_eq (take (length beginning) text) beginning ≡ b → is_some (if b then Some (drop (length beginning) text) else None) ≡ true → take (length beginning) text ≡ beginning
+    by true e h = (bytes_eq-Decides _ _).0 e
     by false e h = absurd (cc)
 
 -- a run, and what follows it

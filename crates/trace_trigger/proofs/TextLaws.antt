@@ -1,5 +1,5 @@
 -- Trigger texts are as their grammar says.
-use Rattle.std.proofs.Common.{◌≡◌, ◌↔◌, ◌⊎◌, inl, inr, ℕ, ◌-◌, Bool, true, false, codes, List, ◌∷◌, ◌++◌, length, Option, Some, None, Result, Ok, Err, if◌then◌else◌, refl, sym, ap, ◌∙◌, subst}
+use Rattle.std.proofs.Common.{◌≡◌, ◌↔◌, ◌⊎◌, inl, inr, ℕ, ◌-◌, Bool, true, false, codes, List, ◌∷◌, ◌++◌, length, take, drop, Option, Some, None, Result, Ok, Err, if◌then◌else◌, refl, sym, ap, ◌∙◌, subst}
 use Rattle.std.specs.List.{list_all}
 use Rattle.std.proofs.lemmas.List.{take-append-drop}
 use Rattle.std.specs.List.{prefix_len}
@@ -10,15 +10,19 @@ use Rattle.trace_filter.specs.declared.fault.FilterFault.{FilterFault}
 use Rattle.trace_filter.specs.declared.fault.FilterFault.TheVariants as filter
 use Rattle.trace_filter.specs.Filters.{Parsed, IsFilter, IsRefused, parsed_of, answer_of}
 use Rattle.trace_filter.proofs.FilterLemmas.{filter_is_answered, refusal_is_answered, filter_or_refused}
+use Rattle.trace_hist.specs.HistSpecs.{SpecSeen}
+use Rattle.trace_hist.specs.HistTexts.{IsHistText, spec_of}
+use Rattle.trace_hist.specs.declared.fault.HistFault.{HistFault}
+use Rattle.trace_hist.specs.declared.fault.HistFault.TheVariants as hist
 use Rattle.trace_trigger.specs.declared.fault.TriggerFault.{TriggerFault}
 use Rattle.trace_trigger.specs.declared.fault.TriggerFault.TheVariants.{BadText}
 use Rattle.trace_trigger.specs.declared.trigger.SnapshotTrigger.{SnapshotTrigger}
 use Rattle.trace_trigger.specs.declared.trigger.TriggerText.{TriggerText}
-use Rattle.trace_trigger.specs.declared.trigger.TriggerText.TheVariants.{Nothing, Attach, Remove}
-use Rattle.trace_trigger.specs.TriggerTexts.{after, is_unblank, word_of, after_word, count_of, condition_of, moved, filter_read, filter_of, ◌>>=◌, trigger_of, said_after, said_of}
+use Rattle.trace_trigger.specs.declared.trigger.TriggerText.TheVariants.{Nothing, Attach, Remove, Hist, RemoveHist}
+use Rattle.trace_trigger.specs.TriggerTexts.{after, is_unblank, word_of, after_word, count_of, condition_of, moved, filter_read, filter_of, ◌>>=◌, trigger_of, said_after, snapshot_said, begins, fault_of_hist, hist_read, hist_of, said_of}
 use Rattle.trace_trigger.specs.TriggerGrammar.{IsWord, IsTail, IsWritten, IsReadAs, Writes}
-use Rattle.trace_trigger.specs.Laws.{WritesRemoval, IsUnwritten}
-use Rattle.trace_trigger.proofs.Cuts.{after_append, after_is, run_taken, run_dropped, run_stops}
+use Rattle.trace_trigger.specs.Laws.{WritesRemoval, IsBad}
+use Rattle.trace_trigger.proofs.Cuts.{after_append, after_is, begins_so, so_begins, run_taken, run_dropped, run_stops}
 use Rattle.trace_trigger.proofs.WordLaws.{word_is, count_is, bad_word, word_unblank}
 use Rattle.trace_trigger.proofs.TailLaws.{tail_begins, tail_is, condition_is, bad_tail}
 
@@ -147,27 +151,99 @@ module _ (definition : Definition) (text : List ℕ) where
       let begins = word_begins is.word count is.counted in
       record { rest = begins.rest ++ is.tail; cut = is.cut ∙ ap (λ (w : List ℕ). w ++ is.tail) begins.cut }
 
-  not_blank : (removes : Bool) (count : Option ℕ) (condition : Option (List ℕ)) → IsWritten text removes count condition → list_all is_blank text ≡ false
-  not_blank true count condition is = ap (list_all is_blank) (marked count condition is)
-  not_blank false count condition is = ap (list_all is_blank) (unmarked count condition is).cut
+  -- it begins with `!s`, or with `s`, so it is neither blank nor a text of a hist trigger
+  record IsApart : Type 0 where
+    unblank : list_all is_blank text ≡ false
+    no_hist : begins (codes "hist:") text ≡ false
+    no_removal : begins (codes "!hist:") text ≡ false
+
+  is_apart : (removes : Bool) (count : Option ℕ) (condition : Option (List ℕ)) → IsWritten text removes count condition → IsApart
+  is_apart true count condition is =
+      let first = word_begins is.word count is.counted in
+      let cut : text ≡ 33 ∷ 115 ∷ (first.rest ++ is.tail) = marked count condition is ∙ ap (λ (w : List ℕ). codes "!" ++ (w ++ is.tail)) first.cut in
+      record { unblank = ap (list_all is_blank) cut; no_hist = ap (begins (codes "hist:")) cut; no_removal = ap (begins (codes "!hist:")) cut }
+  is_apart false count condition is =
+      let cut = (unmarked count condition is).cut in
+      record { unblank = ap (list_all is_blank) cut; no_hist = ap (begins (codes "hist:")) cut; no_removal = ap (begins (codes "!hist:")) cut }
+
+  -- ---- which kind of text it is
+
+  abbrev chosen : Bool → Bool → Bool → Result TriggerText TriggerFault
+  chosen blank attaches removes =
+      if blank then Ok Nothing
+      else if attaches then (hist_of definition text >>= λ spec. Ok (Hist spec))
+      else if removes then (hist_of definition text >>= λ spec. Ok (RemoveHist spec))
+      else snapshot_said definition text
+
+  said_if : (blank attaches removes : Bool) → list_all is_blank text ≡ blank → begins (codes "hist:") text ≡ attaches → begins (codes "!hist:") text ≡ removes
+      → said_of definition text ≡ chosen blank attaches removes
+  unfolding said_of
+  said_if blank attaches removes e f g = λ i. chosen (e i) (f i) (g i)
+
+  snapshot_if : (rest : Option (List ℕ)) → after (codes "!") text ≡ rest → snapshot_said definition text ≡ said_after definition text rest
+  unfolding snapshot_said
+  snapshot_if rest e = ap (said_after definition text) e
+
+  apart_is : (rest : Option (List ℕ)) → IsApart → after (codes "!") text ≡ rest → said_of definition text ≡ said_after definition text rest
+  apart_is rest apart e = said_if false false false apart.unblank apart.no_hist apart.no_removal ∙ snapshot_if rest e
 
   written_is : (removes : Bool) (count : Option ℕ) (condition : Option (List ℕ)) → IsWritten text removes count condition → said_of definition text ≡ said_as removes count (filter_of definition text condition)
-  unfolding said_of
   written_is true count condition is =
-      ap (λ b. if b then Ok Nothing else said_after definition text (after (codes "!") text)) (not_blank true count condition is)
-      ∙ ap (said_after definition text) (ap (after (codes "!")) (marked count condition is) ∙ after_append (codes "!") (is.word ++ is.tail))
-      ∙ ap (λ (r : Result SnapshotTrigger TriggerFault). r >>= λ trigger. Ok Remove) (trigger_is (is.word ++ is.tail) count condition (body_of true count condition is))
+      let body : List ℕ = is.word ++ is.tail in
+      apart_is (Some body) (is_apart true count condition is) (ap (after (codes "!")) (marked count condition is) ∙ after_append (codes "!") body)
+      ∙ ap (λ (r : Result SnapshotTrigger TriggerFault). r >>= λ trigger. Ok Remove) (trigger_is body count condition (body_of true count condition is))
       ∙ both_remove count (filter_of definition text condition)
   written_is false count condition is =
       let itself : IsBody text count condition = record { word = is.word; tail = is.tail; cut = is.cut; counted = is.counted; conditional = is.conditional } in
-      ap (λ b. if b then Ok Nothing else said_after definition text (after (codes "!") text)) (not_blank false count condition is)
-      ∙ ap (said_after definition text) (ap (after (codes "!")) (unmarked count condition is).cut)
+      apart_is None (is_apart false count condition is) (ap (after (codes "!")) (unmarked count condition is).cut)
       ∙ ap (λ (r : Result SnapshotTrigger TriggerFault). r >>= λ trigger. Ok (Attach trigger)) (trigger_is text count condition itself)
       ∙ both_attach count (filter_of definition text condition)
 
   blank_is : list_all is_blank text ≡ true → said_of definition text ≡ Ok Nothing
-  unfolding said_of
-  blank_is e = ap (λ b. if b then Ok Nothing else said_after definition text (after (codes "!") text)) e
+  blank_is e = said_if true (begins (codes "hist:") text) (begins (codes "!hist:") text) e refl refl
+
+  -- ---- a text of a hist trigger
+
+  abbrev hist_text_as : Bool → SpecSeen → TriggerText
+  hist_text_as false spec = Hist spec
+  hist_text_as true spec = RemoveHist spec
+
+  abbrev hist_as : Bool → Result SpecSeen HistFault → Result TriggerText TriggerFault
+  hist_as removes read = hist_read read >>= λ spec. Ok (hist_text_as removes spec)
+
+  abbrev BeginsHist : Bool → Type 0
+  BeginsHist false = take 5 text ≡ codes "hist:"
+  BeginsHist true = take 6 text ≡ codes "!hist:"
+
+  hist_is : (removes : Bool) → BeginsHist removes → said_of definition text ≡ hist_as removes (spec_of definition text)
+  unfolding hist_of
+  hist_is false is =
+      let cut : text ≡ codes "hist:" ++ drop 5 text = sym (take-append-drop 5 text) ∙ ap (λ (b : List ℕ). b ++ drop 5 text) is in
+      said_if false true (begins (codes "!hist:") text) (ap (list_all is_blank) cut) (begins_so (codes "hist:") text is) refl
+  hist_is true is =
+      let cut : text ≡ codes "!hist:" ++ drop 6 text = sym (take-append-drop 6 text) ∙ ap (λ (b : List ℕ). b ++ drop 6 text) is in
+      said_if false false true (ap (list_all is_blank) cut) (ap (begins (codes "hist:")) cut) (begins_so (codes "!hist:") text is)
+
+  record HistSaid : Type 0 where
+    removes : Bool
+    begins : BeginsHist removes
+    is : said_of definition text ≡ hist_as removes (spec_of definition text)
+
+  hist_said : (removes : Bool) → BeginsHist removes → HistSaid
+  hist_said removes is = record { removes = removes; begins = is; is = hist_is removes is }
+
+  of_hist_text : IsHistText text → HistSaid
+  of_hist_text (inl is) = hist_said false is
+  of_hist_text (inr is) = hist_said true is
+
+  hist_not_bad : (fault : HistFault) → fault_of_hist fault ≡ BadText → ⊥
+  hist_not_bad (hist.HistSyntax at) is = cc
+  hist_not_bad hist.TooMany is = cc
+  hist_not_bad (hist.NoSuchField at) is = cc
+  hist_not_bad (hist.WrongOperator at) is = cc
+  hist_not_bad hist.BadSize is = cc
+  hist_not_bad (hist.FilterSyntax at) is = cc
+  hist_not_bad hist.Memory is = cc
 
   -- ---- a body is read so, or badly written
 
@@ -186,11 +262,17 @@ module _ (definition : Definition) (text : List ℕ) where
       by (Ok count) (Err fault) e f = inr (rw (e, f) (ap (λ (b : TriggerFault). Err b) (bad_tail (after_word body) fault f)))
       by (Ok count) (Ok condition) e f = inl (record { count = count; condition = condition; is = body_is body count condition e f })
 
-  -- ---- each text is blank, badly written, or written so
+  -- ---- each text is blank, one of a hist trigger, written so, or badly written
 
-  said_if : (blank : Bool) (rest : Option (List ℕ)) → list_all is_blank text ≡ blank → after (codes "!") text ≡ rest → said_of definition text ≡ (if blank then Ok Nothing else said_after definition text rest)
-  unfolding said_of
-  said_if blank rest e f = λ i. if e i then Ok Nothing else said_after definition text (f i)
+  record BadlySaid : Type 0 where
+    no_hist : IsHistText text → ⊥
+    is : said_of definition text ≡ Err BadText
+
+  data Kind : Type 0 where
+    is_blank_text : AreBlanks text → Kind
+    is_hist_text : HistSaid → Kind
+    is_written : Said → Kind
+    is_bad : BadlySaid → Kind
 
   marked_so : (body : List ℕ) → after (codes "!") text ≡ Some body → HasBody body → Said
   marked_so body e has =
@@ -203,57 +285,119 @@ module _ (definition : Definition) (text : List ℕ) where
       let written : IsWritten text false has.count has.condition = record { word = has.is.word; tail = has.is.tail; cut = has.is.cut; counted = has.is.counted; conditional = has.is.conditional } in
       record { removes = false; count = has.count; condition = has.condition; written = written; is = written_is false has.count has.condition written }
 
-  said_or_bad : Said ⊎ ((said_of definition text ≡ Err BadText) ⊎ AreBlanks text)
-  said_or_bad = by (list_all is_blank text) (after (codes "!") text) refl refl
+  apart_no_hist : IsApart → IsHistText text → ⊥
+  apart_no_hist apart (inl is) = let begun = begins_so (codes "hist:") text is in let not_begun = apart.no_hist in cc
+  apart_no_hist apart (inr is) = let begun = begins_so (codes "!hist:") text is in let not_begun = apart.no_removal in cc
+
+  apart_kind : IsApart → Kind
+  apart_kind apart = by (after (codes "!") text) refl
     where
-      marked_by : (body : List ℕ) → list_all is_blank text ≡ false → after (codes "!") text ≡ Some body → HasBody body ⊎ (trigger_of definition text body ≡ Err BadText) → Said ⊎ ((said_of definition text ≡ Err BadText) ⊎ AreBlanks text)
-      marked_by body e f (inl has) = inl (marked_so body f has)
-      marked_by body e f (inr bad) = inr (inl (said_if false (Some body) e f ∙ ap (λ (r : Result SnapshotTrigger TriggerFault). r >>= λ trigger. Ok Remove) bad))
+      marked_by : (body : List ℕ) → after (codes "!") text ≡ Some body → HasBody body ⊎ (trigger_of definition text body ≡ Err BadText) → Kind
+      marked_by body e (inl has) = is_written (marked_so body e has)
+      marked_by body e (inr wrong) = is_bad (record {
+        no_hist = apart_no_hist apart;
+        is = apart_is (Some body) apart e ∙ ap (λ (r : Result SnapshotTrigger TriggerFault). r >>= λ trigger. Ok Remove) wrong;
+      })
 
-      unmarked_by : list_all is_blank text ≡ false → after (codes "!") text ≡ None → HasBody text ⊎ (trigger_of definition text text ≡ Err BadText) → Said ⊎ ((said_of definition text ≡ Err BadText) ⊎ AreBlanks text)
-      unmarked_by e f (inl has) = inl (unmarked_so has)
-      unmarked_by e f (inr bad) = inr (inl (said_if false None e f ∙ ap (λ (r : Result SnapshotTrigger TriggerFault). r >>= λ trigger. Ok (Attach trigger)) bad))
+      unmarked_by : after (codes "!") text ≡ None → HasBody text ⊎ (trigger_of definition text text ≡ Err BadText) → Kind
+      unmarked_by e (inl has) = is_written (unmarked_so has)
+      unmarked_by e (inr wrong) = is_bad (record {
+        no_hist = apart_no_hist apart;
+        is = apart_is None apart e ∙ ap (λ (r : Result SnapshotTrigger TriggerFault). r >>= λ trigger. Ok (Attach trigger)) wrong;
+      })
 
-      by : (blank : Bool) (rest : Option (List ℕ)) → list_all is_blank text ≡ blank → after (codes "!") text ≡ rest → Said ⊎ ((said_of definition text ≡ Err BadText) ⊎ AreBlanks text)
-      by true rest e f = inr (inr (AllPass-from_list_all is_blank text e))
-      by false (Some body) e f = marked_by body e f (body_or_bad body)
-      by false None e f = unmarked_by e f (body_or_bad text)
+      by : (rest : Option (List ℕ)) → after (codes "!") text ≡ rest → Kind
+      by (Some body) e = marked_by body e (body_or_bad body)
+      by None e = unmarked_by e (body_or_bad text)
 
-  -- ---- the laws
+  kind : Kind
+  kind = by (list_all is_blank text) refl (begins (codes "hist:") text) refl (begins (codes "!hist:") text) refl
+    where
+      by : (blanks : Bool) → list_all is_blank text ≡ blanks → (attaches : Bool) → begins (codes "hist:") text ≡ attaches → (removes : Bool) → begins (codes "!hist:") text ≡ removes → Kind
+      by true e attaches f removes g = is_blank_text (AllPass-from_list_all is_blank text e)
+      by false e true f removes g = is_hist_text (hist_said false (so_begins (codes "hist:") text f))
+      by false e false f true g = is_hist_text (hist_said true (so_begins (codes "!hist:") text g))
+      by false e false f false g = apart_kind (record { unblank = e; no_hist = f; no_removal = g })
 
-  never_nothing : (removes : Bool) (count : Option ℕ) (read : Result (Option Parsed) TriggerFault) → said_as removes count read ≡ Ok Nothing → ⊥
-  never_nothing removes count (Err fault) is = cc
-  never_nothing true count (Ok read) is = cc
-  never_nothing false count (Ok read) is = cc
+  -- ---- what each kind never says
 
-  never_bad : (removes : Bool) (count : Option ℕ) (read : Result (Option Parsed) TriggerFault) → (read ≡ Err BadText → ⊥) → said_as removes count read ≡ Err BadText → ⊥
-  never_bad removes count (Err fault) fine is = let same : fault ≡ BadText = cc in fine (ap (λ (f : TriggerFault). Err f) same)
-  never_bad removes count (Ok read) fine is = cc
+  abbrev OfSnapshot : TriggerText → Type 0
+  OfSnapshot Nothing = ⊥
+  OfSnapshot (Attach trigger) = Unit {0}
+  OfSnapshot Remove = Unit {0}
+  OfSnapshot (Hist spec) = ⊥
+  OfSnapshot (RemoveHist spec) = ⊥
+
+  abbrev OfHist : TriggerText → Type 0
+  OfHist Nothing = ⊥
+  OfHist (Attach trigger) = ⊥
+  OfHist Remove = ⊥
+  OfHist (Hist spec) = Unit {0}
+  OfHist (RemoveHist spec) = Unit {0}
+
+  written_says : (said : TriggerText) (removes : Bool) (count : Option ℕ) (read : Result (Option Parsed) TriggerFault) → said_as removes count read ≡ Ok said → OfSnapshot said
+  written_says said removes count (Err fault) is = absurd (cc)
+  written_says said true count (Ok read) is = let same : Remove ≡ said = cc in subst OfSnapshot same tt
+  written_says said false count (Ok read) is = let same : Attach (trigger_as count read) ≡ said = cc in subst OfSnapshot same tt
+
+  hist_says : (said : TriggerText) (removes : Bool) (read : Result SpecSeen HistFault) → hist_as removes read ≡ Ok said → OfHist said
+  hist_says said removes (Err fault) is = absurd (cc)
+  hist_says said true (Ok spec) is = let same : RemoveHist spec ≡ said = cc in subst OfHist same tt
+  hist_says said false (Ok spec) is = let same : Hist spec ≡ said = cc in subst OfHist same tt
+
+  of_written : (said : TriggerText) → Said → said_of definition text ≡ Ok said → OfSnapshot said
+  of_written said it is = written_says said it.removes it.count (filter_of definition text it.condition) (sym it.is ∙ is)
+
+  of_hist_said : (said : TriggerText) → HistSaid → said_of definition text ≡ Ok said → OfHist said
+  of_hist_said said it is = hist_says said it.removes (spec_of definition text) (sym it.is ∙ is)
+
+  bad_never : (said : TriggerText) → BadlySaid → said_of definition text ≡ Ok said → ⊥
+  bad_never said it is = let wrong = it.is in cc
 
   blanks_say_nothing : AreBlanks text → said_of definition text ≡ Ok Nothing
   blanks_say_nothing blanks = blank_is (list_all-from_AllPass is_blank text blanks)
 
-  pub nothing_is_blanks : (said_of definition text ≡ Ok Nothing) ↔ AreBlanks text
-  nothing_is_blanks = (λ is. by is said_or_bad, blanks_say_nothing)
-    where
-      by : said_of definition text ≡ Ok Nothing → Said ⊎ ((said_of definition text ≡ Err BadText) ⊎ AreBlanks text) → AreBlanks text
-      by is (inl said) = absurd (never_nothing said.removes said.count (filter_of definition text said.condition) (sym said.is ∙ is))
-      by is (inr (inl bad)) = absurd (cc)
-      by is (inr (inr blanks)) = blanks
+  blanks_say : (said : TriggerText) → AreBlanks text → said_of definition text ≡ Ok said → Nothing ≡ said
+  blanks_say said blanks is = let nothing = blanks_say_nothing blanks in cc
 
-  pub bad_is_unwritten : (said_of definition text ≡ Err BadText) ↔ ((AreBlanks text → ⊥) × IsUnwritten text)
+  written_never_bad : (removes : Bool) (count : Option ℕ) (read : Result (Option Parsed) TriggerFault) → (read ≡ Err BadText → ⊥) → said_as removes count read ≡ Err BadText → ⊥
+  written_never_bad removes count (Err fault) fine is = let same : fault ≡ BadText = cc in fine (ap (λ (f : TriggerFault). Err f) same)
+  written_never_bad removes count (Ok read) fine is = cc
+
+  hist_never_bad : (removes : Bool) (read : Result SpecSeen HistFault) → hist_as removes read ≡ Err BadText → ⊥
+  hist_never_bad removes (Err fault) is = let same : fault_of_hist fault ≡ BadText = cc in hist_not_bad fault same
+  hist_never_bad removes (Ok spec) is = cc
+
+  -- ---- the laws
+
+  pub nothing_is_blanks : (said_of definition text ≡ Ok Nothing) ↔ AreBlanks text
+  nothing_is_blanks = (λ is. by is kind, blanks_say_nothing)
+    where
+      by : said_of definition text ≡ Ok Nothing → Kind → AreBlanks text
+      by is (is_blank_text blanks) = blanks
+      by is (is_hist_text it) = absurd (of_hist_said Nothing it is)
+      by is (is_written it) = absurd (of_written Nothing it is)
+      by is (is_bad it) = absurd (bad_never Nothing it is)
+
+  pub bad_is_unwritten : (said_of definition text ≡ Err BadText) ↔ IsBad text
   bad_is_unwritten = (
-    λ is. (
-      λ blanks. let nothing = blanks_say_nothing blanks in cc,
-      λ removes count condition written. never_bad removes count (filter_of definition text condition) (filter_not_bad condition) (sym (written_is removes count condition written) ∙ is),
-    ),
-    λ un. by un said_or_bad,
+    λ is. record {
+      unblank = λ blanks. let nothing = blanks_say_nothing blanks in cc;
+      no_hist = λ begins. let it = of_hist_text begins in hist_never_bad it.removes (spec_of definition text) (sym it.is ∙ is);
+      unwritten = λ removes count condition written. written_never_bad removes count (filter_of definition text condition) (filter_not_bad condition) (sym (written_is removes count condition written) ∙ is);
+    },
+    λ un. by un kind,
   )
     where
-      by : (AreBlanks text → ⊥) × IsUnwritten text → Said ⊎ ((said_of definition text ≡ Err BadText) ⊎ AreBlanks text) → said_of definition text ≡ Err BadText
-      by un (inl said) = absurd (un.1 said.removes said.count said.condition said.written)
-      by un (inr (inl bad)) = bad
-      by un (inr (inr blanks)) = absurd (un.0 blanks)
+      begun : (removes : Bool) → BeginsHist removes → IsHistText text
+      begun false is = inl is
+      begun true is = inr is
+
+      by : IsBad text → Kind → said_of definition text ≡ Err BadText
+      by un (is_blank_text blanks) = absurd (un.unblank blanks)
+      by un (is_hist_text it) = absurd (un.no_hist (begun it.removes it.begins))
+      by un (is_written it) = absurd (un.unwritten it.removes it.count it.condition it.written)
+      by un (is_bad it) = it.is
 
   -- what a written text attaches or removes
   attached : (trigger : SnapshotTrigger) (removes : Bool) (count : Option ℕ) (condition : Option (List ℕ)) (read : Result (Option Parsed) TriggerFault) → IsWritten text removes count condition → filter_of definition text condition ≡ read
@@ -273,25 +417,59 @@ module _ (definition : Definition) (text : List ℕ) where
 
   pub attach_is_written : (trigger : SnapshotTrigger) → (said_of definition text ≡ Ok (Attach trigger)) ↔ Writes definition text false trigger.count trigger.filter
   attach_is_written trigger = (
-    λ is. by is said_or_bad,
+    λ is. by is kind,
     λ writes. written_is false trigger.count writes.condition writes.written ∙ ap (said_as false trigger.count) (filter_given writes.condition trigger.filter writes.filtered),
   )
     where
-      by : said_of definition text ≡ Ok (Attach trigger) → Said ⊎ ((said_of definition text ≡ Err BadText) ⊎ AreBlanks text) → Writes definition text false trigger.count trigger.filter
-      by is (inl said) = attached trigger said.removes said.count said.condition (filter_of definition text said.condition) said.written refl (sym said.is ∙ is)
-      by is (inr (inl bad)) = absurd (cc)
-      by is (inr (inr blanks)) = let nothing = blanks_say_nothing blanks in absurd (cc)
+      by : said_of definition text ≡ Ok (Attach trigger) → Kind → Writes definition text false trigger.count trigger.filter
+      by is (is_blank_text blanks) = let same = blanks_say (Attach trigger) blanks is in absurd (cc)
+      by is (is_hist_text it) = absurd (of_hist_said (Attach trigger) it is)
+      by is (is_written it) = attached trigger it.removes it.count it.condition (filter_of definition text it.condition) it.written refl (sym it.is ∙ is)
+      by is (is_bad it) = absurd (bad_never (Attach trigger) it is)
 
   pub remove_is_written : (said_of definition text ≡ Ok Remove) ↔ WritesRemoval definition text
   remove_is_written = (
-    λ is. by is said_or_bad,
+    λ is. by is kind,
     λ is. written_is true is.count is.writes.condition is.writes.written ∙ ap (said_as true is.count) (filter_given is.writes.condition is.filter is.writes.filtered),
   )
     where
-      by : said_of definition text ≡ Ok Remove → Said ⊎ ((said_of definition text ≡ Err BadText) ⊎ AreBlanks text) → WritesRemoval definition text
-      by is (inl said) = removed said.removes said.count said.condition (filter_of definition text said.condition) said.written refl (sym said.is ∙ is)
-      by is (inr (inl bad)) = absurd (cc)
-      by is (inr (inr blanks)) = let nothing = blanks_say_nothing blanks in absurd (cc)
+      by : said_of definition text ≡ Ok Remove → Kind → WritesRemoval definition text
+      by is (is_blank_text blanks) = let same = blanks_say Remove blanks is in absurd (cc)
+      by is (is_hist_text it) = absurd (of_hist_said Remove it is)
+      by is (is_written it) = removed it.removes it.count it.condition (filter_of definition text it.condition) it.written refl (sym it.is ∙ is)
+      by is (is_bad it) = absurd (bad_never Remove it is)
+
+  -- which trigger a text of a hist trigger names
+  hist_named : (spec : SpecSeen) (removes : Bool) (read : Result SpecSeen HistFault) → BeginsHist removes → hist_as removes read ≡ Ok (Hist spec) → (take 5 text ≡ codes "hist:") × (read ≡ Ok spec)
+  hist_named spec removes (Err fault) begins is = absurd (cc)
+  hist_named spec true (Ok read) begins is = absurd (cc)
+  hist_named spec false (Ok read) begins is = let same : read ≡ spec = cc in (begins, ap (λ (s : SpecSeen). Ok s) same)
+
+  removal_named : (spec : SpecSeen) (removes : Bool) (read : Result SpecSeen HistFault) → BeginsHist removes → hist_as removes read ≡ Ok (RemoveHist spec) → (take 6 text ≡ codes "!hist:") × (read ≡ Ok spec)
+  removal_named spec removes (Err fault) begins is = absurd (cc)
+  removal_named spec false (Ok read) begins is = absurd (cc)
+  removal_named spec true (Ok read) begins is = let same : read ≡ spec = cc in (begins, ap (λ (s : SpecSeen). Ok s) same)
+
+  pub hist_is_read : (spec : SpecSeen) → (said_of definition text ≡ Ok (Hist spec)) ↔ ((take 5 text ≡ codes "hist:") × (spec_of definition text ≡ Ok spec))
+  hist_is_read spec = (λ is. by is kind, λ is. hist_is false is.0 ∙ ap (hist_as false) is.1)
+    where
+      by : said_of definition text ≡ Ok (Hist spec) → Kind → (take 5 text ≡ codes "hist:") × (spec_of definition text ≡ Ok spec)
+      by is (is_blank_text blanks) = let same = blanks_say (Hist spec) blanks is in absurd (cc)
+      by is (is_hist_text it) = hist_named spec it.removes (spec_of definition text) it.begins (sym it.is ∙ is)
+      by is (is_written it) = absurd (of_written (Hist spec) it is)
+      by is (is_bad it) = absurd (bad_never (Hist spec) it is)
+
+  pub remove_hist_is_read : (spec : SpecSeen) → (said_of definition text ≡ Ok (RemoveHist spec)) ↔ ((take 6 text ≡ codes "!hist:") × (spec_of definition text ≡ Ok spec))
+  remove_hist_is_read spec = (λ is. by is kind, λ is. hist_is true is.0 ∙ ap (hist_as true) is.1)
+    where
+      by : said_of definition text ≡ Ok (RemoveHist spec) → Kind → (take 6 text ≡ codes "!hist:") × (spec_of definition text ≡ Ok spec)
+      by is (is_blank_text blanks) = let same = blanks_say (RemoveHist spec) blanks is in absurd (cc)
+      by is (is_hist_text it) = removal_named spec it.removes (spec_of definition text) it.begins (sym it.is ∙ is)
+      by is (is_written it) = absurd (of_written (RemoveHist spec) it is)
+      by is (is_bad it) = absurd (bad_never (RemoveHist spec) it is)
+
+  pub hist_fault_is_told : (fault : HistFault) → IsHistText text → spec_of definition text ≡ Err fault → said_of definition text ≡ Err (fault_of_hist fault)
+  hist_fault_is_told fault begins refused = let it = of_hist_text begins in it.is ∙ ap (hist_as it.removes) refused
 
   pub filter_fault_is_moved : (removes : Bool) (count : Option ℕ) (condition : List ℕ) (fault : FilterFault) → IsWritten text removes count (Some condition) → IsRefused definition condition fault
       → said_of definition text ≡ Err (moved (length text - length condition) fault)

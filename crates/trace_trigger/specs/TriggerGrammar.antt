@@ -1,4 +1,4 @@
--- How a trigger text is written: what it is put together of. Nothing in this file goes over the text. That `TriggerTexts` says the same is
+-- How the text of a snapshot trigger is written: what it is put together of. Nothing in this file goes over the text. That `TriggerTexts` says the same is
 -- stated in `Laws`.
 use Rattle.std.specs.Prelude.{◌≡◌, ℕ, ◌-◌, ◌<◌, ◌≤◌, ◌^◌, Bool, true, false, codes, List, [], ◌++◌, length, Option, None, Some}
 use Rattle.trace_format.specs.Definitions.{Definition}

@@ -1,6 +1,6 @@
 -- Trigger texts: what is said by a text that is written to an event's `trigger` file (events.rst, "Event triggers", "snapshot"; ftrace.rst,
--- "Snapshot"): nothing, or an optional `!`, a word, and after it perhaps `if` and a filter.
-use Rattle.std.specs.Prelude.{◌≡◌, ℕ, unwrap_or, ◌+◌, ◌-◌, ◌^◌, ◌≤◌, Bool, not, ◌&&◌, ◌==◌, nat_lt, if◌then◌else◌, bytes_eq, codes, List, [], ◌∷◌, length, take, drop, Option, None, Some, Result, Ok, Err}
+-- "Snapshot"): nothing, or an optional `!`, a word, and after it perhaps `if` and a filter. What a text with `hist:` says is defined in trace_hist.
+use Rattle.std.specs.Prelude.{◌≡◌, ℕ, unwrap_or, ◌+◌, ◌-◌, ◌^◌, ◌≤◌, Bool, not, ◌&&◌, ◌||◌, ◌==◌, nat_lt, if◌then◌else◌, bytes_eq, codes, List, [], ◌∷◌, length, take, drop, Option, None, Some, is_some, Result, Ok, Err}
 use Rattle.std.specs.List.{prefix_len, list_all}
 use Rattle.trace_lex.specs.Blanks.{is_blank}
 use Rattle.trace_lex.specs.Decimals.{decimal_number, up_to}
@@ -8,11 +8,15 @@ use Rattle.trace_format.specs.Definitions.{Definition}
 use Rattle.trace_filter.specs.Filters.{Parsed, answer_of}
 use Rattle.trace_filter.specs.declared.fault.FilterFault.{FilterFault}
 use Rattle.trace_filter.specs.declared.fault.FilterFault.TheVariants as filter
+use Rattle.trace_hist.specs.HistSpecs.{SpecSeen}
+use Rattle.trace_hist.specs.HistTexts.{spec_of}
+use Rattle.trace_hist.specs.declared.fault.HistFault.{HistFault}
+use Rattle.trace_hist.specs.declared.fault.HistFault.TheVariants as hist
 use Rattle.trace_trigger.specs.declared.fault.TriggerFault.{TriggerFault}
-use Rattle.trace_trigger.specs.declared.fault.TriggerFault.TheVariants.{BadText, TooMany, FilterSyntax, NoSuchField, WrongOperator, Memory}
+use Rattle.trace_trigger.specs.declared.fault.TriggerFault.TheVariants.{BadText, TooMany, FilterSyntax, NoSuchField, WrongOperator, HistSyntax, BadSize, Memory}
 use Rattle.trace_trigger.specs.declared.trigger.SnapshotTrigger.{SnapshotTrigger}
 use Rattle.trace_trigger.specs.declared.trigger.TriggerText.{TriggerText}
-use Rattle.trace_trigger.specs.declared.trigger.TriggerText.TheVariants.{Nothing, Attach, Remove}
+use Rattle.trace_trigger.specs.declared.trigger.TriggerText.TheVariants.{Nothing, Attach, Remove, Hist, RemoveHist}
 
 -- ---- how a text is cut
 
@@ -94,13 +98,47 @@ trigger_of definition text body =
     count_of (word_of body) >>= λ count. condition_of (after_word body) >>= λ condition. filter_of definition text condition
     >>= λ only_if. Ok (record { count = count; filter = only_if })
 
+-- by what follows a `!`, if there is one
 abbrev pub said_after : Definition → List ℕ → Option (List ℕ) → Result TriggerText TriggerFault
 said_after definition text None = trigger_of definition text text >>= λ trigger. Ok (Attach trigger)
 said_after definition text (Some body) = trigger_of definition text body >>= λ trigger. Ok Remove
 
+-- what a text says of an event's snapshot trigger
+unfoldable pub snapshot_said : Definition → List ℕ → Result TriggerText TriggerFault
+snapshot_said definition text = said_after definition text (after (codes "!") text)
+
+-- ---- hist triggers
+
+abbrev pub begins : List ℕ → List ℕ → Bool
+begins beginning text = is_some (after beginning text)
+
+-- a hist trigger's fault as one of a text
+abbrev pub fault_of_hist : HistFault → TriggerFault
+fault_of_hist (hist.HistSyntax at) = HistSyntax at
+fault_of_hist hist.TooMany = TooMany
+fault_of_hist (hist.NoSuchField at) = NoSuchField at
+fault_of_hist (hist.WrongOperator at) = WrongOperator at
+fault_of_hist hist.BadSize = BadSize
+fault_of_hist (hist.FilterSyntax at) = FilterSyntax at
+fault_of_hist hist.Memory = Memory
+
+abbrev pub hist_read : Result SpecSeen HistFault → Result SpecSeen TriggerFault
+hist_read (Ok spec) = Ok spec
+hist_read (Err fault) = Err (fault_of_hist fault)
+
+-- the hist trigger of a text
+unfoldable pub hist_of : Definition → List ℕ → Result SpecSeen TriggerFault
+hist_of definition text = hist_read (spec_of definition text)
+
+-- ---- what is said
+
 -- what a text says of an event's triggers, or why it is refused
 unfoldable pub said_of : Definition → List ℕ → Result TriggerText TriggerFault
-said_of definition text = if list_all is_blank text then Ok Nothing else said_after definition text (after (codes "!") text)
+said_of definition text =
+    if list_all is_blank text then Ok Nothing
+    else if begins (codes "hist:") text then (hist_of definition text >>= λ spec. Ok (Hist spec))
+    else if begins (codes "!hist:") text then (hist_of definition text >>= λ spec. Ok (RemoveHist spec))
+    else snapshot_said definition text
 
 -- ---- what the calls answer
 
@@ -112,6 +150,8 @@ IsAnswered (Err TooMany) answer = answer ≡ Err TooMany
 IsAnswered (Err (FilterSyntax at)) answer = answer ≡ Err (FilterSyntax at)
 IsAnswered (Err (NoSuchField at)) answer = answer ≡ Err (NoSuchField at)
 IsAnswered (Err (WrongOperator at)) answer = answer ≡ Err (WrongOperator at)
+IsAnswered (Err (HistSyntax at)) answer = answer ≡ Err (HistSyntax at)
+IsAnswered (Err BadSize) answer = answer ≡ Err BadSize
 IsAnswered (Err Memory) answer = Unit {0}
 
 -- the text without a `!` at its beginning
@@ -124,9 +164,13 @@ IsFilterWritten (Ok (Some condition)) = Unit {0}
 IsFilterWritten (Ok None) = ⊥
 IsFilterWritten (Err fault) = ⊥
 
--- a text has a filter to read, the one part that takes memory
+-- a text has a filter to read, the one part of a snapshot trigger that takes memory
 abbrev pub HasFilter : List ℕ → Type 0
 HasFilter text = IsFilterWritten (condition_of (after_word (body_of text)))
+
+-- a text says something of a hist trigger
+abbrev pub is_hist_text : List ℕ → Bool
+is_hist_text text = begins (codes "hist:") text || begins (codes "!hist:") text
 
 -- a filter's fault has its place in a text of this length
 abbrev pub IsWithin : ℕ → FilterFault → Type 0

@@ -17,6 +17,13 @@ pub(crate) fn is_blank_text(text: &[u8]) -> bool
     text.iter().all(|byte| is_blank(*byte))
 }
 
+/// Whether a text begins so.
+pub(crate) fn begins(beginning: &[u8], text: &[u8]) -> bool
+    ensures { result ≡ texts.begins beginning.now text.now }
+{
+    text.starts_with(beginning)
+}
+
 /// How many bytes come before the first blank.
 fn word_len(text: &[u8]) -> usize
     ensures value { result ≡ prefix_len texts.is_unblank text.now }

@@ -1,14 +1,15 @@
 //! Triggers of an event, as texts write them.
 
-ghost use Rattle.std.specs.Prelude.{◌≡◌, ◌≢◌, ◌≤◌, Ok, Err, IfSome, IsSome, length};
+ghost use Rattle.std.specs.Prelude.{◌≡◌, ◌≢◌, ◌⊎◌, true, ◌≤◌, Ok, Err, IfSome, IsSome, length};
 ghost use Rattle.std.specs.Option.{option_copied};
-ghost use Rattle.trace_trigger.specs.TriggerTexts.{IsAnswered, IsFilterWritten, HasFilter, after_word, condition_of, filter_of, trigger_of, said_of};
+ghost use Rattle.trace_trigger.specs.TriggerTexts.{IsAnswered, is_hist_text, IsFilterWritten, HasFilter, after_word, condition_of, filter_of, trigger_of, snapshot_said, hist_of, said_of};
 
 use crate::fault::TriggerFault;
-use crate::parts::{condition_of, count_of, cut_word, is_blank_text};
+use crate::parts::{begins, condition_of, count_of, cut_word, is_blank_text};
 use std::alloc::Global;
 use trace_filter::Filter;
 use trace_format::EventDef;
+use trace_hist::HistSpec;
 
 /// A trigger that takes a snapshot for each emission of its event that its filter passes (events.rst, "Event triggers", "snapshot"): at most
 /// `count` times, or without end.
@@ -27,30 +28,61 @@ pub enum TriggerText {
     Attach(SnapshotTrigger),
     /// The event's snapshot trigger is to be removed, whatever its count and its filter.
     Remove,
+    /// A hist trigger is to be attached; or, where the same one is attached, what the text asks for is to be done to it.
+    Hist(HistSpec),
+    /// The same hist trigger is to be removed.
+    RemoveHist(HistSpec),
 }
 
 impl TriggerText {
-    /// What a text says: nothing, or an optional `!` and `snapshot` or `snapshot:N`, N from 1 to 2^32 - 1, and after it perhaps `if` and a
-    /// filter of the event. A text with `!` is read whole, so its filter too may be refused.
+    /// What a text says: nothing; or, if it begins with `hist:` or `!hist:`, what `HistSpec::parse` reads in it; or an optional `!` and `snapshot`
+    /// or `snapshot:N`, N from 1 to 2^32 - 1, and after it perhaps `if` and a filter of the event. A text with `!` is read whole, so its filter
+    /// too may be refused.
     #[tactic(auto, unfolding(crate::specs::TriggerTexts::said_of))]
     pub fn parse(alloc: Global, text: &[u8], event: &EventDef) -> Result<TriggerText, TriggerFault>
         // It is what the definition gives, unless memory is refused.
         ensures exact { IsAnswered result (said_of event.now text.now) }
         // That a text is written wrong is told even where memory would be refused.
         ensures early { said_of event.now text.now ≡ Err TriggerFault.BadText → result ≡ Err TriggerFault.BadText }
-        // Memory is taken for a filter alone.
-        ensures memory { result ≡ Err TriggerFault.Memory → HasFilter text.now }
+        // Memory is taken for a filter and for a hist trigger alone.
+        ensures memory { result ≡ Err TriggerFault.Memory → HasFilter text.now ⊎ (is_hist_text text.now ≡ true) }
     {
         if is_blank_text(text) {
             return Ok(TriggerText::Nothing);
         }
-        match text.strip_prefix(b"!".as_slice()) {
-            Some(body) => {
-                let _removed = read_trigger(alloc, text, body, event)?;
-                Ok(TriggerText::Remove)
-            }
-            None => Ok(TriggerText::Attach(read_trigger(alloc, text, text, event)?)),
+        if begins(b"hist:", text) {
+            return Ok(TriggerText::Hist(read_hist(alloc, text, event)?));
         }
+        if begins(b"!hist:", text) {
+            return Ok(TriggerText::RemoveHist(read_hist(alloc, text, event)?));
+        }
+        read_snapshot(alloc, text, event)
+    }
+}
+
+/// The hist trigger of a text that begins with `hist:` or `!hist:`.
+#[tactic(auto, unfolding(crate::specs::TriggerTexts::hist_of))]
+fn read_hist(alloc: Global, text: &[u8], event: &EventDef) -> Result<HistSpec, TriggerFault>
+    requires { is_hist_text text.now ≡ true }
+    ensures exact { IsAnswered result (hist_of event.now text.now) }
+    ensures early { hist_of event.now text.now ≡ Err TriggerFault.BadText → result ≡ Err TriggerFault.BadText }
+{
+    Ok(HistSpec::parse(alloc, text, event)?)
+}
+
+/// What a text says of the event's snapshot trigger.
+#[tactic(auto, unfolding(crate::specs::TriggerTexts::snapshot_said))]
+fn read_snapshot(alloc: Global, text: &[u8], event: &EventDef) -> Result<TriggerText, TriggerFault>
+    ensures exact { IsAnswered result (snapshot_said event.now text.now) }
+    ensures early { snapshot_said event.now text.now ≡ Err TriggerFault.BadText → result ≡ Err TriggerFault.BadText }
+    ensures memory { result ≡ Err TriggerFault.Memory → HasFilter text.now }
+{
+    match text.strip_prefix(b"!".as_slice()) {
+        Some(body) => {
+            let _removed = read_trigger(alloc, text, body, event)?;
+            Ok(TriggerText::Remove)
+        }
+        None => Ok(TriggerText::Attach(read_trigger(alloc, text, text, event)?)),
     }
 }
 
@@ -75,7 +107,6 @@ fn read_trigger(
 }
 
 /// The filter, whose text is the end of the whole text.
-
 fn read_filter(
     alloc: Global,
     text: &[u8],

@@ -8,7 +8,7 @@ use std::alloc::Global;
 use std::process::Abort;
 use trace_book::{Book, Config, Refusal};
 
-const ROWS: [Row; 3] = [
+const ROWS: [Row; 4] = [
     Row {
         name: "merged_reads",
         script: "\
@@ -50,6 +50,48 @@ cat per_cpu/cpu01/stats
 ! 2: N1 NoSuchFile
 ",
         status: 1,
+    },
+    // A CPU may be a key, and it may be what a trigger's filter asks for.
+    Row {
+        name: "each_cpu_has_an_entry",
+        script: "\
+echo 'tick u64 n' > synthetic_events
+echo hist:keys=common_cpu:vals=n:sort=common_cpu > events/synthetic/tick/trigger
+emit 1 7 tick n=1
+emit 0 7 tick n=2
+emit 1 7 tick n=3
+echo 'hist:keys=n if common_cpu == 1' >> events/synthetic/tick/trigger
+emit 1 7 tick n=4
+emit 0 7 tick n=4
+cat events/synthetic/tick/hist
+",
+        written: "\
+# event histogram
+#
+# trigger info: hist:keys=common_cpu:vals=hitcount,n:sort=common_cpu:size=2048 [active]
+#
+
+{ common_cpu:          0 } hitcount:          2  n:          6
+{ common_cpu:          1 } hitcount:          3  n:          8
+
+Totals:
+    Hits: 5
+    Entries: 2
+    Dropped: 0
+
+# event histogram
+#
+# trigger info: hist:keys=n:vals=hitcount:sort=hitcount:size=2048 if common_cpu == 1 [active]
+#
+
+{ n:          4 } hitcount:          1
+
+Totals:
+    Hits: 1
+    Entries: 1
+    Dropped: 0
+",
+        status: 0,
     },
     // A busy CPU loses its oldest records and a quiet one keeps them; an instance of its own keeps what failed.
     Row {

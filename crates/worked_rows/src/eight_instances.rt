@@ -49,7 +49,7 @@ const TRACES: [&str; 8] = [
 ];
 
 /// The statistics, the clock in them, and the trace of an instance that recorded so many emissions: none, one, and so on.
-const STAGES: [(&str, &str); 4] = [
+pub(crate) const STAGES: [(&str, &str); 4] = [
     (
         "\
 entries: 0

@@ -14,7 +14,13 @@ mod events;
 #[cfg(test)]
 mod fakes;
 #[cfg(test)]
+mod filled_hists;
+#[cfg(test)]
 mod filters;
+#[cfg(test)]
+mod hist_spares;
+#[cfg(test)]
+mod hists;
 #[cfg(test)]
 mod instances;
 #[cfg(test)]
@@ -35,3 +41,5 @@ mod sizes;
 mod snapshots;
 #[cfg(test)]
 mod spares;
+#[cfg(test)]
+mod triggers;

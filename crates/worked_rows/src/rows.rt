@@ -15,7 +15,7 @@ pub(crate) struct Row {
     pub(crate) status: u8,
 }
 
-const ROWS: [Row; 25] = [
+const ROWS: [Row; 26] = [
     // One event, its switch, emissions and statistics.
     Row {
         name: "stats_at_once",
@@ -49,12 +49,53 @@ const ROWS: [Row; 25] = [
     },
     Row {
         name: "refusals_by_file",
-        script: "echo 'tick u64 n' > synthetic_events\necho 1 > events/synthetic/tick/enable\ncat nothing\ncat per_cpu/cpu1/stats\necho 'tick u64 m' >> synthetic_events\necho 'x u65 n' >> synthetic_events\necho 'y u64 n' > synthetic_events\n",
-        written: "! 3: N1 NoSuchFile\n! 4: N20 NoSuchCpu\n! 5: N6 EventExists\n! 6: N7 BadDefinition at 2\n! 7: N19 Busy\n",
+        script: "\
+echo 'tick u64 n' > synthetic_events
+echo 1 > events/synthetic/tick/enable
+cat events/synthetic/filter
+echo 1 > trace_pipe
+echo x > tracing_on
+cat nothing
+cat events/synthetic/none/filter
+cat per_cpu/cpu1/stats
+echo 'tick u64 m' >> synthetic_events
+echo 'x u65 n' >> synthetic_events
+echo 'y u64 n' > synthetic_events
+echo '!hist:keys=n' >> events/synthetic/tick/trigger
+echo '!hist:keys=n' > events/synthetic/tick/trigger
+echo 'n ==' > events/synthetic/tick/filter
+echo 'n ~ 3' > events/synthetic/tick/filter
+",
+        written: "\
+! 3: N2 NotReadable
+! 4: N3 NotWritable
+! 5: N4 BadValue
+! 6: N1 NoSuchFile
+! 7: N5 NoSuchEvent
+! 8: N20 NoSuchCpu
+! 9: N6 EventExists
+! 10: N7 BadDefinition at 2
+! 11: N19 Busy
+! 12: N15 NoSuchTrigger
+! 14: N9 FilterSyntax at 4
+! 15: N11 WrongOperator at 2
+",
         status: 1,
     },
     Row {
         name: "unclosed_quote",
+        script: "\
+cat tracing_on
+echo 'tick u64 n
+",
+        written: "\
+1
+! 2: script UnclosedQuote
+",
+        status: 2,
+    },
+    Row {
+        name: "a_comment_and_an_unclosed_quote",
         script: "# a comment\n\ncat nothing\necho 'tick u64 n\ncat nothing\n",
         written: "! 3: N1 NoSuchFile\n! 4: script UnclosedQuote\n",
         status: 2,

@@ -320,8 +320,8 @@ take 1 snapshot
 take 1 events/synthetic/tick/trigger
 cat events/synthetic/tock/trigger
 echo snapshots > events/synthetic/tock/trigger
-echo hist:keys=n > events/synthetic/tick/trigger
-echo '!hist:keys=n' >> events/synthetic/tick/trigger
+echo hist > events/synthetic/tick/trigger
+echo '!hist' >> events/synthetic/tick/trigger
 echo snapshot:0 > events/synthetic/tick/trigger
 echo '!snapshot:0' > events/synthetic/tick/trigger
 echo 'snapshot if' > events/synthetic/tick/trigger

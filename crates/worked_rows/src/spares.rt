@@ -77,7 +77,7 @@ fn three_instances(rt: &(impl Abort + AllocGlobal)) -> Desk {
 }
 
 /// Asks for what is done, or leaves all as it was before.
-fn does_keeping(desk: &mut Desk, rt: &impl Abort, step: Step, before: &[Shown]) {
+pub(crate) fn does_keeping(desk: &mut Desk, rt: &impl Abort, step: Step, before: &[Shown]) {
     let reply = desk.ask_keeping(rt, step, before);
     assert!(rt; matches!(reply, Ok(Reply::Done)));
 }

@@ -14,6 +14,7 @@ returns c =
       enabled = made.enabled;
       filters = made.filters;
       triggers = made.triggers;
+      hists = made.hists;
       overwrite = made.overwrite;
       tracing = made.tracing;
       live = made.live;

@@ -1,5 +1,6 @@
-use Rattle.std.proofs.Common.{ℕ, Bool, false, List, Option, None, replicate, ap, ◌∙◌}
+use Rattle.std.proofs.Common.{ℕ, Bool, false, List, [], Option, None, replicate, ap, ◌∙◌}
 use Rattle.trace_filter.specs.Filters.{Parsed}
+use Rattle.trace_book.specs.declared.hists.AttachedHist.{AttachedHist}
 use Rattle.trace_book.specs.declared.trigger.Trigger.{Trigger}
 use Rattle.trace_book.proofs.NewInstance.{made-stands}
 use Rattle.trace_book.proofs.make.new_instance.Goals as goal
@@ -10,10 +11,12 @@ returns-clause-stands c = λ past many.
     let flags : ℕ → List Bool = λ n. replicate n false in
     let filters : ℕ → List (Option Parsed) = λ n. replicate n None in
     let triggers : ℕ → List (Option Trigger) = λ n. replicate n None in
+    let hists : ℕ → List (List AttachedHist) = λ n. replicate n [] in
     made-stands c.args.config.now past c.args.name.now c.in_ok-new.field-0 (record {
       enabled = new.enabled ∙ ap flags many;
       filters = new.filters ∙ ap filters many;
       triggers = new.triggers ∙ ap triggers many;
+      hists = new.hists ∙ ap hists many;
       overwrite = new.overwrite;
       tracing = new.tracing;
       live = new.live;

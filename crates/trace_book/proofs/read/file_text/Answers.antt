@@ -1,11 +1,11 @@
-use Rattle.std.proofs.Common.{◌≡◌, ℕ, ◌<◌, List, [], length, map, Option, IfOk, ap, ◌∙◌, subst}
+use Rattle.std.proofs.Common.{◌≡◌, ℕ, ◌<◌, List, [], length, map, IfOk, ap, ◌∙◌, subst}
 use Rattle.trace_format.specs.Definitions.{Definition}
-use Rattle.std.specs.Option.{option_to_list}
 use Rattle.trace_history.specs.History.{flag_text}
-use Rattle.trace_text.specs.TriggerText.{trigger_text}
-use Rattle.trace_book.specs.Commands.{shown_filter, shown_kept}
-use Rattle.trace_book.specs.declared.trigger.Trigger.{Trigger}
-use Rattle.trace_book.proofs.EventReads.{enabled-at_place, filter-at_place, format-at_place, triggers-at_place}
+use Rattle.trace_text.specs.HistText.{hist_text}
+use Rattle.trace_book.specs.Commands.{shown_filter, shown_kept_hist}
+use Rattle.trace_book.specs.KeptHists.{kept_of}
+use Rattle.trace_book.specs.declared.hists.AttachedHist.{AttachedHist}
+use Rattle.trace_book.proofs.EventReads.{enabled-at_place, filter-at_place, format-at_place, hists-at_place, triggers-at_place}
 use Rattle.trace_book.proofs.read.file_text.Goals as goal
 
 pub returns-in-EventEnable : goal.returns-in-EventEnable
@@ -40,7 +40,17 @@ returns-in-EventTrigger c = λ g name past is there.
     let source = c.args.source in
     let event = c.in-EventTrigger.event in
     let inside : event < length source.catalog.now = rw c.in-EventTrigger.is at there in
+    let within = rw c.in-EventTrigger.is at c.requires.file in
     rw c.in-EventTrigger.is
-    (subst (λ (t : List ℕ). IfOk c.triggers.result (λ text. text ≡ t))
-    (ap (λ (trigger : Option Trigger). trigger_text (map shown_kept (option_to_list trigger))) c.trigger.ensures
-    ∙ triggers-at_place g name past source event is inside) c.triggers.ensures)
+    (subst (λ (t : List ℕ). IfOk c.triggers.result (λ text. text ≡ t)) (triggers-at_place g name past source event is inside within.1) c.triggers.ensures)
+
+pub returns-in-EventHist : goal.returns-in-EventHist
+returns-in-EventHist c = λ g name past is there.
+    let source = c.args.source in
+    let event = c.in-EventHist.event in
+    let inside : event < length source.catalog.now = rw c.in-EventHist.is at there in
+    let within = rw c.in-EventHist.is at c.requires.file in
+    rw c.in-EventHist.is
+    (subst (λ (t : List ℕ). IfOk c.histograms.result (λ text. text ≡ t))
+    (ap (λ (hists : List AttachedHist). hist_text (map shown_kept_hist (map kept_of hists))) c.hists.ensures
+    ∙ hists-at_place g name past source event is inside within) c.histograms.ensures)

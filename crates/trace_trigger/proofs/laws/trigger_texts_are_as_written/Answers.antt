@@ -1,4 +1,4 @@
-use Rattle.trace_trigger.proofs.TextLaws.{nothing_is_blanks, attach_is_written, remove_is_written, bad_is_unwritten, filter_fault_is_moved}
+use Rattle.trace_trigger.proofs.TextLaws.{nothing_is_blanks, attach_is_written, remove_is_written, hist_is_read, remove_hist_is_read, hist_fault_is_told, bad_is_unwritten, filter_fault_is_moved}
 use Rattle.trace_trigger.proofs.laws.trigger_texts_are_as_written.Goals as goal
 
 pub returns-clause-nothing : goal.returns-clause-nothing
@@ -15,3 +15,12 @@ returns-clause-bad c = λ definition text. bad_is_unwritten definition text
 
 pub returns-clause-filter : goal.returns-clause-filter
 returns-clause-filter c = λ definition text removes count condition fault. filter_fault_is_moved definition text removes count condition fault
+
+pub returns-clause-hist : goal.returns-clause-hist
+returns-clause-hist c = λ definition text spec. hist_is_read definition text spec
+
+pub returns-clause-remove_hist : goal.returns-clause-remove_hist
+returns-clause-remove_hist c = λ definition text spec. remove_hist_is_read definition text spec
+
+pub returns-clause-hist_fault : goal.returns-clause-hist_fault
+returns-clause-hist_fault c = λ definition text fault. hist_fault_is_told definition text fault

@@ -5,7 +5,7 @@ use Rattle.trace_book.specs.BookSeen.{BookSeen}
 use Rattle.trace_command.specs.declared.command.Entry.{Entry}
 use Rattle.trace_command.specs.declared.command.Reply.{Reply}
 use Rattle.trace_book.proofs.Alike.{state_alike-stands, unchanged-stands}
-use Rattle.trace_book.proofs.Usable.{few_from_stands, usable_from_stands}
+use Rattle.trace_book.proofs.Usable.{few_from_stands, few_rows_from_stands, usable_from_stands}
 use Rattle.trace_book.proofs.Histories.{length-past_of, past_of-push, answer-done, answer-full, refused-reply, refused-early, late-done, IsLegal-push}
 use Rattle.trace_book.proofs.Stands.{stands_after}
 use Rattle.trace_book.proofs.book.Book.ask.Goals as goal
@@ -29,7 +29,7 @@ returns-in_err-change-clause-reply c =
     let book = c.self.inside in
     let past = past_of book.entries.items in
     let out : c.from_residual.result ≡ Err c.in_err-change.field-0.0 = search rules in
-    let prepared = c.in_err-change.ensures.prepared past c.self.invariant.stands in
+    let prepared = c.in_err-change.ensures.prepared past (length-past_of book.entries.items ∙ search rules) c.self.invariant.stands in
     rw (← c.self.view_is, out) (refused-reply book.config past (request_of c.args.command) c.prepare.new.self c.in_err-change.field-0.0 prepared)
 
 pub returns-in_err-change-clause-early : goal.returns-in_err-change-clause-early
@@ -37,7 +37,7 @@ returns-in_err-change-clause-early c =
     let book = c.self.inside in
     let past = past_of book.entries.items in
     let out : c.from_residual.result ≡ Err c.in_err-change.field-0.0 = search rules in
-    let prepared = c.in_err-change.ensures.prepared past c.self.invariant.stands in
+    let prepared = c.in_err-change.ensures.prepared past (length-past_of book.entries.items ∙ search rules) c.self.invariant.stands in
     rw (← c.self.view_is, out) (λ early. sym (refused-early book.config past (request_of c.args.command) c.prepare.new.self c.in_err-change.field-0.0 prepared early))
 
 pub invariant_of-self-then-len-self : goal.invariant_of-self-then-len-self
@@ -52,7 +52,7 @@ pub returns-then-len-self-clause-reply : goal.returns-then-len-self-clause-reply
 returns-then-len-self-clause-reply c = λ other.
     let book = c.self.inside in
     let past = past_of book.entries.items in
-    let prepared = c.in_ok-change.ensures.prepared past c.self.invariant.stands in
+    let prepared = c.in_ok-change.ensures.prepared past (length-past_of book.entries.items ∙ search rules) c.self.invariant.stands in
     rw (← c.self.view_is) (answer-full book.config past (request_of c.args.command) c.in_ok-change.reply (prepared.0 ∙ ap (λ (r : Reply). Ok r) c.in_ok-change.reply-is)
     (omega (arith, length-past_of book.entries.items, c.len.ensures, book.entries.ok.0)))
 
@@ -60,7 +60,7 @@ pub returns-then-len-self-clause-early : goal.returns-then-len-self-clause-early
 returns-then-len-self-clause-early c =
     let book = c.self.inside in
     let past = past_of book.entries.items in
-    let prepared = c.in_ok-change.ensures.prepared past c.self.invariant.stands in
+    let prepared = c.in_ok-change.ensures.prepared past (length-past_of book.entries.items ∙ search rules) c.self.invariant.stands in
     rw (← c.self.view_is) (λ early. sym (answer-full book.config past (request_of c.args.command) c.in_ok-change.reply (prepared.0 ∙ ap (λ (r : Reply). Ok r) c.in_ok-change.reply-is)
     (omega (arith, length-past_of book.entries.items, c.len.ensures, book.entries.ok.0))))
 
@@ -68,7 +68,7 @@ pub returns-in_err-reserve-clause-early : goal.returns-in_err-reserve-clause-ear
 returns-in_err-reserve-clause-early c =
     let book = c.self.inside in
     let past = past_of book.entries.items in
-    let prepared = c.in_ok-change.ensures.prepared past c.self.invariant.stands in
+    let prepared = c.in_ok-change.ensures.prepared past (length-past_of book.entries.items ∙ search rules) c.self.invariant.stands in
     rw (← c.self.view_is) (λ early. absurd (late-done book.config past (request_of c.args.command) c.in_ok-change.reply (prepared.0 ∙ ap (λ (r : Reply). Ok r) c.in_ok-change.reply-is) early))
 
 pub invariant_of-self-in_err-reserve : goal.invariant_of-self-in_err-reserve
@@ -92,6 +92,19 @@ commit-requires-clause-few c =
     few_from_stands book.config _ (past_of book.entries.items) stands
     (omega (arith, length-past_of book.entries.items, c.len.ensures, book.entries.ok.0, c.self.invariant.in_range.few_entries))
 
+pub commit-requires-clause-ready : goal.commit-requires-clause-ready
+commit-requires-clause-ready c =
+    let book = c.self.inside in
+    let past = past_of book.entries.items in
+    (c.in_ok-change.ensures.prepared past (length-past_of book.entries.items ∙ search rules) c.self.invariant.stands).2
+
+pub commit-requires-clause-few_rows : goal.commit-requires-clause-few_rows
+commit-requires-clause-few_rows c =
+    let book = c.self.inside in
+    let stands = state_alike-stands book.config _ _ (past_of book.entries.items) c.prepare.ensures.alike c.self.invariant.stands in
+    few_rows_from_stands book.config _ (past_of book.entries.items) stands
+    (omega (arith, length-past_of book.entries.items, c.len.ensures, book.entries.ok.0, c.self.invariant.in_range.few_entries))
+
 pub invariant_of-self-in_err-commit : goal.invariant_of-self-in_err-commit
 invariant_of-self-in_err-commit c =
     let book = c.self.inside in
@@ -106,7 +119,7 @@ pub returns-in_err-commit-clause-early : goal.returns-in_err-commit-clause-early
 returns-in_err-commit-clause-early c =
     let book = c.self.inside in
     let past = past_of book.entries.items in
-    let prepared = c.in_ok-change.ensures.prepared past c.self.invariant.stands in
+    let prepared = c.in_ok-change.ensures.prepared past (length-past_of book.entries.items ∙ search rules) c.self.invariant.stands in
     rw (← c.self.view_is) (λ early. absurd (late-done book.config past (request_of c.args.command) c.in_ok-change.reply (prepared.0 ∙ ap (λ (r : Reply). Ok r) c.in_ok-change.reply-is) early))
 
 pub invariant_of-self-2 : goal.invariant_of-self-2
@@ -118,7 +131,7 @@ invariant_of-self-2 c =
     let entry : Entry = record { ticket = c.args.ticket; by = c.args.by; command = c.args.command } in
     let items : c.push_reserved.new.self.items ≡ book.entries.items ++ entry ∷ [] =
     c.push_reserved.ensures.items ∙ ap (λ (entries : List Entry). entries ++ entry ∷ []) c.reserve.ensures.items in
-    let prepared = c.in_ok-change.ensures.prepared past c.self.invariant.stands in
+    let prepared = c.in_ok-change.ensures.prepared past (length-past_of book.entries.items ∙ search rules) c.self.invariant.stands in
     let done = answer-done g past request c.in_ok-change.reply (prepared.0 ∙ ap (λ (r : Reply). Ok r) c.in_ok-change.reply-is)
     (omega (arith, length-past_of book.entries.items, c.len.ensures, book.entries.ok.0)) in
     let Below : BookSeen → Type 0 = λ seen. All (λ (e : Entry). e.ticket < c.args.ticket) seen.entries in
@@ -135,7 +148,7 @@ pub returns-clause-reply : goal.returns-clause-reply
 returns-clause-reply c =
     let book = c.self.inside in
     let past = past_of book.entries.items in
-    let prepared = c.in_ok-change.ensures.prepared past c.self.invariant.stands in
+    let prepared = c.in_ok-change.ensures.prepared past (length-past_of book.entries.items ∙ search rules) c.self.invariant.stands in
     rw (← c.self.view_is) (answer-done book.config past (request_of c.args.command) c.in_ok-change.field-0.reply prepared.0
     (omega (arith, length-past_of book.entries.items, c.len.ensures, book.entries.ok.0)))
 
@@ -143,7 +156,7 @@ pub returns-clause-early : goal.returns-clause-early
 returns-clause-early c =
     let book = c.self.inside in
     let past = past_of book.entries.items in
-    let prepared = c.in_ok-change.ensures.prepared past c.self.invariant.stands in
+    let prepared = c.in_ok-change.ensures.prepared past (length-past_of book.entries.items ∙ search rules) c.self.invariant.stands in
     rw (← c.self.view_is) (λ early. absurd (late-done book.config past (request_of c.args.command) c.in_ok-change.field-0.reply prepared.0 early))
 
 pub commit-requires-clause-usable : goal.commit-requires-clause-usable

@@ -1,4 +1,4 @@
-use Rattle.std.proofs.Common.{◌≡◌, true, false, None, replicate}
+use Rattle.std.proofs.Common.{◌≡◌, true, false, None, [], replicate}
 use Rattle.trace_snapshot.specs.Sides.{IsNewSide}
 use Rattle.trace_book.proofs.instance.Instance.new.Given as goal
 
@@ -7,6 +7,7 @@ invariant-loop-event l = record {
   enabled : l.instance.enabled ≡ replicate l._event false;
   filters : l.instance.filters ≡ replicate l._event None;
   triggers : l.instance.triggers ≡ replicate l._event None;
+  hists : l.instance.hists ≡ replicate l._event [];
   overwrite : l.instance.overwrite ≡ true;
   tracing : l.instance.tracing ≡ true;
   live : IsNewSide l.cpus l.pages l.page_bytes l.instance.sides.live;

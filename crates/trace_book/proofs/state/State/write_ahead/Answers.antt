@@ -7,7 +7,7 @@ use Rattle.trace_book.specs.Instances.{IsAlike}
 use Rattle.trace_book.specs.Rows.{fires, records}
 use Rattle.trace_book.specs.declared.change.Pending.{Pending}
 use Rattle.trace_book.specs.declared.state.Named.{Named}
-use Rattle.trace_book.proofs.Emitting.{alike-each, armed-each, fires-each, is-ahead, room-each, written-over}
+use Rattle.trace_book.proofs.Emitting.{alike-each, armed-each, fires-each, hists-each, is-ahead, room-each, written-over}
 use Rattle.trace_book.proofs.state.State.write_ahead.Goals as goal
 
 pub returns-in_err-ready_each-clause-alike : goal.returns-in_err-ready_each-clause-alike
@@ -76,4 +76,6 @@ returns-clause-ahead c =
     (subst (λ (is : List Named). (k : ℕ) (d : Named) → k < length old
     → (get_or is k d).instance.fires ≡ fires (get_or old k d).instance c.args.index c.args.row.now c.args.cpu c.args.pid) after
     (fires-each c.args.index c.args.row.now c.args.cpu c.args.pid old armed new came readied))
+    (subst (λ (is : List Named). (k : ℕ) (d : Named) → k < length old → (get_or is k d).instance.hists ≡ (get_or old k d).instance.hists) after
+    (hists-each c.args.index c.args.row.now c.args.cpu c.args.pid old armed new came readied))
     refl bytes c.in_ok-bytes.ensures.is_record (subst (All (λ (n : Named). HasRoom pending n.instance)) after ready)

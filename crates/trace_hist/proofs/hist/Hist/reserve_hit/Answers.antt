@@ -12,6 +12,11 @@ returns-clause-stands c = λ rows h.
     ap (λ (l : List StoredHit). table_of (length c.self.inside.spec.value_sources) (map hit_in l) c.self.inside.dropped) c.reserve.ensures.items
     ∙ ap (λ (s : Seen). s.table) c.self.view_is ∙ h ∙ ap (λ (s : Seen). grouped s.spec rows) (sym c.self.view_is)
 
+pub returns-clause-table : goal.returns-clause-table
+returns-clause-table c =
+    ap (λ (l : List StoredHit). table_of (length c.self.inside.spec.value_sources) (map hit_in l) c.self.inside.dropped) c.reserve.ensures.items
+    ∙ ap (λ (s : Seen). s.table) c.self.view_is
+
 pub returns-clause-reserved : goal.returns-clause-reserved
 unfolding IsReserved
 returns-clause-reserved c =

@@ -1,0 +1,441 @@
+-- What a text that is written to an event's trigger file answers, and that the change made of it is the one that the definitions say.
+use Rattle.std.proofs.Common.{◌≡◌, ◌↔◌, ℕ, ◌+◌, ◌<◌, ◌≤◌, nat_lt, Bool, true, false, not, ◌&&◌, ◌||◌, if◌then◌else◌, List, [], ◌∷◌, ◌++◌, length, map, is_some, IsTrue, Bor, Option, None, Some, Result, Ok, Err, refl, sym, ap, ◌∙◌, arith, lt-ltb, ltb-true}
+use Rattle.std.specs.List.{list_any}
+use Rattle.std.specs.Option.{option_copied}
+use Rattle.std.proofs.lemmas.Bool.{false≢true}
+use Rattle.std.proofs.lemmas.List.{length-map}
+use Rattle.trace_format.specs.Definitions.{Definition}
+use Rattle.trace_hist.specs.Groups.{grouped}
+use Rattle.trace_hist.specs.Hists.{Seen, StandsFor}
+use Rattle.trace_hist.specs.HistSpecs.{SpecSeen}
+use Rattle.trace_hist.specs.Triggers.{is_same}
+use Rattle.trace_hist.specs.declared.spec.Action.{Action}
+use Rattle.trace_hist.specs.declared.spec.Action.TheVariants as action
+use Rattle.trace_trigger.specs.TriggerTexts.{IsAnswered, said_of}
+use Rattle.trace_trigger.specs.declared.fault.TriggerFault.{TriggerFault}
+use Rattle.trace_trigger.specs.declared.fault.TriggerFault.TheVariants as fault
+use Rattle.trace_trigger.specs.declared.trigger.SnapshotTrigger.{SnapshotTrigger}
+use Rattle.trace_trigger.specs.declared.trigger.TriggerText.{TriggerText}
+use Rattle.trace_trigger.specs.declared.trigger.TriggerText.TheVariants as said
+use Rattle.trace_command.specs.Refusals.{IsFoundEarly, IsRefusal, refusal_of_trigger}
+use Rattle.trace_command.specs.Requests.{Request}
+use Rattle.trace_command.specs.declared.command.Reply.{Reply}
+use Rattle.trace_command.specs.declared.command.Reply.TheVariants.{Done}
+use Rattle.trace_command.specs.declared.refusal.Refusal.{Refusal}
+use Rattle.trace_command.specs.declared.refusal.Refusal.TheVariants as refusal
+use Rattle.trace_history.specs.History.{asked_answer, hist_answer, new_hist_answer, remove_hist_answer, room_answer, said_answer, trigger_answer, trigger_count}
+use Rattle.trace_history.specs.HistTriggers.{HistTrigger, has_same, is_pause, hists_of}
+use Rattle.trace_history.specs.Triggers as triggers
+use Rattle.trace_history.specs.Triggers.{trigger_of}
+use Rattle.trace_book.specs.Attaching.{AreKept, IsAsked, IsAttached, IsChangeOf, IsTriggerChange, asked_change, attaches, kept_count}
+use Rattle.trace_book.specs.Instances as instances
+use Rattle.trace_book.specs.Instances.{kept_trigger}
+use Rattle.trace_book.specs.KeptHists.{KeptHist, kept_as, kept_hists, kept_of, says_same}
+use Rattle.trace_book.specs.declared.attach.EventTriggers.{EventTriggers}
+use Rattle.trace_book.specs.declared.change.TriggerChange.TheVariants.{Keep, Attach, Detach, AttachHist, DetachHist, AskHist}
+use Rattle.trace_book.specs.declared.hists.AttachedHist.{AttachedHist}
+use Rattle.trace_book.specs.declared.trigger.Trigger.{Trigger}
+use Rattle.trace_book.specs.declared.write.Written.{Written}
+use Rattle.trace_book.proofs.Attached.{hists-asked, hists-attached, hists-removed, hists-stay, left_by, new_kept, snapshot-attached, snapshot-removed, snapshot-stays}
+use Rattle.trace_book.proofs.Snapshotting.{none-is, some-mapped, there-is}
+
+-- ---- what the requests say of what is kept
+
+copied-some : {A : Type 0} (o : Option (Bor A)) → is_some (option_copied o) ≡ is_some o
+copied-some None = refl
+copied-some (Some r) = refl
+
+has-snapshot : (name : Option (List ℕ)) (past : List Request) (event : Definition) (kept : EventTriggers) → AreKept name past event kept
+    → is_some (trigger_of name event past) ≡ is_some kept.snapshot
+has-snapshot name past event kept are =
+    sym (some-mapped (instances.kept_as past event) (trigger_of name event past)) ∙ ap is_some (sym are.snapshot) ∙ copied-some kept.snapshot
+
+any-map : {A B : Type 0} (test : B → Bool) (f : A → B) (xs : List A) → list_any test (map f xs) ≡ list_any (λ (x : A). test (f x)) xs
+any-map test f [] = refl
+any-map test f (x ∷ xs) = ap (λ (b : Bool). test (f x) || b) (any-map test f xs)
+
+has-same : (name : Option (List ℕ)) (past : List Request) (event : Definition) (kept : EventTriggers) (spec : SpecSeen) → AreKept name past event kept
+    → has_same spec (hists_of name event past) ≡ list_any (says_same spec) kept.hists.now
+has-same name past event kept spec are =
+    sym (any-map (λ (k : KeptHist). is_same spec k.spec) (kept_as name past event) (hists_of name event past))
+    ∙ ap (list_any (λ (k : KeptHist). is_same spec k.spec)) (sym are.hists)
+    ∙ any-map (λ (k : KeptHist). is_same spec k.spec) kept_of kept.hists.now
+
+has-same_left : (name : Option (List ℕ)) (past : List Request) (event : Definition) (kept : EventTriggers) (spec : SpecSeen) (append : Bool)
+    → AreKept name past event kept → has_same spec (left_by name past event append) ≡ (append && list_any (says_same spec) kept.hists.now)
+has-same_left name past event kept spec true are = has-same name past event kept spec are
+has-same_left name past event kept spec false are = refl
+
+many-left : (name : Option (List ℕ)) (past : List Request) (event : Definition) (kept : EventTriggers) (append : Bool) → AreKept name past event kept
+    → length (left_by name past event append) ≡ (if append then length kept.hists.now else 0)
+many-left name past event kept true are =
+    sym (length-map (hists_of name event past) (kept_as name past event)) ∙ ap length (sym are.hists) ∙ length-map kept.hists.now kept_of
+many-left name past event kept false are = refl
+
+count-left : (name : Option (List ℕ)) (past : List Request) (event : Definition) (kept : EventTriggers) (append : Bool) → AreKept name past event kept
+    → trigger_count (trigger_of name event past) (left_by name past event append) ≡ kept_count kept append
+count-left name past event kept append are =
+    by (trigger_of name event past) ∙ (λ i. many-left name past event kept append are i + (if has-snapshot name past event kept are i then 1 else 0))
+  where
+    by : (o : Option triggers.Trigger) → trigger_count o (left_by name past event append)
+        ≡ length (left_by name past event append) + (if is_some o then 1 else 0)
+    by None = omega arith
+    by (Some t) = refl
+
+-- ---- answers
+
+answered : (name : Option (List ℕ)) (past : List Request) (event : Definition) (append : Bool) (text : List ℕ) (r : Result TriggerText TriggerFault)
+    → said_of event text ≡ r
+    → trigger_answer name past append text event ≡ said_answer append (trigger_of name event past) (left_by name past event append) r
+unfolding trigger_answer
+answered name past event append text r is =
+    ap (said_answer append (trigger_of name event past) (left_by name past event append)) is
+
+refused : (refusal : Refusal) (answer : Result Reply Refusal) → answer ≡ Err refusal → IsRefusal refusal answer
+refused refusal answer is = (λ other. is, λ early. is)
+
+room-had : (attached : Option triggers.Trigger) (hists : List HistTrigger) → trigger_count attached hists < 4 → room_answer attached hists ≡ Ok Done
+room-had attached hists less = rw (lt-ltb (trigger_count attached hists) 4 less) refl
+
+room-full : (attached : Option triggers.Trigger) (hists : List HistTrigger) → 4 ≤ trigger_count attached hists → room_answer attached hists ≡ Err refusal.TooMany
+room-full attached hists many = by (nat_lt (trigger_count attached hists) 4) refl
+  where
+    by : (room : Bool) → nat_lt (trigger_count attached hists) 4 ≡ room → (let a : Result Reply Refusal = if room then Ok Done else Err refusal.TooMany in a) ≡ Err refusal.TooMany
+    by true is = absurd (omega (arith, many, ltb-true (trigger_count attached hists) 4 is))
+    by false is = refl
+
+late-room : (attached : Option triggers.Trigger) (hists : List HistTrigger) → IsFoundEarly (room_answer attached hists) → ⊥
+late-room attached hists = by (nat_lt (trigger_count attached hists) 4)
+  where
+    by : (room : Bool) → IsFoundEarly (let a : Result Reply Refusal = if room then Ok Done else Err refusal.TooMany in a) → ⊥
+    by true early = absurd early
+    by false early = absurd (cc)
+
+late-asked : (asked : Action) → IsFoundEarly (asked_answer asked) → ⊥
+late-asked action.Attach early = absurd (cc)
+late-asked action.Pause early = absurd early
+late-asked action.Continue early = absurd early
+late-asked action.Clear early = absurd early
+
+late-new : (attached : Option triggers.Trigger) (hists : List HistTrigger) (asked : Action) → IsFoundEarly (new_hist_answer attached hists asked) → ⊥
+late-new attached hists action.Attach early = late-room attached hists early
+late-new attached hists action.Pause early = late-room attached hists early
+late-new attached hists action.Continue early = absurd (cc)
+late-new attached hists action.Clear early = absurd (cc)
+
+late-hist : (attached : Option triggers.Trigger) (hists : List HistTrigger) (spec : SpecSeen) → IsFoundEarly (hist_answer attached hists spec) → ⊥
+late-hist attached hists spec = by (has_same spec hists)
+  where
+    by : (same : Bool) → IsFoundEarly (if same then asked_answer spec.action else new_hist_answer attached hists spec.action) → ⊥
+    by true early = late-asked spec.action early
+    by false early = late-new attached hists spec.action early
+
+late-remove : (append : Bool) (hists : List HistTrigger) (spec : SpecSeen) → IsFoundEarly (remove_hist_answer append hists spec) → ⊥
+late-remove append hists spec = by (not append || has_same spec hists)
+  where
+    by : (gone : Bool) → IsFoundEarly (let a : Result Reply Refusal = if gone then Ok Done else Err refusal.NoSuchTrigger in a) → ⊥
+    by true early = absurd early
+    by false early = absurd (cc)
+
+-- nothing but a text that is written wrong is found early
+said-late : (append : Bool) (attached : Option triggers.Trigger) (hists : List HistTrigger) (r : Result TriggerText TriggerFault)
+    → (r ≡ Err fault.BadText → ⊥) → IsFoundEarly (said_answer append attached hists r) → ⊥
+said-late append attached hists (Err fault.BadText) other early = other refl
+said-late append attached hists (Err fault.TooMany) other early = absurd (cc)
+said-late append attached hists (Err (fault.FilterSyntax at)) other early = absurd (cc)
+said-late append attached hists (Err (fault.NoSuchField at)) other early = absurd (cc)
+said-late append attached hists (Err (fault.WrongOperator at)) other early = absurd (cc)
+said-late append attached hists (Err (fault.HistSyntax at)) other early = absurd (cc)
+said-late append attached hists (Err fault.BadSize) other early = absurd (cc)
+said-late append attached hists (Err fault.Memory) other early = absurd (cc)
+said-late append attached hists (Ok said.Nothing) other early = absurd early
+said-late append None hists (Ok (said.Attach spec)) other early = late-room None hists early
+said-late append (Some t) hists (Ok (said.Attach spec)) other early = absurd (cc)
+said-late append None hists (Ok said.Remove) other early = absurd (cc)
+said-late append (Some t) hists (Ok said.Remove) other early = absurd early
+said-late append attached hists (Ok (said.Hist spec)) other early = late-hist attached hists spec early
+said-late append attached hists (Ok (said.RemoveHist spec)) other early = late-remove append hists spec early
+
+-- a refusal of a text
+said-refused : (append : Bool) (attached : Option triggers.Trigger) (hists : List HistTrigger) (r : Result TriggerText TriggerFault) (faulty : TriggerFault)
+    → (let a : Result TriggerText TriggerFault = Err faulty in IsAnswered a r)
+    → (r ≡ Err fault.BadText → faulty ≡ fault.BadText) → IsRefusal (refusal_of_trigger faulty) (said_answer append attached hists r)
+said-refused append attached hists r fault.BadText is told = let a = ap (said_answer append attached hists) is in (λ other. a, λ early. a)
+said-refused append attached hists r fault.TooMany is told = let a = ap (said_answer append attached hists) is in (λ other. a, λ early. a)
+said-refused append attached hists r (fault.FilterSyntax at) is told = let a = ap (said_answer append attached hists) is in (λ other. a, λ early. a)
+said-refused append attached hists r (fault.NoSuchField at) is told = let a = ap (said_answer append attached hists) is in (λ other. a, λ early. a)
+said-refused append attached hists r (fault.WrongOperator at) is told = let a = ap (said_answer append attached hists) is in (λ other. a, λ early. a)
+said-refused append attached hists r (fault.HistSyntax at) is told = let a = ap (said_answer append attached hists) is in (λ other. a, λ early. a)
+said-refused append attached hists r fault.BadSize is told = let a = ap (said_answer append attached hists) is in (λ other. a, λ early. a)
+said-refused append attached hists r fault.Memory is told = (
+  λ other. absurd (other refl),
+  λ early. absurd (said-late append attached hists r (λ bad. absurd (let h : fault.Memory ≡ fault.BadText = told bad in cc)) early),
+)
+
+pub text-refused : (event : Definition) (kept : EventTriggers) (written : Written) (faulty : TriggerFault)
+    → (let a : Result TriggerText TriggerFault = Err faulty in IsAnswered a (said_of event written.text.now))
+    → (said_of event written.text.now ≡ Err fault.BadText → faulty ≡ fault.BadText)
+    → IsChangeOf event kept written (Err (refusal_of_trigger faulty))
+unfolding trigger_answer
+text-refused event kept written faulty is told = λ name past number are.
+    said-refused written.append (trigger_of name event past) (left_by name past event written.append) (said_of event written.text.now) faulty is told
+
+-- ---- nothing
+
+pub text-nothing : (event : Definition) (kept : EventTriggers) (written : Written) → said_of event written.text.now ≡ Ok said.Nothing
+    → IsChangeOf event kept written (Ok Keep)
+text-nothing event kept written is = λ name past number are. (
+  answered name past event written.append written.text.now (Ok said.Nothing) is,
+  record {
+    snapshot = snapshot-stays name past event written.append written.text.now (Ok said.Nothing) is refl;
+    hists = hists-stay name past event written.append written.text.now (Ok said.Nothing) is (λ t. refl) refl;
+    spare = rw is refl;
+  },
+)
+
+-- ---- triggers for snapshots
+
+some-snapshot : (name : Option (List ℕ)) (past : List Request) (event : Definition) (kept : EventTriggers) → AreKept name past event kept
+    → is_some kept.snapshot ≡ true → (t : triggers.Trigger) × (trigger_of name event past ≡ Some t)
+some-snapshot name past event kept are some = there-is (trigger_of name event past) (has-snapshot name past event kept are ∙ some)
+
+no-snapshot : (name : Option (List ℕ)) (past : List Request) (event : Definition) (kept : EventTriggers) → AreKept name past event kept
+    → is_some kept.snapshot ≡ false → trigger_of name event past ≡ None
+no-snapshot name past event kept are none = none-is (trigger_of name event past) (has-snapshot name past event kept are ∙ none)
+
+pub attach-exists : (trigger : SnapshotTrigger) (kept : EventTriggers) (written : Written) → is_some kept.snapshot ≡ true
+    → IsAttached trigger kept written (Err refusal.TriggerExists)
+attach-exists trigger kept written some = λ event name past number are is.
+    let there = some-snapshot name past event kept are some in
+    refused refusal.TriggerExists (trigger_answer name past written.append written.text.now event)
+    (answered name past event written.append written.text.now (Ok (said.Attach trigger)) is
+    ∙ ap (λ (o : Option triggers.Trigger). said_answer written.append o (left_by name past event written.append) (Ok (said.Attach trigger))) there.1)
+
+attach-answer : (trigger : SnapshotTrigger) (kept : EventTriggers) (written : Written) (event : Definition) (name : Option (List ℕ)) (past : List Request)
+    → AreKept name past event kept → is_some kept.snapshot ≡ false → said_of event written.text.now ≡ Ok (said.Attach trigger)
+    → trigger_answer name past written.append written.text.now event ≡ room_answer (trigger_of name event past) (left_by name past event written.append)
+attach-answer trigger kept written event name past are none is =
+    let gone = no-snapshot name past event kept are none in
+    answered name past event written.append written.text.now (Ok (said.Attach trigger)) is
+    ∙ ap (λ (o : Option triggers.Trigger). said_answer written.append o (left_by name past event written.append) (Ok (said.Attach trigger))) gone
+    ∙ ap (λ (o : Option triggers.Trigger). room_answer o (left_by name past event written.append)) (sym gone)
+
+pub attach-full : (trigger : SnapshotTrigger) (kept : EventTriggers) (written : Written) → is_some kept.snapshot ≡ false
+    → 4 ≤ kept_count kept written.append → IsAttached trigger kept written (Err refusal.TooMany)
+attach-full trigger kept written none many = λ event name past number are is.
+    let full : 4 ≤ trigger_count (trigger_of name event past) (left_by name past event written.append) =
+    omega (arith, many, count-left name past event kept written.append are) in
+    refused refusal.TooMany (trigger_answer name past written.append written.text.now event)
+    (attach-answer trigger kept written event name past are none is
+    ∙ room-full (trigger_of name event past) (left_by name past event written.append) full)
+
+pub attach-done : (trigger : SnapshotTrigger) (kept : EventTriggers) (written : Written) → is_some kept.snapshot ≡ false
+    → kept_count kept written.append < 4
+    → IsAttached trigger kept written (Ok (Attach (record { number = written.number; left = trigger.count; filter = trigger.filter })))
+attach-done trigger kept written none few = λ event name past number are is.
+    let room : trigger_count (trigger_of name event past) (left_by name past event written.append) < 4 =
+    omega (arith, few, count-left name past event kept written.append are) in (
+      attach-answer trigger kept written event name past are none is
+          ∙ room-had (trigger_of name event past) (left_by name past event written.append) room,
+      record {
+        snapshot = snapshot-attached name past event written.append written.text.now trigger is
+            ∙ ap (λ (n : ℕ). (let t : Option Trigger = Some (record { number = n; left = trigger.count; filter = trigger.filter }) in t)) number;
+        hists = hists-stay name past event written.append written.text.now (Ok (said.Attach trigger)) is (λ t. refl) refl;
+        spare = rw is refl;
+      },
+    )
+
+pub text-detaches : (event : Definition) (kept : EventTriggers) (written : Written) → said_of event written.text.now ≡ Ok said.Remove
+    → is_some kept.snapshot ≡ true → IsChangeOf event kept written (Ok Detach)
+text-detaches event kept written is some = λ name past number are.
+    let there = some-snapshot name past event kept are some in (
+      answered name past event written.append written.text.now (Ok said.Remove) is
+          ∙ ap (λ (o : Option triggers.Trigger). said_answer written.append o (left_by name past event written.append) (Ok said.Remove)) there.1,
+      record {
+        snapshot = snapshot-removed name past event written.append written.text.now is;
+        hists = hists-stay name past event written.append written.text.now (Ok said.Remove) is (λ t. refl) refl;
+        spare = rw is refl;
+      },
+    )
+
+pub text-lacks : (event : Definition) (kept : EventTriggers) (written : Written) → said_of event written.text.now ≡ Ok said.Remove
+    → is_some kept.snapshot ≡ false → IsChangeOf event kept written (Err refusal.NoSuchTrigger)
+text-lacks event kept written is none = λ name past number are.
+    refused refusal.NoSuchTrigger (trigger_answer name past written.append written.text.now event)
+    (answered name past event written.append written.text.now (Ok said.Remove) is
+    ∙ ap (λ (o : Option triggers.Trigger). said_answer written.append o (left_by name past event written.append) (Ok said.Remove))
+    (no-snapshot name past event kept are none))
+
+-- ---- hist triggers
+
+ask-answer : (spec : SpecSeen) (kept : EventTriggers) (written : Written) (same : Bool) (event : Definition) (name : Option (List ℕ)) (past : List Request)
+    → (written.append && list_any (says_same spec) kept.hists.now) ≡ same → AreKept name past event kept
+    → said_of event written.text.now ≡ Ok (said.Hist spec)
+    → trigger_answer name past written.append written.text.now event
+    ≡ (if same then asked_answer spec.action else new_hist_answer (trigger_of name event past) (left_by name past event written.append) spec.action)
+ask-answer spec kept written same event name past at are is =
+    answered name past event written.append written.text.now (Ok (said.Hist spec)) is
+    ∙ ap
+    (λ (b : Bool). if b then asked_answer spec.action else new_hist_answer (trigger_of name event past) (left_by name past event written.append) spec.action)
+    (has-same_left name past event kept spec written.append are ∙ at)
+
+ask-refused : (spec : SpecSeen) (kept : EventTriggers) (written : Written) → (written.append && list_any (says_same spec) kept.hists.now) ≡ true
+    → spec.action ≡ action.Attach → IsAsked spec kept written (Err refusal.TriggerExists)
+ask-refused spec kept written same attach = λ event name past number are is.
+    refused refusal.TriggerExists (trigger_answer name past written.append written.text.now event)
+    (ask-answer spec kept written true event name past same are is ∙ ap asked_answer attach)
+
+asked-done : (asked : Action) → (asked ≡ action.Attach → ⊥) → asked_answer asked ≡ Ok Done
+asked-done action.Attach other = absurd (other refl)
+asked-done action.Pause other = refl
+asked-done action.Continue other = refl
+asked-done action.Clear other = refl
+
+ask-done : (spec : SpecSeen) (kept : EventTriggers) (written : Written) → (written.append && list_any (says_same spec) kept.hists.now) ≡ true
+    → (spec.action ≡ action.Attach → ⊥) → IsAsked spec kept written (Ok (AskHist spec))
+ask-done spec kept written same other = λ event name past number are is. (
+  ask-answer spec kept written true event name past same are is ∙ asked-done spec.action other,
+  record {
+    snapshot = snapshot-stays name past event written.append written.text.now (Ok (said.Hist spec)) is refl;
+    hists = hists-asked name past event written.append written.text.now spec is (has-same_left name past event kept spec written.append are ∙ same);
+    spare = rw is refl;
+  },
+)
+
+-- what is asked of one that is attached
+pub ask-again : (spec : SpecSeen) (kept : EventTriggers) (written : Written) → (written.append && list_any (says_same spec) kept.hists.now) ≡ true
+    → IsAsked spec kept written (asked_change spec.action spec)
+ask-again spec kept written same = by spec.action refl
+  where
+    by : (a : Action) → spec.action ≡ a → IsAsked spec kept written (asked_change a spec)
+    by action.Attach is = ask-refused spec kept written same is
+    by action.Pause is = ask-done spec kept written same (λ other. let h : action.Pause ≡ action.Attach = sym is ∙ other in absurd (cc))
+    by action.Continue is = ask-done spec kept written same (λ other. let h : action.Continue ≡ action.Attach = sym is ∙ other in absurd (cc))
+    by action.Clear is = ask-done spec kept written same (λ other. let h : action.Clear ≡ action.Attach = sym is ∙ other in absurd (cc))
+
+-- where none says the same
+new-lacks : (attached : Option triggers.Trigger) (hists : List HistTrigger) (asked : Action) → attaches asked ≡ false
+    → new_hist_answer attached hists asked ≡ Err refusal.NoSuchTrigger
+new-lacks attached hists action.Attach lacking = absurd (cc)
+new-lacks attached hists action.Pause lacking = absurd (cc)
+new-lacks attached hists action.Continue lacking = refl
+new-lacks attached hists action.Clear lacking = refl
+
+new-attaches : (attached : Option triggers.Trigger) (hists : List HistTrigger) (asked : Action) → attaches asked ≡ true
+    → new_hist_answer attached hists asked ≡ room_answer attached hists
+new-attaches attached hists action.Attach attaching = refl
+new-attaches attached hists action.Pause attaching = refl
+new-attaches attached hists action.Continue attaching = absurd (cc)
+new-attaches attached hists action.Clear attaching = absurd (cc)
+
+pub ask-lacks : (spec : SpecSeen) (kept : EventTriggers) (written : Written) → (written.append && list_any (says_same spec) kept.hists.now) ≡ false
+    → attaches spec.action ≡ false → IsAsked spec kept written (Err refusal.NoSuchTrigger)
+ask-lacks spec kept written none lacking = λ event name past number are is.
+    refused refusal.NoSuchTrigger (trigger_answer name past written.append written.text.now event)
+    (ask-answer spec kept written false event name past none are is
+    ∙ new-lacks (trigger_of name event past) (left_by name past event written.append) spec.action lacking)
+
+room-answer : (spec : SpecSeen) (kept : EventTriggers) (written : Written) (event : Definition) (name : Option (List ℕ)) (past : List Request)
+    → (written.append && list_any (says_same spec) kept.hists.now) ≡ false → attaches spec.action ≡ true → AreKept name past event kept
+    → said_of event written.text.now ≡ Ok (said.Hist spec)
+    → trigger_answer name past written.append written.text.now event ≡ room_answer (trigger_of name event past) (left_by name past event written.append)
+room-answer spec kept written event name past none attaching are is =
+    ask-answer spec kept written false event name past none are is
+    ∙ new-attaches (trigger_of name event past) (left_by name past event written.append) spec.action attaching
+
+pub ask-full : (spec : SpecSeen) (kept : EventTriggers) (written : Written) → (written.append && list_any (says_same spec) kept.hists.now) ≡ false
+    → attaches spec.action ≡ true → 4 ≤ kept_count kept written.append → IsAsked spec kept written (Err refusal.TooMany)
+ask-full spec kept written none attaching many = λ event name past number are is.
+    let full : 4 ≤ trigger_count (trigger_of name event past) (left_by name past event written.append) =
+    omega (arith, many, count-left name past event kept written.append are) in
+    refused refusal.TooMany (trigger_answer name past written.append written.text.now event)
+    (room-answer spec kept written event name past none attaching are is
+    ∙ room-full (trigger_of name event past) (left_by name past event written.append) full)
+
+done-late : (answer : Result Reply Refusal) → answer ≡ Ok Done → IsRefusal refusal.Memory answer
+done-late answer is = (λ other. absurd (other refl), λ early. absurd (rw is at early))
+
+pub ask-memory : (spec : SpecSeen) (kept : EventTriggers) (written : Written) → (written.append && list_any (says_same spec) kept.hists.now) ≡ false
+    → attaches spec.action ≡ true → kept_count kept written.append < 4 → IsAsked spec kept written (Err refusal.Memory)
+ask-memory spec kept written none attaching few = λ event name past number are is.
+    let room : trigger_count (trigger_of name event past) (left_by name past event written.append) < 4 =
+    omega (arith, few, count-left name past event kept written.append are) in
+    done-late (trigger_answer name past written.append written.text.now event)
+    (room-answer spec kept written event name past none attaching are is
+    ∙ room-had (trigger_of name event past) (left_by name past event written.append) room)
+
+pub ask-attached : (spec : SpecSeen) (kept : EventTriggers) (written : Written) (attached : AttachedHist)
+    → (written.append && list_any (says_same spec) kept.hists.now) ≡ false → attaches spec.action ≡ true → kept_count kept written.append < 4
+    → kept_of attached ≡ new_kept written.number spec → IsAsked spec kept written (Ok (AttachHist attached))
+ask-attached spec kept written attached none attaching few new = λ event name past number are is.
+    let room : trigger_count (trigger_of name event past) (left_by name past event written.append) < 4 =
+    omega (arith, few, count-left name past event kept written.append are) in
+    let before : List KeptHist = if written.append then kept_hists name past event else [] in (
+      room-answer spec kept written event name past none attaching are is
+          ∙ room-had (trigger_of name event past) (left_by name past event written.append) room,
+      record {
+        snapshot = snapshot-stays name past event written.append written.text.now (Ok (said.Hist spec)) is refl;
+        hists = hists-attached name past event written.append written.text.now spec is (has-same_left name past event kept spec written.append are ∙ none)
+            ∙ ap (λ (n : ℕ). before ++ new_kept n spec ∷ []) number
+            ∙ ap (λ (k : KeptHist). before ++ k ∷ []) (sym new);
+        spare = rw is refl;
+      },
+    )
+
+-- what a new one keeps
+pub paused-as : (paused : Bool) (asked : Action) → (IsTrue paused → asked ≡ action.Pause) → (asked ≡ action.Pause → IsTrue paused) → paused ≡ is_pause asked
+paused-as true asked one other = let is : asked ≡ action.Pause = one refl in rw is refl
+paused-as false action.Pause one other = absurd (false≢true (other refl))
+paused-as false action.Attach one other = refl
+paused-as false action.Continue one other = refl
+paused-as false action.Clear one other = refl
+
+pub kept-new : (number : ℕ) (hist : Seen) (spec : SpecSeen) → hist.spec ≡ spec → StandsFor hist []
+    → (IsTrue hist.paused ↔ (spec.action ≡ action.Pause)) → kept_of (record { number = number; hist = hist }) ≡ new_kept number spec
+unfolding StandsFor
+kept-new number hist spec is stands paused =
+    let as_asked : hist.paused ≡ is_pause spec.action = paused-as hist.paused spec.action paused.0 paused.1 in
+    let empty : hist.table ≡ grouped spec [] = stands ∙ ap (λ (s : SpecSeen). grouped s []) is in
+    λ i. record { number = number; spec = is i; paused = as_asked i; table = empty i }
+
+-- ---- removals
+
+removed-answer : (append same : Bool) (event : Definition) (kept : EventTriggers) (written : Written) (spec : SpecSeen) (name : Option (List ℕ)) (past : List Request)
+    → written.append ≡ append → list_any (says_same spec) kept.hists.now ≡ same → AreKept name past event kept
+    → said_of event written.text.now ≡ Ok (said.RemoveHist spec)
+    → trigger_answer name past written.append written.text.now event ≡ (if not append || same then Ok Done else Err refusal.NoSuchTrigger)
+removed-answer true same event kept written spec name past appends is are says =
+    answered name past event written.append written.text.now (Ok (said.RemoveHist spec)) says
+    ∙ ap (λ (b : Bool). remove_hist_answer b (left_by name past event b) spec) appends
+    ∙ ap (λ (b : Bool). (let a : Result Reply Refusal = if b then Ok Done else Err refusal.NoSuchTrigger in a)) (has-same name past event kept spec are ∙ is)
+removed-answer false same event kept written spec name past appends is are says =
+    answered name past event written.append written.text.now (Ok (said.RemoveHist spec)) says
+    ∙ ap (λ (b : Bool). remove_hist_answer b (left_by name past event b) spec) appends
+
+removed-changes : (event : Definition) (kept : EventTriggers) (written : Written) (spec : SpecSeen) (name : Option (List ℕ)) (past : List Request)
+    → trigger_answer name past written.append written.text.now event ≡ Ok Done → said_of event written.text.now ≡ Ok (said.RemoveHist spec)
+    → IsTriggerChange name past event written (Ok (DetachHist spec))
+removed-changes event kept written spec name past done is = (
+  done,
+  record {
+    snapshot = snapshot-stays name past event written.append written.text.now (Ok (said.RemoveHist spec)) is refl;
+    hists = hists-removed name past event written.append written.text.now spec is;
+    spare = rw is refl;
+  },
+)
+
+pub text-removes : (event : Definition) (kept : EventTriggers) (written : Written) (spec : SpecSeen)
+    → said_of event written.text.now ≡ Ok (said.RemoveHist spec) → (not written.append || list_any (says_same spec) kept.hists.now) ≡ true
+    → IsChangeOf event kept written (Ok (DetachHist spec))
+text-removes event kept written spec is at = λ name past number are.
+    removed-changes event kept written spec name past
+    (removed-answer written.append (list_any (says_same spec) kept.hists.now) event kept written spec name past refl refl are is
+    ∙ ap (λ (b : Bool). (let a : Result Reply Refusal = if b then Ok Done else Err refusal.NoSuchTrigger in a)) at) is
+
+pub text-removes_none : (event : Definition) (kept : EventTriggers) (written : Written) (spec : SpecSeen)
+    → said_of event written.text.now ≡ Ok (said.RemoveHist spec) → (not written.append || list_any (says_same spec) kept.hists.now) ≡ false
+    → IsChangeOf event kept written (Err refusal.NoSuchTrigger)
+text-removes_none event kept written spec is at = λ name past number are.
+    refused refusal.NoSuchTrigger (trigger_answer name past written.append written.text.now event)
+    (removed-answer written.append (list_any (says_same spec) kept.hists.now) event kept written spec name past refl refl are is
+    ∙ ap (λ (b : Bool). (let a : Result Reply Refusal = if b then Ok Done else Err refusal.NoSuchTrigger in a)) at)

@@ -1,0 +1,15 @@
+use Rattle.std.proofs.Common.{◌≡◌, ℕ, ◌≤◌, ◌<◌, length, slice_index_or}
+use Rattle.trace_book.specs.States.{CanCountRow}
+use Rattle.trace_book.specs.Instances.{IsAlike}
+use Rattle.trace_book.specs.declared.state.Named.{Named}
+use Rattle.trace_book.proofs.emission.reserve_each.Given as goal
+
+abbrev pub invariant-loop-i : goal.invariant-loop-i
+invariant-loop-i l = record {
+  many : length l.instances ≡ length l.fn.instances;
+  names : (k : ℕ) (d : Named) → (slice_index_or l.instances k d).name ≡ (slice_index_or l.fn.instances k d).name;
+  alike : (k : ℕ) (d : Named) → k < l.i → IsAlike (slice_index_or l.fn.instances k d).instance (slice_index_or l.instances k d).instance;
+  counted : (k : ℕ) (d : Named) → k < l.i → CanCountRow (record { values = l.fn.row.values; cpu = l.fn.cpu; pid = l.fn.pid }) l.fn.event
+      (slice_index_or l.instances k d).instance;
+  left : (k : ℕ) (d : Named) → l.i ≤ k → slice_index_or l.instances k d ≡ slice_index_or l.fn.instances k d;
+}

@@ -1,0 +1,89 @@
+-- What a trigger text changes of an event's triggers, by what an instance keeps of them.
+use Rattle.std.specs.Prelude.{◌≡◌, ℕ, ◌+◌, Bool, true, false, is_some, if◌then◌else◌, List, [], ◌∷◌, length, map, Option, Some, None, Result, Ok, Err, option_copied}
+use Rattle.trace_format.specs.Definitions.{Definition}
+use Rattle.trace_hist.specs.HistSpecs.{SpecSeen}
+use Rattle.trace_hist.specs.declared.spec.Action.{Action}
+use Rattle.trace_hist.specs.declared.spec.Action.TheVariants as action
+use Rattle.trace_trigger.specs.TriggerTexts.{said_of}
+use Rattle.trace_trigger.specs.declared.trigger.SnapshotTrigger.{SnapshotTrigger}
+use Rattle.trace_trigger.specs.declared.trigger.TriggerText.{TriggerText}
+use Rattle.trace_trigger.specs.declared.trigger.TriggerText.TheVariants as said
+use Rattle.trace_command.specs.Paths.{EventTrigger}
+use Rattle.trace_command.specs.Refusals.{IsRefusal}
+use Rattle.trace_command.specs.Requests.{Request, WriteFile}
+use Rattle.trace_command.specs.declared.command.Reply.TheVariants.{Done}
+use Rattle.trace_command.specs.declared.refusal.Refusal.{Refusal}
+use Rattle.trace_command.specs.declared.refusal.Refusal.TheVariants.{TriggerExists}
+use Rattle.trace_history.specs.History.{trigger_answer}
+use Rattle.trace_history.specs.Snapshots.{spare_armed}
+use Rattle.trace_book.specs.Changes.{hists_changed, trigger_changed}
+use Rattle.trace_book.specs.Instances.{kept_trigger}
+use Rattle.trace_book.specs.KeptHists.{kept_hists, kept_of}
+use Rattle.trace_book.specs.declared.attach.EventTriggers.{EventTriggers}
+use Rattle.trace_book.specs.declared.change.TriggerChange.{TriggerChange}
+use Rattle.trace_book.specs.declared.change.TriggerChange.TheVariants.{Attach, AskHist}
+use Rattle.trace_book.specs.declared.write.Written.{Written}
+
+-- what is kept of an event's triggers agrees with the requests
+pub record AreKept (name : Option (List ℕ)) (past : List Request) (event : Definition) (triggers : EventTriggers) : Type 0 where
+  pub snapshot : option_copied triggers.snapshot ≡ kept_trigger name past event
+  pub hists : map kept_of triggers.hists.now ≡ kept_hists name past event
+
+-- the request that writes a text to the event's trigger file
+abbrev pub write_of : Option (List ℕ) → Definition → Written → Request
+write_of name event written = WriteFile name (Some (EventTrigger event.name)) written.append written.text.now
+
+-- whether there is a spare after a change: a hist trigger needs none
+abbrev pub arms : TriggerChange → Option Bool
+arms (Attach trigger) = Some true
+arms change = None
+
+-- a change says of an event's triggers what the definitions say of such a request
+pub record IsTriggerEffect (name : Option (List ℕ)) (past : List Request) (event : Definition) (written : Written) (change : TriggerChange) : Type 0 where
+  pub snapshot : kept_trigger name (write_of name event written ∷ past) event ≡ trigger_changed change (kept_trigger name past event)
+  pub hists : kept_hists name (write_of name event written ∷ past) event
+      ≡ hists_changed change (if written.append then kept_hists name past event else [])
+  pub spare : spare_armed (said_of event written.text.now) ≡ arms change
+
+abbrev pub IsTriggerChange : Option (List ℕ) → List Request → Definition → Written → Result TriggerChange Refusal → Type 0
+IsTriggerChange name past event written (Ok change) =
+    (trigger_answer name past written.append written.text.now event ≡ Ok Done) × IsTriggerEffect name past event written change
+IsTriggerChange name past event written (Err refusal) = IsRefusal refusal (trigger_answer name past written.append written.text.now event)
+
+-- what a text changes, after as many requests as its number says
+abbrev pub IsChangeOf : Definition → EventTriggers → Written → Result TriggerChange Refusal → Type 0
+IsChangeOf event triggers written result =
+    (name : Option (List ℕ)) (past : List Request) → length past ≡ written.number → AreKept name past event triggers
+    → IsTriggerChange name past event written result
+
+-- ---- the parts of it
+
+-- how many triggers there are, of those that `>` or `>>` leaves
+abbrev pub kept_count : EventTriggers → Bool → ℕ
+kept_count triggers append = (if append then length triggers.hists.now else 0) + (if is_some triggers.snapshot then 1 else 0)
+
+-- what is changed by a text that says this
+abbrev pub IsSaidChange : TriggerText → EventTriggers → Written → Result TriggerChange Refusal → Type 0
+IsSaidChange what triggers written result =
+    (event : Definition) (name : Option (List ℕ)) (past : List Request) → length past ≡ written.number → AreKept name past event triggers
+    → said_of event written.text.now ≡ Ok what → IsTriggerChange name past event written result
+
+-- a trigger for snapshots
+abbrev pub IsAttached : SnapshotTrigger → EventTriggers → Written → Result TriggerChange Refusal → Type 0
+IsAttached trigger = IsSaidChange (said.Attach trigger)
+
+-- a hist trigger
+abbrev pub IsAsked : SpecSeen → EventTriggers → Written → Result TriggerChange Refusal → Type 0
+IsAsked spec = IsSaidChange (said.Hist spec)
+
+-- what is changed where one that is attached says the same
+abbrev pub asked_change : Action → SpecSeen → Result TriggerChange Refusal
+asked_change action.Attach spec = Err TriggerExists
+asked_change asked spec = Ok (AskHist spec)
+
+-- whether a hist trigger is attached where none says the same
+abbrev pub attaches : Action → Bool
+attaches action.Attach = true
+attaches action.Pause = true
+attaches action.Continue = false
+attaches action.Clear = false

@@ -1,0 +1,79 @@
+-- Hist triggers as an instance keeps them: what of them agrees with the requests, and what is done to them.
+use Rattle.std.specs.Prelude.{◌≡◌, ℕ, ◌<◌, ◌^◌, Bool, true, not, if◌then◌else◌, List, [], ◌∷◌, ◌++◌, length, map, slice_index_or, Option, Some}
+use Rattle.std.specs.List.{filter}
+use Rattle.trace_filter.specs.Truth.{Emission}
+use Rattle.trace_format.specs.Definitions.{Definition}
+use Rattle.trace_hist.specs.Groups.{Table, grouped}
+use Rattle.trace_hist.specs.HistSpecs.{SpecSeen}
+use Rattle.trace_hist.specs.Hists.{IsReserved, counted}
+use Rattle.trace_hist.specs.Triggers.{is_same, is_passed}
+use Rattle.trace_hist.specs.declared.spec.Action.{Action}
+use Rattle.trace_command.specs.Requests.{Request}
+use Rattle.trace_history.specs.HistTriggers.{HistTrigger, empties, hists_of, is_paused, paused_after, table_of}
+use Rattle.trace_book.specs.declared.hists.AttachedHist.{AttachedHist}
+
+-- what of a hist trigger agrees with the requests: which request attached it, what it says, whether it is paused, its entries and totals
+pub record KeptHist : Type 0 where
+  pub number : ℕ
+  pub spec : SpecSeen
+  pub paused : Bool
+  pub table : Table
+
+abbrev pub kept_of : AttachedHist → KeptHist
+kept_of attached =
+    record { number = attached.number; spec = attached.hist.spec; paused = attached.hist.paused; table = attached.hist.table }
+
+abbrev pub says_same : SpecSeen → AttachedHist → Bool
+says_same spec attached = is_same spec attached.hist.spec
+
+-- ---- what the requests say
+
+-- a hist trigger of an event as the requests have it
+abbrev pub kept_as : Option (List ℕ) → List Request → Definition → HistTrigger → KeptHist
+kept_as name past event t = record { number = t.number; spec = t.spec; paused = is_paused name event t past; table = table_of name event t past }
+
+-- those of an event, in the order in which they were attached
+abbrev pub kept_hists : Option (List ℕ) → List Request → Definition → List KeptHist
+kept_hists name past event = map (kept_as name past event) (hists_of name event past)
+
+-- ---- what is done to them
+
+-- what a text asks for that says the same
+abbrev pub asked : Action → KeptHist → KeptHist
+asked action k = record {
+  number = k.number;
+  spec = k.spec;
+  paused = paused_after (Some action) k.paused;
+  table = if empties (Some action) then grouped k.spec [] else k.table;
+}
+
+abbrev pub asked_same : SpecSeen → KeptHist → KeptHist
+asked_same spec k = if is_same spec k.spec then asked spec.action k else k
+
+-- those that say the same are removed
+abbrev pub without_same : SpecSeen → List KeptHist → List KeptHist
+without_same spec hists = filter (λ k. not (is_same spec k.spec)) hists
+
+-- memory is at hand to count an emission, if the trigger's filter passes that
+abbrev pub CanCount : Emission → AttachedHist → Type 0
+CanCount emission attached = is_passed attached.hist.spec.filter emission ≡ true → IsReserved attached.hist emission
+
+-- fewer than 2^32 rows were counted
+abbrev pub HasRoomToCount : AttachedHist → Type 0
+HasRoomToCount attached = counted attached.hist < 2 ^ 32
+
+-- the rows that it counts of an emission
+abbrev pub rows_counted : KeptHist → Emission → List Emission
+rows_counted k emission = if k.paused then [] else (if is_passed k.spec.filter emission then emission ∷ [] else [])
+
+-- an emission reached it
+pub record IsHit (emission : Emission) (old new : KeptHist) : Type 0 where
+  pub number : new.number ≡ old.number
+  pub spec : new.spec ≡ old.spec
+  pub paused : new.paused ≡ old.paused
+  pub table : (rows : List Emission) → old.table ≡ grouped old.spec rows → new.table ≡ grouped old.spec (rows ++ rows_counted old emission)
+
+-- an emission reached each
+pub record AreHit (emission : Emission) (old new : List KeptHist) : Type 0 where
+  pub many : length new ≡ length old
+  pub each : (k : ℕ) (d : KeptHist) → k < length old → IsHit emission (slice_index_or old k d) (slice_index_or new k d)

@@ -1,0 +1,156 @@
+//! Trigger texts: what is changed by one that is written for an event (events.rst, "Event triggers"; histogram.rst, "hist triggers").
+
+ghost use Rattle.std.specs.Prelude.{◌≡◌, ◌<◌, ◌≤◌, not, ◌&&◌, ◌||◌, List, [], length, slice_index_or, None, option_copied, OnOk, IfErr};
+ghost use Rattle.std.specs.List.{list_any};
+ghost use Rattle.trace_book.specs.Attaching as attaching;
+ghost use Rattle.trace_book.specs.KeptHists.{says_same};
+
+use crate::change::TriggerChange;
+use crate::hists::{AttachedHist, EventHists};
+use crate::instance::Instance;
+use crate::trigger::Trigger;
+use crate::write::Written;
+use std::alloc::Global;
+use trace_command::Refusal;
+use trace_format::EventDef;
+use trace_hist::{Action, Hist, HistSpec};
+use trace_trigger::{SnapshotTrigger, TriggerText};
+
+/// How many triggers an event may have in an instance, of all kinds.
+const MOST_TRIGGERS: usize = 4;
+
+/// The triggers that an event has in an instance.
+#[derive(Clone, Copy)]
+pub(crate) struct EventTriggers<'a> {
+    snapshot: Option<&'a Trigger>,
+    hists: &'a EventHists,
+}
+
+impl EventTriggers<'_> {
+    /// Those of the event at this place.
+    pub(crate) fn of(instance: &Instance, event: usize) -> EventTriggers<'_>
+        requires triggers { event < length instance.now.triggers }
+        requires hists { event < length instance.now.hists }
+        ensures snapshot { option_copied result.snapshot ≡ slice_index_or instance.now.triggers event None }
+        ensures hists { result.hists.now ≡ slice_index_or instance.now.hists event [] }
+    {
+        EventTriggers {
+            snapshot: instance.trigger(event),
+            hists: instance.hists(event),
+        }
+    }
+
+    /// What a text changes that is written for the event.
+    pub(crate) fn written(
+        self,
+        alloc: Global,
+        event: &EventDef,
+        written: Written<'_>,
+    ) -> Result<TriggerChange, Refusal>
+        ensures { attaching.IsChangeOf event.now self.entry written.entry result }
+    {
+        match TriggerText::parse(alloc, written.text, event)? {
+            TriggerText::Nothing => Ok(TriggerChange::Keep),
+            TriggerText::Attach(trigger) => self.attached(written, trigger),
+            TriggerText::Remove if self.snapshot.is_some() => Ok(TriggerChange::Detach),
+            TriggerText::Remove => Err(Refusal::NoSuchTrigger),
+            TriggerText::Hist(spec) => self.asked(alloc, written, spec),
+            TriggerText::RemoveHist(spec) if self.removes(written.append, &spec) => {
+                Ok(TriggerChange::DetachHist(spec))
+            }
+            TriggerText::RemoveHist(_) => Err(Refusal::NoSuchTrigger),
+        }
+    }
+
+    // A trigger for snapshots, of which an event has at most one.
+    fn attached(
+        self,
+        written: Written<'_>,
+        trigger: SnapshotTrigger,
+    ) -> Result<TriggerChange, Refusal>
+        ensures { attaching.IsAttached trigger self.entry written.entry result }
+    {
+        if self.snapshot.is_some() {
+            return Err(Refusal::TriggerExists);
+        }
+        self.check_room(written.append)?;
+        Ok(TriggerChange::Attach(Trigger::new(written.number, trigger)))
+    }
+
+    // A hist trigger: the same one that is attached does what is asked for, or a new one is attached.
+    fn asked(
+        self,
+        alloc: Global,
+        written: Written<'_>,
+        spec: HistSpec,
+    ) -> Result<TriggerChange, Refusal>
+        ensures { attaching.IsAsked spec self.entry written.entry result }
+    {
+        if self.finds(written.append, &spec) {
+            return asked_again(spec);
+        }
+        if !attaches(spec.action()) {
+            return Err(Refusal::NoSuchTrigger);
+        }
+        self.check_room(written.append)?;
+        let hist = Hist::new(alloc, spec)?;
+        Ok(TriggerChange::AttachHist(AttachedHist {
+            number: written.number,
+            hist,
+        }))
+    }
+
+    // Whether one of those that are left says the same.
+    fn finds(self, append: bool, spec: &HistSpec) -> bool
+        ensures { result ≡ (append && list_any (says_same spec.now) self.entry.hists.now) }
+    {
+        append && self.hists.has_same(spec)
+    }
+
+    // Whether a removal is done: by `>`, which takes all of them away, it always is.
+    fn removes(self, append: bool, spec: &HistSpec) -> bool
+        ensures { result ≡ (not append || list_any (says_same spec.now) self.entry.hists.now) }
+    {
+        !append || self.hists.has_same(spec)
+    }
+
+    // Whether there is room for one more trigger.
+    fn check_room(self, append: bool) -> Result<(), Refusal>
+        ensures room { OnOk result (attaching.kept_count self.entry append < 4) }
+        ensures full { IfErr result (λ refusal. (refusal ≡ Refusal.TooMany) × (4 ≤ attaching.kept_count self.entry append)) }
+    {
+        let hists = if append {
+            self.hists.as_slice().len()
+        } else {
+            0
+        };
+        let snapshots = if self.snapshot.is_some() { 1 } else { 0 };
+        if hists + snapshots < MOST_TRIGGERS {
+            Ok(())
+        } else {
+            Err(Refusal::TooMany)
+        }
+    }
+}
+
+// What is asked of a hist trigger that is attached.
+fn asked_again(spec: HistSpec) -> Result<TriggerChange, Refusal>
+    ensures { result ≡ attaching.asked_change spec.action spec }
+{
+    match spec.action() {
+        Action::Attach => Err(Refusal::TriggerExists),
+        Action::Pause => Ok(TriggerChange::AskHist(spec)),
+        Action::Continue => Ok(TriggerChange::AskHist(spec)),
+        Action::Clear => Ok(TriggerChange::AskHist(spec)),
+    }
+}
+
+// Whether a text attaches a hist trigger where none says the same.
+fn attaches(action: Action) -> bool
+    ensures { result ≡ attaching.attaches action }
+{
+    match action {
+        Action::Attach | Action::Pause => true,
+        Action::Continue | Action::Clear => false,
+    }
+}

@@ -1,0 +1,11 @@
+use Rattle.trace_history.proofs.CountedRows.{pauses_count_nothing, clears_leave_none, other_requests_leave_hist_triggers}
+use Rattle.trace_history.proofs.laws.only_their_own_file_changes_hist_triggers.Goals as goal
+
+pub returns-clause-pause : goal.returns-clause-pause
+returns-clause-pause c = pauses_count_nothing
+
+pub returns-clause-clear : goal.returns-clause-clear
+returns-clause-clear c = clears_leave_none
+
+pub returns-clause-others : goal.returns-clause-others
+returns-clause-others c = other_requests_leave_hist_triggers

@@ -1,0 +1,11 @@
+use Rattle.trace_history.proofs.HistTriggers.{at_most_four_triggers, hist_triggers_differ, hist_triggers_are_in_order}
+use Rattle.trace_history.proofs.laws.triggers_are_few_and_differ.Goals as goal
+
+pub returns-clause-few : goal.returns-clause-few
+returns-clause-few c = at_most_four_triggers
+
+pub returns-clause-differ : goal.returns-clause-differ
+returns-clause-differ c = hist_triggers_differ
+
+pub returns-clause-order : goal.returns-clause-order
+returns-clause-order c = hist_triggers_are_in_order
