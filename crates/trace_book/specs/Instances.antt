@@ -69,7 +69,7 @@ hists_kept hists = map (λ attached. map kept_of attached) hists
 abbrev pub side_families : Config → Option (List ℕ) → List Request → SideFamilies
 side_families g name past = record { live = rings g name past; spare = spare_rings g name past }
 
--- a side that is no spare is empty, and there is a spare where one of these events has a trigger
+-- a side that is no spare is empty, and there is a spare where one of these events has a trigger for snapshots
 pub record IsSpared (g : Config) (name : Option (List ℕ)) (events : List Definition) (past : List Request) : Type 0 where
   pub unused : has_spare name past ≡ false → other_rings g name past ≡ replicate g.cpus []
   pub armed : list_any (λ event. is_some (trigger_of name event past)) events ≡ true → has_spare name past ≡ true

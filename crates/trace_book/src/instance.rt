@@ -134,7 +134,7 @@ impl Instance {
         self.filters[event].as_ref()
     }
 
-    /// The trigger of the event at this place.
+    /// The snapshot trigger of the event at this place.
     pub(crate) fn trigger(&self, event: usize) -> Option<&Trigger>
         requires { event < length self.now.triggers }
         ensures { option_copied result ≡ slice_index_or self.now.triggers event None }
@@ -208,7 +208,7 @@ impl Instance {
         self.hists.push_reserved(EventHists::new(self.alloc));
     }
 
-    /// Makes a change. The only error is that memory for a spare side is refused, and then nothing is changed.
+    /// Makes a change. The only error is that memory for a spare side or for one more hist trigger is refused, and then nothing is changed.
     pub(crate) fn apply(&mut self, change: InstanceChange) -> Result<(), AllocError>
         requires { changes.IsLawful self.old change }
         ensures applied { OnOk result (changes.IsApplied change self.old self.new) }
@@ -286,8 +286,8 @@ impl Instance {
         self.hists[event].reserve(row, cpu, pid)
     }
 
-    /// Looks whether an emission of the event at this place is recorded, and whether it makes the event's trigger act; keeps both, and tells
-    /// the first. It is recorded where tracing is on, the event is enabled, and its filter passes. The trigger heeds its own filter alone.
+    /// Looks whether an emission of the event at this place is recorded, and whether it makes the event's snapshot trigger act; keeps both,
+    /// and tells the first. It is recorded where tracing is on, the event is enabled, and its filter passes. The trigger heeds its own filter alone.
     #[tactic(auto, unfolding(crate::specs::Rows::kept_holds))]
     pub(crate) fn arm(&mut self, event: usize, row: &Row, cpu: u32, pid: i32) -> bool
         requires enabled { event < length self.old.enabled }

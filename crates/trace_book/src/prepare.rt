@@ -1,5 +1,5 @@
-//! Commands are prepared before anything changes: all memory that they need is taken here, but for the lists of events, of instances and of
-//! entries.
+//! Commands are prepared before anything changes: all memory that they need is taken here, but for the lists of events, of instances, of hist
+//! triggers and of entries, and for a spare side.
 
 ghost use Rattle.std.specs.Prelude.{◌≡◌, ℕ, ◌^◌, ◌<◌, ◌≤◌, true, List, length, Option, Some, OnOk};
 ghost use Rattle.trace_command.specs.Configs.{IsInRange};

@@ -37,8 +37,8 @@ pub(crate) struct Prepared {
 }
 
 impl State {
-    /// Makes a change for which all memory is at hand but that of the lists of events and of instances, and of a spare side. If that is refused,
-    /// nothing is changed.
+    /// Makes a change for which all memory is at hand but that of the lists of events and of instances, of a spare side and of one more hist
+    /// trigger. If that is refused, nothing is changed.
     pub(crate) fn commit(&mut self, config: &Config, change: Change) -> Result<(), Refusal>
         requires usable { states.IsUsable config.now self.old }
         requires ready { states.IsReady config.now self.old change }

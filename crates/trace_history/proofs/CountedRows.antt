@@ -13,7 +13,7 @@ use Rattle.trace_command.specs.Paths.{EventTrigger}
 use Rattle.trace_command.specs.Requests.{Request, WriteFile, Emission as Emits}
 use Rattle.trace_history.specs.Emissions.{Emitted, emitted}
 use Rattle.trace_history.specs.HistTriggers.{HistTrigger, Written, written_to, hists_after, hists_of, asked_by, paused_after, is_paused, counted_row, counted_by, empties, hits_of}
-use Rattle.trace_history.specs.Laws.{asks, clears, meets, IsRowOfEmission, CountedRowsAreOfEmissions, EmissionsAreCounted, PausesCountNothing, ClearsLeaveNone, OtherRequestsLeaveHistTriggers}
+use Rattle.trace_history.specs.Laws.{asks, clears, meets, IsRowOfEmission, CountedRowsAreOfEmissions, EmissionsAreCountedOnce, EmissionsAreCounted, PausesCountNothing, ClearsLeaveNone, OtherRequestsLeaveHistTriggers}
 use Rattle.trace_history.proofs.HistTriggers.{hists_of-after, same-back}
 use Rattle.trace_history.proofs.PipeReads.{is_same-self}
 
@@ -133,12 +133,16 @@ counted_rows_are_of_emissions instance event t (request ∷ past) = by (counted_
 
 -- ---- and the row of each emission is counted
 
+pub emissions_are_counted_once : EmissionsAreCountedOnce
+emissions_are_counted_once instance event t past request e attached active emission met =
+    let unwritten = emitted-unwritten instance event past request e emission in
+    let cleared : clears instance event t request ≡ false = rw unwritten refl in
+    let new : counted_by event t (is_paused instance event t past) (emitted past request) ≡ counted_row e ∷ [] = rw (active, emission, met) refl in
+    hits-after instance event t past request attached cleared ∙ ap (λ (rows : List Emission). hits_of instance event t past ++ rows) new
+
 pub emissions_are_counted : EmissionsAreCounted
 emissions_are_counted instance event t [] request before e attached kept active emission met =
-    let unwritten = emitted-unwritten instance event before request e emission in
-    let cleared : clears instance event t request ≡ false = rw unwritten refl in
-    let new : counted_by event t (is_paused instance event t before) (emitted before request) ≡ counted_row e ∷ [] = rw (active, emission, met) refl in
-    ([], hits-after instance event t before request attached cleared ∙ ap (λ (rows : List Emission). hits_of instance event t before ++ rows) new)
+    ([], emissions_are_counted_once instance event t before request e attached active emission met)
 emissions_are_counted instance event t (next ∷ later) request before e attached kept active emission met =
     let past = later ++ request ∷ before in
     let parts = first-false (clears instance event t next) (list_any (clears instance event t) later) kept in

@@ -210,8 +210,15 @@ CountedRowsAreOfEmissions =
     (instance : Option (List ℕ)) (event : Definition) (t : HistTrigger) (past : List Request)
     → All (IsRowOfEmission instance event t past) (hits_of instance event t past)
 
--- And the row of each such emission is counted, after the rows that were counted before it. Whether the emission was recorded is not asked: its
--- event may be disabled, the event's filter may not hold, recording may be off.
+-- When such an emission comes, its row is counted once, after the rows that were counted before it. Whether the emission was recorded is not asked:
+-- its event may be disabled, the event's filter may not hold, recording may be off.
+abbrev pub EmissionsAreCountedOnce : Type 0
+EmissionsAreCountedOnce =
+    (instance : Option (List ℕ)) (event : Definition) (t : HistTrigger) (past : List Request) (request : Request) (e : Emitted)
+    → t.number < length past → is_paused instance event t past ≡ false → emitted past request ≡ Some e → meets event t e ≡ true
+    → hits_of instance event t (request ∷ past) ≡ hits_of instance event t past ++ counted_row e ∷ []
+
+-- and until the trigger is emptied it stays counted there, whatever else is done
 abbrev pub EmissionsAreCounted : Type 0
 EmissionsAreCounted =
     (instance : Option (List ℕ)) (event : Definition) (t : HistTrigger) (later : List Request) (request : Request) (before : List Request) (e : Emitted)
@@ -234,9 +241,9 @@ ClearsLeaveNone =
     → (hits_of instance event t (WriteFile instance (Some (EventTrigger event.name)) true text ∷ past) ≡ [])
     × (is_paused instance event t (WriteFile instance (Some (EventTrigger event.name)) true text ∷ past) ≡ is_paused instance event t past)
 
--- A request that does not write to the event's own trigger file, in the same instance, leaves which hist triggers there are and which of them are
--- paused, and what they counted too, unless it is an emission: no switch and no filter of the event and nothing that another instance is asked
--- changes them.
+-- A request that does not make the instance and does not write to the event's own trigger file in it leaves which hist triggers there are and which
+-- of them are paused, and what they counted too, unless it is an emission: no switch and no filter of the event and nothing that another instance is
+-- asked changes them.
 abbrev pub OtherRequestsLeaveHistTriggers : Type 0
 OtherRequestsLeaveHistTriggers =
     (instance : Option (List ℕ)) (event : Definition) (t : HistTrigger) (past : List Request) (request : Request)

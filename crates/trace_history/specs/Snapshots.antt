@@ -33,7 +33,7 @@ abbrev pub takes_snapshot : Option SnapshotWrite → Bool
 takes_snapshot (Some Takes) = true
 takes_snapshot _ = false
 
--- an emission exchanges the sides where it makes its event's trigger act
+-- an emission exchanges the sides where it makes its event's trigger for snapshots act
 abbrev pub is_exchanged_by : Option (List ℕ) → List Request → Option Emitted → Bool
 is_exchanged_by instance past None = false
 is_exchanged_by instance past (Some e) = acts past e (trigger_of instance e.k.event past)

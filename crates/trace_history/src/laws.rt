@@ -4,7 +4,7 @@
 ghost use Rattle.trace_history.specs.Examples.{small, IsAnswered, merged_reads, instances, instance_made_again, recording_off, lost_line_after_overrun, precedence_and_kept_filter};
 ghost use Rattle.trace_history.specs.SnapshotExamples.{two_snapshots, counted_trigger, unlimited_trigger, removed_trigger, trigger_of_disabled_event, refused_triggers, sides_of_an_instance};
 ghost use Rattle.trace_history.specs.HistTriggerExamples.{shown_triggers, refused_hist_triggers, paused_and_cleared, counted_unrecorded, histograms_of_an_instance, removed_hist_triggers, hist_triggers_anew, four_triggers};
-ghost use Rattle.trace_history.specs.Laws.{FiltersAreOfTheirEvents, FiltersHoldAsTheirTrees, RecordsShowTheirRows, KeptRecordsShowEmissions, KeptSpareRecordsShowEmissions, SnapshotsSwapTheSides, TriggersSwapTheSides, SnapshotsStay, TriggersHaveTheirSpare, SparesBeginEmpty, PipeReadsConsumeWhatTheyShow, WholePipeReadsConsumeWhatTheyShow, AtMostFourTriggers, HistTriggersDiffer, HistTriggersAreInOrder, CountedRowsAreOfEmissions, EmissionsAreCounted, PausesCountNothing, ClearsLeaveNone, OtherRequestsLeaveHistTriggers};
+ghost use Rattle.trace_history.specs.Laws.{FiltersAreOfTheirEvents, FiltersHoldAsTheirTrees, RecordsShowTheirRows, KeptRecordsShowEmissions, KeptSpareRecordsShowEmissions, SnapshotsSwapTheSides, TriggersSwapTheSides, SnapshotsStay, TriggersHaveTheirSpare, SparesBeginEmpty, PipeReadsConsumeWhatTheyShow, WholePipeReadsConsumeWhatTheyShow, AtMostFourTriggers, HistTriggersDiffer, HistTriggersAreInOrder, CountedRowsAreOfEmissions, EmissionsAreCountedOnce, EmissionsAreCounted, PausesCountNothing, ClearsLeaveNone, OtherRequestsLeaveHistTriggers};
 
 /// In a legal history the filter that an event has in an instance is one of the event, and it holds of an emission as the trees of its text do.
 pub fn filters_are_of_their_events()
@@ -60,14 +60,15 @@ pub fn triggers_are_few_and_differ()
 {}
 
 /// A hist trigger counts the rows of just the emissions of its event of which its own filter holds, since it was attached and last emptied and
-/// while it was not paused, in the order in which they came. Whether they are recorded doesn't matter.
+/// while it was not paused, each once, in the order in which they came. Whether they are recorded doesn't matter.
 pub fn emissions_are_counted()
     ensures rows { CountedRowsAreOfEmissions }
+    ensures once { EmissionsAreCountedOnce }
     ensures counted { EmissionsAreCounted }
 {}
 
-/// A pause counts nothing; `clear` leaves no row and ends no pause; and but for what is written to its own trigger file only emissions reach a
-/// hist trigger.
+/// A pause counts nothing; `clear` leaves no row and ends no pause; and while the instance is there only emissions, and what is written to the event's
+/// own trigger file, reach a hist trigger.
 pub fn only_their_own_file_changes_hist_triggers()
     ensures pause { PausesCountNothing }
     ensures clear { ClearsLeaveNone }

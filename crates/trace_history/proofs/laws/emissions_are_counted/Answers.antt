@@ -1,8 +1,11 @@
-use Rattle.trace_history.proofs.CountedRows.{counted_rows_are_of_emissions, emissions_are_counted}
+use Rattle.trace_history.proofs.CountedRows.{counted_rows_are_of_emissions, emissions_are_counted_once, emissions_are_counted}
 use Rattle.trace_history.proofs.laws.emissions_are_counted.Goals as goal
 
 pub returns-clause-rows : goal.returns-clause-rows
 returns-clause-rows c = counted_rows_are_of_emissions
+
+pub returns-clause-once : goal.returns-clause-once
+returns-clause-once c = emissions_are_counted_once
 
 pub returns-clause-counted : goal.returns-clause-counted
 returns-clause-counted c = emissions_are_counted
