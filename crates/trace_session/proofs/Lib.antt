@@ -1,8 +1,3 @@
-pub mod TokenLemmas
-pub mod GrammarLaws
-pub mod CommandLemmas
-pub mod CommandLaws
-pub mod LineLaws
 pub mod DeviceLemmas
 pub mod ScriptLemmas
 pub mod Turns

@@ -7,7 +7,7 @@ use Rattle.std.specs.Io.KnownBytes.{Appends}
 use Rattle.trace_command.specs.declared.command.Config.{Config}
 use Rattle.trace_session.specs.Devices.{AppendsFront, AppendsWhole}
 use Rattle.trace_session.specs.Sessions.{Progress, beginning, lines_of, lines_left, turn_of, is_fault, is_refusal, outcomes_of, text_of, texts_from, status_of, session, IsWhole}
-use Rattle.trace_session.specs.declared.render.Outcome.{Outcome}
+use Rattle.trace_script.specs.declared.outcome.Outcome.{Outcome}
 use Rattle.trace_session.specs.declared.status.Status.{Status}
 use Rattle.trace_session.specs.declared.status.Status.TheVariants as statuses
 use Rattle.trace_session.proofs.DeviceLemmas.{Appends_append, Appends_nothing}

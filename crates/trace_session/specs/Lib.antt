@@ -1,8 +1,2 @@
-pub mod Outcomes
-pub mod Tokens
-pub mod Grammar
-pub mod Lines
-pub mod Commands
-pub mod Rendering
 pub mod Devices
 pub mod Sessions

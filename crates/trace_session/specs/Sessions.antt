@@ -7,13 +7,13 @@ use Rattle.trace_command.specs.declared.command.Config.{Config}
 use Rattle.trace_command.specs.declared.command.Entry.{Entry}
 use Rattle.trace_command.specs.declared.command.Reply.{Reply}
 use Rattle.trace_command.specs.declared.refusal.Refusal.{Refusal}
-use Rattle.trace_session.specs.Lines.{line_of}
-use Rattle.trace_session.specs.Rendering.{rendered}
-use Rattle.trace_session.specs.declared.fault.ScriptFault.{ScriptFault}
-use Rattle.trace_session.specs.declared.line.Line.{Line}
-use Rattle.trace_session.specs.declared.line.Line.TheVariants.{Blank, Ask}
-use Rattle.trace_session.specs.declared.render.Outcome.{Outcome}
-use Rattle.trace_session.specs.declared.render.Outcome.TheVariants as outcomes
+use Rattle.trace_script.specs.Lines.{line_of}
+use Rattle.trace_script.specs.Rendering.{rendered}
+use Rattle.trace_script.specs.declared.fault.ScriptFault.{ScriptFault}
+use Rattle.trace_script.specs.declared.line.Line.{Line}
+use Rattle.trace_script.specs.declared.line.Line.TheVariants.{Blank, Ask}
+use Rattle.trace_script.specs.declared.outcome.Outcome.{Outcome}
+use Rattle.trace_script.specs.declared.outcome.Outcome.TheVariants as outcomes
 use Rattle.trace_session.specs.declared.status.Status.{Status}
 use Rattle.trace_session.specs.declared.status.Status.TheVariants as statuses
 

@@ -6,10 +6,10 @@ ghost use Rattle.trace_session.specs.Devices.{AppendsFront, HasRisen};
 ghost use Rattle.trace_session.specs.Sessions.{text_of};
 
 use crate::device::Sink;
-use crate::render::{Outcome, render};
 use crate::stop::Stop;
 use std::alloc::Global;
 use trace_command::Reply;
+use trace_script::{Outcome, render};
 
 /// Writes some bytes from the front of a string that is not empty, and gives their number.
 fn write_some<W: Sink>(writer: &mut W, text: &[u8]) -> Result<usize, Stop>

@@ -6,15 +6,13 @@ ghost use Rattle.trace_session.specs.Devices.{AppendsFront, HasRisen};
 ghost use Rattle.trace_session.specs.Sessions.{so_far, turn_of, text_of, status_of};
 
 use crate::device::Sink;
-use crate::fault::LineError;
-use crate::line::{Line, prepare};
 use crate::output::write_outcome;
-use crate::render::Outcome;
 use crate::status::Status;
 use crate::stop::Stop;
 use std::alloc::Global;
 use trace_book::Book;
 use trace_command::Refusal;
+use trace_script::{Line, LineError, Outcome, prepare};
 
 /// Asks for what a line asks for. The ticket of a command is the number of commands that were asked before it.
 #[tactic(auto, unfolding(crate::specs::Sessions::turn_of))]

@@ -1,0 +1,5 @@
+pub mod TokenLemmas
+pub mod GrammarLaws
+pub mod CommandLemmas
+pub mod CommandLaws
+pub mod LineLaws

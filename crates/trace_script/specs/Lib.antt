@@ -1,0 +1,6 @@
+pub mod Outcomes
+pub mod Tokens
+pub mod Grammar
+pub mod Lines
+pub mod Commands
+pub mod Rendering

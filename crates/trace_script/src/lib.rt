@@ -1,0 +1,17 @@
+//! Lines of a script read as what they ask for, and outcomes rendered as the bytes that are printed for them.
+#![tactic(auto)]
+
+mod command;
+mod fault;
+mod line;
+mod number;
+mod outcome;
+#[cfg(test)]
+mod tests;
+mod token;
+
+pub use command::{commands_are_as_written, writes_are_as_written};
+pub use fault::{LineError, ScriptFault};
+pub use line::{Line, lines_are_as_written, prepare};
+pub use outcome::{Outcome, render};
+pub use token::tokens_are_as_written;

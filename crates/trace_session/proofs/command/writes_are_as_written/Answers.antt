@@ -1,8 +1,0 @@
-use Rattle.trace_session.proofs.CommandLemmas.{write_written, write_read}
-use Rattle.trace_session.proofs.command.writes_are_as_written.Goals as goal
-
-pub returns-clause-written : goal.returns-clause-written
-returns-clause-written c = write_written
-
-pub returns-clause-read : goal.returns-clause-read
-returns-clause-read c = write_read

@@ -1,8 +1,0 @@
-use Rattle.trace_session.proofs.LineLaws.{line_asks, line_read}
-use Rattle.trace_session.proofs.line.lines_are_as_written.Goals as goal
-
-pub returns-clause-written : goal.returns-clause-written
-returns-clause-written c = line_asks
-
-pub returns-clause-read : goal.returns-clause-read
-returns-clause-read c = line_read
