@@ -13,10 +13,12 @@ use Rattle.trace_format.specs.declared.pair.Pair.{Pair}
 use Rattle.trace_command.specs.declared.command.Command.{Command}
 use Rattle.trace_command.specs.declared.command.Command.TheVariants.{Emit, Mkdir, Rmdir, Read}
 use Rattle.trace_script.specs.Outcomes.{or_fault, ◌>>=◌}
-use Rattle.trace_script.specs.Lines.{number_up_to, process_id, pair_of, pairs_of, emission_of, only_word, write_of, read_of, take_of, mkdir_of, rmdir_of, named_command, command_of}
-use Rattle.trace_script.specs.Commands.{pair_word, IsPair, IsEmissionOf, IsTakeOf, IsOfPath, IsCommandOf, AnEmit, AnEcho, ACat, ATake, AMkdir, ARmdir}
+use Rattle.trace_script.specs.Lines.{number_up_to, process_id, pair_of, pairs_of, emission_of, only_word, write_of, read_of, take_of, mkdir_of, rmdir_of, named_command, alone, named_line, asked_of}
+use Rattle.trace_script.specs.Commands.{pair_word, IsPair, IsEmissionOf, IsTakeOf, IsOfPath, IsCommandOf, AnEmit, AnEcho, ACat, ATake, AMkdir, ARmdir, IsAskedBy, ACommand, AParallel, AThread, AnEnd}
 use Rattle.trace_script.specs.declared.fault.ScriptFault.{ScriptFault}
 use Rattle.trace_script.specs.declared.fault.ScriptFault.TheVariants.{UnknownCommand, WrongWords, BadNumber}
+use Rattle.trace_script.specs.declared.line.Line.{Line}
+use Rattle.trace_script.specs.declared.line.Line.TheVariants.{Ask, Parallel, Thread, End}
 use Rattle.trace_script.specs.declared.token.Token.{Token}
 use Rattle.trace_script.specs.declared.token.Token.TheVariants.{Word, Redirect}
 use Rattle.trace_script.proofs.CommandLemmas.{write_read, write_written}
@@ -180,14 +182,25 @@ emission_found _ command e = absurd (cc)
 name_is : (name word : List ℕ) (tokens : List Token) → bytes_eq name word ≡ true → ◌≡◌ {A = List Token} (Word name ∷ tokens) (Word word ∷ tokens)
 name_is name word tokens e = ap (λ (n : List ℕ). Word n ∷ tokens) ((bytes_eq-Decides name word).0 e)
 
-pub command_read : (tokens : List Token) (command : Command) → IsCommandOf tokens command → command_of tokens ≡ Ok command
-unfolding command_of named_command read_of mkdir_of rmdir_of
-command_read tokens command (AnEmit rest e r) = ap command_of e ∙ emission_read rest command r
-command_read tokens command (AnEcho rest e r) = ap command_of e ∙ write_read rest command r
-command_read tokens command (ACat rest e r) = ap command_of e ∙ path_read (λ path. Read path None) rest command r
-command_read tokens command (ATake rest e r) = ap command_of e ∙ take_read rest command r
-command_read tokens command (AMkdir rest e r) = ap command_of e ∙ path_read Mkdir rest command r
-command_read tokens command (ARmdir rest e r) = ap command_of e ∙ path_read Rmdir rest command r
+-- a command that was read is what the line asks for
+asked_ok : (read : Result Command ScriptFault) (command : Command) → read ≡ Ok command → ◌≡◌ {A = Result Line ScriptFault} (read >>= λ command. Ok (Ask command)) (Ok (Ask command))
+asked_ok read command e = rw e refl
+
+command_read : (tokens : List Token) (command : Command) → IsCommandOf tokens command → asked_of tokens ≡ Ok (Ask command)
+unfolding asked_of named_line named_command read_of mkdir_of rmdir_of
+command_read tokens command (AnEmit rest e r) = ap asked_of e ∙ asked_ok (emission_of rest) command (emission_read rest command r)
+command_read tokens command (AnEcho rest e r) = ap asked_of e ∙ asked_ok (write_of rest) command (write_read rest command r)
+command_read tokens command (ACat rest e r) = ap asked_of e ∙ asked_ok (read_of rest) command (path_read (λ path. Read path None) rest command r)
+command_read tokens command (ATake rest e r) = ap asked_of e ∙ asked_ok (take_of rest) command (take_read rest command r)
+command_read tokens command (AMkdir rest e r) = ap asked_of e ∙ asked_ok (mkdir_of rest) command (path_read Mkdir rest command r)
+command_read tokens command (ARmdir rest e r) = ap asked_of e ∙ asked_ok (rmdir_of rest) command (path_read Rmdir rest command r)
+
+pub tokens_read : (tokens : List Token) (line : Line) → IsAskedBy tokens line → asked_of tokens ≡ Ok line
+unfolding asked_of named_line
+tokens_read tokens line (ACommand command r e) = command_read tokens command r ∙ ap Ok (sym e)
+tokens_read tokens line (AParallel e f) = ap asked_of e ∙ ap Ok (sym f)
+tokens_read tokens line (AThread e f) = ap asked_of e ∙ ap Ok (sym f)
+tokens_read tokens line (AnEnd e f) = ap asked_of e ∙ ap Ok (sym f)
 
 -- the tests of a name, one by one
 named_found : (name : List ℕ) (tokens : List Token) (command : Command) (emit echo cat take_n mkdir rmdir : Bool)
@@ -206,10 +219,40 @@ named_found name tokens command false false false false true rmdir a b c d f g e
 named_found name tokens command false false false false false true a b c d f g e = ARmdir tokens (name_is name (codes "rmdir") tokens g) (path_found Rmdir tokens command e)
 named_found name tokens command false false false false false false a b c d f g e = absurd (cc)
 
-pub command_written : (tokens : List Token) (command : Command) → command_of tokens ≡ Ok command → IsCommandOf tokens command
-unfolding command_of named_command
-command_written [] command e = absurd (cc)
-command_written (Redirect append ∷ tokens) command e = absurd (cc)
-command_written (Word name ∷ tokens) command e =
+command_written : (name : List ℕ) (tokens : List Token) (command : Command) → named_command name tokens ≡ Ok command → IsCommandOf (Word name ∷ tokens) command
+unfolding named_command
+command_written name tokens command e =
     named_found name tokens command (bytes_eq name (codes "emit")) (bytes_eq name (codes "echo")) (bytes_eq name (codes "cat")) (bytes_eq name (codes "take"))
     (bytes_eq name (codes "mkdir")) (bytes_eq name (codes "rmdir")) refl refl refl refl refl refl e
+
+-- ---- lines
+
+alone_found : (word : List ℕ) (which : Line) (tokens : List Token) (line : Line) → alone which tokens ≡ Ok line → (◌≡◌ {A = List Token} (Word word ∷ tokens) (Word word ∷ [])) × (line ≡ which)
+alone_found word which [] line e = (refl, cc)
+alone_found word which (token ∷ tokens) line e = absurd (cc)
+
+command_asked : (name : List ℕ) (tokens : List Token) (line : Line) (read : Result Command ScriptFault) → named_command name tokens ≡ read
+    → (read >>= λ command. Ok (Ask command)) ≡ Ok line → IsAskedBy (Word name ∷ tokens) line
+command_asked name tokens line (Ok command) f e = ACommand command (command_written name tokens command f) (cc)
+command_asked name tokens line (Err fault) f e = absurd (cc)
+
+-- the tests of a name that is no command's, one by one
+line_found : (name : List ℕ) (tokens : List Token) (line : Line) (parallel thread last : Bool)
+    → bytes_eq name (codes "parallel") ≡ parallel → bytes_eq name (codes "thread") ≡ thread → bytes_eq name (codes "end") ≡ last
+    → ◌≡◌ {A = Result Line ScriptFault} (if parallel then alone Parallel tokens else (if thread then alone Thread tokens else (if last then alone End tokens
+    else (named_command name tokens >>= λ command. Ok (Ask command))))) (Ok line)
+    → IsAskedBy (Word name ∷ tokens) line
+line_found name tokens line true thread last a b c e =
+    let h = alone_found (codes "parallel") Parallel tokens line e in AParallel (name_is name (codes "parallel") tokens a ∙ h.0) h.1
+line_found name tokens line false true last a b c e =
+    let h = alone_found (codes "thread") Thread tokens line e in AThread (name_is name (codes "thread") tokens b ∙ h.0) h.1
+line_found name tokens line false false true a b c e =
+    let h = alone_found (codes "end") End tokens line e in AnEnd (name_is name (codes "end") tokens c ∙ h.0) h.1
+line_found name tokens line false false false a b c e = command_asked name tokens line (named_command name tokens) refl e
+
+pub tokens_found : (tokens : List Token) (line : Line) → asked_of tokens ≡ Ok line → IsAskedBy tokens line
+unfolding asked_of named_line
+tokens_found [] line e = absurd (cc)
+tokens_found (Redirect append ∷ tokens) line e = absurd (cc)
+tokens_found (Word name ∷ tokens) line e =
+    line_found name tokens line (bytes_eq name (codes "parallel")) (bytes_eq name (codes "thread")) (bytes_eq name (codes "end")) refl refl refl e

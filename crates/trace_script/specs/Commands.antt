@@ -1,4 +1,4 @@
--- The commands of a script: which words and redirections each of them is written of, and which line asks for it.
+-- The lines of a script: which words and redirections each command is written of, and what a line asks for.
 use Rattle.std.specs.Prelude.{◌≡◌, ◌≢◌, ◌≤◌, ℕ, ℤ, ◌-◌, ◌^◌, Bool, true, false, List, [], ◌∷◌, ◌++◌, length, map, Some, None, codes}
 use Rattle.std.specs.List.{AllByRecursion, list_all, join_with_byte}
 use Rattle.trace_format.specs.declared.pair.Pair.{Pair}
@@ -6,6 +6,8 @@ use Rattle.trace_command.specs.declared.command.Command.{Command}
 use Rattle.trace_command.specs.declared.command.Command.TheVariants.{Emit, Mkdir, Rmdir, Write, Read}
 use Rattle.trace_script.specs.Grammar.{IsWritten}
 use Rattle.trace_script.specs.Lines.{number_up_to, process_id, is_line_byte, says_nothing}
+use Rattle.trace_script.specs.declared.line.Line.{Line}
+use Rattle.trace_script.specs.declared.line.Line.TheVariants.{Blank, Ask, Parallel, Thread, End}
 use Rattle.trace_script.specs.declared.token.Token.{Token}
 use Rattle.trace_script.specs.declared.token.Token.TheVariants.{Word, Redirect}
 
@@ -64,11 +66,19 @@ pub data IsCommandOf (tokens : List Token) (command : Command) : Type 0 where
   AMkdir : (rest : List Token) → tokens ≡ Word (codes "mkdir") ∷ rest → IsOfPath Mkdir rest command → IsCommandOf tokens command
   ARmdir : (rest : List Token) → tokens ≡ Word (codes "rmdir") ∷ rest → IsOfPath Rmdir rest command → IsCommandOf tokens command
 
--- the line has at most 4,096 bytes, each of them printed or a tab, is neither blank nor a comment, and is written of the command's tokens
-pub record AsksFor (line : List ℕ) (command : Command) : Type 0 where
-  pub short : length line ≤ 4096
-  pub bytes : list_all is_line_byte line ≡ true
-  pub says : says_nothing line ≡ false
-  pub tokens : List Token
-  pub written : IsWritten line tokens
-  pub asked : IsCommandOf tokens command
+-- what tokens ask for: a command, or a line of a parallel part, which is its name alone
+pub data IsAskedBy (tokens : List Token) (line : Line) : Type 0 where
+  ACommand : (command : Command) → IsCommandOf tokens command → line ≡ Ask command → IsAskedBy tokens line
+  AParallel : tokens ≡ Word (codes "parallel") ∷ [] → line ≡ Parallel → IsAskedBy tokens line
+  AThread : tokens ≡ Word (codes "thread") ∷ [] → line ≡ Thread → IsAskedBy tokens line
+  AnEnd : tokens ≡ Word (codes "end") ∷ [] → line ≡ End → IsAskedBy tokens line
+
+-- at most 4,096 bytes, each of them printed or a tab
+pub record IsLawful (text : List ℕ) : Type 0 where
+  pub short : length text ≤ 4096
+  pub bytes : list_all is_line_byte text ≡ true
+
+-- what a lawful line asks for: nothing, if it is blank or a comment, or else what the tokens that it is written of ask for
+pub data AsksFor (text : List ℕ) (line : Line) : Type 0 where
+  Nothing : IsLawful text → says_nothing text ≡ true → line ≡ Blank → AsksFor text line
+  Something : IsLawful text → says_nothing text ≡ false → (tokens : List Token) → IsWritten text tokens → IsAskedBy tokens line → AsksFor text line

@@ -12,7 +12,7 @@ use Rattle.trace_command.specs.declared.command.Command.TheVariants.{Emit, Mkdir
 use Rattle.trace_script.specs.Outcomes.{or_fault, ◌>>=◌}
 use Rattle.trace_script.specs.Tokens.{tokens_of}
 use Rattle.trace_script.specs.declared.line.Line.{Line}
-use Rattle.trace_script.specs.declared.line.Line.TheVariants.{Blank, Ask}
+use Rattle.trace_script.specs.declared.line.Line.TheVariants.{Blank, Ask, Parallel, Thread, End}
 use Rattle.trace_script.specs.declared.token.Token.{Token}
 use Rattle.trace_script.specs.declared.token.Token.TheVariants.{Word, Redirect}
 use Rattle.trace_script.specs.declared.fault.ScriptFault.{ScriptFault}
@@ -95,12 +95,25 @@ named_command name tokens =
     else (if bytes_eq name (codes "mkdir") then mkdir_of tokens
     else (if bytes_eq name (codes "rmdir") then rmdir_of tokens else Err UnknownCommand)))))
 
--- the first token names the command
-unfoldable pub command_of : List Token → Result Command ScriptFault
-command_of (Word name ∷ tokens) = named_command name tokens
-command_of _ = Err UnknownCommand
-
 -- ---- lines
+
+-- a line of one word: nothing follows its name
+abbrev pub alone : Line → List Token → Result Line ScriptFault
+alone line [] = Ok line
+alone line _ = Err WrongWords
+
+-- the line of this name: one of a parallel part, or a command
+unfoldable pub named_line : List ℕ → List Token → Result Line ScriptFault
+named_line name tokens =
+    if bytes_eq name (codes "parallel") then alone Parallel tokens
+    else (if bytes_eq name (codes "thread") then alone Thread tokens
+    else (if bytes_eq name (codes "end") then alone End tokens
+    else (named_command name tokens >>= λ command. Ok (Ask command))))
+
+-- the first token names the line
+unfoldable pub asked_of : List Token → Result Line ScriptFault
+asked_of (Word name ∷ tokens) = named_line name tokens
+asked_of _ = Err UnknownCommand
 
 -- a tab, or a byte from 0x20 to 0x7e
 abbrev pub is_line_byte : ℕ → Bool
@@ -115,7 +128,7 @@ says_nothing (b ∷ bs) = if is_blank b then says_nothing bs else b == 35
 unfoldable pub spoken : List ℕ → Result Line ScriptFault
 spoken line =
     if says_nothing line then Ok Blank
-    else (or_fault UnclosedQuote (tokens_of line) >>= λ tokens. command_of tokens >>= λ command. Ok (Ask command))
+    else (or_fault UnclosedQuote (tokens_of line) >>= λ tokens. asked_of tokens)
 
 -- what a line asks for
 unfoldable pub line_of : List ℕ → Result Line ScriptFault

@@ -4,8 +4,8 @@ ghost use Rattle.std.specs.Prelude.{◌≡◌, List, Ok, ◌==◌, ◌++◌, ◌
 ghost use Rattle.trace_command.specs.declared.command.Command.{Command};
 ghost use Rattle.trace_script.specs.declared.token.Token.{Token};
 ghost use Rattle.trace_script.specs.Outcomes.{Gives, or_fault};
-ghost use Rattle.trace_script.specs.Commands.{IsWriteOf, IsCommandOf};
-ghost use Rattle.trace_script.specs.Lines.{pair_of, pairs_of, emission_of, only_word, redirected_to, write_of, read_of, take_of, mkdir_of, rmdir_of, named_command, command_of};
+ghost use Rattle.trace_script.specs.Commands.{IsWriteOf};
+ghost use Rattle.trace_script.specs.Lines.{pair_of, pairs_of, emission_of, only_word, redirected_to, write_of, read_of, take_of, mkdir_of, rmdir_of, named_command};
 ghost use Rattle.trace_script.specs.declared.fault.ScriptFault.TheVariants.{WrongWords};
 
 use crate::fault::{LineError, ScriptFault};
@@ -174,9 +174,9 @@ fn rmdir(alloc: Global, tokens: &[Token]) -> Result<Command, LineError>
     Ok(Command::Rmdir(path))
 }
 
-/// The command of this name.
+/// The command of this name, with the tokens that follow it.
 #[tactic(auto, unfolding(crate::specs::Lines::named_command))]
-fn named(alloc: Global, name: &[u8], tokens: &[Token]) -> Result<Command, LineError>
+pub(crate) fn command(alloc: Global, name: &[u8], tokens: &[Token]) -> Result<Command, LineError>
     ensures { Gives (λ command. command) result (named_command name.now tokens.now) }
 {
     if name == b"emit".as_slice() {
@@ -200,25 +200,8 @@ fn named(alloc: Global, name: &[u8], tokens: &[Token]) -> Result<Command, LineEr
     Err(LineError::Fault(ScriptFault::UnknownCommand))
 }
 
-/// The command that the first token names.
-#[tactic(auto, unfolding(crate::specs::Lines::command_of))]
-pub(crate) fn command(alloc: Global, tokens: &[Token]) -> Result<Command, LineError>
-    ensures { Gives (λ command. command) result (command_of tokens.now) }
-{
-    match tokens {
-        [Token::Word(name), rest @ ..] => named(alloc, name.as_bytes(), rest),
-        _ => Err(LineError::Fault(ScriptFault::UnknownCommand)),
-    }
-}
-
 /// What `echo` writes: the words before its redirection, joined by one space, to the path after it; and it writes nothing else.
 pub fn writes_are_as_written()
     ensures written { (tokens : List Token) (command : Command) → write_of tokens ≡ Ok command → IsWriteOf tokens command }
     ensures read { (tokens : List Token) (command : Command) → IsWriteOf tokens command → write_of tokens ≡ Ok command }
-{}
-
-/// The grammar of commands: tokens ask for a command exactly where they are written as that command is. So they ask for one at most.
-pub fn commands_are_as_written()
-    ensures written { (tokens : List Token) (command : Command) → command_of tokens ≡ Ok command → IsCommandOf tokens command }
-    ensures read { (tokens : List Token) (command : Command) → IsCommandOf tokens command → command_of tokens ≡ Ok command }
 {}

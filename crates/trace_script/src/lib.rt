@@ -10,8 +10,8 @@ mod outcome;
 mod tests;
 mod token;
 
-pub use command::{commands_are_as_written, writes_are_as_written};
+pub use command::writes_are_as_written;
 pub use fault::{LineError, ScriptFault};
-pub use line::{Line, lines_are_as_written, prepare};
+pub use line::{Line, commands_are_as_written, lines_are_as_written, prepare};
 pub use outcome::{Outcome, render};
 pub use token::tokens_are_as_written;

@@ -2,14 +2,15 @@
 
 ghost use Rattle.std.specs.Prelude.{◌≡◌, ℕ, List};
 ghost use Rattle.std.specs.List.{list_all};
-ghost use Rattle.trace_command.specs.declared.command.Command.{Command};
-ghost use Rattle.trace_script.specs.Commands.{AsksFor};
+ghost use Rattle.trace_script.specs.Commands.{AsksFor, IsAskedBy};
 ghost use Rattle.trace_script.specs.Outcomes.{Gives};
-ghost use Rattle.trace_script.specs.Lines.{is_line_byte, says_nothing, spoken, line_of};
+ghost use Rattle.trace_script.specs.Lines.{alone, named_line, asked_of, is_line_byte, says_nothing, spoken, line_of};
+ghost use Rattle.trace_script.specs.declared.token.Token.{Token};
+ghost use Rattle.trace_script.specs.declared.line.Line.{Line as LineValue};
 
 use crate::command::command;
 use crate::fault::{LineError, ScriptFault};
-use crate::token::tokens;
+use crate::token::{Token, tokens};
 use std::alloc::Global;
 use trace_command::Command;
 use trace_lex::is_blank;
@@ -18,12 +19,57 @@ use trace_lex::is_blank;
 const MOST_BYTES: usize = 4096;
 
 /// What a line of a script asks for.
-#[derive(Debug, Drop)]
+#[derive(Clone, Debug, PartialEq, Eq, Drop)]
 pub enum Line {
     /// Nothing: the line is empty, blank or a comment.
     Blank,
     /// This command.
     Ask(Command),
+    /// `parallel`: a part begins whose threads run side by side.
+    Parallel,
+    /// `thread`: the commands of the part's next thread begin.
+    Thread,
+    /// `end`: the part ends.
+    End,
+}
+
+/// A line of one word, if no token follows its name.
+fn alone(line: Line, tokens: &[Token]) -> Result<Line, LineError>
+    ensures { Gives (λ line. line) result (alone line tokens.now) }
+{
+    if tokens.is_empty() {
+        Ok(line)
+    } else {
+        Err(LineError::Fault(ScriptFault::WrongWords))
+    }
+}
+
+/// The line of this name, with the tokens that follow it.
+#[tactic(auto, unfolding(crate::specs::Lines::named_line))]
+fn named(alloc: Global, name: &[u8], tokens: &[Token]) -> Result<Line, LineError>
+    ensures { Gives (λ line. line) result (named_line name.now tokens.now) }
+{
+    if name == b"parallel".as_slice() {
+        return alone(Line::Parallel, tokens);
+    }
+    if name == b"thread".as_slice() {
+        return alone(Line::Thread, tokens);
+    }
+    if name == b"end".as_slice() {
+        return alone(Line::End, tokens);
+    }
+    Ok(Line::Ask(command(alloc, name, tokens)?))
+}
+
+/// What the tokens of a line ask for. The first of them names it.
+#[tactic(auto, unfolding(crate::specs::Lines::asked_of))]
+fn asked(alloc: Global, tokens: &[Token]) -> Result<Line, LineError>
+    ensures { Gives (λ line. line) result (asked_of tokens.now) }
+{
+    match tokens {
+        [Token::Word(name), rest @ ..] => named(alloc, name.as_bytes(), rest),
+        _ => Err(LineError::Fault(ScriptFault::UnknownCommand)),
+    }
 }
 
 /// Whether a line has no byte but blanks, or a `#` as its first other byte.
@@ -47,8 +93,7 @@ fn spoken(alloc: Global, line: &[u8]) -> Result<Line, LineError>
         return Ok(Line::Blank);
     }
     let tokens = tokens(alloc, line)?;
-    let command = command(alloc, &tokens)?;
-    Ok(Line::Ask(command))
+    asked(alloc, &tokens)
 }
 
 /// Whether each byte is a tab, or one from 0x20 to 0x7e.
@@ -72,8 +117,15 @@ pub fn prepare(alloc: Global, line: &[u8]) -> Result<Line, LineError>
     spoken(alloc, line)
 }
 
-/// The grammar of a line: it asks for a command exactly if it is written so. So it asks for one at most.
+/// The grammar of commands: tokens ask for a command, or for a line of a parallel part, exactly where they are written as it is. So they
+/// ask for one thing at most.
+pub fn commands_are_as_written()
+    ensures written { (tokens : List Token) (line : LineValue) → asked_of tokens ≡ Ok line → IsAskedBy tokens line }
+    ensures read { (tokens : List Token) (line : LineValue) → IsAskedBy tokens line → asked_of tokens ≡ Ok line }
+{}
+
+/// The grammar of a line: it asks for something, or for nothing, exactly if it is written so. So it asks for one thing at most.
 pub fn lines_are_as_written()
-    ensures written { (line : List ℕ) (command : Command) → line_of line ≡ Ok (Line.Ask command) → AsksFor line command }
-    ensures read { (line : List ℕ) (command : Command) → AsksFor line command → line_of line ≡ Ok (Line.Ask command) }
+    ensures written { (text : List ℕ) (line : LineValue) → line_of text ≡ Ok line → AsksFor text line }
+    ensures read { (text : List ℕ) (line : LineValue) → AsksFor text line → line_of text ≡ Ok line }
 {}

@@ -9,10 +9,13 @@ use std::alloc::{AllocError, Global};
 use trace_command::{Refusal, Reply};
 
 /// What became of a line.
-#[derive(Debug, Drop)]
+#[derive(Clone, Debug, PartialEq, Eq, Drop)]
 pub enum Outcome {
+    /// A command that was done, with this reply.
     Replied(Reply),
+    /// A command that was refused.
     Refused(Refusal),
+    /// The line has this fault.
     Fault(ScriptFault),
 }
 

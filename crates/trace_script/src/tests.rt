@@ -37,6 +37,9 @@ fn reading_called(line: &Result<Line, LineError>) -> &'static str {
     match line {
         Ok(Line::Blank) => "nothing",
         Ok(Line::Ask(command)) => called(command),
+        Ok(Line::Parallel) => "parallel",
+        Ok(Line::Thread) => "thread",
+        Ok(Line::End) => "end",
         Err(LineError::Fault(fault)) => fault_called(*fault),
         Err(LineError::Memory) => "out of memory",
     }
@@ -49,7 +52,7 @@ fn reading(alloc: Global, line: &[u8]) -> &'static str {
 
 #[test]
 fn lines_are_read(rt: HostRuntime) {
-    let table: [(&str, &str); 51] = [
+    let table: [(&str, &str); 58] = [
         ("", "nothing"),
         (" \t ", "nothing"),
         (" # cat 'x", "nothing"),
@@ -61,9 +64,16 @@ fn lines_are_read(rt: HostRuntime) {
         ("'#' x", "UnknownCommand"),
         ("'' cat", "UnknownCommand"),
         ("> x", "UnknownCommand"),
-        ("parallel", "UnknownCommand"),
-        ("thread", "UnknownCommand"),
-        ("end", "UnknownCommand"),
+        ("parallel", "parallel"),
+        ("\tthread ", "thread"),
+        ("e'n'd", "end"),
+        ("parallels", "UnknownCommand"),
+        ("END", "UnknownCommand"),
+        ("parallel 'x", "UnclosedQuote"),
+        ("parallel x", "WrongWords"),
+        ("thread > a", "WrongWords"),
+        ("end ''", "WrongWords"),
+        ("end # of it", "WrongWords"),
         ("cat", "WrongWords"),
         ("cat a b", "WrongWords"),
         ("cat > a", "WrongWords"),

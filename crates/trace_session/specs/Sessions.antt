@@ -10,8 +10,9 @@ use Rattle.trace_command.specs.declared.refusal.Refusal.{Refusal}
 use Rattle.trace_script.specs.Lines.{line_of}
 use Rattle.trace_script.specs.Rendering.{rendered}
 use Rattle.trace_script.specs.declared.fault.ScriptFault.{ScriptFault}
+use Rattle.trace_script.specs.declared.fault.ScriptFault.TheVariants.{BlockOutOfPlace}
 use Rattle.trace_script.specs.declared.line.Line.{Line}
-use Rattle.trace_script.specs.declared.line.Line.TheVariants.{Blank, Ask}
+use Rattle.trace_script.specs.declared.line.Line.TheVariants.{Blank, Ask, Parallel, Thread, End}
 use Rattle.trace_script.specs.declared.outcome.Outcome.{Outcome}
 use Rattle.trace_script.specs.declared.outcome.Outcome.TheVariants as outcomes
 use Rattle.trace_session.specs.declared.status.Status.{Status}
@@ -59,11 +60,18 @@ answered before command (Ok reply) =
 answered before command (Err refusal) =
     record { outcome = Some (outcomes.Refused refusal); progress = so_far before.entries (before.asked + 1) }
 
--- a line that was read: a command gets the answer that the entries done so far give it
+-- a fault, which leaves all as it was
+abbrev pub faulted : Progress → ScriptFault → Turn
+faulted before fault = record { outcome = Some (outcomes.Fault fault); progress = before }
+
+-- a line that was read: a command gets the answer that the entries done so far give it, and a line of a parallel part is out of place
 abbrev pub taken : Config → Progress → Result Line ScriptFault → Turn
 taken config before (Ok Blank) = record { outcome = None; progress = before }
 taken config before (Ok (Ask command)) = answered before command (answer_to config before.entries command)
-taken config before (Err fault) = record { outcome = Some (outcomes.Fault fault); progress = before }
+taken config before (Ok Parallel) = faulted before BlockOutOfPlace
+taken config before (Ok Thread) = faulted before BlockOutOfPlace
+taken config before (Ok End) = faulted before BlockOutOfPlace
+taken config before (Err fault) = faulted before fault
 
 -- a line, after what was asked so far
 unfoldable pub turn_of : Config → Progress → List ℕ → Turn

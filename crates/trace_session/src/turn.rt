@@ -12,7 +12,7 @@ use crate::stop::Stop;
 use std::alloc::Global;
 use trace_book::Book;
 use trace_command::Refusal;
-use trace_script::{Line, LineError, Outcome, prepare};
+use trace_script::{Line, LineError, Outcome, ScriptFault, prepare};
 
 /// Asks for what a line asks for. The ticket of a command is the number of commands that were asked before it.
 #[tactic(auto, unfolding(crate::specs::Sessions::turn_of))]
@@ -41,6 +41,9 @@ fn outcome(
                 Err(Refusal::Memory) => Err(Stop::Memory),
                 Err(refusal) => Ok(Some(Outcome::Refused(refusal))),
             }
+        }
+        Ok(Line::Parallel | Line::Thread | Line::End) => {
+            Ok(Some(Outcome::Fault(ScriptFault::BlockOutOfPlace)))
         }
         Err(LineError::Fault(fault)) => Ok(Some(Outcome::Fault(fault))),
         Err(LineError::Memory) => Err(Stop::Memory),
