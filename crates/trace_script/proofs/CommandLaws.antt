@@ -81,7 +81,7 @@ pair_found : (word : List ℕ) (pair : Pair) → pair_of word ≡ Some pair → 
 unfolding pair_of
 pair_found word pair e = pair_at word pair (position (λ b. b == 61) word) refl e
 
-pairs_read : (pairs : List Pair) → AllByRecursion IsPair pairs → pairs_of (map pair_word pairs) ≡ Some pairs
+pub pairs_read : (pairs : List Pair) → AllByRecursion IsPair pairs → pairs_of (map pair_word pairs) ≡ Some pairs
 unfolding pairs_of
 pairs_read [] h = refl
 pairs_read (pair ∷ pairs) h = rw (pair_read pair h.0, pairs_read pairs h.1) refl
@@ -99,7 +99,7 @@ pairs_step word tokens pairs (Some pair) (Some more) f g e rest =
     subst (λ (q : List Pair). (◌≡◌ {A = List Token} (Word word ∷ tokens) (map pair_word q)) × AllByRecursion IsPair q) is
     (ap (λ (w : List ℕ). Word w ∷ tokens) p.0 ∙ ap (λ (ts : List Token). pair_word pair ∷ ts) r.0, (p.1, r.1))
 
-pairs_found : (tokens : List Token) (pairs : List Pair) → pairs_of tokens ≡ Some pairs → (tokens ≡ map pair_word pairs) × AllByRecursion IsPair pairs
+pub pairs_found : (tokens : List Token) (pairs : List Pair) → pairs_of tokens ≡ Some pairs → (tokens ≡ map pair_word pairs) × AllByRecursion IsPair pairs
 unfolding pairs_of
 pairs_found [] pairs e =
     let is : ◌≡◌ {A = List Pair} [] pairs = cc in

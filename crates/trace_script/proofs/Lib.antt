@@ -3,3 +3,4 @@ pub mod GrammarLaws
 pub mod CommandLemmas
 pub mod CommandLaws
 pub mod LineLaws
+pub mod FaultOrder

@@ -14,10 +14,10 @@ use Rattle.trace_script.specs.declared.token.Token.{Token}
 use Rattle.trace_script.proofs.GrammarLaws.{line_written, written_read}
 use Rattle.trace_script.proofs.CommandLaws.{tokens_found, tokens_read}
 
-fits : (n : ℕ) → n ≤ 4096 → nat_lt 4096 n ≡ false
+pub fits : (n : ℕ) → n ≤ 4096 → nat_lt 4096 n ≡ false
 fits n h = grind (arith, nat_tests)
 
-is_short : (n : ℕ) → nat_lt 4096 n ≡ false → n ≤ 4096
+pub is_short : (n : ℕ) → nat_lt 4096 n ≡ false → n ≤ 4096
 is_short n e = grind (arith, nat_tests)
 
 pub line_read : (text : List ℕ) (line : Line) → AsksFor text line → line_of text ≡ Ok line

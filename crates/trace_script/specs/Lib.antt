@@ -3,4 +3,5 @@ pub mod Tokens
 pub mod Grammar
 pub mod Lines
 pub mod Commands
+pub mod Faults
 pub mod Rendering

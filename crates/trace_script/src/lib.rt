@@ -12,6 +12,8 @@ mod token;
 
 pub use command::writes_are_as_written;
 pub use fault::{LineError, ScriptFault};
-pub use line::{Line, commands_are_as_written, lines_are_as_written, prepare};
+pub use line::{
+    Line, commands_are_as_written, faults_come_in_order, lines_are_as_written, prepare,
+};
 pub use outcome::{Outcome, render};
 pub use token::tokens_are_as_written;

@@ -3,7 +3,9 @@
 ghost use Rattle.std.specs.Prelude.{◌≡◌, ℕ, List};
 ghost use Rattle.std.specs.List.{list_all};
 ghost use Rattle.trace_script.specs.Commands.{AsksFor, IsAskedBy};
+ghost use Rattle.trace_script.specs.Faults.{HasFault};
 ghost use Rattle.trace_script.specs.Outcomes.{Gives};
+ghost use Rattle.trace_script.specs.declared.fault.ScriptFault.{ScriptFault as FaultValue};
 ghost use Rattle.trace_script.specs.Lines.{alone, named_line, asked_of, is_line_byte, says_nothing, spoken, line_of};
 ghost use Rattle.trace_script.specs.declared.token.Token.{Token};
 ghost use Rattle.trace_script.specs.declared.line.Line.{Line as LineValue};
@@ -128,4 +130,10 @@ pub fn commands_are_as_written()
 pub fn lines_are_as_written()
     ensures written { (text : List ℕ) (line : LineValue) → line_of text ≡ Ok line → AsksFor text line }
     ensures read { (text : List ℕ) (line : LineValue) → AsksFor text line → line_of text ≡ Ok line }
+{}
+
+/// The fault of a line: it is told exactly if the line has it, which no cause of an earlier fault allows. So a line has one fault at most.
+pub fn faults_come_in_order()
+    ensures found { (text : List ℕ) (fault : FaultValue) → line_of text ≡ Err fault → HasFault text fault }
+    ensures told { (text : List ℕ) (fault : FaultValue) → HasFault text fault → line_of text ≡ Err fault }
 {}
