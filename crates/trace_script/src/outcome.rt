@@ -92,13 +92,13 @@ fn fault_line(alloc: Global, number: usize, fault: ScriptFault) -> Result<Vec<u8
 }
 
 /// The bytes that are written for the line of this number, which counts from 1.
-pub fn render(alloc: Global, number: usize, outcome: &Outcome) -> Result<Vec<u8>, AllocError>
-    ensures { IfOk result (λ text. text.items ≡ rendered number outcome.now) }
+pub fn render(alloc: Global, line_number: usize, outcome: &Outcome) -> Result<Vec<u8>, AllocError>
+    ensures { IfOk result (λ text. text.items ≡ rendered line_number outcome.now) }
 {
     match outcome {
         Outcome::Replied(Reply::Done) => Ok(Vec::new(alloc)),
         Outcome::Replied(Reply::Text(text)) => Vec::from_slice(alloc, text.as_bytes()),
-        Outcome::Refused(refusal) => refusal_line(alloc, number, refusal),
-        Outcome::Fault(fault) => fault_line(alloc, number, *fault),
+        Outcome::Refused(refusal) => refusal_line(alloc, line_number, refusal),
+        Outcome::Fault(fault) => fault_line(alloc, line_number, *fault),
     }
 }
