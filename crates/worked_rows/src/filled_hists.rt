@@ -10,39 +10,45 @@ const TRIGGER: &str = "events/synthetic/tick/trigger";
 
 const HIST: &str = "events/synthetic/tick/hist";
 
-/// A histogram that is hit by each number up to a last one and then once more by the first, and its totals.
+/// A histogram that is hit by each number up to a last one and then once more by the first, the size that it shows, and its totals.
 struct Filled {
     trigger: &'static str,
     last: u32,
+    size: u32,
     hits: u32,
     entries: u32,
     dropped: u32,
 }
 
-/// The first asks for 100 entries, which is rounded up. The second has room for as many as there are if nothing is asked for.
-const FILLED: [Filled; 3] = [
-    Filled {
-        trigger: "hist:keys=n:vals=n:size=100",
-        last: 130,
-        hits: 129,
-        entries: 128,
-        dropped: 2,
-    },
-    Filled {
-        trigger: "hist:keys=n:vals=n",
-        last: 2_049,
-        hits: 2_049,
-        entries: 2_048,
-        dropped: 1,
-    },
-    Filled {
-        trigger: "hist:keys=n:vals=n:size=4096",
-        last: 4_000,
-        hits: 4_001,
-        entries: 4_000,
-        dropped: 0,
-    },
-];
+/// What is asked for is rounded up.
+const ASKED_FOR: Filled = Filled {
+    trigger: "hist:keys=n:vals=n:size=100",
+    last: 130,
+    size: 128,
+    hits: 129,
+    entries: 128,
+    dropped: 2,
+};
+
+/// If nothing is asked for, there is room for so many.
+const NOT_ASKED_FOR: Filled = Filled {
+    trigger: "hist:keys=n:vals=n",
+    last: 2_049,
+    size: 2_048,
+    hits: 2_049,
+    entries: 2_048,
+    dropped: 1,
+};
+
+/// More than these are asked for.
+const MORE_ASKED_FOR: Filled = Filled {
+    trigger: "hist:keys=n:vals=n:size=4096",
+    last: 2_100,
+    size: 4_096,
+    hits: 2_101,
+    entries: 2_100,
+    dropped: 0,
+};
 
 /// A number in decimal.
 fn written(alloc: Global, n: u32) -> Result<String, Refused> {
@@ -76,7 +82,8 @@ Totals:
 }
 
 /// The line of the trigger, and what follows it.
-fn shown(alloc: Global, filled: &Filled, size: u32) -> Result<String, Refused> {
+fn shown(alloc: Global, filled: &Filled) -> Result<String, Refused> {
+    let size = filled.size;
     let rest = entries_and_totals(alloc, filled)?;
     Ok(format!(in alloc;
         "\
@@ -95,20 +102,33 @@ fn tick(rt: &(impl Abort + AllocGlobal), refusals: &mut Refusals, desk: &mut Des
     desk.does(rt, Step::Tick(&value));
 }
 
-#[test]
-fn histograms_are_filled(rt: HostRuntime) {
+/// Sees that a histogram which is filled so shows it.
+fn fills(rt: &(impl Abort + AllocGlobal), filled: &Filled) {
     let alloc = rt.alloc();
     let mut refusals = Refusals::new();
-    for (filled, size) in FILLED.iter().zip([128, 2_048, 4_096]) {
-        let mut desk = ticking_desk(&rt, 2, 64, 0);
-        desk.does(&rt, Step::Write(TRIGGER, filled.trigger));
-        for n in 1..=filled.last {
-            tick(&rt, &mut refusals, &mut desk, n);
-        }
-        tick(&rt, &mut refusals, &mut desk, 1);
-        let want = refusals.tried(&rt, || shown(alloc, filled, size));
-        desk.shows(&rt, Step::Read(HIST), &want);
+    let mut desk = ticking_desk(rt, 2, 64, 0);
+    desk.does(rt, Step::Write(TRIGGER, filled.trigger));
+    for n in 1..=filled.last {
+        tick(rt, &mut refusals, &mut desk, n);
     }
+    tick(rt, &mut refusals, &mut desk, 1);
+    let want = refusals.tried(rt, || shown(alloc, filled));
+    desk.shows(rt, Step::Read(HIST), &want);
+}
+
+#[test]
+fn a_histogram_is_filled_of_the_size_asked_for(rt: HostRuntime) {
+    fills(&rt, &ASKED_FOR);
+}
+
+#[test]
+fn a_histogram_is_filled_with_no_size_asked_for(rt: HostRuntime) {
+    fills(&rt, &NOT_ASKED_FOR);
+}
+
+#[test]
+fn a_histogram_has_room_for_more(rt: HostRuntime) {
+    fills(&rt, &MORE_ASKED_FOR);
 }
 
 /// Two histograms that 20,000 rows hit, all with one key; the sum of the second is not one of 64 bits.
