@@ -17,6 +17,11 @@ def program_of(crate):
     return program
 
 
+def tracer():
+    """The words that run the built tracectl over standard input, with rings of two pages of 64 bytes."""
+    return [program_of("tracectl"), "--pages", "2", "--page-bytes", "64", "-"]
+
+
 def run_once(words, path=os.devnull):
     """The time of one run, in seconds, with this file on standard input."""
     with open(path, "rb") as source:

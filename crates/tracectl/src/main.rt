@@ -1,46 +1,49 @@
-//! Reads a tracer's script from standard input, does it, and writes the replies to standard output.
-//!
-//! For now the program takes no words, and has one CPU with two pages of 64 bytes.
+//! Reads a tracer's script, does it, and writes the replies to standard output.
 #![tactic(auto)]
 
+mod stop;
+mod words;
+
+use std::env;
+use std::fs::File;
+use std::io::ErrorKind;
 use std::process::ExitCode;
-use trace_book::{Book, Config, Refusal};
-use trace_session::{Input, Output, Status, run_session};
+use stop::Stop;
+use trace_book::{Book, Config};
+use trace_session::{Input, Output, Source, Status, run_session};
+use words::Words;
 
-const CONFIG: Config = Config {
-    cpus: 1,
-    pages: 2,
-    page_bytes: 64,
-    history_limit: 1 << 32,
-};
-
-/// The exit status for a configuration that is out of range.
-const BAD_CONFIG: u8 = 2;
-
-/// What is told of a session that stopped before its end.
-fn complaint(status: Status) -> Option<&'static str> {
-    match status {
-        Status::Memory => Some("out of memory"),
-        Status::Device => Some("read or write failed"),
-        Status::Done | Status::Refused | Status::Fault => None,
+/// The words of the command line, the program's name first.
+fn words_of(rt: &HostRuntime) -> Result<Vec<String>, Stop> {
+    match env::args(rt) {
+        Ok(words) => Ok(words.collect(rt.alloc())?),
+        Err(error) if error.kind() == ErrorKind::OutOfMemory => Err(Stop::Memory),
+        Err(_) => Err(Stop::from(words::not_unicode(rt.alloc())?)),
     }
 }
 
-fn main(rt: HostRuntime) -> ExitCode {
-    let status = match Book::new(rt.alloc(), CONFIG) {
-        Ok(_) => {
-            let mut input = Input::new(rt.stdin());
-            let mut output = Output::new(rt.stdout());
-            run_session(rt.alloc(), CONFIG, &mut input, &mut output)
-        }
-        Err(Refusal::Memory) => Status::Memory,
-        Err(_) => {
-            let _ = eprintln!(rt; "tracectl: bad value");
-            return ExitCode::from(BAD_CONFIG);
-        }
+/// Does the session that the command line asks for.
+fn run(rt: &HostRuntime) -> Result<Status, Stop> {
+    let words = words_of(rt)?;
+    let Words { config, script } = Words::read(rt.alloc(), &words)?;
+    // The session has a book of its own. This one is there so that a bad configuration is told before the script is opened.
+    Book::new(rt.alloc(), config)?;
+    let mut output = Output::new(rt.stdout());
+    let status = if script == "-" {
+        let mut input = Input::new(rt.stdin());
+        run_session(rt.alloc(), config, &mut input, &mut output)
+    } else {
+        let mut input = Input::new(File::open(rt, script).map_err(|_| Stop::Device)?);
+        run_session(rt.alloc(), config, &mut input, &mut output)
     };
-    if let Some(complaint) = complaint(status) {
-        let _ = eprintln!(rt; "tracectl: {complaint}");
+    Ok(status)
+}
+
+fn main(rt: HostRuntime) -> ExitCode {
+    match run(&rt) {
+        Ok(Status::Memory) => Stop::Memory.tell(&rt),
+        Ok(Status::Device) => Stop::Device.tell(&rt),
+        Ok(status) => ExitCode::from(status.code()),
+        Err(stop) => stop.tell(&rt),
     }
-    ExitCode::from(status.code())
 }

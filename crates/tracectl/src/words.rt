@@ -1,0 +1,124 @@
+//! The words of the command line.
+use clap::error::ErrorKind;
+use clap::{Arg, Command, Error, value_parser};
+use std::alloc::Global;
+use trace_book::Config;
+
+const CPUS: &str = "cpus";
+
+const PAGES: &str = "pages";
+
+const PAGE_BYTES: &str = "page-bytes";
+
+const SCRIPT: &str = "SCRIPT";
+
+/// More entries than a script has room for.
+const HISTORY_LIMIT: u64 = 1 << 32;
+
+const VERSION: &str = "0.1.0";
+
+const ABOUT: &str =
+    "The control side of a tracer, without a kernel: does the commands of a script, and prints what they read.";
+
+/// What `--help` says of scripts.
+const SCRIPTS: &str = "\
+A script has one command on each line. A line that begins with # is a comment.
+  emit CPU PID EVENT FIELD=VALUE ..  an event happens on a CPU, in a process
+  echo WORD .. > PATH                writes to a file, as does >>
+  cat PATH                           reads a file
+  take N PATH                        reads at most N records of a pipe
+  mkdir PATH, rmdir PATH             make and remove an instance
+
+Files, as in Linux tracefs:
+  synthetic_events                   declarations of events
+  events/synthetic/EVENT/..          enable, filter, trigger, hist and format of an event
+  events/enable                      the switches of all events
+  trace, trace_pipe                  records of all CPUs: to look at, to consume
+  per_cpu/cpuN/..                    trace, trace_pipe and stats of one CPU
+  snapshot, tracing_on, options/overwrite
+  instances/NAME/..                  the same files of an instance
+
+These three lines record an event, which cat trace then shows as 7 [000] 1: tick: n=5:
+  echo 'tick u64 n' > synthetic_events
+  echo 1 > events/synthetic/tick/enable
+  emit 0 7 tick n=5
+
+Exit status:
+  0  every command was done
+  1  a command was refused, which a line of the output tells; the others were done
+  2  the command line is wrong, a number is out of range, or the script has a fault
+  3  out of memory
+  4  reading or writing failed, or SCRIPT can't be opened";
+
+/// What the command line asks for.
+#[derive(Clone, Copy)]
+pub struct Words<'a> {
+    pub config: Config,
+    /// A file's name, or `-` for standard input.
+    pub script: &'a str,
+}
+
+/// An option that takes a number. It has a default, which help shows.
+fn option<'a>(alloc: Global, name: &'a str, default: &'a str, help: &'a str) -> Arg<'a> {
+    Arg::new(alloc, name)
+        .long(name)
+        .value_name("N")
+        .value_parser(value_parser!(u32))
+        .default_value(default)
+        .help(help)
+}
+
+fn command<'a>(alloc: Global) -> Result<Command<'a>, Error> {
+    let cpus = option(alloc, CPUS, "1", "How many CPUs there are, 1 to 8");
+    let pages = option(
+        alloc,
+        PAGES,
+        "16",
+        "How many pages a CPU's ring has, 2 to 1024",
+    );
+    let page_bytes = option(
+        alloc,
+        PAGE_BYTES,
+        "4080",
+        "How many bytes a page has, 64 to 4080, a multiple of 8",
+    );
+    let script = Arg::new(alloc, SCRIPT)
+        .required(true)
+        .help("A file, or - for standard input");
+    let command = Command::new(alloc, "tracectl")
+        .version(VERSION)
+        .about(ABOUT)
+        .after_help(SCRIPTS)
+        .arg(cpus)?
+        .arg(pages)?
+        .arg(page_bytes)?
+        .arg(script)?;
+    Ok(command)
+}
+
+/// The error for words that are not all in UTF-8.
+pub fn not_unicode(alloc: Global) -> Result<Error, Error> {
+    let mut command = command(alloc)?;
+    let error = command.error(
+        ErrorKind::ValueValidation,
+        "invalid UTF-8 was detected in one or more arguments",
+    )?;
+    Ok(error)
+}
+
+impl<'a> Words<'a> {
+    /// Reads the words, the program's name first.
+    pub fn read(alloc: Global, words: &'a [String]) -> Result<Words<'a>, Error> {
+        let matches = command(alloc)?.try_get_matches_from(words)?;
+        // Each option has its default and SCRIPT is required, so no value is missing. 0 would be out of range, and no file has an empty name.
+        let number = |name| matches.get_one::<u32>(name).unwrap_or(0);
+        let config = Config {
+            cpus: number(CPUS),
+            pages: number(PAGES),
+            page_bytes: number(PAGE_BYTES),
+            history_limit: HISTORY_LIMIT,
+        };
+        let script = matches.get_str(SCRIPT).unwrap_or("");
+        Ok(Words { config, script })
+    }
+}
