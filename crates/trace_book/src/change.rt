@@ -16,7 +16,7 @@ pub(crate) enum Change {
     /// One more event is declared.
     Declare(EventDef),
     /// One more instance is there.
-    Make(Named),
+    Make(Box<Named>),
     /// The instance at this place is there no more.
     Remove(usize),
     /// The instance at this place is changed.
@@ -68,11 +68,11 @@ pub(crate) enum TriggerChange {
     /// The event's trigger for snapshots is removed.
     Detach,
     /// The event gets one more hist trigger.
-    AttachHist(AttachedHist),
+    AttachHist(Box<AttachedHist>),
     /// The hist triggers that say the same are removed.
-    DetachHist(HistSpec),
+    DetachHist(Box<HistSpec>),
     /// What a text asks for is done to the hist triggers that say the same.
-    AskHist(HistSpec),
+    AskHist(Box<HistSpec>),
 }
 
 /// What becomes of an event's filter.

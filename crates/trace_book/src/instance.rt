@@ -263,7 +263,9 @@ impl Instance {
                 self.hists[event].keep(append);
                 self.triggers[event] = None;
             }
-            TriggerChange::AttachHist(attached) => self.hists[event].attach(append, attached)?,
+            TriggerChange::AttachHist(attached) => {
+                self.hists[event].attach(append, Box::into_inner(attached))?;
+            }
             TriggerChange::DetachHist(spec) => self.hists[event].remove(append, &spec),
             TriggerChange::AskHist(spec) => self.hists[event].ask(append, &spec),
         }
