@@ -1,5 +1,5 @@
 -- What a text that is written to an event's trigger file answers, and that the change made of it is the one that the definitions say.
-use Rattle.std.proofs.Common.{Box, Global, ◌≡◌, ◌↔◌, ℕ, ◌+◌, ◌<◌, ◌≤◌, nat_lt, Bool, true, false, not, ◌&&◌, ◌||◌, if◌then◌else◌, List, [], ◌∷◌, ◌++◌, length, map, is_some, IsTrue, Bor, Option, None, Some, Result, Ok, Err, refl, sym, ap, ◌∙◌, arith, lt-ltb, ltb-true}
+use Rattle.std.proofs.Common.{◌≡◌, ◌↔◌, ℕ, ◌+◌, ◌<◌, ◌≤◌, nat_lt, Bool, true, false, not, ◌&&◌, ◌||◌, if◌then◌else◌, List, [], ◌∷◌, ◌++◌, length, map, is_some, IsTrue, Bor, Option, None, Some, Result, Ok, Err, refl, sym, ap, ◌∙◌, arith, lt-ltb, ltb-true}
 use Rattle.std.specs.List.{list_any}
 use Rattle.std.specs.Option.{option_copied}
 use Rattle.std.proofs.lemmas.Bool.{false≢true}
@@ -180,12 +180,6 @@ unfolding trigger_answer
 text-refused event kept written faulty is told = λ name past number are.
     said-refused written.append (trigger_of name event past) (left_by name past event written.append) (said_of event written.text.now) faulty is told
 
--- of a text that says something memory may be refused
-pub text-memory : (event : Definition) (kept : EventTriggers) (written : Written) (what : TriggerText) → said_of event written.text.now ≡ Ok what
-    → IsChangeOf event kept written (Err refusal.Memory)
-text-memory event kept written what is =
-    text-refused event kept written fault.Memory tt (λ bad. let h : (let a : Result TriggerText TriggerFault = Ok what in a) ≡ Err fault.BadText = sym is ∙ bad in absurd (cc))
-
 -- ---- nothing
 
 pub text-nothing : (event : Definition) (kept : EventTriggers) (written : Written) → said_of event written.text.now ≡ Ok said.Nothing
@@ -297,10 +291,9 @@ asked-done action.Pause other = refl
 asked-done action.Continue other = refl
 asked-done action.Clear other = refl
 
-ask-done : (b : Box SpecSeen Global) (kept : EventTriggers) (written : Written)
-    → (written.append && list_any (says_same b.value) kept.hists.now) ≡ true → (b.value.action ≡ action.Attach → ⊥)
-    → IsAsked b.value kept written (Ok (AskHist b))
-ask-done b kept written same other = λ event name past number are is. let spec = b.value in (
+ask-done : (spec : SpecSeen) (kept : EventTriggers) (written : Written) → (written.append && list_any (says_same spec) kept.hists.now) ≡ true
+    → (spec.action ≡ action.Attach → ⊥) → IsAsked spec kept written (Ok (AskHist spec))
+ask-done spec kept written same other = λ event name past number are is. (
   ask-answer spec kept written true event name past same are is ∙ asked-done spec.action other,
   record {
     snapshot = snapshot-stays name past event written.append written.text.now (Ok (said.Hist spec)) is refl;
@@ -310,15 +303,15 @@ ask-done b kept written same other = λ event name past number are is. let spec 
 )
 
 -- what is asked of one that is attached
-pub ask-again : (b : Box SpecSeen Global) (kept : EventTriggers) (written : Written)
-    → (written.append && list_any (says_same b.value) kept.hists.now) ≡ true → IsAsked b.value kept written (asked_change b.value.action b)
-ask-again b kept written same = by b.value.action refl
+pub ask-again : (spec : SpecSeen) (kept : EventTriggers) (written : Written) → (written.append && list_any (says_same spec) kept.hists.now) ≡ true
+    → IsAsked spec kept written (asked_change spec.action spec)
+ask-again spec kept written same = by spec.action refl
   where
-    by : (a : Action) → b.value.action ≡ a → IsAsked b.value kept written (asked_change a b)
-    by action.Attach is = ask-refused b.value kept written same is
-    by action.Pause is = ask-done b kept written same (λ other. let h : action.Pause ≡ action.Attach = sym is ∙ other in absurd (cc))
-    by action.Continue is = ask-done b kept written same (λ other. let h : action.Continue ≡ action.Attach = sym is ∙ other in absurd (cc))
-    by action.Clear is = ask-done b kept written same (λ other. let h : action.Clear ≡ action.Attach = sym is ∙ other in absurd (cc))
+    by : (a : Action) → spec.action ≡ a → IsAsked spec kept written (asked_change a spec)
+    by action.Attach is = ask-refused spec kept written same is
+    by action.Pause is = ask-done spec kept written same (λ other. let h : action.Pause ≡ action.Attach = sym is ∙ other in absurd (cc))
+    by action.Continue is = ask-done spec kept written same (λ other. let h : action.Continue ≡ action.Attach = sym is ∙ other in absurd (cc))
+    by action.Clear is = ask-done spec kept written same (λ other. let h : action.Clear ≡ action.Attach = sym is ∙ other in absurd (cc))
 
 -- where none says the same
 new-lacks : (attached : Option triggers.Trigger) (hists : List HistTrigger) (asked : Action) → attaches asked ≡ false
@@ -371,9 +364,9 @@ ask-memory spec kept written none attaching few = λ event name past number are 
     (room-answer spec kept written event name past none attaching are is
     ∙ room-had (trigger_of name event past) (left_by name past event written.append) room)
 
-pub ask-attached : (spec : SpecSeen) (kept : EventTriggers) (written : Written) (attached : Box AttachedHist Global)
+pub ask-attached : (spec : SpecSeen) (kept : EventTriggers) (written : Written) (attached : AttachedHist)
     → (written.append && list_any (says_same spec) kept.hists.now) ≡ false → attaches spec.action ≡ true → kept_count kept written.append < 4
-    → kept_of attached.value ≡ new_kept written.number spec → IsAsked spec kept written (Ok (AttachHist attached))
+    → kept_of attached ≡ new_kept written.number spec → IsAsked spec kept written (Ok (AttachHist attached))
 ask-attached spec kept written attached none attaching few new = λ event name past number are is.
     let room : trigger_count (trigger_of name event past) (left_by name past event written.append) < 4 =
     omega (arith, few, count-left name past event kept written.append are) in
@@ -419,10 +412,10 @@ removed-answer false same event kept written spec name past appends is are says 
     answered name past event written.append written.text.now (Ok (said.RemoveHist spec)) says
     ∙ ap (λ (b : Bool). remove_hist_answer b (left_by name past event b) spec) appends
 
-removed-changes : (event : Definition) (kept : EventTriggers) (written : Written) (b : Box SpecSeen Global) (name : Option (List ℕ)) (past : List Request)
-    → trigger_answer name past written.append written.text.now event ≡ Ok Done → said_of event written.text.now ≡ Ok (said.RemoveHist b.value)
-    → IsTriggerChange name past event written (Ok (DetachHist b))
-removed-changes event kept written b name past done is = let spec = b.value in (
+removed-changes : (event : Definition) (kept : EventTriggers) (written : Written) (spec : SpecSeen) (name : Option (List ℕ)) (past : List Request)
+    → trigger_answer name past written.append written.text.now event ≡ Ok Done → said_of event written.text.now ≡ Ok (said.RemoveHist spec)
+    → IsTriggerChange name past event written (Ok (DetachHist spec))
+removed-changes event kept written spec name past done is = (
   done,
   record {
     snapshot = snapshot-stays name past event written.append written.text.now (Ok (said.RemoveHist spec)) is refl;
@@ -431,12 +424,12 @@ removed-changes event kept written b name past done is = let spec = b.value in (
   },
 )
 
-pub text-removes : (event : Definition) (kept : EventTriggers) (written : Written) (b : Box SpecSeen Global)
-    → said_of event written.text.now ≡ Ok (said.RemoveHist b.value) → (not written.append || list_any (says_same b.value) kept.hists.now) ≡ true
-    → IsChangeOf event kept written (Ok (DetachHist b))
-text-removes event kept written b is at = λ name past number are.
-    removed-changes event kept written b name past
-    (removed-answer written.append (list_any (says_same b.value) kept.hists.now) event kept written b.value name past refl refl are is
+pub text-removes : (event : Definition) (kept : EventTriggers) (written : Written) (spec : SpecSeen)
+    → said_of event written.text.now ≡ Ok (said.RemoveHist spec) → (not written.append || list_any (says_same spec) kept.hists.now) ≡ true
+    → IsChangeOf event kept written (Ok (DetachHist spec))
+text-removes event kept written spec is at = λ name past number are.
+    removed-changes event kept written spec name past
+    (removed-answer written.append (list_any (says_same spec) kept.hists.now) event kept written spec name past refl refl are is
     ∙ ap (λ (b : Bool). (let a : Result Reply Refusal = if b then Ok Done else Err refusal.NoSuchTrigger in a)) at) is
 
 pub text-removes_none : (event : Definition) (kept : EventTriggers) (written : Written) (spec : SpecSeen)

@@ -1,5 +1,5 @@
 -- What a change of an event's triggers and an emission make of the lists of hist triggers of an instance.
-use Rattle.std.proofs.Common.{Box, Global, ◌≡◌, ℕ, ◌<◌, Bool, true, false, not, cond, if◌then◌else◌, List, [], ◌∷◌, ◌++◌, length, map, get_or, set, Option, Some, None, refl, sym, ap, ◌∙◌, subst, get_or-set_same, get_or-set_other, length-set}
+use Rattle.std.proofs.Common.{◌≡◌, ℕ, ◌<◌, Bool, true, false, not, cond, if◌then◌else◌, List, [], ◌∷◌, ◌++◌, length, map, get_or, set, Option, Some, None, refl, sym, ap, ◌∙◌, subst, get_or-set_same, get_or-set_other, length-set}
 use Rattle.std.proofs.Math.Seq.{map-set_same}
 use Rattle.std.proofs.lemmas.List.{get_or_default, get_or-map, length-map, map-append, map-set}
 use Rattle.std.specs.List.{filter}
@@ -78,26 +78,26 @@ detached event append value old read mine view within here is =
     hists_applied event append Detach value old read mine (set old.triggers event None) view within here refl (ap (map kept_of) is) (λ f. refl)
 
 -- one more is attached
-pub hist_attached : (event : ℕ) (append : Bool) (one : Box AttachedHist Global) (value old : InstanceSeen) (read mine : List AttachedHist) → old ≡ value
-    → event < length value.hists → read ≡ get_or old.hists event read → mine ≡ (if append then read else []) ++ one.value ∷ []
+pub hist_attached : (event : ℕ) (append : Bool) (one : AttachedHist) (value old : InstanceSeen) (read mine : List AttachedHist) → old ≡ value
+    → event < length value.hists → read ≡ get_or old.hists event read → mine ≡ (if append then read else []) ++ one ∷ []
     → IsApplied (Triggers event append (AttachHist one)) value (record old { hists = set old.hists event mine })
 hist_attached event append one value old read mine view within here is =
     hists_applied event append (AttachHist one) value old read mine old.triggers view within here refl
-    (ap (map kept_of) is ∙ map-append kept_of (if append then read else []) (one.value ∷ [])) (λ f. refl)
+    (ap (map kept_of) is ∙ map-append kept_of (if append then read else []) (one ∷ [])) (λ f. refl)
 
 -- those that say the same are removed
-pub hist_detached : (event : ℕ) (append : Bool) (spec : Box SpecSeen Global) (value old : InstanceSeen) (read mine : List AttachedHist) → old ≡ value
+pub hist_detached : (event : ℕ) (append : Bool) (spec : SpecSeen) (value old : InstanceSeen) (read mine : List AttachedHist) → old ≡ value
     → event < length value.hists → read ≡ get_or old.hists event read
-    → mine ≡ filter (λ attached. not (says_same spec.value attached)) (if append then read else [])
+    → mine ≡ filter (λ attached. not (says_same spec attached)) (if append then read else [])
     → IsApplied (Triggers event append (DetachHist spec)) value (record old { hists = set old.hists event mine })
 hist_detached event append spec value old read mine view within here is =
     hists_applied event append (DetachHist spec) value old read mine old.triggers view within here refl
-    (ap (map kept_of) is ∙ kept_without spec.value (if append then read else [])) (λ f. refl)
+    (ap (map kept_of) is ∙ kept_without spec (if append then read else [])) (λ f. refl)
 
 -- those that say the same are asked
-pub hist_asked : (event : ℕ) (append : Bool) (spec : Box SpecSeen Global) (value old : InstanceSeen) (read mine : List AttachedHist) → old ≡ value
+pub hist_asked : (event : ℕ) (append : Bool) (spec : SpecSeen) (value old : InstanceSeen) (read mine : List AttachedHist) → old ≡ value
     → event < length value.hists → read ≡ get_or old.hists event read
-    → map kept_of mine ≡ map (asked_same spec.value) (map kept_of (if append then read else []))
+    → map kept_of mine ≡ map (asked_same spec) (map kept_of (if append then read else []))
     → IsApplied (Triggers event append (AskHist spec)) value (record old { hists = set old.hists event mine })
 hist_asked event append spec value old read mine view within here is =
     hists_applied event append (AskHist spec) value old read mine old.triggers view within here refl is (λ f. refl)

@@ -158,8 +158,7 @@ declare_stands g old new past request reply event stands given is step =
     (stands.each k d inside))))
 
 make_stands : (g : Config) (old new : State) (past : List Request) (request : Request) (reply : Reply) (named : Named)
-    → StandsFor g old past → answer_with_room g past request ≡ Ok reply → IsMade g past request named
-    → (new.catalog ≡ old.catalog) × (new.clock ≡ old.clock) × (new.instances.items ≡ old.instances.items ++ named ∷ [])
+    → StandsFor g old past → answer_with_room g past request ≡ Ok reply → IsMade g past request named → IsStep old new (Make named)
     → StandsFor g new (request ∷ past)
 make_stands g old new past request reply named stands given is step =
     let names = instance_names past in
@@ -264,7 +263,7 @@ step_stands : (g : Config) (old new : State) (past : List Request) (request : Re
     → answer_with_room g past request ≡ Ok reply → IsChangeOf g old past request change → IsReady g old change → IsStep old new change
     → StandsFor g new (request ∷ past)
 step_stands g old new past request reply (Declare event) stands given is ready step = declare_stands g old new past request reply event stands given is step
-step_stands g old new past request reply (Make named) stands given is ready step = make_stands g old new past request reply named.value stands given is step
+step_stands g old new past request reply (Make named) stands given is ready step = make_stands g old new past request reply named stands given is step
 step_stands g old new past request reply (Remove place) stands given is ready step = remove_stands g old new past request reply place stands given is step
 step_stands g old new past request reply (Instance place change) stands given is ready step =
     change_stands g old new past request reply place change stands given is ready.0 step

@@ -1,6 +1,5 @@
 -- What a trigger text changes of an event's triggers, by what an instance keeps of them.
-use Rattle.std.specs.Prelude.{◌≡◌, ℕ, ◌+◌, Bool, Box, true, false, is_some, if◌then◌else◌, List, [], ◌∷◌, length, map, Option, Some, None, Result, Ok, Err, option_copied}
-use Rattle.std.specs.declared.alloc.Global.{Global}
+use Rattle.std.specs.Prelude.{◌≡◌, ℕ, ◌+◌, Bool, true, false, is_some, if◌then◌else◌, List, [], ◌∷◌, length, map, Option, Some, None, Result, Ok, Err, option_copied}
 use Rattle.trace_format.specs.Definitions.{Definition}
 use Rattle.trace_hist.specs.HistSpecs.{SpecSeen}
 use Rattle.trace_hist.specs.declared.spec.Action.{Action}
@@ -78,7 +77,7 @@ abbrev pub IsAsked : SpecSeen → EventTriggers → Written → Result TriggerCh
 IsAsked spec = IsSaidChange (said.Hist spec)
 
 -- what is changed where one that is attached says the same
-abbrev pub asked_change : Action → Box SpecSeen Global → Result TriggerChange Refusal
+abbrev pub asked_change : Action → SpecSeen → Result TriggerChange Refusal
 asked_change action.Attach spec = Err TriggerExists
 asked_change asked spec = Ok (AskHist spec)
 

@@ -67,9 +67,9 @@ triggers_after change triggers = triggers
 
 -- the hist triggers of an event after a change, of those that `>` or `>>` left
 abbrev pub hists_changed : TriggerChange → List KeptHist → List KeptHist
-hists_changed (AttachHist attached) hists = hists ++ kept_of attached.value ∷ []
-hists_changed (DetachHist spec) hists = without_same spec.value hists
-hists_changed (AskHist spec) hists = map (asked_same spec.value) hists
+hists_changed (AttachHist attached) hists = hists ++ kept_of attached ∷ []
+hists_changed (DetachHist spec) hists = without_same spec hists
+hists_changed (AskHist spec) hists = map (asked_same spec) hists
 hists_changed change hists = hists
 
 -- those of each event

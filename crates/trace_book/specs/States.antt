@@ -174,7 +174,7 @@ IsStep old new (Declare event) =
     (new.catalog ≡ old.catalog ++ event ∷ []) × (new.clock ≡ old.clock)
     × EachCame (λ i j. j ≡ with_event i) old.instances.items new.instances.items
 IsStep old new (Make named) =
-    (new.catalog ≡ old.catalog) × (new.clock ≡ old.clock) × (new.instances.items ≡ old.instances.items ++ named.value ∷ [])
+    (new.catalog ≡ old.catalog) × (new.clock ≡ old.clock) × (new.instances.items ≡ old.instances.items ++ named ∷ [])
 IsStep old new (Remove place) =
     (new.catalog ≡ old.catalog) × (new.clock ≡ old.clock)
     × (new.instances.items ≡ take place old.instances.items ++ drop (place + 1) old.instances.items)
@@ -258,7 +258,7 @@ pub record IsEmission (g : Config) (past : List Request) (request : Request) (in
 -- a change says of a request all that the definitions say of it, after this past, in this state
 abbrev pub IsChangeOf : Config → State → List Request → Request → Change → Type 0
 IsChangeOf g state past request (Declare event) = IsDeclared g past request event
-IsChangeOf g state past request (Make named) = IsMade g past request named.value
+IsChangeOf g state past request (Make named) = IsMade g past request named
 IsChangeOf g state past request (Remove place) = IsRemoved g past request place
 IsChangeOf g state past request (Instance place change) =
     (d : Named) → IsChanged g past request (slice_index_or state.instances.items place d).name

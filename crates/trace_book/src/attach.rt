@@ -1,6 +1,6 @@
 //! Trigger texts: what is changed by one that is written for an event (events.rst, "Event triggers"; histogram.rst, "hist triggers").
 
-ghost use Rattle.std.specs.Prelude.{◌≡◌, ◌<◌, ◌≤◌, not, ◌&&◌, ◌||◌, List, [], length, slice_index_or, None, option_copied, OnOk, IfOk, IfErr};
+ghost use Rattle.std.specs.Prelude.{◌≡◌, ◌<◌, ◌≤◌, not, ◌&&◌, ◌||◌, List, [], length, slice_index_or, None, option_copied, OnOk, IfErr};
 ghost use Rattle.std.specs.List.{list_any};
 ghost use Rattle.trace_book.specs.Attaching as attaching;
 ghost use Rattle.trace_book.specs.KeptHists.{says_same};
@@ -10,7 +10,7 @@ use crate::hists::{AttachedHist, EventHists};
 use crate::instance::Instance;
 use crate::trigger::Trigger;
 use crate::write::Written;
-use std::alloc::{AllocError, Global};
+use std::alloc::Global;
 use trace_command::Refusal;
 use trace_format::EventDef;
 use trace_hist::{Action, Hist, HistSpec};
@@ -54,9 +54,9 @@ impl EventTriggers<'_> {
             TriggerText::Attach(trigger) => self.attached(written, trigger),
             TriggerText::Remove if self.snapshot.is_some() => Ok(TriggerChange::Detach),
             TriggerText::Remove => Err(Refusal::NoSuchTrigger),
-            TriggerText::Hist(spec) => self.asked(alloc, written, boxed(alloc, spec)?),
+            TriggerText::Hist(spec) => self.asked(alloc, written, spec),
             TriggerText::RemoveHist(spec) if self.removes(written.append, &spec) => {
-                Ok(TriggerChange::DetachHist(boxed(alloc, spec)?))
+                Ok(TriggerChange::DetachHist(spec))
             }
             TriggerText::RemoveHist(_) => Err(Refusal::NoSuchTrigger),
         }
@@ -82,9 +82,9 @@ impl EventTriggers<'_> {
         self,
         alloc: Global,
         written: Written<'_>,
-        spec: Box<HistSpec>,
+        spec: HistSpec,
     ) -> Result<TriggerChange, Refusal>
-        ensures { attaching.IsAsked spec.value self.entry written.entry result }
+        ensures { attaching.IsAsked spec self.entry written.entry result }
     {
         if self.finds(written.append, &spec) {
             return asked_again(spec);
@@ -93,12 +93,11 @@ impl EventTriggers<'_> {
             return Err(Refusal::NoSuchTrigger);
         }
         self.check_room(written.append)?;
-        let hist = Hist::new(alloc, Box::into_inner(spec))?;
-        let number = written.number;
-        Ok(TriggerChange::AttachHist(boxed(
-            alloc,
-            AttachedHist { number, hist },
-        )?))
+        let hist = Hist::new(alloc, spec)?;
+        Ok(TriggerChange::AttachHist(AttachedHist {
+            number: written.number,
+            hist,
+        }))
     }
 
     // Whether one of those that are left says the same.
@@ -135,8 +134,8 @@ impl EventTriggers<'_> {
 }
 
 // What is asked of a hist trigger that is attached.
-fn asked_again(spec: Box<HistSpec>) -> Result<TriggerChange, Refusal>
-    ensures { result ≡ attaching.asked_change spec.value.action spec }
+fn asked_again(spec: HistSpec) -> Result<TriggerChange, Refusal>
+    ensures { result ≡ attaching.asked_change spec.action spec }
 {
     match spec.action() {
         Action::Attach => Err(Refusal::TriggerExists),
@@ -154,11 +153,4 @@ fn attaches(action: Action) -> bool
         Action::Attach | Action::Pause => true,
         Action::Continue | Action::Clear => false,
     }
-}
-
-// A value in a box, so that what a change carries is small.
-fn boxed<T: Drop>(alloc: Global, value: T) -> Result<Box<T>, AllocError>
-    ensures { IfOk result (λ b. b.value ≡ value) }
-{
-    Ok(Box::new(alloc, value)?)
 }

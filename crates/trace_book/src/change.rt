@@ -16,7 +16,7 @@ pub(crate) enum Change {
     /// One more event is declared.
     Declare(EventDef),
     /// One more instance is there.
-    Make(Box<Named>),
+    Make(Named),
     /// The instance at this place is there no more.
     Remove(usize),
     /// The instance at this place is changed.
@@ -68,11 +68,11 @@ pub(crate) enum TriggerChange {
     /// The event's trigger for snapshots is removed.
     Detach,
     /// The event gets one more hist trigger.
-    AttachHist(Box<AttachedHist>),
+    AttachHist(AttachedHist),
     /// The hist triggers that say the same are removed.
-    DetachHist(Box<HistSpec>),
+    DetachHist(HistSpec),
     /// What a text asks for is done to the hist triggers that say the same.
-    AskHist(Box<HistSpec>),
+    AskHist(HistSpec),
 }
 
 /// What becomes of an event's filter.

@@ -263,9 +263,7 @@ impl Instance {
                 self.hists[event].keep(append);
                 self.triggers[event] = None;
             }
-            TriggerChange::AttachHist(attached) => {
-                self.hists[event].attach(append, Box::into_inner(attached))?;
-            }
+            TriggerChange::AttachHist(attached) => self.hists[event].attach(append, attached)?,
             TriggerChange::DetachHist(spec) => self.hists[event].remove(append, &spec),
             TriggerChange::AskHist(spec) => self.hists[event].ask(append, &spec),
         }

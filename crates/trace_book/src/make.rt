@@ -46,7 +46,7 @@ impl State {
         }
         let named = new_instance(alloc, config, name, self.catalog.len())?;
         Ok(Prepared {
-            change: Change::Make(Box::new(alloc, named).map_err(AllocError::from)?),
+            change: Change::Make(named),
             reply: Reply::Done,
         })
     }

@@ -54,7 +54,7 @@ impl State {
                 self.catalog.add(event, config.page_bytes as usize)?;
                 add_event(&mut self.instances);
             }
-            Change::Make(named) => self.instances.push(Box::into_inner(named))?,
+            Change::Make(named) => self.instances.push(named)?,
             Change::Remove(place) => {
                 let _named = self.instances.remove(place);
             }

@@ -1,11 +1,6 @@
-use Rattle.std.proofs.Common.{◌≡◌, not, if◌then◌else◌, List, [], ◌∷◌, ◌++◌, map, ap, ◌∙◌, rules}
-use Rattle.std.specs.List.{filter}
-use Rattle.trace_hist.specs.HistSpecs.{SpecSeen}
-use Rattle.trace_book.specs.KeptHists.{asked_same, kept_of, says_same}
-use Rattle.trace_book.specs.declared.hists.AttachedHist.{AttachedHist}
 use Rattle.trace_book.proofs.HistChanges.{attached, detached, hist_asked, hist_attached, hist_detached, hists_left}
 use Rattle.trace_book.proofs.instance.Instance.change_triggers.Goals as goal
-use Rattle.trace_book.proofs.instance.Instance.change_triggers.Goals.{in-Some+in-Some-index_mut-2, in-Some+in-None-1, in-None-2, in-Some+in-Some-index_mut-4, in-Some+in-None-2, in-None-3}
+use Rattle.trace_book.proofs.instance.Instance.change_triggers.Goals.{in-Some+in-Some-index_mut-2, in-Some+in-None-1, in-None-4, in-Some+in-Some-index_mut-4, in-Some+in-None-2, in-None-5}
 
 pub returns-in-Keep-clause-applied : goal.returns-in-Keep-clause-applied
 returns-in-Keep-clause-applied c =
@@ -19,7 +14,7 @@ returns-in_ok-arm-in-Attach-clause-applied c =
     elim c.match-index_mut.branch [
       | in-Some+in-Some-index_mut-2 w ↦ rw (w.self-is, c.in-Attach.is) done
       | in-Some+in-None-1 w ↦ rw (w.self-is, c.in-Attach.is) done
-      | in-None-2 w ↦ rw (w.self-is, c.in-Attach.is) done
+      | in-None-4 w ↦ rw (w.self-is, c.in-Attach.is) done
     ]
 
 pub returns-in-Detach-clause-applied : goal.returns-in-Detach-clause-applied
@@ -29,29 +24,20 @@ returns-in-Detach-clause-applied c =
     elim c.match-index_mut-3.branch [
       | in-Some+in-Some-index_mut-4 w ↦ rw (w.self-is, c.in-Detach.is) done
       | in-Some+in-None-2 w ↦ rw (w.self-is, c.in-Detach.is) done
-      | in-None-3 w ↦ rw (w.self-is, c.in-Detach.is) done
+      | in-None-5 w ↦ rw (w.self-is, c.in-Detach.is) done
     ]
 
 pub returns-in_ok-attach-in-AttachHist-clause-applied : goal.returns-in_ok-attach-in-AttachHist-clause-applied
 returns-in_ok-attach-in-AttachHist-clause-applied c =
-    let unboxed : c.into_inner.result ≡ c.in-AttachHist.attached.value = search rules in
-    let left : List AttachedHist = if c.args.append then c.index_mut-in-AttachHist.result.now else [] in
     rw c.in-AttachHist.is (hist_attached c.args.event c.args.append c.in-AttachHist.attached c.args.self.now _ c.index_mut-in-AttachHist.result.now
-    c.attach.new.self c.self.view_is c.requires.hists c.index_mut-in-AttachHist.ensures.value
-    (c.in_ok-attach-in-AttachHist.ensures.attached ∙ ap (λ (one : AttachedHist). left ++ one ∷ []) unboxed))
+    c.attach.new.self c.self.view_is c.requires.hists c.index_mut-in-AttachHist.ensures.value c.in_ok-attach-in-AttachHist.ensures.attached)
 
 pub returns-in-DetachHist-clause-applied : goal.returns-in-DetachHist-clause-applied
 returns-in-DetachHist-clause-applied c =
-    let named : c.deref.result.now ≡ c.in-DetachHist.spec.value = search rules in
-    let left : List AttachedHist = if c.args.append then c.index_mut-in-DetachHist.result.now else [] in
     rw c.in-DetachHist.is (hist_detached c.args.event c.args.append c.in-DetachHist.spec c.args.self.now _ c.index_mut-in-DetachHist.result.now
-    c.remove.new.self c.self.view_is c.requires.hists c.index_mut-in-DetachHist.ensures.value
-    (c.remove.ensures ∙ ap (λ (s : SpecSeen). filter (λ attached. not (says_same s attached)) left) named))
+    c.remove.new.self c.self.view_is c.requires.hists c.index_mut-in-DetachHist.ensures.value c.remove.ensures)
 
 pub returns-in-AskHist-clause-applied : goal.returns-in-AskHist-clause-applied
 returns-in-AskHist-clause-applied c =
-    let named : c.deref-in-AskHist.result.now ≡ c.in-AskHist.spec.value = search rules in
-    let left : List AttachedHist = if c.args.append then c.index_mut-in-AskHist.result.now else [] in
     rw c.in-AskHist.is (hist_asked c.args.event c.args.append c.in-AskHist.spec c.args.self.now _ c.index_mut-in-AskHist.result.now
-    c.ask.new.self c.self.view_is c.requires.hists c.index_mut-in-AskHist.ensures.value
-    (c.ask.ensures ∙ ap (λ (s : SpecSeen). map (asked_same s) (map kept_of left)) named))
+    c.ask.new.self c.self.view_is c.requires.hists c.index_mut-in-AskHist.ensures.value c.ask.ensures)
