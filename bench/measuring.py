@@ -17,9 +17,9 @@ def program_of(crate):
     return program
 
 
-def tracer():
-    """The words that run the built tracectl over standard input, with rings of two pages of 64 bytes."""
-    return [program_of("tracectl"), "--pages", "2", "--page-bytes", "64", "-"]
+def tracer(program=None):
+    """The words that run the built tracectl, or another build of it, over standard input, with rings of two pages of 64 bytes."""
+    return [program or program_of("tracectl"), "--pages", "2", "--page-bytes", "64", "-"]
 
 
 def run_once(words, path=os.devnull):
