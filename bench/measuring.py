@@ -3,6 +3,7 @@ import os
 import re
 import subprocess
 import sys
+import tempfile
 import time
 
 TOP = os.path.dirname(os.path.dirname(os.path.abspath(__file__)))
@@ -47,3 +48,16 @@ def instructions(words, text=""):
     command = ["valgrind", "--tool=callgrind", "--callgrind-out-file=/dev/null"] + words
     run = subprocess.run(command, input=text, text=True, stdout=subprocess.DEVNULL, stderr=subprocess.PIPE, check=True)
     return int(re.search(r"Collected : (\d+)", run.stderr).group(1))
+
+
+def costs_of(runs, as_instructions):
+    """What each run costs, its words and the lines of its script on standard input, and the unit: the least time in ns, or instructions."""
+    texts = ["".join(line + "\n" for line in lines) for _, lines in runs]
+    if as_instructions:
+        return "instructions", [instructions(words, text) for (words, _), text in zip(runs, texts)]
+    with tempfile.TemporaryDirectory() as folder:
+        paths = [os.path.join(folder, str(number)) for number in range(len(texts))]
+        for path, text in zip(paths, texts):
+            with open(path, "w") as file:
+                file.write(text)
+        return "ns", [seconds * 1e9 for seconds in least_times([(words, path) for (words, _), path in zip(runs, paths)])]
