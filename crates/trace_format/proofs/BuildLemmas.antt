@@ -18,7 +18,7 @@ use Rattle.trace_format.specs.Rows.{number_in, value_of, first_wrong, first_miss
 use Rattle.trace_lex.proofs.Options.{if_some, and_then_some}
 
 -- what a text gives may be held
-value_of-holds : (kind : Kind) (text : List ℕ) (value : Datum) → value_of kind text ≡ Some value → Holds kind value
+pub value_of-holds : (kind : Kind) (text : List ℕ) (value : Datum) → value_of kind text ≡ Some value → Holds kind value
 unfolding value_of
 value_of-holds (Number t) text value h =
     let read = and_then_some (number_in (least t) (greatest t)) (number_of text) value h in

@@ -6,6 +6,7 @@ pub mod Reading
 pub mod Cells
 pub mod Rows
 pub mod Pairs
+pub mod InOrder
 pub mod Decoding
 pub mod Catalogs
 pub mod Laws

@@ -6,12 +6,14 @@ ghost use Rattle.trace_format.specs.Rows.{first_wrong, first_missing, row_of, Is
 use crate::event::{EventDef, Field};
 use crate::fault::RowFault;
 use crate::given::{are_new, bad_row, given_values, missing_field, wrong_pair};
+use crate::in_order::read_in_order;
 use crate::kind::Kind;
 use crate::pair::Pair;
 use crate::payload::{decode_values, encode_values};
 use crate::value::Value;
 use std::alloc::{AllocError, Global};
 use std::marker::Model;
+use std::mem;
 
 /// A row of an event: a value for each of its fields.
 #[derive(Debug, Drop)]
@@ -29,6 +31,38 @@ impl Model for Row {
     ghost view = { λ r. record { kinds = r.kinds.items; values = map datum_of r.values.items } };
 
     ghost invariant = { λ r. IsRow (record { kinds = r.kinds.items; values = map datum_of r.values.items }) };
+}
+
+/// Memory in which a row is made: that of an earlier one, so that a row of no more fields takes no allocation for the lists of its types and
+/// values. It means nothing: no two are told apart by what they hold or how much room they have.
+#[derive(Debug, Drop)]
+pub struct RowMemory {
+    kinds: Vec<Kind>,
+    values: Vec<Value>,
+}
+
+impl Model for RowMemory {
+    ghost Value = { Unit {0} };
+
+    ghost view = { λ m. tt };
+}
+
+impl RowMemory {
+    /// Memory without room.
+    pub fn new(alloc: Global) -> RowMemory {
+        RowMemory {
+            kinds: Vec::new(alloc),
+            values: Vec::new(alloc),
+        }
+    }
+}
+
+/// The memory of a row that is not used any more.
+impl From<Row> for RowMemory {
+    fn from(row: Row) -> RowMemory {
+        let Row { kinds, values } = row;
+        RowMemory { kinds, values }
+    }
 }
 
 impl Row {
@@ -54,6 +88,44 @@ impl Row {
         // What is built, and each refusal, as one function of the pairs.
         ensures exact { IsBuilt result (row_of def.now pairs.now) }
     {
+        Row::build_in(alloc, &mut RowMemory::new(alloc), def, pairs)
+    }
+
+    /// The row that `build` makes, in the memory of an earlier one, which is left without room. Pairs that name the fields in order take one
+    /// pass and no search. A refusal leaves the memory for the next row.
+    pub fn build_in(
+        alloc: Global,
+        memory: &mut RowMemory,
+        def: &EventDef,
+        pairs: &[Pair],
+    ) -> Result<Row, RowFault>
+        ensures row { IfOk result (IsRowOf def.now) }
+        ensures map { IfOk result (Give def.now.fields pairs.now) }
+        ensures only { (row : Cells) → IsRowOf def.now row → Give def.now.fields pairs.now row → IsBuilt result (Ok row) }
+        ensures refused { IfErr result (IsRefusedRow def.now pairs.now) }
+        ensures names { IfOk result (λ row. StandByName def.now.fields row.values) }
+        ensures exact { IsBuilt result (row_of def.now pairs.now) }
+    {
+        Row::read_in(alloc, memory, def, pairs)
+    }
+
+    /// The row: in one pass where the pairs name the fields in order, else field by field.
+    fn read_in(
+        alloc: Global,
+        memory: &mut RowMemory,
+        def: &EventDef,
+        pairs: &[Pair],
+    ) -> Result<Row, RowFault>
+        ensures definition { IsDefinition def.now }
+        ensures row { IfOk result (IsRowOf def.now) }
+        ensures exact { IsBuilt result (row_of def.now pairs.now) }
+    {
+        let fields = def.fields();
+        if read_in_order(alloc, fields, pairs, &mut memory.kinds, &mut memory.values)? {
+            let kinds = mem::replace(&mut memory.kinds, Vec::new(alloc));
+            let values = mem::replace(&mut memory.values, Vec::new(alloc));
+            return Ok(Row { kinds, values });
+        }
         Row::read(alloc, def, pairs)
     }
 

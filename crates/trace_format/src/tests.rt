@@ -156,6 +156,54 @@ fn rows(rt: HostRuntime) -> Result<(), Fail> {
     Ok(())
 }
 
+/// The payload of the row that pairs give in the memory of an earlier one, or `!` and the field at which they are refused. The memory is the
+/// row's again afterwards.
+fn payload_in(
+    rt: &impl Abort,
+    alloc: Global,
+    memory: &mut RowMemory,
+    def: &EventDef,
+    text: &str,
+) -> Result<String, Fail>
+    requires { length def.now.fields ≤ 16 }
+{
+    match Row::build_in(alloc, memory, def, &pairs(alloc, text)?) {
+        Ok(row) => {
+            let found = hexadecimal(rt, alloc, def, &row)?;
+            *memory = RowMemory::from(row);
+            Ok(found)
+        }
+        Err(RowFault::BadRow { field }) => {
+            let name = String::from_utf8(field.into_bytes()?)?;
+            Ok(format!(in alloc; "!{name}")?)
+        }
+        Err(fault) => Err(fault.into()),
+    }
+}
+
+/// Pairs for rows that are made one after the other in one memory, with their payloads or refusals.
+const ROWS_OF_ONE_MEMORY: &str = "\
+n=1,t=ab|0161620000
+t=c,n=0x10|1063000000
+n=256,t=ab|!n
+n=2,t=abcd|!t
+n=2|!t
+n=2,t=x,n=3|!n
+n=255,t=|ff00000000";
+
+#[test]
+fn rows_in_one_memory(rt: HostRuntime) -> Result<(), Fail> {
+    let def = EventDef::parse(rt.alloc(), b"e u8 n; char t[4]")?;
+    assert!(rt; def.fields().len() <= 16);
+    let mut memory = RowMemory::new(rt.alloc());
+    for line in ROWS_OF_ONE_MEMORY.lines() {
+        let (text, want) = parts(line)?;
+        let found = payload_in(&rt, rt.alloc(), &mut memory, &def, text)?;
+        assert_eq!(rt; found.as_str(), want, "at {line}");
+    }
+    Ok(())
+}
+
 #[test]
 fn bytes_of_no_row(rt: HostRuntime) -> Result<(), Fail> {
     let def = EventDef::parse(rt.alloc(), b"e char t[3]; u8 n")?;
