@@ -14,3 +14,5 @@ pub mod Sides
 pub mod Spares
 pub mod StandingFilters
 pub mod Triggered
+pub mod Trailing
+pub mod Unworn

@@ -7,6 +7,9 @@ pub mod Snapshots
 pub mod Rings
 pub mod History
 pub mod Laws
+pub mod Trails
+pub mod TrailLaws
+pub mod Blocks
 pub mod Examples
 pub mod SnapshotExamples
 pub mod HistTriggerExamples

@@ -1,10 +1,11 @@
-//! What the words of the answers mean in legal histories, and what they give worked scripts. Entries stand newest first here: those of a book
-//! reversed. Each function does nothing: its contract is a theorem.
+//! What the words of the answers mean in legal histories, what they give worked scripts, and what callers' trails come to. Entries stand newest
+//! first, those of a book reversed; in trails they stand as in a book. Each function does nothing: its contract is a theorem.
 
 ghost use Rattle.trace_history.specs.Examples.{small, IsAnswered, merged_reads, instances, instance_made_again, recording_off, lost_line_after_overrun, precedence_and_kept_filter};
 ghost use Rattle.trace_history.specs.SnapshotExamples.{two_snapshots, counted_trigger, unlimited_trigger, removed_trigger, trigger_of_disabled_event, refused_triggers, sides_of_an_instance};
 ghost use Rattle.trace_history.specs.HistTriggerExamples.{shown_triggers, refused_hist_triggers, paused_and_cleared, counted_unrecorded, histograms_of_an_instance, removed_hist_triggers, hist_triggers_anew, four_triggers};
 ghost use Rattle.trace_history.specs.Laws.{FiltersAreOfTheirEvents, FiltersHoldAsTheirTrees, RecordsShowTheirRows, KeptRecordsShowEmissions, KeptSpareRecordsShowEmissions, SnapshotsSwapTheSides, TriggersSwapTheSides, SnapshotsStay, TriggersHaveTheirSpare, SparesBeginEmpty, PipeReadsConsumeWhatTheyShow, WholePipeReadsConsumeWhatTheyShow, AtMostFourTriggers, HistTriggersDiffer, HistTriggersAreInOrder, CountedRowsAreOfEmissions, EmissionsAreCountedOnce, EmissionsAreCounted, PausesCountNothing, ClearsLeaveNone, OtherRequestsLeaveHistTriggers};
+ghost use Rattle.trace_history.specs.TrailLaws.{TrailsHoldDoneCallsOnce, WornIsNoAnswer};
 
 /// In a legal history the filter that an event has in an instance is one of the event, and it holds of an emission as the trees of its text do.
 pub fn filters_are_of_their_events()
@@ -102,4 +103,15 @@ pub fn hist_examples_are_answered()
     ensures removed { IsAnswered (small 1) removed_hist_triggers }
     ensures anew { IsAnswered (small 1) hist_triggers_anew }
     ensures four { IsAnswered (small 1) four_triggers }
+{}
+
+/// Each call of a caller that was done stands once in the history, in the order in which the caller asked: its entries are of just the commands
+/// of its trail that were done.
+pub fn trails_hold_done_calls_once()
+    ensures { TrailsHoldDoneCallsOnce }
+{}
+
+/// No history answers that all tickets are drawn: where a reply is Worn, it is the lock's own.
+pub fn worn_is_no_answer()
+    ensures { WornIsNoAnswer }
 {}
