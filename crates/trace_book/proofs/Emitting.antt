@@ -26,10 +26,9 @@ use Rattle.trace_book.specs.Instances.{InstanceSeen, InstanceStandsFor, IsAlike,
 use Rattle.trace_book.specs.Rows.{fires, kept_acts, kept_holds, records}
 use Rattle.trace_book.specs.KeptHists.{CanCount}
 use Rattle.trace_book.specs.declared.hists.AttachedHist.{AttachedHist}
-use Rattle.trace_book.specs.States.{CanBeWritten, CanCountRow, EachCame, HasRoom, IsEmission, IsReady, StandsFor}
+use Rattle.trace_book.specs.States.{CanBeWritten, CanCountRow, CanEmit, EachCame, HasRoom, IsEmission, StandsFor}
 use Rattle.trace_book.specs.Emissions.{IsAhead, IsArmedFor, IsReadied, IsStateAlike}
 use Rattle.trace_book.specs.Found.{numbered}
-use Rattle.trace_book.specs.declared.change.Change.TheVariants.{Emit}
 use Rattle.trace_book.specs.declared.change.Pending.{Pending}
 use Rattle.trace_book.specs.declared.resolve.Found.{Found}
 use Rattle.trace_book.specs.declared.state.Named.{Named}
@@ -260,7 +259,7 @@ pub ready-emission : (g : Config) (old new : State) (past : List Request) (reque
     → length new.instances.items ≡ length old.instances.items
     → All (λ (n : Named). CanCountRow (record { values = row.values; cpu = cpu; pid = pid }) event n.instance) old.instances.items
     → IsAhead old new event row cpu pid pending → ((p : Pending) → pending ≡ Some p → length p.bytes.items ≤ g.page_bytes)
-    → IsReady g new (Emit (record { event = event; row = row; cpu = cpu; pid = pid; «record» = pending }))
+    → CanEmit g new (record { event = event; row = row; cpu = cpu; pid = pid; «record» = pending })
 ready-emission g old new past request event row cpu pid pending stands emission many counted ahead short = (
   rw stands.events emission.place.inside,
   can-be-written g old new event row cpu pid pending ahead short,

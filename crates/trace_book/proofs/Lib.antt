@@ -25,3 +25,4 @@ pub mod Effects
 pub mod Filtering
 pub mod Making
 pub mod Dispatch
+pub mod SameBases

@@ -13,16 +13,17 @@ use Rattle.trace_command.specs.Configs.{IsInRange}
 use Rattle.trace_command.specs.Requests.{Request, Emission}
 use Rattle.trace_command.specs.declared.command.Config.{Config}
 use Rattle.trace_command.specs.declared.command.Reply.{Reply}
+use Rattle.trace_command.specs.declared.command.Reply.TheVariants.{Done}
 use Rattle.trace_history.specs.Declarations.{IsFit}
 use Rattle.trace_history.specs.History.{answer_with_room}
 use Rattle.trace_history.specs.Settings.{declares, declared_events, instance_names, is_born, is_same, made, removed, ticks}
 use Rattle.trace_history.proofs.EventLists.{AreEvents-push}
 use Rattle.trace_history.proofs.Events.{fit-push}
 use Rattle.trace_book.specs.Instances.{InstanceSeen, InstanceStandsFor}
-use Rattle.trace_book.specs.States.{IsChangeOf, IsDeclared, IsEmission, IsFresh, IsMade, IsPrepared, IsReady, IsRemoved, IsStep, StandsFor, names_of, row_of}
+use Rattle.trace_book.specs.States.{IsChangeOf, IsDeclared, IsEmission, IsFresh, IsMade, IsEmitted, IsPrepared, IsPreparedEmission, IsReady, IsRemoved, IsStep, StandsFor, names_of, row_of}
 use Rattle.trace_history.specs.HistTriggers.{counted_row}
 use Rattle.trace_book.specs.declared.change.Change.{Change}
-use Rattle.trace_book.specs.declared.change.Change.TheVariants.{Declare, Make, Remove, Instance, Emit}
+use Rattle.trace_book.specs.declared.change.Change.TheVariants.{Declare, Make, Remove, Instance}
 use Rattle.trace_book.specs.declared.change.InstanceChange.{InstanceChange}
 use Rattle.trace_book.specs.declared.change.Delivery.{Delivery}
 use Rattle.trace_book.specs.declared.state.Named.{Named}
@@ -246,7 +247,7 @@ change_stands g old new past request reply place change stands given is there st
 
 emit_stands : (g : Config) (old new : State) (past : List Request) (request : Request) (reply : Reply) (delivery : Delivery)
     → StandsFor g old past → answer_with_room g past request ≡ Ok reply → IsEmission g past request old.instances.items delivery
-    → IsStep old new (Emit delivery) → StandsFor g new (request ∷ past)
+    → IsEmitted old new delivery → StandsFor g new (request ∷ past)
 emit_stands g old new past request reply delivery stands given is step =
     let came = step.2 in
     let row : row_of delivery ≡ counted_row is.e = λ i. record { values = is.row i; cpu = is.cpu i; pid = is.pid i } in
@@ -267,10 +268,12 @@ step_stands g old new past request reply (Make named) stands given is ready step
 step_stands g old new past request reply (Remove place) stands given is ready step = remove_stands g old new past request reply place stands given is step
 step_stands g old new past request reply (Instance place change) stands given is ready step =
     change_stands g old new past request reply place change stands given is ready.0 step
-step_stands g old new past request reply (Emit delivery) stands given is ready step =
-    emit_stands g old new past request reply delivery stands given is step
 
 pub stands_after : (g : Config) (old new : State) (past : List Request) (request : Request) (prepared : Prepared) → IsInRange g → StandsFor g old past
     → IsPrepared g past request old (Ok prepared) → IsStep old new prepared.change → StandsFor g new (request ∷ past)
 stands_after g old new past request prepared range stands is step =
     step_stands g old new past request prepared.reply prepared.change stands is.0 is.1 is.2 step
+
+pub stands_after_emission : (g : Config) (old new : State) (past : List Request) (request : Request) (delivery : Delivery) → StandsFor g old past
+    → IsPreparedEmission g past request old (Ok delivery) → IsEmitted old new delivery → StandsFor g new (request ∷ past)
+stands_after_emission g old new past request delivery stands is step = emit_stands g old new past request Done delivery stands is.0 is.1 step

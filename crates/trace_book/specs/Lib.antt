@@ -10,3 +10,4 @@ pub mod Commands
 pub mod Emissions
 pub mod BookSeen
 pub mod Books
+pub mod Bases

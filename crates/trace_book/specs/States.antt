@@ -15,6 +15,7 @@ use Rattle.trace_command.specs.Refusals.{IsRefusal}
 use Rattle.trace_command.specs.Requests.{Request}
 use Rattle.trace_command.specs.declared.command.Config.{Config}
 use Rattle.trace_command.specs.declared.refusal.Refusal.{Refusal}
+use Rattle.trace_command.specs.declared.command.Reply.TheVariants.{Done}
 use Rattle.trace_history.specs.Declarations.{IsFit, IsPlaceOf}
 use Rattle.trace_history.specs.Settings.{event_named, declares, declared_events, filter_of, instance_names, is_enabled, is_same, made, makes, now_of, removed, ticks}
 use Rattle.trace_history.specs.Emissions.{Emitted, emitted, emitted_bytes, is_recorded}
@@ -27,7 +28,7 @@ use Rattle.trace_book.specs.KeptHists.{KeptHist, AreHit, CanCount, HasRoomToCoun
 use Rattle.trace_book.specs.Instances.{InstanceSeen, InstanceStandsFor, IsShaped, WereOffered, hists_kept}
 use Rattle.trace_book.specs.Changes.{IsEffect, IsApplied, IsLawful}
 use Rattle.trace_book.specs.declared.change.Change.{Change}
-use Rattle.trace_book.specs.declared.change.Change.TheVariants.{Declare, Make, Remove, Instance, Emit}
+use Rattle.trace_book.specs.declared.change.Change.TheVariants.{Declare, Make, Remove, Instance}
 use Rattle.trace_book.specs.declared.change.InstanceChange.TheVariants.{Keep}
 use Rattle.trace_book.specs.declared.change.Delivery.{Delivery}
 use Rattle.trace_book.specs.declared.change.Pending.{Pending}
@@ -180,7 +181,10 @@ IsStep old new (Remove place) =
     × (new.instances.items ≡ take place old.instances.items ++ drop (place + 1) old.instances.items)
 IsStep old new (Instance place change) =
     (new.catalog ≡ old.catalog) × (new.clock ≡ old.clock) × OneCame (IsApplied change) place old.instances.items new.instances.items
-IsStep old new (Emit delivery) =
+
+-- an emission was brought to each instance, and the clock ticked
+abbrev pub IsEmitted : State → State → Delivery → Type 0
+IsEmitted old new delivery =
     (new.catalog ≡ old.catalog) × (new.clock ≡ old.clock + 1) × EachCame (IsDelivered delivery) old.instances.items new.instances.items
 
 -- ---- when a change is what a request says
@@ -263,7 +267,6 @@ IsChangeOf g state past request (Remove place) = IsRemoved g past request place
 IsChangeOf g state past request (Instance place change) =
     (d : Named) → IsChanged g past request (slice_index_or state.instances.items place d).name
     × IsEffect g (slice_index_or state.instances.items place d).name past request change
-IsChangeOf g state past request (Emit delivery) = IsEmission g past request state.instances.items delivery
 
 -- an instance has room for the record, where it is armed
 abbrev pub HasRoom : Pending → InstanceSeen → Type 0
@@ -305,7 +308,10 @@ IsReady g state (Make named) = ⊤
 IsReady g state (Remove place) = place < length state.instances.items
 IsReady g state (Instance place change) = (place < length state.instances.items)
     × ((d : Named) → IsLawful (slice_index_or state.instances.items place d).instance change)
-IsReady g state (Emit delivery) =
+
+-- an emission can be brought to each instance, and what was grown for it is there
+abbrev pub CanEmit : Config → State → Delivery → Type 0
+CanEmit g state delivery =
     (delivery.event < length state.catalog) × CanBeWritten g state.instances.items delivery.record
     × All (λ (n : Named). CanFire n.instance) state.instances.items
     × All (λ (n : Named). CanCountRow (row_of delivery) delivery.event n.instance) state.instances.items
@@ -315,3 +321,9 @@ abbrev pub IsPrepared : Config → List Request → Request → State → Result
 IsPrepared g past request state (Ok prepared) =
     (answer_with_room g past request ≡ Ok prepared.reply) × IsChangeOf g state past request prepared.change × IsReady g state prepared.change
 IsPrepared g past request state (Err refusal) = IsRefusal refusal (answer_with_room g past request)
+
+-- the same of an emission
+abbrev pub IsPreparedEmission : Config → List Request → Request → State → Result Delivery Refusal → Type 0
+IsPreparedEmission g past request state (Ok delivery) =
+    (answer_with_room g past request ≡ Ok Done) × IsEmission g past request state.instances.items delivery × CanEmit g state delivery
+IsPreparedEmission g past request state (Err refusal) = IsRefusal refusal (answer_with_room g past request)

@@ -6,12 +6,14 @@ ghost use Rattle.trace_command.specs.Places.{bytes_now};
 ghost use Rattle.trace_command.specs.Configs.{IsInRange};
 ghost use Rattle.trace_history.specs.History.{answer_to, past_of, IsLegal};
 ghost use Rattle.trace_command.specs.Refusals.{OrMemory, IsFoundEarly};
-ghost use Rattle.trace_history.specs.Settings.{is_there, now_of};
+ghost use Rattle.trace_command.specs.Requests.{request_of};
+ghost use Rattle.trace_history.specs.Settings.{is_there, now_of, ticks};
 ghost use Rattle.trace_book.specs.Instances.{InstanceStandsFor};
 ghost use Rattle.trace_book.specs.States.{StandsFor};
 ghost use Rattle.trace_command.specs.declared.refusal.Refusal.TheVariants as refusal;
 
 use crate::instance::Instance;
+use crate::memory::EmissionMemory;
 use crate::state::{Named, Prepared, State};
 use std::alloc::{AllocError, Global};
 use std::marker::Model;
@@ -26,6 +28,7 @@ pub struct Book {
     config: Config,
     entries: Vec<Entry>,
     state: State,
+    memory: EmissionMemory,
 }
 
 impl Model for Book {
@@ -56,11 +59,12 @@ impl Book {
             config,
             entries: Vec::new(alloc),
             state: new_state(alloc, &config)?,
+            memory: EmissionMemory::new(alloc),
         })
     }
 
     /// Does a command, or refuses it. The answer is the one that the history gives: a command that is done is the next entry of the
-    /// history, under this ticket and the number of this caller; one that is refused changes nothing.
+    /// history, under this ticket and the number of this caller; one that is refused changes nothing. The history stays legal.
     /// `Memory` may come in place of the answer, where an allocation was refused; but that no such file, instance, CPU or event is
     /// there, that an instance is there already, that a file can't be read or written, and that a value is wrong is always told.
     pub fn ask(&mut self, ticket: u64, by: u32, command: Command) -> Result<Reply, Refusal>
@@ -72,6 +76,51 @@ impl Book {
             ≡ self.old.entries ++ record { ticket = ticket; by = by; command = command } ∷ []) }
         ensures refused { OnErr result (self.new.entries ≡ self.old.entries) }
         ensures config { self.new.config ≡ self.old.config }
+        ensures legal { IsLegal self.new.config self.new.entries }
+    {
+        let Command::Emit {
+            event,
+            cpu,
+            pid,
+            pairs,
+        } = &command
+        else {
+            return self.ask_other(ticket, by, command);
+        };
+        let delivery = self.state.prepare_emission(
+            &mut self.memory,
+            &self.config,
+            event.as_bytes(),
+            *cpu,
+            *pid,
+            pairs.as_slice(),
+        )?;
+        if self.config.history_limit <= self.entries.len() as u64 {
+            return Err(Refusal::HistoryFull);
+        }
+        self.entries.reserve(1)?;
+        self.state.deliver(&self.config, &delivery);
+        self.memory.keep(delivery);
+        self.entries.push_reserved(Entry {
+            ticket,
+            by,
+            command,
+        });
+        Ok(Reply::Done)
+    }
+
+    // Does a command that is no emission, as `ask` says.
+    fn ask_other(&mut self, ticket: u64, by: u32, command: Command) -> Result<Reply, Refusal>
+        requires rises { All (λ entry. entry.ticket < ticket) self.old.entries }
+        requires other { ticks (request_of command) ≡ 0 }
+        ensures reply { OrMemory result (answer_to self.old.config self.old.entries command) }
+        ensures early { IsFoundEarly (answer_to self.old.config self.old.entries command)
+            → result ≡ answer_to self.old.config self.old.entries command }
+        ensures done { OnOk result (self.new.entries
+            ≡ self.old.entries ++ record { ticket = ticket; by = by; command = command } ∷ []) }
+        ensures refused { OnErr result (self.new.entries ≡ self.old.entries) }
+        ensures config { self.new.config ≡ self.old.config }
+        ensures legal { IsLegal self.new.config self.new.entries }
     {
         let Prepared { change, reply } = self.state.prepare(
             self.alloc,

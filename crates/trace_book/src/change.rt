@@ -10,7 +10,7 @@ use trace_filter::Filter;
 use trace_format::{EventDef, Row};
 use trace_hist::HistSpec;
 
-/// What a command changes.
+/// What a command changes that is no emission.
 #[derive(Drop)]
 pub(crate) enum Change {
     /// One more event is declared.
@@ -21,8 +21,6 @@ pub(crate) enum Change {
     Remove(usize),
     /// The instance at this place is changed.
     Instance(usize, InstanceChange),
-    /// The clock ticks, and an emission reaches the instances.
-    Emit(Delivery),
 }
 
 /// What is changed of an instance. An event is known by its place among the declared ones.

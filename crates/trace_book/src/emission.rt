@@ -4,6 +4,7 @@
 ghost use Rattle.std.specs.Prelude.{◌≡◌, ℕ, ◌+◌, ◌<◌, ◌≤◌, ◌^◌, true, false, List, length, All, slice_index_or, Some, IfOk, OnOk};
 ghost use Rattle.trace_buffer.specs.Buffers as buffers;
 ghost use Rattle.trace_command.specs.Configs.{IsInRange};
+ghost use Rattle.trace_command.specs.Requests as requests;
 ghost use Rattle.trace_command.specs.Requests.{Request, Emission};
 ghost use Rattle.trace_command.specs.declared.command.Config.{Config};
 ghost use Rattle.trace_format.specs.Cells.{size_of_all};
@@ -11,14 +12,15 @@ ghost use Rattle.trace_record.specs.Record.{record_size};
 ghost use Rattle.trace_book.specs.Emissions as emissions;
 ghost use Rattle.trace_book.specs.Instances.{IsAlike};
 ghost use Rattle.trace_book.specs.declared.change.Pending.{Pending as PendingHere};
-ghost use Rattle.trace_book.specs.States.{StandsFor, IsPrepared, IsUsable, EachCame, CanCountRow};
+ghost use Rattle.trace_book.specs.States.{StandsFor, IsPreparedEmission, IsUsable, EachCame, CanCountRow};
 
-use crate::change::{Change, Delivery, Pending};
+use crate::change::{Delivery, Pending};
+use crate::memory::EmissionMemory;
 use crate::resolve::find;
 use crate::row::record;
-use crate::state::{Named, Prepared, State};
-use std::alloc::{AllocError, Global};
-use trace_command::{Config, Refusal, Reply};
+use crate::state::{Named, State};
+use std::alloc::AllocError;
+use trace_command::{Config, Refusal};
 use trace_format::{Pair, Row, payload_size};
 
 impl State {
@@ -27,18 +29,19 @@ impl State {
     #[tactic(auto, unfolding(trace_history::specs::History::emission_answer))]
     pub(crate) fn prepare_emission(
         &mut self,
-        alloc: Global,
+        memory: &mut EmissionMemory,
         config: &Config,
         name: &[u8],
         cpu: u32,
         pid: i32,
         pairs: &[Pair],
-    ) -> Result<Prepared, Refusal>
+    ) -> Result<Delivery, Refusal>
         requires usable { IsUsable config.now self.old }
         requires in_range { IsInRange config.now }
         ensures alike { emissions.IsStateAlike self.old self.new }
         ensures prepared { (past : List Request) → StandsFor config.now self.old past
-            → IsPrepared config.now past (Emission name.now cpu pid pairs.now) self.new result }
+            → IsPreparedEmission config.now past (Emission name.now cpu pid pairs.now) self.new result }
+        ensures fits { OnOk result (requests.FitsItsTypes (Emission name.now cpu pid pairs.now)) }
     {
         if cpu >= config.cpus {
             return Err(Refusal::NoSuchCpu);
@@ -48,18 +51,15 @@ impl State {
         };
         let index = found.index;
         let size = payload_size(found.event);
-        let row = Row::build(alloc, found.event, pairs)?;
+        let row = memory.row(found.event, pairs)?;
         self.reserve_hits(index, &row, cpu, pid)?;
-        let pending = self.write_ahead(alloc, index, cpu, pid, size, &row)?;
-        Ok(Prepared {
-            change: Change::Emit(Delivery {
-                event: index,
-                row,
-                cpu,
-                pid,
-                record: pending,
-            }),
-            reply: Reply::Done,
+        let pending = self.write_ahead(memory, index, cpu, pid, size, &row)?;
+        Ok(Delivery {
+            event: index,
+            row,
+            cpu,
+            pid,
+            record: pending,
         })
     }
 
@@ -82,7 +82,7 @@ impl State {
     // The record of an emission of the event at this place, with room for it in each instance that records it; none if no instance does.
     fn write_ahead(
         &mut self,
-        alloc: Global,
+        memory: &mut EmissionMemory,
         index: usize,
         cpu: u32,
         pid: i32,
@@ -104,7 +104,7 @@ impl State {
         if !arm_each(&mut self.instances, index, row, cpu, pid) {
             return Ok(None);
         }
-        let bytes = record(alloc, self.clock + 1, pid, index as u16 + 1, size, row)?;
+        let bytes = record(memory, self.clock + 1, pid, index as u16 + 1, size, row)?;
         ready_each(&mut self.instances, cpu, bytes.len())?;
         Ok(Some(Pending { cpu, bytes }))
     }

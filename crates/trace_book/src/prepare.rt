@@ -7,8 +7,7 @@ ghost use Rattle.trace_command.specs.Paths as paths;
 ghost use Rattle.trace_command.specs.Requests as requests;
 ghost use Rattle.trace_command.specs.Requests.{Request, WriteFile, ReadFile};
 ghost use Rattle.trace_command.specs.declared.command.Config.{Config};
-ghost use Rattle.trace_history.specs.Settings.{is_there};
-ghost use Rattle.trace_book.specs.Emissions.{IsStateAlike};
+ghost use Rattle.trace_history.specs.Settings.{is_there, ticks};
 ghost use Rattle.trace_book.specs.States.{StandsFor, IsPrepared, IsUsable};
 
 use crate::change::{Change, InstanceChange};
@@ -21,35 +20,23 @@ use trace_command::{Command, Config, Refusal, Reply};
 use trace_format::EventDef;
 
 impl State {
-    /// Takes the memory that a command needs, and tells what it will change and its reply.
+    /// Takes the memory that a command needs which is no emission, and tells what it will change and its reply.
     pub(crate) fn prepare(
-        &mut self,
+        &self,
         alloc: Global,
         config: &Config,
         number: u64,
         command: &Command,
     ) -> Result<Prepared, Refusal>
-        requires usable { IsUsable config.now self.old }
+        requires usable { IsUsable config.now self.now }
         requires in_range { IsInRange config.now }
-        ensures alike { IsStateAlike self.old self.new }
-        ensures prepared { (past : List Request) → length past ≡ number → StandsFor config.now self.old past
-            → IsPrepared config.now past (requests.request_of command.now) self.new result }
+        requires other { ticks (requests.request_of command.now) ≡ 0 }
+        ensures prepared { (past : List Request) → length past ≡ number → StandsFor config.now self.now past
+            → IsPrepared config.now past (requests.request_of command.now) self.now result }
         ensures fits { OnOk result (requests.FitsItsTypes (requests.request_of command.now)) }
     {
         match command {
-            Command::Emit {
-                event,
-                cpu,
-                pid,
-                pairs,
-            } => self.prepare_emission(
-                alloc,
-                config,
-                event.as_bytes(),
-                *cpu,
-                *pid,
-                pairs.as_slice(),
-            ),
+            Command::Emit { .. } => unreachable!(),
             Command::Mkdir(path) => self.prepare_make(alloc, config, path.as_bytes()),
             Command::Rmdir(path) => self.prepare_remove(path.as_bytes()),
             Command::Write { path, append, text } => {

@@ -5,7 +5,8 @@ ghost use Rattle.trace_record.specs.Record.{IsRecord, head_bytes, padding, recor
 ghost use Rattle.trace_format.specs.Cells.{size_of_all, payload_of};
 ghost use Rattle.trace_history.specs.Emissions.{record_bytes};
 
-use std::alloc::{AllocError, Global};
+use crate::memory::EmissionMemory;
+use std::alloc::AllocError;
 use trace_format::Row;
 use trace_record::{HEAD_SIZE, Head, record_size, write_head};
 
@@ -37,7 +38,7 @@ fn write_record(head: Head, row: &Row, size: usize, out: &mut [u8])
 /// The record of an emission, whose row has a payload of so many bytes.
 #[tactic(auto, unfolding(trace_history::specs::Emissions::record_bytes))]
 pub(crate) fn record(
-    alloc: Global,
+    memory: &mut EmissionMemory,
     timestamp: u64,
     pid: i32,
     id: u16,
@@ -50,7 +51,7 @@ pub(crate) fn record(
     ensures is_record { IfOk result (λ bytes. IsRecord bytes.items) }
     ensures size { IfOk result (λ bytes. length bytes.items ≡ record_size size) }
 {
-    let mut bytes = vec![in alloc; 0; record_size(size)]?;
+    let mut bytes = memory.zeros(record_size(size))?;
     let head = Head {
         ts: timestamp,
         pid,

@@ -42,9 +42,6 @@ impl State {
     pub(crate) fn commit(&mut self, config: &Config, change: Change) -> Result<(), Refusal>
         requires usable { states.IsUsable config.now self.old }
         requires ready { states.IsReady config.now self.old change }
-        requires early { self.old.clock < 2 ^ 32 }
-        requires few { All (λ n. states.HasFew n.instance) self.old.instances.items }
-        requires few_rows { All (λ n. states.HasFewRows n.instance) self.old.instances.items }
         ensures done { OnOk result (states.IsStep self.old self.new change) }
         ensures refused { OnErr result (states.IsUnchanged self.old self.new) }
         ensures memory { IfErr result (λ r. r ≡ refusal.Memory) }
@@ -59,12 +56,21 @@ impl State {
                 let _named = self.instances.remove(place);
             }
             Change::Instance(place, change) => change_one(&mut self.instances, place, change)?,
-            Change::Emit(delivery) => {
-                self.clock += 1;
-                deliver_each(&mut self.instances, &delivery);
-            }
         }
         Ok(())
+    }
+
+    /// Brings an emission to all instances, for which all memory is at hand.
+    pub(crate) fn deliver(&mut self, config: &Config, delivery: &Delivery)
+        requires usable { states.IsUsable config.now self.old }
+        requires ready { states.CanEmit config.now self.old delivery.now }
+        requires early { self.old.clock < 2 ^ 32 }
+        requires few { All (λ n. states.HasFew n.instance) self.old.instances.items }
+        requires few_rows { All (λ n. states.HasFewRows n.instance) self.old.instances.items }
+        ensures { states.IsEmitted self.old self.new delivery.now }
+    {
+        self.clock += 1;
+        deliver_each(&mut self.instances, delivery);
     }
 }
 

@@ -1,17 +1,19 @@
-use Rattle.std.proofs.Common.{List, [], ◌∷◌, ◌++◌, All, subst, ◌≡◌, ◌<◌, Ok, Err, arith, rules, refl, ap, sym, ◌∙◌, length-append}
+use Rattle.std.proofs.Common.{List, [], ◌∷◌, ◌++◌, All, subst, ◌≡◌, ◌<◌, ◌≤◌, ◌^◌, length, Ok, Err, arith, rules, refl, ap, sym, ◌∙◌, length-append, to_z, of_z, w32}
+use Rattle.std.proofs.lemmas.Int.{to_z-of_z}
 use Rattle.trace_command.specs.Requests.{request_of}
 use Rattle.trace_history.specs.History.{past_of}
 use Rattle.trace_book.specs.BookSeen.{BookSeen}
 use Rattle.trace_command.specs.declared.command.Entry.{Entry}
-use Rattle.trace_command.specs.declared.command.Reply.{Reply}
-use Rattle.trace_book.proofs.Alike.{state_alike-stands, unchanged-stands}
+use Rattle.trace_command.specs.declared.command.Reply.TheVariants.{Done}
+use Rattle.trace_book.specs.States.{IsPreparedEmission}
+use Rattle.trace_book.proofs.Alike.{state_alike-stands}
 use Rattle.trace_book.proofs.Usable.{few_from_stands, few_rows_from_stands, usable_from_stands}
 use Rattle.trace_book.proofs.Histories.{length-past_of, past_of-push, answer-done, answer-full, refused-reply, refused-early, late-done, IsLegal-push}
-use Rattle.trace_book.proofs.Stands.{stands_after}
+use Rattle.trace_book.proofs.Stands.{stands_after_emission}
 use Rattle.trace_book.proofs.book.Book.ask.Goals as goal
 
-pub prepare-requires-clause-usable : goal.prepare-requires-clause-usable
-prepare-requires-clause-usable c =
+pub prepare_emission-requires-clause-usable : goal.prepare_emission-requires-clause-usable
+prepare_emission-requires-clause-usable c =
     let book = c.self.inside in
     usable_from_stands book.config book.state (past_of book.entries.items) c.self.invariant.in_range c.self.invariant.stands
     (omega (arith, length-past_of book.entries.items, c.self.invariant.few))
@@ -21,106 +23,93 @@ invariant_of-self c = record {
   in_range = c.self.invariant.in_range;
   few = c.self.invariant.few;
   legal = c.self.invariant.legal;
-  stands = state_alike-stands _ _ _ _ c.prepare.ensures.alike c.self.invariant.stands;
+  stands = state_alike-stands _ _ _ _ c.prepare_emission.ensures.alike c.self.invariant.stands;
 }
 
-pub returns-in_err-change-clause-reply : goal.returns-in_err-change-clause-reply
-returns-in_err-change-clause-reply c =
+pub returns-in_err-delivery-clause-reply : goal.returns-in_err-delivery-clause-reply
+returns-in_err-delivery-clause-reply c =
     let book = c.self.inside in
     let past = past_of book.entries.items in
-    let out : c.from_residual.result ≡ Err c.in_err-change.field-0.0 = search rules in
-    let prepared = c.in_err-change.ensures.prepared past (length-past_of book.entries.items ∙ search rules) c.self.invariant.stands in
-    rw (← c.self.view_is, out) (refused-reply book.config past (request_of c.args.command) c.prepare.new.self c.in_err-change.field-0.0 prepared)
+    let out : c.from_residual.result ≡ Err c.in_err-delivery.field-0.0 = search rules in
+    let prepared : IsPreparedEmission book.config past (request_of c.args.command) c.prepare_emission.new.self (Err c.in_err-delivery.field-0.0) =
+    rw (c.in-Emit.is, ← c.as_bytes.ensures, ← c.as_slice.ensures) (c.in_err-delivery.ensures.prepared past c.self.invariant.stands) in
+    rw (← c.self.view_is, out) (refused-reply book.config past (request_of c.args.command) c.prepare_emission.new.self c.in_err-delivery.field-0.0 prepared)
 
-pub returns-in_err-change-clause-early : goal.returns-in_err-change-clause-early
-returns-in_err-change-clause-early c =
+pub returns-in_err-delivery-clause-early : goal.returns-in_err-delivery-clause-early
+returns-in_err-delivery-clause-early c =
     let book = c.self.inside in
     let past = past_of book.entries.items in
-    let out : c.from_residual.result ≡ Err c.in_err-change.field-0.0 = search rules in
-    let prepared = c.in_err-change.ensures.prepared past (length-past_of book.entries.items ∙ search rules) c.self.invariant.stands in
-    rw (← c.self.view_is, out) (λ early. sym (refused-early book.config past (request_of c.args.command) c.prepare.new.self c.in_err-change.field-0.0 prepared early))
+    let out : c.from_residual.result ≡ Err c.in_err-delivery.field-0.0 = search rules in
+    let prepared : IsPreparedEmission book.config past (request_of c.args.command) c.prepare_emission.new.self (Err c.in_err-delivery.field-0.0) =
+    rw (c.in-Emit.is, ← c.as_bytes.ensures, ← c.as_slice.ensures) (c.in_err-delivery.ensures.prepared past c.self.invariant.stands) in
+    rw (← c.self.view_is, out) (λ early. sym (refused-early book.config past (request_of c.args.command) c.prepare_emission.new.self c.in_err-delivery.field-0.0 prepared early))
 
-pub invariant_of-self-then-len-self : goal.invariant_of-self-then-len-self
-invariant_of-self-then-len-self c = record {
+pub invariant_of-self-then-self-len : goal.invariant_of-self-then-self-len
+invariant_of-self-then-self-len c = record {
   in_range = c.self.invariant.in_range;
   few = c.self.invariant.few;
   legal = c.self.invariant.legal;
-  stands = state_alike-stands _ _ _ _ c.prepare.ensures.alike c.self.invariant.stands;
+  stands = state_alike-stands _ _ _ _ c.prepare_emission.ensures.alike c.self.invariant.stands;
 }
 
-pub returns-then-len-self-clause-reply : goal.returns-then-len-self-clause-reply
-returns-then-len-self-clause-reply c = λ other.
+pub returns-then-self-len-clause-reply : goal.returns-then-self-len-clause-reply
+returns-then-self-len-clause-reply c = λ other.
     let book = c.self.inside in
     let past = past_of book.entries.items in
-    let prepared = c.in_ok-change.ensures.prepared past (length-past_of book.entries.items ∙ search rules) c.self.invariant.stands in
-    rw (← c.self.view_is) (answer-full book.config past (request_of c.args.command) c.in_ok-change.reply (prepared.0 ∙ ap (λ (r : Reply). Ok r) c.in_ok-change.reply-is)
-    (omega (arith, length-past_of book.entries.items, c.len.ensures, book.entries.ok.0)))
+    let full : book.config.history_limit ≤ length past =
+    omega (arith, length-past_of book.entries.items, c.len.ensures, book.entries.ok.0) in
+    let pid : to_z w32 (of_z w32 c.in-Emit.pid) ≡ c.in-Emit.pid = to_z-of_z w32 c.in-Emit.pid (search rules) in
+    let prepared : IsPreparedEmission book.config past (request_of c.args.command) c.prepare_emission.new.self (Ok c.in_ok-delivery.delivery) =
+    rw (c.in-Emit.is, ← c.as_bytes.ensures, ← c.as_slice.ensures) (rw pid at c.in_ok-delivery.ensures.prepared past c.self.invariant.stands) in
+    rw (← c.self.view_is) (answer-full book.config past (request_of c.args.command) Done prepared.0 full)
 
-pub returns-then-len-self-clause-early : goal.returns-then-len-self-clause-early
-returns-then-len-self-clause-early c =
+pub returns-then-self-len-clause-early : goal.returns-then-self-len-clause-early
+returns-then-self-len-clause-early c =
     let book = c.self.inside in
     let past = past_of book.entries.items in
-    let prepared = c.in_ok-change.ensures.prepared past (length-past_of book.entries.items ∙ search rules) c.self.invariant.stands in
-    rw (← c.self.view_is) (λ early. sym (answer-full book.config past (request_of c.args.command) c.in_ok-change.reply (prepared.0 ∙ ap (λ (r : Reply). Ok r) c.in_ok-change.reply-is)
-    (omega (arith, length-past_of book.entries.items, c.len.ensures, book.entries.ok.0))))
+    let full : book.config.history_limit ≤ length past =
+    omega (arith, length-past_of book.entries.items, c.len.ensures, book.entries.ok.0) in
+    let pid : to_z w32 (of_z w32 c.in-Emit.pid) ≡ c.in-Emit.pid = to_z-of_z w32 c.in-Emit.pid (search rules) in
+    let prepared : IsPreparedEmission book.config past (request_of c.args.command) c.prepare_emission.new.self (Ok c.in_ok-delivery.delivery) =
+    rw (c.in-Emit.is, ← c.as_bytes.ensures, ← c.as_slice.ensures) (rw pid at c.in_ok-delivery.ensures.prepared past c.self.invariant.stands) in
+    rw (← c.self.view_is) (λ early. sym (answer-full book.config past (request_of c.args.command) Done prepared.0 full))
 
 pub returns-in_err-reserve-clause-early : goal.returns-in_err-reserve-clause-early
 returns-in_err-reserve-clause-early c =
     let book = c.self.inside in
     let past = past_of book.entries.items in
-    let prepared = c.in_ok-change.ensures.prepared past (length-past_of book.entries.items ∙ search rules) c.self.invariant.stands in
-    rw (← c.self.view_is) (λ early. absurd (late-done book.config past (request_of c.args.command) c.in_ok-change.reply (prepared.0 ∙ ap (λ (r : Reply). Ok r) c.in_ok-change.reply-is) early))
+    let pid : to_z w32 (of_z w32 c.in-Emit.pid) ≡ c.in-Emit.pid = to_z-of_z w32 c.in-Emit.pid (search rules) in
+    let prepared : IsPreparedEmission book.config past (request_of c.args.command) c.prepare_emission.new.self (Ok c.in_ok-delivery.delivery) =
+    rw (c.in-Emit.is, ← c.as_bytes.ensures, ← c.as_slice.ensures) (rw pid at c.in_ok-delivery.ensures.prepared past c.self.invariant.stands) in
+    rw (← c.self.view_is) (λ early. absurd (late-done book.config past (request_of c.args.command) Done prepared.0 early))
 
 pub invariant_of-self-in_err-reserve : goal.invariant_of-self-in_err-reserve
 invariant_of-self-in_err-reserve c = record {
   in_range = c.self.invariant.in_range;
   few = rw c.reserve.ensures.items c.self.invariant.few;
   legal = rw c.reserve.ensures.items c.self.invariant.legal;
-  stands = rw c.reserve.ensures.items (state_alike-stands _ _ _ _ c.prepare.ensures.alike c.self.invariant.stands);
+  stands = rw c.reserve.ensures.items (state_alike-stands _ _ _ _ c.prepare_emission.ensures.alike c.self.invariant.stands);
 }
 
-pub commit-requires-clause-early : goal.commit-requires-clause-early
-commit-requires-clause-early c =
+pub deliver-requires-clause-early : goal.deliver-requires-clause-early
+deliver-requires-clause-early c =
     let book = c.self.inside in
-    let stands = state_alike-stands book.config _ _ (past_of book.entries.items) c.prepare.ensures.alike c.self.invariant.stands in
+    let stands = state_alike-stands book.config _ _ (past_of book.entries.items) c.prepare_emission.ensures.alike c.self.invariant.stands in
     omega (arith, stands.early, length-past_of book.entries.items, c.len.ensures, book.entries.ok.0, c.self.invariant.in_range.few_entries)
 
-pub commit-requires-clause-few : goal.commit-requires-clause-few
-commit-requires-clause-few c =
+pub deliver-requires-clause-few : goal.deliver-requires-clause-few
+deliver-requires-clause-few c =
     let book = c.self.inside in
-    let stands = state_alike-stands book.config _ _ (past_of book.entries.items) c.prepare.ensures.alike c.self.invariant.stands in
+    let stands = state_alike-stands book.config _ _ (past_of book.entries.items) c.prepare_emission.ensures.alike c.self.invariant.stands in
     few_from_stands book.config _ (past_of book.entries.items) stands
     (omega (arith, length-past_of book.entries.items, c.len.ensures, book.entries.ok.0, c.self.invariant.in_range.few_entries))
 
-pub commit-requires-clause-ready : goal.commit-requires-clause-ready
-commit-requires-clause-ready c =
+pub deliver-requires-clause-few_rows : goal.deliver-requires-clause-few_rows
+deliver-requires-clause-few_rows c =
     let book = c.self.inside in
-    let past = past_of book.entries.items in
-    (c.in_ok-change.ensures.prepared past (length-past_of book.entries.items ∙ search rules) c.self.invariant.stands).2
-
-pub commit-requires-clause-few_rows : goal.commit-requires-clause-few_rows
-commit-requires-clause-few_rows c =
-    let book = c.self.inside in
-    let stands = state_alike-stands book.config _ _ (past_of book.entries.items) c.prepare.ensures.alike c.self.invariant.stands in
+    let stands = state_alike-stands book.config _ _ (past_of book.entries.items) c.prepare_emission.ensures.alike c.self.invariant.stands in
     few_rows_from_stands book.config _ (past_of book.entries.items) stands
     (omega (arith, length-past_of book.entries.items, c.len.ensures, book.entries.ok.0, c.self.invariant.in_range.few_entries))
-
-pub invariant_of-self-in_err-commit : goal.invariant_of-self-in_err-commit
-invariant_of-self-in_err-commit c =
-    let book = c.self.inside in
-    let stands = state_alike-stands book.config _ _ (past_of book.entries.items) c.prepare.ensures.alike c.self.invariant.stands in record {
-      in_range = c.self.invariant.in_range;
-      few = rw c.reserve.ensures.items c.self.invariant.few;
-      legal = rw c.reserve.ensures.items c.self.invariant.legal;
-      stands = rw c.reserve.ensures.items (unchanged-stands book.config _ _ (past_of book.entries.items) c.in_err-commit.ensures.refused stands);
-    }
-
-pub returns-in_err-commit-clause-early : goal.returns-in_err-commit-clause-early
-returns-in_err-commit-clause-early c =
-    let book = c.self.inside in
-    let past = past_of book.entries.items in
-    let prepared = c.in_ok-change.ensures.prepared past (length-past_of book.entries.items ∙ search rules) c.self.invariant.stands in
-    rw (← c.self.view_is) (λ early. absurd (late-done book.config past (request_of c.args.command) c.in_ok-change.reply (prepared.0 ∙ ap (λ (r : Reply). Ok r) c.in_ok-change.reply-is) early))
 
 pub invariant_of-self-2 : goal.invariant_of-self-2
 invariant_of-self-2 c =
@@ -131,37 +120,50 @@ invariant_of-self-2 c =
     let entry : Entry = record { ticket = c.args.ticket; by = c.args.by; command = c.args.command } in
     let items : c.push_reserved.new.self.items ≡ book.entries.items ++ entry ∷ [] =
     c.push_reserved.ensures.items ∙ ap (λ (entries : List Entry). entries ++ entry ∷ []) c.reserve.ensures.items in
-    let prepared = c.in_ok-change.ensures.prepared past (length-past_of book.entries.items ∙ search rules) c.self.invariant.stands in
-    let done = answer-done g past request c.in_ok-change.reply (prepared.0 ∙ ap (λ (r : Reply). Ok r) c.in_ok-change.reply-is)
-    (omega (arith, length-past_of book.entries.items, c.len.ensures, book.entries.ok.0)) in
+    let room : length past < book.config.history_limit =
+    omega (arith, length-past_of book.entries.items, c.len.ensures, book.entries.ok.0) in
+    let few : length (book.entries.items ++ entry ∷ []) ≤ 2 ^ 32 =
+    omega (arith, length-append book.entries.items (entry ∷ []), c.len.ensures, book.entries.ok.0, c.self.invariant.in_range.few_entries) in
+    let pid : to_z w32 (of_z w32 c.in-Emit.pid) ≡ c.in-Emit.pid = to_z-of_z w32 c.in-Emit.pid (search rules) in
+    let prepared : IsPreparedEmission book.config past (request_of c.args.command) c.prepare_emission.new.self (Ok c.in_ok-delivery.delivery) =
+    rw (c.in-Emit.is, ← c.as_bytes.ensures, ← c.as_slice.ensures) (rw pid at c.in_ok-delivery.ensures.prepared past c.self.invariant.stands) in
+    let done = answer-done g past request Done prepared.0 room in
     let Below : BookSeen → Type 0 = λ seen. All (λ (e : Entry). e.ticket < c.args.ticket) seen.entries in
     let below : All (λ (e : Entry). e.ticket < c.args.ticket) book.entries.items = subst Below (sym c.self.view_is) c.requires in
-    let stands = state_alike-stands g _ _ past c.prepare.ensures.alike c.self.invariant.stands in
+    let stands = state_alike-stands g _ _ past c.prepare_emission.ensures.alike c.self.invariant.stands in
     record {
       in_range = c.self.invariant.in_range;
-      few = rw items (omega (arith, length-append book.entries.items (entry ∷ []), c.len.ensures, book.entries.ok.0, c.self.invariant.in_range.few_entries));
-      legal = rw items (IsLegal-push g book.entries.items entry c.self.invariant.legal (c.ranges.ticket.fits, c.ranges.by.fits, c.in_ok-change.ensures.fits) below (rw done refl));
-      stands = rw (items, past_of-push) (stands_after g c.prepare.new.self c.commit.new.self past request c.in_ok-change.field-0 c.self.invariant.in_range stands prepared c.in_ok-commit.ensures.done);
+      few = rw items few;
+      legal = rw items (IsLegal-push g book.entries.items entry c.self.invariant.legal (c.ranges.ticket.fits, c.ranges.by.fits, rw c.in-Emit.is (rw pid at c.in_ok-delivery.ensures.fits)) below (rw done refl));
+      stands = rw (items, past_of-push) (stands_after_emission g c.prepare_emission.new.self c.deliver.new.self past request c.in_ok-delivery.delivery stands prepared c.deliver.ensures);
     }
 
 pub returns-clause-reply : goal.returns-clause-reply
 returns-clause-reply c =
     let book = c.self.inside in
     let past = past_of book.entries.items in
-    let prepared = c.in_ok-change.ensures.prepared past (length-past_of book.entries.items ∙ search rules) c.self.invariant.stands in
-    rw (← c.self.view_is) (answer-done book.config past (request_of c.args.command) c.in_ok-change.field-0.reply prepared.0
-    (omega (arith, length-past_of book.entries.items, c.len.ensures, book.entries.ok.0)))
+    let room : length past < book.config.history_limit =
+    omega (arith, length-past_of book.entries.items, c.len.ensures, book.entries.ok.0) in
+    let pid : to_z w32 (of_z w32 c.in-Emit.pid) ≡ c.in-Emit.pid = to_z-of_z w32 c.in-Emit.pid (search rules) in
+    let prepared : IsPreparedEmission book.config past (request_of c.args.command) c.prepare_emission.new.self (Ok c.in_ok-delivery.delivery) =
+    rw (c.in-Emit.is, ← c.as_bytes.ensures, ← c.as_slice.ensures) (rw pid at c.in_ok-delivery.ensures.prepared past c.self.invariant.stands) in
+    rw (← c.self.view_is) (answer-done book.config past (request_of c.args.command) Done prepared.0 room)
 
 pub returns-clause-early : goal.returns-clause-early
 returns-clause-early c =
     let book = c.self.inside in
     let past = past_of book.entries.items in
-    let prepared = c.in_ok-change.ensures.prepared past (length-past_of book.entries.items ∙ search rules) c.self.invariant.stands in
-    rw (← c.self.view_is) (λ early. absurd (late-done book.config past (request_of c.args.command) c.in_ok-change.field-0.reply prepared.0 early))
+    let pid : to_z w32 (of_z w32 c.in-Emit.pid) ≡ c.in-Emit.pid = to_z-of_z w32 c.in-Emit.pid (search rules) in
+    let prepared : IsPreparedEmission book.config past (request_of c.args.command) c.prepare_emission.new.self (Ok c.in_ok-delivery.delivery) =
+    rw (c.in-Emit.is, ← c.as_bytes.ensures, ← c.as_slice.ensures) (rw pid at c.in_ok-delivery.ensures.prepared past c.self.invariant.stands) in
+    rw (← c.self.view_is) (λ early. absurd (late-done book.config past (request_of c.args.command) Done prepared.0 early))
 
-pub commit-requires-clause-usable : goal.commit-requires-clause-usable
-commit-requires-clause-usable c =
+pub deliver-requires-clause-usable : goal.deliver-requires-clause-usable
+deliver-requires-clause-usable c =
     let book = c.self.inside in
-    let stands = state_alike-stands book.config _ _ (past_of book.entries.items) c.prepare.ensures.alike c.self.invariant.stands in
+    let stands = state_alike-stands book.config _ _ (past_of book.entries.items) c.prepare_emission.ensures.alike c.self.invariant.stands in
     usable_from_stands book.config _ (past_of book.entries.items) c.self.invariant.in_range stands
     (omega (arith, length-past_of book.entries.items, c.self.invariant.few))
+
+pub returns-clause-legal : goal.returns-clause-legal
+returns-clause-legal c = (invariant_of-self-2 c).legal

@@ -1,0 +1,19 @@
+//! What a lock sees of a book.
+
+ghost use Rattle.trace_book.specs.Bases.{numbers_of};
+
+use crate::book::Book;
+use ticket_lock::Logged;
+
+/// A lock sees of a book its history, and, as what no call changes, its configuration.
+impl Logged for Book {
+    type Entry = trace_command::Entry;
+
+    ghost entries = { λ book. book.entries };
+
+    ghost base = { λ book. numbers_of book.config };
+
+    ghost ticket = { λ entry. entry.ticket };
+
+    ghost by = { λ entry. entry.by };
+}

@@ -1,0 +1,64 @@
+//! The memory in which emissions are prepared: kept from one to the next, so that most of them take none anew.
+
+ghost use Rattle.std.specs.Prelude.{◌≡◌, IfOk, replicate};
+ghost use Rattle.trace_format.specs.Cells.{IsRowOf};
+ghost use Rattle.trace_format.specs.Rows.{row_of, IsBuilt};
+
+use crate::change::{Delivery, Pending};
+use std::alloc::{AllocError, Global};
+use std::marker::Model;
+use std::mem;
+use trace_format::{EventDef, Pair, Row, RowFault, RowMemory};
+
+/// Memory for the row and the record of an emission, which are those of an earlier one. It means nothing: no two are told apart by what they
+/// hold or how much room they have.
+#[derive(Drop)]
+pub(crate) struct EmissionMemory {
+    alloc: Global,
+    row: RowMemory,
+    record: Vec<u8>,
+}
+
+impl Model for EmissionMemory {
+    ghost Value = { Unit {0} };
+
+    ghost view = { λ m. tt };
+}
+
+impl EmissionMemory {
+    /// Memory without room.
+    pub(crate) fn new(alloc: Global) -> EmissionMemory {
+        EmissionMemory {
+            alloc,
+            row: RowMemory::new(alloc),
+            record: Vec::new(alloc),
+        }
+    }
+
+    /// The row that pairs give to an event.
+    pub(crate) fn row(&mut self, event: &EventDef, pairs: &[Pair]) -> Result<Row, RowFault>
+        ensures row { IfOk result (IsRowOf event.now) }
+        ensures exact { IsBuilt result (row_of event.now pairs.now) }
+    {
+        Row::build_in(self.alloc, &mut self.row, event, pairs)
+    }
+
+    /// So many zeros, for a record.
+    pub(crate) fn zeros(&mut self, len: usize) -> Result<Vec<u8>, AllocError>
+        ensures { IfOk result (λ bytes. bytes.items ≡ replicate len 0) }
+    {
+        let mut bytes = mem::replace(&mut self.record, Vec::new(self.alloc));
+        bytes.clear();
+        bytes.resize(len, 0)?;
+        Ok(bytes)
+    }
+
+    /// Takes the row and the record of an emission that is done, for the next one.
+    pub(crate) fn keep(&mut self, delivery: Delivery) {
+        let Delivery { row, record, .. } = delivery;
+        self.row = RowMemory::from(row);
+        if let Some(Pending { bytes, .. }) = record {
+            self.record = bytes;
+        }
+    }
+}

@@ -1,0 +1,126 @@
+-- A turn at the lock, in which the book is asked.
+use Rattle.std.proofs.Common.{◌≡◌, ◌≢◌, ℕ, ◌+◌, ◌<◌, true, nat_le, nat_lt, List, [], ◌∷◌, ◌++◌, Result, Ok, Err, IfOk, IfErr, OnOk, OnErr, refl, sym, ap, ◌∙◌, subst, arith}
+use Rattle.std.proofs.lemmas.List.Elements.{filter-append}
+use Rattle.std.proofs.lemmas.Bool.Decides.{nat_tests}
+use Rattle.ticket_lock.specs.Calls.{mine_of, IsDrawn, Finds, IsBack}
+use Rattle.ticket_lock.specs.Entries.{is_under, entries_under}
+use Rattle.ticket_lock.specs.declared.views.View.{View}
+use Rattle.trace_history.specs.History.{answer_to}
+use Rattle.trace_history.proofs.Unworn.{worn_is_no_answer}
+use Rattle.trace_book.specs.Bases.{numbers_of}
+use Rattle.trace_book.proofs.SameBases.{numbers_of-determines}
+use Rattle.trace_book.specs.BookSeen.{BookSeen}
+use Rattle.trace_command.specs.Refusals.{OrMemory, IsFoundEarly}
+use Rattle.trace_command.specs.declared.command.Command.{Command}
+use Rattle.trace_command.specs.declared.command.Config.{Config}
+use Rattle.trace_command.specs.declared.command.Entry.{Entry}
+use Rattle.trace_command.specs.declared.command.Reply.{Reply}
+use Rattle.trace_command.specs.declared.refusal.Refusal.{Refusal}
+use Rattle.trace_command.specs.declared.refusal.Refusal.TheVariants.{Memory}
+use Rattle.trace_workers.specs.Asks.{caller_of, Rises, IsDone, IsRefused}
+
+-- an entry under the first name is the pass's own
+own_entry : (low end : ℕ) (entry : Entry) → entry.by ≡ low → low < end → entries_under caller_of low end (entry ∷ []) ≡ entry ∷ []
+own_entry low end entry by named =
+    let above : nat_le low entry.by ≡ true = rw by (grind (arith, nat_tests)) in
+    let below : nat_lt entry.by end ≡ true = rw by (grind (arith, nat_tests)) in
+    grind (arith, above, below)
+
+module _ (v h w : View Entry) (served : ℕ) (drawn : IsDrawn v h served) where
+  rises : (left : List Entry) → IsBack h w left → Rises v w
+  rises left back = record {
+    risen = omega (arith, drawn.risen, back.front);
+    all_names = λ all. back.front ∙ drawn.all_names all;
+  }
+
+  module _ (finds : Finds (λ (e : Entry). e.ticket) caller_of v served h.seen) (config : Config) (base : numbers_of config ≡ v.base) where
+    done : (command : Command) (reply : Reply) (entry : Entry) → v.low < v.end → entry.ticket ≡ served → entry.by ≡ v.low → entry.command ≡ command
+        → IsBack h w (h.seen ++ entry ∷ []) → answer_to config h.seen command ≡ Ok reply → IsDone v w command reply
+    done command reply entry named ticket by of_command back answer = record {
+      others = finds.seen.0;
+      entry = entry;
+      seen = back.seen ∙ ap (λ (es : List Entry). es ++ entry ∷ []) finds.seen.1;
+      by_others = finds.seen.2;
+      mine =
+          let at : mine_of caller_of w ≡ entries_under caller_of v.low v.end (h.seen ++ entry ∷ []) =
+          rw (back.low ∙ drawn.low, back.end ∙ drawn.end, back.seen) refl in
+          at ∙ filter-append (is_under caller_of v.low v.end) h.seen (entry ∷ [])
+          ∙ ap (λ (es : List Entry). es ++ entries_under caller_of v.low v.end (entry ∷ [])) finds.mine
+          ∙ ap (λ (es : List Entry). mine_of caller_of v ++ es) (own_entry v.low v.end entry by named);
+      done = λ g same.
+          let alike : config ≡ g = numbers_of-determines config g (base ∙ sym same) in
+          let P : Config → Type 0 = λ k. answer_to k h.seen command ≡ Ok reply in
+          let Q : List Entry → Type 0 = λ es. answer_to g es command ≡ Ok reply in
+          record { answer = subst Q finds.seen.1 (subst P alike answer); of_caller = by; of_command = of_command };
+      ticket = back.front ∙ drawn.front ∙ ap (λ (n : ℕ). n + 1) (sym ticket);
+      rises = rises (h.seen ++ entry ∷ []) back;
+    }
+
+    refused : (command : Command) (refusal : Refusal) → IsBack h w h.seen
+        → (refusal ≢ Memory → answer_to config h.seen command ≡ Err refusal)
+        → (IsFoundEarly (answer_to config h.seen command) → answer_to config h.seen command ≡ Err refusal)
+        → IsRefused v w command refusal
+    refused command refusal back answer early = record {
+      others = finds.seen.0;
+      seen = back.seen ∙ finds.seen.1;
+      by_others = finds.seen.2;
+      mine = rw (back.low ∙ drawn.low, back.end ∙ drawn.end, back.seen) finds.mine;
+      answer = λ g same memory unworn.
+          let alike : config ≡ g = numbers_of-determines config g (base ∙ sym same) in
+          let P : Config → Type 0 = λ k. answer_to k w.seen command ≡ Err refusal in
+          subst P alike (rw back.seen (answer memory));
+      early = λ g same unworn.
+          let alike : config ≡ g = numbers_of-determines config g (base ∙ sym same) in
+          let P : Config → Type 0 = λ k. IsFoundEarly (answer_to k w.seen command) → answer_to k w.seen command ≡ Err refusal in
+          subst P alike (rw back.seen early);
+      rises = λ unworn. rises h.seen back;
+      worn = λ is. absurd (worn_is_no_answer config h.seen command (answer (λ memory. cc (is, memory)) ∙ ap (λ (r : Refusal). Err r) is));
+    }
+
+-- The turn as the code takes it: a value of the lock is a book, which is asked under the ticket and the first name.
+module _
+    (v h w : View Entry) (served ticket by : ℕ) (value before after : BookSeen) (command : Command) (answered : Result Reply Refusal)
+    (named : v.low < v.end)
+    (drawn : IsDrawn v h served) (finds : Finds (λ (e : Entry). e.ticket) caller_of v served h.seen)
+    (entries : value.entries ≡ h.seen) (base : numbers_of value.config ≡ v.base) (lent : before ≡ value)
+    (ticket_is : ticket ≡ served) (by_is : by ≡ h.low)
+  where
+    base_before : numbers_of before.config ≡ v.base
+    base_before = rw lent base
+
+    found : before.entries ≡ h.seen
+    found = rw lent entries
+
+    pub asked_done : OrMemory answered (answer_to before.config before.entries command)
+        → OnOk answered (after.entries ≡ before.entries ++ record { ticket = ticket; by = by; command = command } ∷ [])
+        → IsBack h w after.entries → IfOk answered (IsDone v w command)
+    asked_done reply grown back = go answered reply grown
+      where
+        go : (r : Result Reply Refusal) → OrMemory r (answer_to before.config before.entries command)
+            → OnOk r (after.entries ≡ before.entries ++ record { ticket = ticket; by = by; command = command } ∷ [])
+            → IfOk r (IsDone v w command)
+        go (Ok text) is more =
+            let entry : Entry = record { ticket = ticket; by = by; command = command } in
+            let P : List Entry → Type 0 = λ es. IsBack h w es in
+            let Q : List Entry → Type 0 = λ es. answer_to before.config es command ≡ Ok text in
+            let left : after.entries ≡ h.seen ++ entry ∷ [] = more ∙ ap (λ (es : List Entry). es ++ entry ∷ []) found in
+            done v h w served drawn finds before.config base_before command text entry named ticket_is (by_is ∙ drawn.low) refl
+            (subst P left back) (subst Q found is)
+        go (Err refusal) is more = tt
+
+    pub asked_refused : OrMemory answered (answer_to before.config before.entries command)
+        → (IsFoundEarly (answer_to before.config before.entries command) → answered ≡ answer_to before.config before.entries command)
+        → OnErr answered (after.entries ≡ before.entries)
+        → IsBack h w after.entries → IfErr answered (IsRefused v w command)
+    asked_refused reply early same back = go answered reply early same
+      where
+        go : (r : Result Reply Refusal) → OrMemory r (answer_to before.config before.entries command)
+            → (IsFoundEarly (answer_to before.config before.entries command) → r ≡ answer_to before.config before.entries command)
+            → OnErr r (after.entries ≡ before.entries) → IfErr r (IsRefused v w command)
+        go (Ok text) is first kept = tt
+        go (Err refusal) is first kept =
+            let P : List Entry → Type 0 = λ es. IsBack h w es in
+            let Q : List Entry → Type 0 = λ es. refusal ≢ Memory → answer_to before.config es command ≡ Err refusal in
+            let R : List Entry → Type 0 = λ es. IsFoundEarly (answer_to before.config es command) → answer_to before.config es command ≡ Err refusal in
+            refused v h w served drawn finds before.config base_before command refusal
+            (subst P (kept ∙ found) back) (subst Q found is) (subst R found (λ is_early. sym (first is_early)))

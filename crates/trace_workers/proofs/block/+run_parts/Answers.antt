@@ -1,0 +1,69 @@
+use Rattle.std.proofs.Common.{◌≡◌, ◌∷◌, ◌++◌, ℕ, ◌+◌, ◌<◌, [], map, length, vec_len, List, refl, sym, ap, ◌∙◌, arith, rules}
+use Rattle.std.proofs.lemmas.List.{length-map}
+use Rattle.ticket_lock.specs.Calls.{view_of}
+use Rattle.trace_workers.specs.PartRuns.{HasAsked, begun_trail, begun_trails}
+use Rattle.trace_command.specs.declared.command.Command.{Command}
+use Rattle.trace_workers.proofs.Working.{run_meet, run_none}
+use Rattle.trace_workers.proofs.Blocking.{names_left, map_push, begun_none, begun_push, whole_push, told_none}
+use Rattle.trace_workers.proofs.block.+run_parts.Goals as goal
+use Rattle.trace_workers.proofs.block.+run_parts.Goals.{in-Ok-started, in-Err}
+
+-- there are names for each part
+pub unreachable-requires : goal.unreachable-requires
+unreachable-requires g t c =
+    let v = view_of c.args.pass in
+    let left = names_left (vec_len c.args.parts) (vec_len c.pop.new.self) v.low v.end (c.in-Some.ensures.cases) c.requires.names in
+    let no = c.in_default-split.ensures.ok.1 left.0 in
+    cc
+
+-- no part is left
+pub returns-in_default-clause-run : goal.returns-in_default-clause-run
+returns-in_default-clause-run g t c =
+    let v = view_of c.args.pass in
+    rw (c.requires.empty, begun_none (map (λ part. part.items) c.args.parts.items)) (run_none v)
+
+-- what the parts before this one and this one come to
+pub returns-clause-run : goal.returns-clause-run
+returns-clause-run g t c =
+    let v = view_of c.args.pass in
+    let a = view_of c.in-Ok.lower in
+    let b = view_of c.in-Ok.upper in
+    let others = c.run_parts-others in
+    let returned = c.match-started.returned.0 in
+    let commands = c.in-Some.commands.items in
+    let replies = returned.part.replies.items in
+    let before : List (List Command) = map (λ part. part.items) c.pop.new.self.items in
+    let acts : HasAsked b (view_of returned.pass) commands replies returned.fault =
+    elim c.match-started.branch [ in-Ok-started w ↦ search rules | in-Err w ↦ search rules ] in
+    let by : returned.part.by ≡ b.low =
+    elim c.match-started.branch [ in-Ok-started w ↦ search rules | in-Err w ↦ search rules ] in
+    let some : v.low + 1 < v.end = c.in-Ok.ensures.ok.0 refl in
+    let parts : map (λ part. part.items) c.args.parts.items ≡ before ++ commands ∷ [] =
+    map_push (λ part. part.items) c.args.parts.items c.pop.new.self.items c.in-Some.commands c.in-Some.ensures.items in
+    let same : length others.result.done.items ≡ length before =
+    others.ensures.length ∙ sym (length-map c.pop.new.self.items (λ part. part.items)) in
+    let trails : begun_trails (map (λ part. part.items) c.args.parts.items) c.push_reserved.new.self.items
+    ≡ begun_trails before others.result.done.items ++ begun_trail b.low commands replies ∷ [] =
+    rw (parts, c.push_reserved.ensures.items)
+    (begun_push before others.result.done.items commands returned.part same
+    ∙ ap (λ (n : ℕ). begun_trails before others.result.done.items ++ begun_trail n commands replies ∷ []) by) in
+    rw trails
+    (run_meet v a b (view_of others.result.pass) (view_of returned.pass) (view_of c.join-2.result) (begun_trails before others.result.done.items)
+    (begun_trail b.low commands replies) (omega (arith, some)) c.in-Ok.ensures.halves others.ensures.run acts.run c.join-2.ensures.met)
+
+-- without a fault each of them is whole
+pub returns-clause-whole : goal.returns-clause-whole
+returns-clause-whole g t c none =
+    let b = view_of c.in-Ok.upper in
+    let others = c.run_parts-others in
+    let returned = c.match-started.returned.0 in
+    let commands = c.in-Some.commands.items in
+    let before : List (List Command) = map (λ part. part.items) c.pop.new.self.items in
+    let acts : HasAsked b (view_of returned.pass) commands returned.part.replies.items returned.fault =
+    elim c.match-started.branch [ in-Ok-started w ↦ search rules | in-Err w ↦ search rules ] in
+    let parts : map (λ part. part.items) c.args.parts.items ≡ before ++ commands ∷ [] =
+    map_push (λ part. part.items) c.args.parts.items c.pop.new.self.items c.in-Some.commands c.in-Some.ensures.items in
+    let all = told_none c.first_of-2.result others.result.fault c.first_of.result c.first_of-2.ensures none in
+    let last = told_none c.first_of.result returned.fault c.match-started.returned.1 c.first_of.ensures all.1 in
+    rw (parts, c.push_reserved.ensures.items)
+    (whole_push before others.result.done.items commands returned.part (others.ensures.whole all.0) (acts.whole last.0))

@@ -1,0 +1,66 @@
+use Rattle.std.proofs.Common.{◌≡◌, ◌∷◌, ◌++◌, [], None, Some, refl, sym, ap, ◌∙◌, append_assoc, arith, rules, List}
+use Rattle.std.specs.Vec.Iter.{into_iter_items}
+use Rattle.ticket_lock.specs.Calls.{view_of}
+use Rattle.trace_workers.specs.PartRuns.{HasAsked}
+use Rattle.trace_command.specs.declared.command.Command.{Command}
+use Rattle.trace_workers.proofs.Working.{asked_none, asked_then, asked_stop}
+use Rattle.trace_workers.proofs.worker.ask_part.Goals as goal
+
+pub loop-command-init : goal.loop-command-init
+loop-command-init g c =
+    let v = view_of c.args.worker.pass in (
+      search rules,
+      search rules,
+      c.requires.of,
+      c.requires.named,
+      search rules,
+      search rules,
+      rw c.requires.empty (asked_none v [] None c.requires.named (λ e. refl)),
+    )
+
+-- the commands are those so far, this one and the rest
+cut : (all yielded rest : List Command) (command : Command) (more : List Command) → all ≡ yielded ++ rest → rest ≡ command ∷ more
+    → all ≡ (yielded ++ command ∷ []) ++ more
+cut all yielded rest command more whole next =
+    whole ∙ ap (λ (cs : List Command). yielded ++ cs) next ∙ sym (append_assoc yielded (command ∷ []) more)
+
+-- the rest was not asked
+pub returns-in-Some-fault-clause-asked : goal.returns-in-Some-fault-clause-asked
+returns-in-Some-fault-clause-asked g c =
+    let l = c.loop-command in
+    let turn = c.take_turn-next in
+    let v = view_of c.args.worker.pass in
+    let w = view_of l.mine.pass in
+    let x = view_of turn.result.0.pass in
+    let asked = l.yielded ++ c.in-Some.command ∷ [] in
+    let rest = into_iter_items c.next.new.self in
+    let whole : c.args.commands.items ≡ asked ++ rest =
+    cut c.args.commands.items l.yielded (into_iter_items l.command-iterator) c.in-Some.command rest l.invariant.5 c.in-Some.ensures.steps.0 in
+    let answers = turn.ensures.asked.0 in
+    let one : HasAsked w x (c.in-Some.command ∷ []) answers (Some c.in-Some-fault.fault) =
+    rw c.in-Some-fault.is at turn.ensures.asked.2 in
+    let all : HasAsked v x asked (l.mine.replies.items ++ answers) (Some c.in-Some-fault.fault) =
+    asked_then v w x l.yielded (c.in-Some.command ∷ []) l.mine.replies.items answers (Some c.in-Some-fault.fault) l.invariant.6 one in
+    rw (whole, turn.ensures.asked.1) (asked_stop v x asked rest (l.mine.replies.items ++ answers) c.in-Some-fault.fault all)
+
+pub loop-command-preserved : goal.loop-command-preserved
+loop-command-preserved g c =
+    let l = c.loop-command in
+    let turn = c.take_turn-next in
+    let v = view_of c.args.worker.pass in
+    let w = view_of l.mine.pass in
+    let x = view_of turn.result.0.pass in
+    let rest = into_iter_items c.next.new.self in
+    let whole : c.args.commands.items ≡ (l.yielded ++ c.in-Some.command ∷ []) ++ rest =
+    cut c.args.commands.items l.yielded (into_iter_items l.command-iterator) c.in-Some.command rest l.invariant.5 c.in-Some.ensures.steps.0 in
+    let answers = turn.ensures.asked.0 in
+    let one : HasAsked w x (c.in-Some.command ∷ []) answers None = rw c.in_default.is at turn.ensures.asked.2 in
+    let grown = turn.ensures.len c.in_default.is in (
+      search rules,
+      search rules,
+      turn.ensures.of,
+      rw (one.run.goes_on.low, one.run.goes_on.end) l.invariant.3,
+      omega (arith, grown, turn.ensures.capacity, l.invariant.4, c.in-Some.ensures.steps.1),
+      whole,
+      rw turn.ensures.asked.1 (asked_then v w x l.yielded (c.in-Some.command ∷ []) l.mine.replies.items answers None l.invariant.6 one),
+    )

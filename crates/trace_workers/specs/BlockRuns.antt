@@ -1,0 +1,31 @@
+-- What a block of parts comes to, told by what the pass with all names knows: `v` is that before the block, and `w` after it.
+use Rattle.std.specs.Prelude.{◌≡◌, ◌≢◌, ◌≤◌, ◌^◌, List, [], ◌∷◌, ◌++◌, All}
+use Rattle.ticket_lock.specs.Views.{HasAllNames}
+use Rattle.ticket_lock.specs.declared.views.View.{View}
+use Rattle.trace_history.specs.History.{IsLegal}
+use Rattle.trace_history.specs.Blocks.{Trail, IsBlock, IsUnworn}
+use Rattle.trace_book.specs.Bases.{numbers_of}
+use Rattle.trace_workers.specs.declared.part.Part.{Part}
+use Rattle.trace_command.specs.declared.command.Command.{Command}
+use Rattle.trace_command.specs.declared.command.Config.{Config}
+use Rattle.trace_command.specs.declared.command.Entry.{Entry}
+
+-- the trail of each part: its commands, its caller's number and its replies
+abbrev pub trails_of : List (List Command) → List Part → List Trail
+trails_of (commands ∷ parts) (part ∷ done) = record { by = part.by; commands = commands; replies = part.replies.items } ∷ trails_of parts done
+trails_of _ _ = []
+
+-- the trail is one of the first of these commands
+abbrev pub Begins : List Command → Trail → Type 0
+Begins commands trail = (rest : List Command) × (commands ≡ trail.commands ++ rest)
+
+-- The pass has all names and its base again. The history went on from what it had seen, by what these callers did and by nothing else.
+pub record IsAfterBlock (v w : View Entry) (trails : List Trail) : Type 0 where
+  pub names : HasAllNames w
+  pub base : w.base ≡ v.base
+  pub front : v.front ≤ w.front
+  pub after : List Entry
+  pub seen : w.seen ≡ v.seen ++ after
+  pub block : (g : Config) → numbers_of g ≡ v.base → IsLegal g v.seen → IsBlock g v.seen after trails
+  -- as long as there are tickets, no reply is Worn
+  pub unworn : w.front ≢ 2 ^ 63 → All (λ (trail : Trail). IsUnworn trail.replies) trails

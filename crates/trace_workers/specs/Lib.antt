@@ -1,0 +1,3 @@
+pub mod Asks
+pub mod BlockRuns
+pub mod PartRuns

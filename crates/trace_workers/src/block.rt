@@ -1,0 +1,177 @@
+//! A block: parts side by side, each on a thread of its own.
+//!
+//! The pass with all names is cut once for each part, the last part first. Its upper half goes to the part's thread, and the parts before it get on
+//! with the lower half; the upper half of that goes to the part before, and so on:
+//!
+//!     0 .. 65536          root
+//!     0 .. 32768          | 32768 .. 65536   the last part
+//!     0 .. 16384  | 16384 .. 32768           the part before
+//!     0 .. 8192 | 8192 .. 16384              ...
+//!
+//! When a part has ended, its half is joined again with what is below it. So the pass that comes back has all names, whether the parts were asked
+//! whole or not, and it has seen what all of them did. What the lowest names could have done nobody did.
+
+ghost use Rattle.std.specs.Prelude.{◌≡◌, ◌≢◌, ◌+◌, ◌-◌, ◌<◌, ◌≤◌, ◌^◌, [], map, length, vec_len, vec_capacity, Some, None, true, IfOk, IfErr, List};
+ghost use Rattle.std.specs.List.{AllZip};
+ghost use Rattle.ticket_lock.specs.Calls.{view_of, IsOf};
+ghost use Rattle.ticket_lock.specs.Views.{HasAllNames};
+ghost use Rattle.trace_history.specs.Blocks.{Trail};
+ghost use Rattle.trace_workers.specs.BlockRuns.{trails_of, Begins, IsAfterBlock};
+ghost use Rattle.trace_workers.specs.PartRuns.{HasRun, HasAsked, AreWhole, SeesCallers, begun_trails};
+ghost use Rattle.trace_workers.specs.declared.fault.BlockFault.TheVariants.{Stopped};
+
+use crate::fault::{BlockFault, first_of};
+use crate::gate::Gate;
+use crate::part::Part;
+use crate::thread::{Given, Returned, run_part};
+use std::alloc::Global;
+use std::snapshot::Snapshot;
+use std::sync::Wait;
+use std::sync::atomic::{AtomicBool, Ordering};
+use std::thread;
+use std::thread::{Scope, Threads};
+use ticket_lock::{Pass, TicketLock};
+use trace_book::Book;
+use trace_command::Command;
+
+// What some parts came to: their passes joined, what was asked of each, and the fault to be told.
+#[derive(Drop)]
+struct Ended {
+    pass: Pass<Book>,
+    done: Vec<Part>,
+    fault: Option<BlockFault>,
+}
+
+// Runs the last part on a thread of its own under the upper half of the names, and the parts before it under the lower half. There is room in `done`
+// for what is asked of them. A thread that can't be started is told by `missed`, so that its part, called here, only gives its pass back.
+fn run_parts<'s, E, R: Threads + Wait + Sync, G: Gate + Sync>(
+    scope: &Scope<'s, E>,
+    rt: &'s R,
+    alloc: Global,
+    lock: &'s TicketLock<Book>,
+    pass: Pass<Book>,
+    mut parts: Vec<Vec<Command>>,
+    done: Vec<Part>,
+    gate: &'s G,
+    missed: &'s AtomicBool,
+) -> Ended
+    requires of { IsOf lock.now pass }
+    requires names { 2 ^ vec_len parts ≤ (view_of pass).end - (view_of pass).low }
+    requires few { vec_len parts ≤ 8 }
+    requires empty { done.items ≡ [] }
+    requires room { vec_len done + vec_len parts ≤ vec_capacity done }
+    ensures of { IsOf lock.now result.pass }
+    ensures run { HasRun (view_of pass) (view_of result.pass) (begun_trails (map (λ part. part.items) parts.items) result.done.items) }
+    ensures length { length result.done.items ≡ length parts.items }
+    ensures room { (vec_len result.done ≡ vec_len done + vec_len parts) × (vec_capacity result.done ≡ vec_capacity done) }
+    ensures whole { result.fault ≡ None → AreWhole (map (λ part. part.items) parts.items) result.done.items }
+    ensures callers { SeesCallers (view_of pass) (view_of result.pass) }
+    ensures open { G.is_open gate.now ≡ true → result.fault ≢ Some Stopped }
+{
+    let Some(commands) = parts.pop() else {
+        return Ended {
+            pass,
+            done,
+            fault: None,
+        };
+    };
+    let Ok((lower, upper)) = lock.split(pass) else {
+        unreachable!()
+    };
+    let thread = parts.len() as u32;
+    let given = Given {
+        lock: Snapshot::of(lock),
+        pass: Snapshot::of(&upper),
+        commands: Snapshot::of(&commands),
+        gate: Snapshot::of(gate),
+    };
+    let started = scope.spawn_with(
+        given,
+        move || -> Returned
+            requires { IsOf lock.now upper × ((view_of upper).low < (view_of upper).end) }
+            ensures { IsOf lock.entry.now result.pass × (result.part.by ≡ (view_of upper).low)
+                × HasAsked (view_of upper) (view_of result.pass) commands.items result.part.replies.items result.fault
+                × (G.is_open gate.entry.now ≡ true → result.fault ≢ Some Stopped) }
+        { run_part(rt, alloc, lock, upper, commands, thread, gate, missed) },
+    );
+    if started.is_err() {
+        missed.store(true, Ordering::SeqCst);
+    }
+    let others = run_parts(scope, rt, alloc, lock, lower, parts, done, gate, missed);
+    let (returned, refused) = match started {
+        Ok(handle) => (handle.join(rt), None),
+        Err(refused) => ((refused.value)(), Some(BlockFault::NoThread)),
+    };
+    let Ended {
+        pass: lower,
+        mut done,
+        fault: before,
+    } = others;
+    let Returned {
+        pass: upper,
+        part,
+        fault,
+    } = returned;
+    done.push_reserved(part);
+    Ended {
+        pass: lock.join(lower, upper),
+        done,
+        fault: first_of(before, first_of(fault, refused)),
+    }
+}
+
+/// Runs parts side by side, each on a thread of its own and under a caller's number that no other part has, and gives their replies in the order of
+/// the parts. All threads have ended when it returns. There may be no parts, and parts of no commands.
+///
+/// Each part asks its commands in their order, and the gate before and after each. What they do comes into one history, in whatever order their turns
+/// fall: `IsBlock` says what that is. A part stops at the first command to which memory is refused, and where the gate answers `false`. Then there
+/// is a fault and no reply, but the pass has all names all the same, and has seen what was done.
+///
+/// It waits for its turns and for its threads, and so that it returns is not promised, nor in which order turns fall.
+pub fn run_block<R: Threads + Wait + Sync, G: Gate + Sync>(
+    rt: &R,
+    alloc: Global,
+    lock: &TicketLock<Book>,
+    root: Pass<Book>,
+    parts: Vec<Vec<Command>>,
+    gate: &G,
+) -> (Pass<Book>, Result<Vec<Part>, BlockFault>)
+    requires of { IsOf lock.now root }
+    requires names { HasAllNames (view_of root) }
+    requires few { vec_len parts ≤ 8 }
+    ensures of { IsOf lock.now result.0 }
+    ensures names { HasAllNames (view_of result.0) }
+    // Each part's replies are the trail of its commands, from what the root had seen on.
+    ensures done { IfOk result.1 (λ done. (vec_len done ≡ vec_len parts)
+        × IsAfterBlock (view_of root) (view_of result.0) (trails_of (map (λ part. part.items) parts.items) done.items)) }
+    // After a fault the same is true of the first commands of each part, with some replies.
+    ensures fault { IfErr result.1 (λ fault. (trails : List Trail) × AllZip Begins (map (λ part. part.items) parts.items) trails
+        × IsAfterBlock (view_of root) (view_of result.0) trails) }
+    ensures open { G.is_open gate.now ≡ true → IfErr result.1 (λ fault. fault ≢ Stopped) }
+{
+    let Ok(done) = Vec::with_capacity(alloc, parts.len()) else {
+        return (root, Err(BlockFault::Memory));
+    };
+    let flag = AtomicBool::new(false);
+    let missed = &flag;
+    let ended = thread::scope(
+        thread::scope_env(),
+        rt,
+        |scope| -> Ended
+            requires { IsOf lock.now root × HasAllNames (view_of root) × (vec_len parts ≤ 8) × (done.items ≡ [])
+                × (vec_len done + vec_len parts ≤ vec_capacity done) }
+            ensures { IsOf lock.entry.now result.pass
+                × HasRun (view_of root) (view_of result.pass) (begun_trails (map (λ part. part.items) parts.items) result.done.items)
+                × (length result.done.items ≡ length parts.items)
+                × (vec_len result.done ≡ vec_len done + vec_len parts)
+                × (result.fault ≡ None → AreWhole (map (λ part. part.items) parts.items) result.done.items)
+                × SeesCallers (view_of root) (view_of result.pass)
+                × (G.is_open gate.entry.now ≡ true → result.fault ≢ Some Stopped) }
+        { run_parts(scope, rt, alloc, lock, root, parts, done, gate, missed) },
+    );
+    let Ended { pass, done, fault } = ended;
+    match fault {
+        None => (pass, Ok(done)),
+        Some(fault) => (pass, Err(fault)),
+    }
+}

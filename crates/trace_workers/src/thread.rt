@@ -1,0 +1,104 @@
+//! The thread of one part.
+
+ghost use Rattle.std.specs.Prelude.{◌≡◌, ◌≢◌, ◌<◌, [], Some, true};
+ghost use Rattle.ticket_lock.specs.Calls.{view_of, IsOf};
+ghost use Rattle.trace_workers.specs.PartRuns.{HasAsked};
+ghost use Rattle.trace_workers.specs.declared.fault.BlockFault.TheVariants.{Stopped};
+
+use crate::fault::BlockFault;
+use crate::gate::Gate;
+use crate::part::Part;
+use crate::worker::{Worker, ask_part};
+use std::alloc::Global;
+use std::snapshot::Snapshot;
+use std::sync::Wait;
+use std::sync::atomic::{AtomicBool, Ordering};
+use std::thread::Promise;
+use ticket_lock::{Pass, TicketLock};
+use trace_book::Book;
+use trace_command::Command;
+
+/// What a part's thread gives back: the pass, what was asked of the part, and why it stopped before its end.
+#[derive(Drop)]
+pub struct Returned {
+    pub pass: Pass<Book>,
+    pub part: Part,
+    pub fault: Option<BlockFault>,
+}
+
+/// What a part's thread is given, as far as its promise names it. A value has no bytes.
+pub struct Given<G> {
+    pub lock: Snapshot<TicketLock<Book>>,
+    pub pass: Snapshot<Pass<Book>>,
+    pub commands: Snapshot<Vec<Command>>,
+    pub gate: Snapshot<G>,
+}
+
+impl<G> Drop for Given<G> {
+    fn drop(self) {
+        let Given {
+            lock: _,
+            pass: _,
+            commands: _,
+            gate: _,
+        } = self;
+    }
+}
+
+impl<G: Gate> Promise<Returned> for Given<G> {
+    ghost kept_by = { λ given result. IsOf given.lock.value result.pass
+        × (result.part.by ≡ (view_of given.pass.value).low)
+        × HasAsked (view_of given.pass.value) (view_of result.pass) given.commands.value.items result.part.replies.items result.fault
+        × (G.is_open given.gate.value ≡ true → result.fault ≢ Some Stopped) };
+}
+
+// A part of which nothing was asked.
+fn idle(alloc: Global, pass: Pass<Book>, fault: BlockFault) -> Returned
+    ensures pass { result.pass ≡ pass }
+    ensures by { result.part.by ≡ (view_of pass).low }
+    ensures replies { result.part.replies.items ≡ [] }
+    ensures fault { result.fault ≡ Some fault }
+{
+    let by = pass.names().start;
+    let replies = Vec::new(alloc);
+    Returned {
+        pass,
+        part: Part { by, replies },
+        fault: Some(fault),
+    }
+}
+
+/// Asks the commands of a part. Where the block has already missed a thread it asks nothing and gives the pass back: so a thread that could not be
+/// started doesn't keep its names.
+pub fn run_part<R: Wait, G: Gate>(
+    rt: &R,
+    alloc: Global,
+    lock: &TicketLock<Book>,
+    pass: Pass<Book>,
+    commands: Vec<Command>,
+    thread: u32,
+    gate: &G,
+    missed: &AtomicBool,
+) -> Returned
+    requires of { IsOf lock.now pass }
+    requires named { (view_of pass).low < (view_of pass).end }
+    ensures of { IsOf lock.now result.pass }
+    ensures by { result.part.by ≡ (view_of pass).low }
+    ensures asked { HasAsked (view_of pass) (view_of result.pass) commands.items result.part.replies.items result.fault }
+    ensures open { G.is_open gate.now ≡ true → result.fault ≢ Some Stopped }
+{
+    if missed.load(Ordering::SeqCst) {
+        return idle(alloc, pass, BlockFault::NoThread);
+    }
+    let Ok(replies) = Vec::with_capacity(alloc, commands.len()) else {
+        return idle(alloc, pass, BlockFault::Memory);
+    };
+    let by = pass.names().start;
+    let worker = Worker { pass, replies };
+    let (Worker { pass, replies }, fault) = ask_part(rt, lock, worker, commands, thread, gate);
+    Returned {
+        pass,
+        part: Part { by, replies },
+        fault,
+    }
+}

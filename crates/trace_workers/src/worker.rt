@@ -1,0 +1,100 @@
+//! One worker of a block: it asks the commands of its part, one after the other.
+
+ghost use Rattle.std.specs.Prelude.{◌≡◌, ◌≢◌, ◌<◌, ◌≤◌, ◌+◌, ◌++◌, ◌∷◌, [], ◌↔◌, IsTrue, Err, Some, None, List, Result, vec_len, vec_capacity, true};
+ghost use Rattle.ticket_lock.specs.Calls.{view_of, IsOf};
+ghost use Rattle.trace_workers.specs.PartRuns.{HasAsked};
+ghost use Rattle.trace_workers.specs.declared.fault.BlockFault.TheVariants.{Stopped};
+ghost use Rattle.trace_command.specs.declared.command.Reply.{Reply};
+ghost use Rattle.trace_command.specs.declared.refusal.Refusal.{Refusal};
+ghost use Rattle.trace_command.specs.declared.refusal.Refusal.TheVariants.{Memory};
+
+use crate::call::ask;
+use crate::fault::BlockFault;
+use crate::gate::{Gate, Point};
+use std::sync::Wait;
+use ticket_lock::{Pass, TicketLock};
+use trace_book::Book;
+use trace_command::{Command, Refusal, Reply};
+
+/// A worker between two calls: its pass, and the replies so far.
+#[derive(Drop)]
+pub struct Worker {
+    pub pass: Pass<Book>,
+    pub replies: Vec<Result<Reply, Refusal>>,
+}
+
+// Whether memory was refused to a command.
+fn is_memory(answer: &Result<Reply, Refusal>) -> bool
+    ensures { IsTrue result ↔ (answer.now ≡ Err Memory) }
+{
+    match answer {
+        Err(Refusal::Memory) => true,
+        _ => false,
+    }
+}
+
+// One command of a part. The gate is asked before it and after it, and not while the lock is held.
+fn take_turn<R: Wait, G: Gate>(
+    rt: &R,
+    lock: &TicketLock<Book>,
+    worker: Worker,
+    command: Command,
+    thread: u32,
+    gate: &G,
+) -> (Worker, Option<BlockFault>)
+    requires of { IsOf lock.now worker.pass }
+    requires named { (view_of worker.pass).low < (view_of worker.pass).end }
+    requires room { vec_len worker.replies < vec_capacity worker.replies }
+    ensures of { IsOf lock.now result.0.pass }
+    ensures capacity { vec_capacity result.0.replies ≡ vec_capacity worker.replies }
+    ensures len { result.1 ≡ None → vec_len result.0.replies ≡ vec_len worker.replies + 1 }
+    ensures asked { (answers : List (Result Reply Refusal)) × (result.0.replies.items ≡ worker.replies.items ++ answers)
+        × HasAsked (view_of worker.pass) (view_of result.0.pass) (command ∷ []) answers result.1 }
+    ensures open { G.is_open gate.now ≡ true → result.1 ≢ Some Stopped }
+{
+    let Worker { pass, mut replies } = worker;
+    let call = replies.len() as u64;
+    if !gate.arrive(thread, call, Point::Asking) {
+        return (Worker { pass, replies }, Some(BlockFault::Stopped));
+    }
+    let (pass, answer) = ask(rt, lock, pass, command);
+    let goes_on = gate.arrive(thread, call, Point::Answered);
+    if is_memory(&answer) {
+        return (Worker { pass, replies }, Some(BlockFault::Memory));
+    }
+    replies.push_reserved(answer);
+    let fault = if goes_on {
+        None
+    } else {
+        Some(BlockFault::Stopped)
+    };
+    (Worker { pass, replies }, fault)
+}
+
+/// Asks the commands of a part in their order, and stops at the first fault. There is room for the replies.
+pub fn ask_part<R: Wait, G: Gate>(
+    rt: &R,
+    lock: &TicketLock<Book>,
+    worker: Worker,
+    commands: Vec<Command>,
+    thread: u32,
+    gate: &G,
+) -> (Worker, Option<BlockFault>)
+    requires of { IsOf lock.now worker.pass }
+    requires named { (view_of worker.pass).low < (view_of worker.pass).end }
+    requires empty { worker.replies.items ≡ [] }
+    requires room { vec_len worker.replies + vec_len commands ≤ vec_capacity worker.replies }
+    ensures of { IsOf lock.now result.0.pass }
+    ensures asked { HasAsked (view_of worker.pass) (view_of result.0.pass) commands.items result.0.replies.items result.1 }
+    ensures open { G.is_open gate.now ≡ true → result.1 ≢ Some Stopped }
+{
+    let mut mine = worker;
+    for command in commands {
+        let (next, fault) = take_turn(rt, lock, mine, command, thread, gate);
+        mine = next;
+        if let Some(fault) = fault {
+            return (mine, Some(fault));
+        }
+    }
+    (mine, None)
+}
