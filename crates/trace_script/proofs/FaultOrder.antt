@@ -1,12 +1,12 @@
 -- The fault that is told of a line is the one that it has.
-use Rattle.std.proofs.Common.{◌≡◌, ◌<◌, ◌≤◌, ◌⊎◌, inl, inr, ℕ, ℤ, ◌-◌, ◌^◌, Bool, true, false, nat_lt, if◌then◌else◌, List, [], ◌∷◌, ◌++◌, length, map, Option, Some, None, Result, Ok, Err, codes, refl, ap, sym, subst, ◌∙◌, arith}
+use Rattle.std.proofs.Common.{◌≡◌, ◌<◌, ◌⊎◌, inl, inr, ℕ, ℤ, ◌-◌, ◌^◌, Bool, true, false, nat_lt, if◌then◌else◌, List, [], ◌∷◌, ◌++◌, length, map, Option, Some, None, Result, Ok, Err, codes, refl, ap, sym, subst, ◌∙◌, arith}
 use Rattle.std.proofs.lemmas.Bool.Decides.{nat_tests}
-use Rattle.std.specs.List.{AllByRecursion, list_all, join_with_byte}
+use Rattle.std.specs.List.{list_all, join_with_byte}
 use Rattle.std.specs.Str.{bytes_eq}
 use Rattle.trace_format.specs.declared.pair.Pair.{Pair}
 use Rattle.trace_command.specs.declared.command.Command.{Command}
 use Rattle.trace_command.specs.declared.command.Command.TheVariants.{Emit, Mkdir, Rmdir, Write, Read}
-use Rattle.trace_script.specs.Commands.{pair_word, IsPair, IsAskedBy, ACommand, AParallel, AThread, AnEnd, IsCommandOf, AnEmit, AnEcho, ACat, ATake, AMkdir, ARmdir, AsksFor, Nothing, Something, IsLawful}
+use Rattle.trace_script.specs.Commands.{pair_word, IsAskedBy, ACommand, AParallel, AThread, AnEnd, IsCommandOf, AnEmit, AnEcho, ACat, ATake, AMkdir, ARmdir}
 use Rattle.trace_script.specs.Faults.{Shape, Emission, Writing, Limited, OnePath, NameAlone, shape_of, IsEmissionShaped, IsWriteShaped, IsShaped, named_shape, AreWrong, Unnamed, Misshaped, Misnumbered, HasFault, TooLong, WrongByte, OpenQuote, WrongTokens}
 use Rattle.trace_script.specs.Grammar.{IsWritten}
 use Rattle.trace_script.specs.Lines.{number_up_to, process_id, pairs_of, emission_of, only_word, write_behind, write_of, read_of, take_of, mkdir_of, rmdir_of, named_command, alone, named_line, asked_of, is_line_byte, says_nothing, spoken, line_of}
@@ -21,7 +21,7 @@ use Rattle.trace_script.specs.declared.token.Token.TheVariants.{Word, Redirect}
 use Rattle.trace_script.proofs.CommandLaws.{pairs_found, pairs_read, tokens_read, tokens_found}
 use Rattle.trace_script.proofs.CommandLemmas.{write_read}
 use Rattle.trace_script.proofs.GrammarLaws.{line_written, written_read}
-use Rattle.trace_script.proofs.LineLaws.{fits, is_short, line_asks}
+use Rattle.trace_script.proofs.LineLaws.{fits, is_short}
 
 -- ---- what follows a name
 

@@ -5,12 +5,10 @@ use Rattle.std.proofs.lemmas.Bool.{eq-eqb, eqb-true}
 use Rattle.std.proofs.lemmas.Bool.Decides.{nat_tests}
 use Rattle.std.specs.List.{flat_map, AllByRecursion}
 use Rattle.trace_lex.specs.Blanks.{is_blank}
-use Rattle.trace_script.specs.Tokens.{is_quote, is_end, place_of, plain, behind, tokens_from, tokens_of}
+use Rattle.trace_script.specs.Tokens.{Place, Between, Arrow, InWord, InQuotes, is_quote, is_end, place_of, plain, behind, tokens_from, tokens_of}
 use Rattle.trace_script.specs.Grammar.{Piece, Plain, Quoted, IsPiece, piece_text, piece_value, Part, Gap, Redirection, Written, part_text, part_tokens, MayPrecede, IsLine, IsWritten}
 use Rattle.trace_script.specs.declared.token.Token.{Token}
 use Rattle.trace_script.specs.declared.token.Token.TheVariants.{Word, Redirect}
-use Rattle.trace_script.specs.declared.token.Place.{Place}
-use Rattle.trace_script.specs.declared.token.Place.TheVariants.{Between, Arrow, InWord, InQuotes}
 
 -- ---- the four kinds of byte
 
@@ -58,27 +56,27 @@ quote_leads b e = ⊎_elim (λ h. rw h (refl, refl, refl)) (λ h. rw h (refl, re
 -- ---- what is written is read
 
 -- where a line goes on with a byte that ends a word, the word is ended
-word_ends : (w : List ℕ) (b : ℕ) (bs : List ℕ) → is_end b ≡ true → tokens_from InWord w (b ∷ bs) ≡ behind (Word w ∷ []) (tokens_from Between [] (b ∷ bs))
+pub word_ends : (w : List ℕ) (b : ℕ) (bs : List ℕ) → is_end b ≡ true → tokens_from InWord w (b ∷ bs) ≡ behind (Word w ∷ []) (tokens_from Between [] (b ∷ bs))
 word_ends w b bs e =
     ap (λ t. if t then behind (Word w ∷ []) (tokens_from (place_of b) [] bs) else tokens_from (place_of b) (w ++ plain b) bs) e
     ∙ ap (λ t. behind (Word w ∷ []) (tokens_from (place_of b) (if t || is_quote b then [] else b ∷ []) bs)) (sym e)
 
 -- with any other byte a word goes on
-word_goes_on : (w : List ℕ) (b : ℕ) (bs : List ℕ) → is_end b ≡ false → tokens_from InWord w (b ∷ bs) ≡ tokens_from (place_of b) (w ++ plain b) bs
+pub word_goes_on : (w : List ℕ) (b : ℕ) (bs : List ℕ) → is_end b ≡ false → tokens_from InWord w (b ∷ bs) ≡ tokens_from (place_of b) (w ++ plain b) bs
 word_goes_on w b bs e =
     ap (λ t. if t then behind (Word w ∷ []) (tokens_from (place_of b) [] bs) else tokens_from (place_of b) (w ++ plain b) bs) e
 
 -- a byte leads on, and adds to the word
-led : (w : List ℕ) (b : ℕ) (bs : List ℕ) (place : Place) (more : List ℕ) → (place_of b ≡ place) → (plain b ≡ more) → tokens_from (place_of b) (w ++ plain b) bs ≡ tokens_from place (w ++ more) bs
+pub led : (w : List ℕ) (b : ℕ) (bs : List ℕ) (place : Place) (more : List ℕ) → (place_of b ≡ place) → (plain b ≡ more) → tokens_from (place_of b) (w ++ plain b) bs ≡ tokens_from place (w ++ more) bs
 led w b bs place more e f =
     ap (λ (p : Place). tokens_from p (w ++ plain b) bs) e ∙ ap (λ (v : List ℕ). tokens_from place (w ++ v) bs) f
 
 -- a word begins with any other byte
-word_begins : (b : ℕ) (bs : List ℕ) → is_end b ≡ false → tokens_from Between [] (b ∷ bs) ≡ tokens_from InWord [] (b ∷ bs)
+pub word_begins : (b : ℕ) (bs : List ℕ) → is_end b ≡ false → tokens_from Between [] (b ∷ bs) ≡ tokens_from InWord [] (b ∷ bs)
 word_begins b bs e = sym (word_goes_on [] b bs e)
 
 -- behind a `>` that no other follows
-arrow_alone : (b : ℕ) (bs : List ℕ) → (b == 62) ≡ false → tokens_from Arrow [] (b ∷ bs) ≡ behind (Redirect false ∷ []) (tokens_from Between [] (b ∷ bs))
+pub arrow_alone : (b : ℕ) (bs : List ℕ) → (b == 62) ≡ false → tokens_from Arrow [] (b ∷ bs) ≡ behind (Redirect false ∷ []) (tokens_from Between [] (b ∷ bs))
 arrow_alone b bs e =
     ap (λ t. if t then behind (Redirect true ∷ []) (tokens_from Between [] bs) else behind (Redirect false ∷ []) (tokens_from (place_of b) (plain b) bs)) e
 
@@ -130,7 +128,7 @@ piece_begins (Plain b) rest h = word_begins b rest h.0
 piece_begins (Quoted quote inside) rest h = word_begins quote (inside ++ quote ∷ [] ++ rest) (quote_leads quote h.0).0
 
 -- the first byte of a piece is no `>`
-no_arrow : (b : ℕ) → is_end b ≡ false → (b == 62) ≡ false
+pub no_arrow : (b : ℕ) → is_end b ≡ false → (b == 62) ≡ false
 no_arrow b e = grind (arith, nat_tests)
 
 blank_no_arrow : (b : ℕ) → is_blank b ≡ true → (b == 62) ≡ false

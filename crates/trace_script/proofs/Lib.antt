@@ -1,4 +1,5 @@
 pub mod TokenLemmas
+pub mod WordLemmas
 pub mod GrammarLaws
 pub mod CommandLemmas
 pub mod CommandLaws

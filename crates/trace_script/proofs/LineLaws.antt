@@ -1,11 +1,11 @@
 -- What a line asks for is what it is written of.
-use Rattle.std.proofs.Common.{◌≡◌, ◌≤◌, ℕ, Bool, true, false, nat_lt, if◌then◌else◌, List, length, Option, Some, None, Result, Ok, Err, refl, ap, ◌∙◌, arith}
+use Rattle.std.proofs.Common.{◌≡◌, ◌≤◌, ℕ, Bool, true, false, nat_lt, if◌then◌else◌, List, length, Option, Some, None, Result, Ok, Err, refl, arith}
 use Rattle.std.proofs.lemmas.Bool.Decides.{nat_tests}
 use Rattle.std.specs.List.{list_all}
 use Rattle.trace_script.specs.Outcomes.{or_fault, ◌>>=◌}
 use Rattle.trace_script.specs.Tokens.{tokens_of}
 use Rattle.trace_script.specs.Lines.{asked_of, is_line_byte, says_nothing, spoken, line_of}
-use Rattle.trace_script.specs.Commands.{AsksFor, IsLawful, Nothing, Something}
+use Rattle.trace_script.specs.Commands.{AsksFor, Nothing, Something}
 use Rattle.trace_script.specs.declared.fault.ScriptFault.{ScriptFault}
 use Rattle.trace_script.specs.declared.fault.ScriptFault.TheVariants.{LineTooLong, BadByte, UnclosedQuote}
 use Rattle.trace_script.specs.declared.line.Line.{Line}

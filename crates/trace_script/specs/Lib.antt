@@ -5,3 +5,4 @@ pub mod Lines
 pub mod Commands
 pub mod Faults
 pub mod Rendering
+pub mod Words

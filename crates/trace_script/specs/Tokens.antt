@@ -4,8 +4,13 @@ use Rattle.std.specs.Option.{option_map}
 use Rattle.trace_lex.specs.Blanks.{is_blank}
 use Rattle.trace_script.specs.declared.token.Token.{Token}
 use Rattle.trace_script.specs.declared.token.Token.TheVariants.{Word, Redirect}
-use Rattle.trace_script.specs.declared.token.Place.{Place}
-use Rattle.trace_script.specs.declared.token.Place.TheVariants.{Between, Arrow, InWord, InQuotes}
+
+-- where the reading of a line is: between words, after a `>` that may be the first of two, in a word, or in a part of it within these quotes
+pub data Place : Type 0 where
+  Between : Place
+  Arrow : Place
+  InWord : Place
+  InQuotes : (quote : ℕ) → Place
 
 -- a quote of either kind
 abbrev pub is_quote : ℕ → Bool

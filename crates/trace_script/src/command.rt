@@ -56,14 +56,10 @@ fn pairs(alloc: Global, tokens: &[Token]) -> Result<Pairs, LineError>
 fn emission(alloc: Global, tokens: &[Token]) -> Result<Command, LineError>
     ensures { Gives (λ command. command) result (emission_of tokens.now) }
 {
-    let [
-        Token::Word(cpu),
-        Token::Word(pid),
-        Token::Word(event),
-        first,
-        more @ ..,
-    ] = tokens
-    else {
+    let [cpu, pid, event, _, ..] = tokens else {
+        return Err(LineError::Fault(ScriptFault::WrongWords));
+    };
+    let (Token::Word(cpu), Token::Word(pid), Token::Word(event)) = (cpu, pid, event) else {
         return Err(LineError::Fault(ScriptFault::WrongWords));
     };
     let pairs = pairs(alloc, &tokens[3..])?;
@@ -96,9 +92,12 @@ fn append_word(text: &mut Vec<u8>, index: usize, word: &[u8]) -> Result<(), Allo
 fn only_word(alloc: Global, tokens: &[Token]) -> Result<Text, LineError>
     ensures { Gives (λ word. word) result (only_word tokens.now) }
 {
-    match tokens {
-        [Token::Word(word)] => Ok(Text::from_slice(alloc, word.as_bytes())?),
-        _ => Err(LineError::Fault(ScriptFault::WrongWords)),
+    let [token] = tokens else {
+        return Err(LineError::Fault(ScriptFault::WrongWords));
+    };
+    match token {
+        Token::Word(word) => Ok(Text::from_slice(alloc, word.as_bytes())?),
+        Token::Redirect { .. } => Err(LineError::Fault(ScriptFault::WrongWords)),
     }
 }
 
@@ -141,19 +140,20 @@ fn read(alloc: Global, tokens: &[Token]) -> Result<Command, LineError>
 fn take(alloc: Global, tokens: &[Token]) -> Result<Command, LineError>
     ensures { Gives (λ command. command) result (take_of tokens.now) }
 {
-    match tokens {
-        [Token::Word(count), Token::Word(path)] => {
-            let Some(limit) = decimal_number(count.as_bytes(), u64::MAX) else {
-                return Err(LineError::Fault(ScriptFault::BadNumber));
-            };
-            let path = Text::from_slice(alloc, path.as_bytes())?;
-            Ok(Command::Read {
-                path,
-                limit: Some(limit),
-            })
-        }
-        _ => Err(LineError::Fault(ScriptFault::WrongWords)),
-    }
+    let [count, path] = tokens else {
+        return Err(LineError::Fault(ScriptFault::WrongWords));
+    };
+    let (Token::Word(count), Token::Word(path)) = (count, path) else {
+        return Err(LineError::Fault(ScriptFault::WrongWords));
+    };
+    let Some(limit) = decimal_number(count.as_bytes(), u64::MAX) else {
+        return Err(LineError::Fault(ScriptFault::BadNumber));
+    };
+    let path = Text::from_slice(alloc, path.as_bytes())?;
+    Ok(Command::Read {
+        path,
+        limit: Some(limit),
+    })
 }
 
 /// `mkdir PATH`

@@ -10,6 +10,7 @@ mod outcome;
 #[cfg(test)]
 mod tests;
 mod token;
+mod word;
 
 pub use command::writes_are_as_written;
 pub use fault::{LineError, ScriptFault};

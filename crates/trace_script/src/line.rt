@@ -68,9 +68,12 @@ fn named(alloc: Global, name: &[u8], tokens: &[Token]) -> Result<Line, LineError
 fn asked(alloc: Global, tokens: &[Token]) -> Result<Line, LineError>
     ensures { Gives (λ line. line) result (asked_of tokens.now) }
 {
-    match tokens {
-        [Token::Word(name), rest @ ..] => named(alloc, name.as_bytes(), rest),
-        _ => Err(LineError::Fault(ScriptFault::UnknownCommand)),
+    let [first, rest @ ..] = tokens else {
+        return Err(LineError::Fault(ScriptFault::UnknownCommand));
+    };
+    match first {
+        Token::Word(name) => named(alloc, name.as_bytes(), rest),
+        Token::Redirect { .. } => Err(LineError::Fault(ScriptFault::UnknownCommand)),
     }
 }
 
@@ -98,11 +101,15 @@ fn spoken(alloc: Global, line: &[u8]) -> Result<Line, LineError>
     asked(alloc, &tokens)
 }
 
-/// Whether each byte is a tab, or one from 0x20 to 0x7e.
+/// Whether each byte is a tab, or one from 0x20 to 0x7e. A loop without an early exit takes many bytes at once.
 fn has_line_bytes(line: &[u8]) -> bool
     ensures { result ≡ list_all is_line_byte line.now }
 {
-    line.iter().all(|byte| matches!(*byte, b'\t' | b' '..=b'~'))
+    let mut all = true;
+    for byte in line {
+        all &= matches!(*byte, b'\t' | b' '..=b'~');
+    }
+    all
 }
 
 /// What a line asks for. A fault is the first that is found, in the order of [`ScriptFault`].

@@ -1,40 +1,29 @@
 //! The words and redirections of a line.
 
-ghost use Rattle.std.specs.Prelude.{◌≡◌, ◌+◌, ◌∷◌, [], ◌++◌, List, ℕ, IfOk, OnOk, Ok, Err, IsTrue, ◌↔◌, Some, None};
-ghost use Rattle.trace_script.specs.Tokens.{is_end, plain, place_of, behind, tokens_from, tokens_of};
+ghost use Rattle.std.specs.Prelude.{◌≡◌, ◌≢◌, ℕ, List, ◌<◌, ◌≤◌, ◌∷◌, [], false, IfOk, IfErr, OnOk, length, Some, None, Ok, Err};
+ghost use Rattle.std.specs.List.{prefix_len};
+ghost use Rattle.trace_script.specs.Tokens.{Arrow, InWord, behind, is_end, is_quote, tokens_from, tokens_of};
+ghost use Rattle.trace_script.specs.Words.{is_plain, begins_with_quote, begins_with_arrow, BeginsToken, BeginsWord, place_in, IsWordAnd, IsUnclosed};
 ghost use Rattle.trace_script.specs.Grammar.{IsWritten};
-ghost use Rattle.trace_script.specs.declared.token.Token.{Token};
+ghost use Rattle.trace_script.specs.declared.token.Token.{Token as TokenValue};
 ghost use Rattle.trace_script.specs.Outcomes.{Gives, or_fault};
 ghost use Rattle.trace_script.specs.declared.fault.ScriptFault.TheVariants.{UnclosedQuote};
 
 use crate::fault::{LineError, ScriptFault};
+use crate::word::Word;
 use std::alloc::{AllocError, Global};
-use std::mem;
-use trace_lex::{Text, is_blank};
+use trace_lex::{Text, blanks_len, is_blank};
 
 /// Room for the tokens of a usual line, so that their list seldom grows.
 const USUAL_TOKENS: usize = 8;
 
 /// What a line is cut into.
-#[derive(Debug, Drop)]
-pub(crate) enum Token {
+#[derive(Drop)]
+pub(crate) enum Token<'a> {
     /// A word, without the quotes in it.
-    Word(Text),
+    Word(Word<'a>),
     /// `>`, or to append `>>`, outside quotes.
     Redirect { append: bool },
-}
-
-/// Where the reading of a line stands.
-#[derive(Clone, Copy, Debug, PartialEq, Eq)]
-pub(crate) enum Place {
-    /// No word is open.
-    Between,
-    /// Behind a `>` that may be the first of two.
-    Arrow,
-    /// In a word.
-    InWord,
-    /// In a word, in a part within these quotes.
-    InQuotes(u8),
 }
 
 /// A byte at which a word ends.
@@ -44,129 +33,156 @@ fn is_end(byte: u8) -> bool
     is_blank(byte) || byte == b'>'
 }
 
-/// Where a byte that stands outside quotes leads.
-fn place_of(byte: u8) -> Place
-    ensures { result ≡ place_of byte }
+/// A quote of either kind.
+fn is_quote(byte: u8) -> bool
+    ensures { result ≡ is_quote byte }
 {
-    match byte {
-        b' ' | b'\t' => Place::Between,
-        b'>' => Place::Arrow,
-        b'\'' | b'"' => Place::InQuotes(byte),
-        _ => Place::InWord,
+    byte == b'\'' || byte == b'"'
+}
+
+/// A byte that a word has as it is.
+fn is_plain(byte: u8) -> bool
+    ensures { result ≡ is_plain byte }
+{
+    !(is_end(byte) || is_quote(byte))
+}
+
+/// How many bytes a string begins with that a word has as they are.
+fn plain_len(text: &[u8]) -> usize
+    ensures value { result ≡ prefix_len is_plain text.now }
+    ensures bound { result ≤ length text.now }
+{
+    text.iter().take_while(|byte| is_plain(**byte)).count()
+}
+
+/// Whether a string begins with a quote.
+fn begins_with_quote(text: &[u8]) -> bool
+    ensures { result ≡ begins_with_quote text.now }
+{
+    match text {
+        [first, ..] => is_quote(*first),
+        [] => false,
     }
 }
 
-/// The words and redirections so far, and the word that is open.
-#[derive(Drop)]
-struct Lexer {
-    alloc: Global,
-    tokens: Vec<Token>,
-    word: Text,
-    place: Place,
+/// Whether a string begins with a `>`.
+fn begins_with_arrow(text: &[u8]) -> bool
+    ensures { result ≡ begins_with_arrow text.now }
+{
+    match text {
+        [first, ..] => *first == b'>',
+        [] => false,
+    }
 }
 
-impl Lexer {
-    fn new(alloc: Global) -> Result<Lexer, AllocError>
-        ensures tokens { IfOk result (λ lexer. lexer.tokens.items ≡ []) }
-        ensures word { IfOk result (λ lexer. lexer.word ≡ []) }
-        ensures place { IfOk result (λ lexer. lexer.place ≡ Place.Between) }
-    {
-        Ok(Lexer {
-            alloc,
-            tokens: Vec::with_capacity(alloc, USUAL_TOKENS)?,
-            word: Text::new(alloc),
-            place: Place::Between,
-        })
-    }
+/// What is left of a line after the blanks at its front.
+fn without_blanks(line: &[u8]) -> &[u8]
+    ensures tokens { tokens_of result.now ≡ tokens_of line.now }
+    ensures first { result.now ≢ [] → BeginsToken result.now }
+    ensures shorter { length result.now ≤ length line.now }
+{
+    let (_, rest) = line.split_at(blanks_len(line));
+    rest
+}
 
-    /// Ends the word that is open.
-    fn end_word(&mut self) -> Result<(), AllocError>
-        ensures tokens { OnOk result (self.new.tokens.items ≡ self.old.tokens.items ++ Token.Word self.old.word ∷ []) }
-        ensures word { OnOk result (self.new.word ≡ []) }
-        ensures place { OnOk result (self.new.place ≡ self.old.place) }
-    {
-        let word = mem::replace(&mut self.word, Text::new(self.alloc));
-        self.tokens.push(Token::Word(word))?;
-        Ok(())
+/// Takes the next byte of a word, outside quotes or in a part within these. Outside quotes it doesn't end the word.
+fn step(byte: u8, within: &mut Option<u8>, word: &mut Text) -> Result<(), AllocError>
+    requires { within.old ≡ None → is_end byte ≡ false }
+    ensures { OnOk result ((bytes : List ℕ) →
+        tokens_from (place_in within.new) word.new bytes ≡ tokens_from (place_in within.old) word.old (byte ∷ bytes)) }
+{
+    match *within {
+        None if is_quote(byte) => *within = Some(byte),
+        None => word.push(byte)?,
+        Some(quote) if byte == quote => *within = None,
+        Some(_) => word.push(byte)?,
     }
+    Ok(())
+}
 
-    /// Takes a byte that stands outside quotes and ends no token.
-    fn outside(&mut self, byte: u8) -> Result<(), AllocError>
-        ensures tokens { OnOk result (self.new.tokens.items ≡ self.old.tokens.items) }
-        ensures word { OnOk result (self.new.word ≡ self.old.word ++ plain byte) }
-        ensures place { OnOk result (self.new.place ≡ place_of byte) }
-    {
-        self.place = place_of(byte);
-        if self.place == Place::InWord {
-            self.word.push(byte)?;
+/// A word in which quotes are, at the front of a line, and what follows it.
+fn quoted_word(alloc: Global, line: &[u8]) -> Result<(Text, &[u8]), LineError>
+    requires { BeginsWord line.now }
+    ensures word { IfOk result (λ taken. IsWordAnd line.now taken.0 taken.1.now) }
+    ensures shorter { IfOk result (λ taken. length taken.1.now < length line.now) }
+    ensures err { IfErr result (λ error. IsUnclosed error (tokens_from InWord [] line.now)) }
+{
+    let mut word = Text::new(alloc);
+    let mut within = None;
+    for (index, byte) in line.iter().enumerate() {
+        if within.is_none() && is_end(*byte) {
+            let (_, rest) = line.split_at(index);
+            return Ok((word, rest));
         }
-        Ok(())
+        step(*byte, &mut within, &mut word)?;
     }
+    match within {
+        None => Ok((word, &[])),
+        Some(_) => Err(LineError::Fault(ScriptFault::UnclosedQuote)),
+    }
+}
 
-    /// Takes the next byte.
-    #[tactic(auto, using(crate::proofs::TokenLemmas::behind_append))]
-    fn step(&mut self, byte: u8) -> Result<(), AllocError>
-        ensures { OnOk result ((bytes : List ℕ) →
-            behind self.new.tokens.items (tokens_from self.new.place self.new.word bytes)
-            ≡ behind self.old.tokens.items (tokens_from self.old.place self.old.word (byte ∷ bytes))) }
-    {
-        match self.place {
-            Place::Between => self.outside(byte),
-            Place::Arrow if byte == b'>' => {
-                self.tokens.push(Token::Redirect { append: true })?;
-                self.place = Place::Between;
-                Ok(())
-            }
-            Place::Arrow => {
-                self.tokens.push(Token::Redirect { append: false })?;
-                self.outside(byte)
-            }
-            Place::InWord if is_end(byte) => {
-                self.end_word()?;
-                self.outside(byte)
-            }
-            Place::InWord => self.outside(byte),
-            Place::InQuotes(quote) if byte == quote => {
-                self.place = Place::InWord;
-                Ok(())
-            }
-            Place::InQuotes(_) => {
-                self.word.push(byte)?;
-                Ok(())
-            }
-        }
+/// A word at the front of a line, and what follows it.
+fn first_word(alloc: Global, line: &[u8]) -> Result<(Word<'_>, &[u8]), LineError>
+    requires { BeginsWord line.now }
+    ensures word { IfOk result (λ taken. IsWordAnd line.now taken.0 taken.1.now) }
+    ensures shorter { IfOk result (λ taken. length taken.1.now < length line.now) }
+    ensures err { IfErr result (λ error. IsUnclosed error (tokens_from InWord [] line.now)) }
+{
+    let (part, rest) = line.split_at(plain_len(line));
+    if begins_with_quote(rest) {
+        let (copy, rest) = quoted_word(alloc, line)?;
+        return Ok((Word::of_copy(copy), rest));
     }
+    Ok((Word::of_part(part), rest))
+}
 
-    /// The tokens, at the end of the line.
-    fn finish(mut self) -> Result<Vec<Token>, LineError>
-        ensures { Gives (λ tokens. tokens.items) result
-            (or_fault UnclosedQuote (behind self.tokens.items (tokens_from self.place self.word []))) }
-    {
-        match self.place {
-            Place::Between => {}
-            Place::Arrow => self.tokens.push(Token::Redirect { append: false })?,
-            Place::InWord => self.end_word()?,
-            Place::InQuotes(_) => return Err(LineError::Fault(ScriptFault::UnclosedQuote)),
-        }
-        Ok(self.tokens)
+/// The redirection that a `>` begins, and what follows it.
+#[tactic(auto, using(crate::proofs::WordLemmas::arrow_len, crate::proofs::WordLemmas::arrows, crate::proofs::WordLemmas::single_arrow))]
+fn redirection(after: &[u8]) -> (Token<'_>, &[u8])
+    ensures token { tokens_from Arrow [] after.now ≡ behind (result.0 ∷ []) (tokens_of result.1.now) }
+    ensures shorter { length result.1.now ≤ length after.now }
+{
+    if begins_with_arrow(after) {
+        let (_, rest) = after.split_at(1);
+        return (Token::Redirect { append: true }, rest);
     }
+    (Token::Redirect { append: false }, after)
+}
+
+/// The first token of a line that begins with one, and what follows it.
+#[tactic(auto, using(crate::proofs::WordLemmas::arrow_len, crate::proofs::WordLemmas::arrow_at, crate::proofs::WordLemmas::arrow_or_word, crate::proofs::WordLemmas::word_at))]
+fn first_token(alloc: Global, line: &[u8]) -> Result<(Token<'_>, &[u8]), LineError>
+    requires { BeginsToken line.now }
+    ensures token { IfOk result (λ taken. tokens_of line.now ≡ behind (taken.0 ∷ []) (tokens_of taken.1.now)) }
+    ensures shorter { IfOk result (λ taken. length taken.1.now < length line.now) }
+    ensures err { IfErr result (λ error. IsUnclosed error (tokens_of line.now)) }
+{
+    if begins_with_arrow(line) {
+        let (_, after) = line.split_at(1);
+        return Ok(redirection(after));
+    }
+    let (word, rest) = first_word(alloc, line)?;
+    Ok((Token::Word(word), rest))
 }
 
 /// Cuts a line into its words and redirections. A quote that is not closed is a fault.
-#[tactic(auto, unfolding(crate::specs::Tokens::tokens_of))]
-pub(crate) fn tokens(alloc: Global, line: &[u8]) -> Result<Vec<Token>, LineError>
+pub(crate) fn tokens(alloc: Global, line: &[u8]) -> Result<Vec<Token<'_>>, LineError>
     ensures { Gives (λ tokens. tokens.items) result (or_fault UnclosedQuote (tokens_of line.now)) }
 {
-    let mut lexer = Lexer::new(alloc)?;
-    for byte in line {
-        lexer.step(*byte)?;
+    let mut tokens = Vec::with_capacity(alloc, USUAL_TOKENS)?;
+    let mut rest = without_blanks(line);
+    while !rest.is_empty() {
+        let (token, after) = first_token(alloc, rest)?;
+        tokens.push(token)?;
+        rest = without_blanks(after);
     }
-    lexer.finish()
+    Ok(tokens)
 }
 
 /// The grammar of a line: it has tokens exactly where it can be written of blanks, redirections, and words of plain bytes and
 /// quoted parts, and then they are those that its parts stand for. So a line has one reading at most.
 pub fn tokens_are_as_written()
-    ensures written { (line : List ℕ) (tokens : List Token) → tokens_of line ≡ Some tokens → IsWritten line tokens }
-    ensures read { (line : List ℕ) (tokens : List Token) → IsWritten line tokens → tokens_of line ≡ Some tokens }
+    ensures written { (line : List ℕ) (tokens : List TokenValue) → tokens_of line ≡ Some tokens → IsWritten line tokens }
+    ensures read { (line : List ℕ) (tokens : List TokenValue) → IsWritten line tokens → tokens_of line ≡ Some tokens }
 {}

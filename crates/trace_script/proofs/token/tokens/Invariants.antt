@@ -1,7 +1,14 @@
-use Rattle.std.proofs.Common.{◌≡◌, drop}
-use Rattle.trace_script.specs.Tokens.{behind, tokens_from, tokens_of}
+use Rattle.std.proofs.Common.{◌≡◌, ◌≢◌, [], length}
+use Rattle.trace_script.specs.Tokens.{behind, tokens_of}
+use Rattle.trace_script.specs.Words.{BeginsToken}
 use Rattle.trace_script.proofs.token.tokens.Given as goal
 
-abbrev pub invariant-loop-byte : goal.invariant-loop-byte
-invariant-loop-byte l =
-    behind l.lexer.tokens.items (tokens_from l.lexer.place l.lexer.word (drop l.byte-index l.line)) ≡ tokens_of l.line
+abbrev pub invariant-loop-rest : goal.invariant-loop-rest
+invariant-loop-rest l =
+    record {
+      found : behind l.tokens.items (tokens_of l.rest) ≡ tokens_of l.line;
+      begins : l.rest ≢ [] → BeginsToken l.rest;
+    }
+
+abbrev pub decreases-loop-rest : goal.decreases-loop-rest
+decreases-loop-rest l = length l.rest

@@ -1,0 +1,47 @@
+-- Words for the private contracts that cut a line into tokens.
+use Rattle.std.specs.Prelude.{◌≡◌, ℕ, Bool, false, ◌||◌, ◌==◌, not, List, [], ◌∷◌, Option, None, Some}
+use Rattle.trace_lex.specs.Blanks.{is_blank}
+use Rattle.trace_script.specs.Tokens.{Place, InWord, InQuotes, is_end, is_quote, behind, tokens_from, tokens_of}
+use Rattle.trace_script.specs.declared.fault.LineError.{LineError}
+use Rattle.trace_script.specs.declared.fault.LineError.TheVariants.{Fault, Memory}
+use Rattle.trace_script.specs.declared.fault.ScriptFault.TheVariants.{UnclosedQuote}
+use Rattle.trace_script.specs.declared.token.Token.{Token}
+use Rattle.trace_script.specs.declared.token.Token.TheVariants.{Word}
+
+-- a byte that a word has as it is
+abbrev pub is_plain : ℕ → Bool
+is_plain b = not (is_end b || is_quote b)
+
+-- a string that begins with a quote
+abbrev pub begins_with_quote : List ℕ → Bool
+begins_with_quote [] = false
+begins_with_quote (b ∷ bs) = is_quote b
+
+-- a string that begins with a `>`
+abbrev pub begins_with_arrow : List ℕ → Bool
+begins_with_arrow [] = false
+begins_with_arrow (b ∷ bs) = b == 62
+
+-- a string that begins with a byte of a token
+abbrev pub BeginsToken : List ℕ → Type 0
+BeginsToken [] = ⊥
+BeginsToken (b ∷ bs) = is_blank b ≡ false
+
+-- a string that begins with a byte of a word
+abbrev pub BeginsWord : List ℕ → Type 0
+BeginsWord [] = ⊥
+BeginsWord (b ∷ bs) = is_end b ≡ false
+
+-- the place in a word: outside quotes, or within these
+abbrev pub place_in : Option ℕ → Place
+place_in None = InWord
+place_in (Some quote) = InQuotes quote
+
+-- what is left of a word, and then of a line, are this word and what follows it
+abbrev pub IsWordAnd : List ℕ → List ℕ → List ℕ → Type 0
+IsWordAnd line word rest = tokens_from InWord [] line ≡ behind (Word word ∷ []) (tokens_of rest)
+
+-- there are no tokens, for a quote that is not closed; or memory was refused
+abbrev pub IsUnclosed : LineError → Option (List Token) → Type 0
+IsUnclosed Memory tokens = Unit {0}
+IsUnclosed (Fault fault) tokens = (fault ≡ UnclosedQuote) × (tokens ≡ None)
