@@ -33,6 +33,14 @@ ConsumesAtMost most old new = (front : List ℕ) × (length front ≤ most) × C
 abbrev pub AppendsFront : Option (List ℕ) → Option (List ℕ) → List ℕ → Type 0
 AppendsFront old new text = (front : List ℕ) × (rest : List ℕ) × (text ≡ front ++ rest) × Appends old new front
 
+-- of bytes that waited and a text after them, known bytes grow by a front, and the rest waits
+abbrev pub Passes : Option (List ℕ) → List ℕ → Option (List ℕ) → List ℕ → List ℕ → Type 0
+Passes old waited new waits text = (front : List ℕ) × (waited ++ text ≡ front ++ waits) × Appends old new front
+
 -- known bytes grow by the first of the texts, each of them whole
 abbrev pub AppendsWhole : Option (List ℕ) → Option (List ℕ) → List (List ℕ) → Type 0
 AppendsWhole old new texts = (count : ℕ) × Appends old new (concat (take count texts))
+
+-- of bytes that waited and the first of the texts after them, each of them whole, known bytes grow by a front, and the rest waits
+abbrev pub PassesWhole : Option (List ℕ) → List ℕ → Option (List ℕ) → List ℕ → List (List ℕ) → Type 0
+PassesWhole old waited new waits texts = (count : ℕ) × Passes old waited new waits (concat (take count texts))

@@ -7,6 +7,7 @@ ghost use Rattle.trace_session.specs.Devices.{failures_after_read, failures_afte
 
 use std::io;
 use std::io::{Read, Write};
+use trace_script::Outcome;
 
 /// What gives the bytes of a script.
 pub trait Source {
@@ -36,6 +37,18 @@ pub trait Sink {
         ensures bound { WritesAtMost result buf.now }
         ensures bytes { WriteAppends (contents self.old) (contents self.new) result buf.now }
         ensures failures { failures self.new ≡ failures_after_write (length buf.now) (failures self.old) result };
+
+    /// Whether it is to hear what becomes of each line.
+    fn hears(&self) -> bool {
+        false
+    }
+
+    /// Hears what became of the line of this number, once it has taken all that is written up to there. It may tell of it elsewhere; the
+    /// bytes that it holds stay, and that counts as no failure.
+    fn hear(&mut self, _number: usize, _line: &[u8], _outcome: &Option<Outcome>)
+        ensures bytes { contents self.new ≡ contents self.old }
+        ensures failures { failures self.new ≡ failures self.old }
+    {}
 }
 
 /// A reader of std, and how many of its calls failed.

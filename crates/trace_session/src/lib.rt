@@ -3,6 +3,7 @@
 
 mod device;
 mod output;
+mod replies;
 mod script;
 mod session;
 mod status;

@@ -8,6 +8,7 @@ ghost use Rattle.trace_session.specs.Sessions.{lines_of, lines_left, bytes_left}
 
 use crate::device::Source;
 use crate::stop::Stop;
+use memchr::memchr;
 use std::alloc::Global;
 
 /// The most bytes that a script may have.
@@ -75,7 +76,7 @@ pub(crate) fn read_script<R: Source>(alloc: Global, reader: &mut R) -> Result<Ve
 fn first_newline(text: &[u8]) -> Option<usize>
     ensures { result ≡ position (λ b. b == 10) text.now }
 {
-    text.iter().position(|byte| *byte == b'\n')
+    memchr(b'\n', text)
 }
 
 /// The first line of a string, and what follows its newline, if it has one.

@@ -4,10 +4,11 @@ ghost use Rattle.std.specs.Prelude.{◌≡◌, ◌≢◌, ◌<◌, ◌≤◌, �
 ghost use Rattle.std.specs.List.{concat};
 ghost use Rattle.std.specs.Io.KnownBytes.{Appends, IsAtEnd};
 ghost use Rattle.trace_command.specs.Configs.{IsInRange};
-ghost use Rattle.trace_session.specs.Devices.{AppendsFront, AppendsWhole, ConsumesAtMost, HasRisen};
+ghost use Rattle.trace_session.specs.Devices.{AppendsFront, AppendsWhole, ConsumesAtMost, HasRisen, Passes, PassesWhole};
 ghost use Rattle.trace_session.specs.Sessions.{session, IsWhole};
 
 use crate::device::{Sink, Source};
+use crate::replies::Replies;
 use crate::script::{MOST_SCRIPT_BYTES, first_line, read_script};
 use crate::status::Status;
 use crate::stop::Stop;
@@ -27,10 +28,49 @@ fn with_line(status: Status, line: Status) -> Status
     }
 }
 
-/// Does the lines of a script in turn, up to its end or the first fault.
+/// Does the lines of a script in turn, up to its end or the first fault, and adds what they give to the replies.
 fn do_lines<W: Sink>(
     alloc: Global,
     mut book: Book,
+    script: &[u8],
+    replies: &mut Replies,
+    writer: &mut W,
+) -> Result<Status, Stop>
+    requires begins { book.entries ≡ [] }
+    requires short { length script.now ≤ MOST_SCRIPT_BYTES }
+    requires none { replies.old ≡ [] }
+    ensures ok { IfOk result (λ status. (status ≡ (session book.config script.now).status)
+        × Passes (W.contents writer.old) [] (W.contents writer.new) replies.new
+        (concat (session book.config script.now).texts)) }
+    ensures whole { IfOk result IsWhole }
+    ensures failures { OnOk result (W.failures writer.new ≡ W.failures writer.old) }
+    ensures memory { IsErrOf result Stop.Memory
+        → PassesWhole (W.contents writer.old) [] (W.contents writer.new) replies.new (session book.config script.now).texts }
+    ensures unfailed { IsErrOf result Stop.Memory → W.failures writer.new ≡ W.failures writer.old }
+    ensures device { IsErrOf result Stop.Device → HasRisen (W.failures writer.old) (W.failures writer.new)
+        × AppendsFront (W.contents writer.old) (W.contents writer.new) (concat (session book.config script.now).texts) }
+{
+    let mut rest = Some(script);
+    let mut number = 1;
+    let mut asked = 0;
+    let mut status = Status::Done;
+    while let Some(text) = rest {
+        let (line, after) = first_line(text);
+        match turn(alloc, &mut book, &mut asked, number, line, replies, writer)? {
+            Status::Fault => return Ok(Status::Fault),
+            line_status => status = with_line(status, line_status),
+        }
+        number += 1;
+        rest = after;
+    }
+    Ok(status)
+}
+
+/// Does the lines of a script in turn, up to its end or the first fault, and writes what they give. Nothing waits after it, except where a
+/// device failed.
+fn do_script<W: Sink>(
+    alloc: Global,
+    book: Book,
     script: &[u8],
     writer: &mut W,
 ) -> Result<Status, Stop>
@@ -45,20 +85,18 @@ fn do_lines<W: Sink>(
     ensures device { IsErrOf result Stop.Device → HasRisen (W.failures writer.old) (W.failures writer.new)
         × AppendsFront (W.contents writer.old) (W.contents writer.new) (concat (session book.config script.now).texts) }
 {
-    let mut rest = Some(script);
-    let mut number = 1;
-    let mut asked = 0;
-    let mut status = Status::Done;
-    while let Some(text) = rest {
-        let (line, after) = first_line(text);
-        match turn(alloc, &mut book, &mut asked, number, line, writer)? {
-            Status::Fault => return Ok(Status::Fault),
-            line_status => status = with_line(status, line_status),
+    let mut replies = Replies::new(alloc)?;
+    match do_lines(alloc, book, script, &mut replies, writer) {
+        Ok(status) => {
+            replies.flush(writer)?;
+            Ok(status)
         }
-        number += 1;
-        rest = after;
+        Err(Stop::Memory) => {
+            replies.flush(writer)?;
+            Err(Stop::Memory)
+        }
+        Err(Stop::Device) => Err(Stop::Device),
     }
-    Ok(status)
 }
 
 /// The session, or why it stopped.
@@ -98,7 +136,7 @@ fn attempt<R: Source, W: Sink>(
         return Err(Stop::Memory);
     };
     let script = read_script(alloc, reader)?;
-    do_lines(alloc, book, &script, writer)
+    do_script(alloc, book, &script, writer)
 }
 
 /// A session on one thread: reads a script to its end, does its lines in turn over a new book, and writes what each gives.

@@ -1,12 +1,12 @@
 //! One line of a session: it is done, and what it gives is written.
 
-ghost use Rattle.std.specs.Prelude.{◌≡◌, ◌-◌, ◌^◌, ◌+◌, ◌<◌, ◌≤◌, [], ◌∷◌, All, IfOk, OnOk, IsErrOf};
-ghost use Rattle.std.specs.Io.KnownBytes.{Appends};
-ghost use Rattle.trace_session.specs.Devices.{AppendsFront, HasRisen};
+ghost use Rattle.std.specs.Prelude.{◌≡◌, ◌-◌, ◌^◌, ◌+◌, ◌<◌, ◌≤◌, [], ◌∷◌, ◌++◌, All, IfOk, OnOk, IsErrOf};
+ghost use Rattle.trace_session.specs.Devices.{AppendsFront, HasRisen, Passes};
 ghost use Rattle.trace_session.specs.Sessions.{so_far, turn_of, text_of, status_of};
 
 use crate::device::Sink;
 use crate::output::write_outcome;
+use crate::replies::Replies;
 use crate::status::Status;
 use crate::stop::Stop;
 use std::alloc::Global;
@@ -61,13 +61,24 @@ fn line_status(outcome: &Option<Outcome>) -> Status
     }
 }
 
-/// Does the line of this number, writes what it gives, and gives its own status.
+/// Has a writer that is to hear of lines hear what became of the line of this number.
+fn tell<W: Sink>(number: usize, line: &[u8], outcome: &Option<Outcome>, writer: &mut W)
+    ensures contents { W.contents writer.new ≡ W.contents writer.old }
+    ensures failures { W.failures writer.new ≡ W.failures writer.old }
+{
+    if writer.hears() {
+        writer.hear(number, line, outcome);
+    }
+}
+
+/// Does the line of this number, adds what it gives to the replies, and gives its own status.
 pub(crate) fn turn<W: Sink>(
     alloc: Global,
     book: &mut Book,
     asked: &mut u64,
     number: usize,
     line: &[u8],
+    replies: &mut Replies,
     writer: &mut W,
 ) -> Result<Status, Stop>
     requires tickets { All (λ entry. entry.ticket < asked.old) book.old.entries }
@@ -79,16 +90,18 @@ pub(crate) fn turn<W: Sink>(
     ensures tickets { OnOk result (All (λ entry. entry.ticket < asked.new) book.new.entries) }
     ensures asked { OnOk result (asked.new ≤ asked.old + 1) }
     ensures config { book.new.config ≡ book.old.config }
-    ensures written { OnOk result (Appends (W.contents writer.old) (W.contents writer.new)
+    ensures written { OnOk result (Passes (W.contents writer.old) replies.old (W.contents writer.new) replies.new
         (text_of number (turn_of book.old.config (so_far book.old.entries asked.old) line.now).outcome)) }
     ensures failures { OnOk result (W.failures writer.new ≡ W.failures writer.old) }
-    ensures memory { IsErrOf result Stop.Memory → Appends (W.contents writer.old) (W.contents writer.new) [] }
+    ensures memory { IsErrOf result Stop.Memory
+        → Passes (W.contents writer.old) replies.old (W.contents writer.new) replies.new [] }
     ensures unfailed { IsErrOf result Stop.Memory → W.failures writer.new ≡ W.failures writer.old }
     ensures device { IsErrOf result Stop.Device → HasRisen (W.failures writer.old) (W.failures writer.new)
-        × AppendsFront (W.contents writer.old) (W.contents writer.new)
-        (text_of number (turn_of book.old.config (so_far book.old.entries asked.old) line.now).outcome) }
+        × AppendsFront (W.contents writer.old) (W.contents writer.new) (replies.old
+        ++ text_of number (turn_of book.old.config (so_far book.old.entries asked.old) line.now).outcome) }
 {
     let outcome = outcome(alloc, book, asked, line)?;
-    write_outcome(alloc, number, &outcome, writer)?;
+    write_outcome(alloc, number, &outcome, replies, writer)?;
+    tell(number, line, &outcome, writer);
     Ok(line_status(&outcome))
 }

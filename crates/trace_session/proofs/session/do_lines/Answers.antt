@@ -8,7 +8,9 @@ use Rattle.trace_session.proofs.session.do_lines.Goals as goal
 
 pub loop-rest-init : goal.loop-rest-init
 loop-rest-init g c = record {
-  stands = begins c.args.book.config c.args.script.now (g.W.Sink.contents c.args.writer.now) (so_far c.args.book.entries 0) (ap (λ (entries : List Entry). so_far entries 0) c.requires.begins);
+  stands =
+      rw c.requires.none
+      (begins c.args.book.config c.args.script.now (g.W.Sink.contents c.args.writer.now) (so_far c.args.book.entries 0) (ap (λ (entries : List Entry). so_far entries 0) c.requires.begins));
   tickets = rw c.requires.begins (λ k d h. absurd (omega arith));
   few = omega arith;
   room = omega arith;
@@ -21,7 +23,7 @@ returns-in_err-line_status-clause-memory g c h =
     let contents = g.W.Sink.contents in
     let p = err_from_is_err_and c.from_residual.result c.from_residual.ensures.1 in
     let book = c.loop-rest.book in
-    at_memory c.args.book.config c.args.script.now (contents c.args.writer.now) (contents c.loop-rest.writer) (contents c.turn.new.writer) (so_far book.entries c.loop-rest.asked) c.in-Some.text.now
+    at_memory c.args.book.config c.args.script.now (contents c.args.writer.now) (contents c.loop-rest.writer) (contents c.turn.new.writer) c.loop-rest.replies c.turn.new.replies (so_far book.entries c.loop-rest.asked) c.in-Some.text.now
     c.first_line.result.0.now (option_copied c.first_line.result.1) c.loop-rest.number c.loop-rest.status (rw c.in-Some.is at c.loop-rest.invariant.stands)
     c.first_line.ensures.lines (c.in_err-line_status.ensures.memory (cc (h, p.1, p.2)))
 
@@ -32,7 +34,7 @@ returns-in_err-line_status-clause-device g c h =
     let book = c.loop-rest.book in
     let failed = c.in_err-line_status.ensures.device (cc (h, p.1, p.2)) in (
       rw c.loop-rest.invariant.unfailed at failed.0,
-      at_device c.args.book.config c.args.script.now (contents c.args.writer.now) (contents c.loop-rest.writer) (contents c.turn.new.writer) (so_far book.entries c.loop-rest.asked) c.in-Some.text.now
+      at_device c.args.book.config c.args.script.now (contents c.args.writer.now) (contents c.loop-rest.writer) (contents c.turn.new.writer) c.loop-rest.replies c.turn.new.replies (so_far book.entries c.loop-rest.asked) c.in-Some.text.now
           c.first_line.result.0.now (option_copied c.first_line.result.1) c.loop-rest.number c.loop-rest.status (rw c.in-Some.is at c.loop-rest.invariant.stands)
           c.first_line.ensures.lines (rw c.loop-rest.invariant.config at failed.1),
     )
@@ -42,7 +44,7 @@ returns-in-Fault-clause-ok g c =
     let contents = g.W.Sink.contents in
     let book = c.loop-rest.book in
     let said = c.in_ok-line_status.ensures in
-    at_fault c.args.book.config c.args.script.now (contents c.args.writer.now) (contents c.loop-rest.writer) (contents c.turn.new.writer) (so_far book.entries c.loop-rest.asked) c.in-Some.text.now
+    at_fault c.args.book.config c.args.script.now (contents c.args.writer.now) (contents c.loop-rest.writer) (contents c.turn.new.writer) c.loop-rest.replies c.turn.new.replies (so_far book.entries c.loop-rest.asked) c.in-Some.text.now
     c.first_line.result.0.now (option_copied c.first_line.result.1) c.loop-rest.number c.loop-rest.status (rw c.in-Some.is at c.loop-rest.invariant.stands)
     c.first_line.ensures.lines c.in_ok-line_status.line_status (rw c.loop-rest.invariant.config at said.status) c.in-Fault.is
     (rw c.loop-rest.invariant.config at said.written)
@@ -54,7 +56,7 @@ loop-rest-preserved g c =
     let said = c.in_ok-line_status.ensures in
     record {
       stands =
-          keeps c.args.book.config c.args.script.now (contents c.args.writer.now) (contents c.loop-rest.writer) (contents c.turn.new.writer) (so_far book.entries c.loop-rest.asked) c.in-Some.text.now
+          keeps c.args.book.config c.args.script.now (contents c.args.writer.now) (contents c.loop-rest.writer) (contents c.turn.new.writer) c.loop-rest.replies c.turn.new.replies (so_far book.entries c.loop-rest.asked) c.in-Some.text.now
           c.first_line.result.0.now (option_copied c.first_line.result.1) c.loop-rest.number c.loop-rest.status (rw c.in-Some.is at c.loop-rest.invariant.stands)
           c.first_line.ensures.lines (so_far c.turn.new.book.entries c.turn.new.asked) c.in_ok-line_status.line_status c.with_line-status.result
           (rw c.loop-rest.invariant.config at said.progress) (rw c.loop-rest.invariant.config at said.status) c.in_default-2.not-Fault c.with_line-status.ensures.refused
@@ -69,5 +71,5 @@ loop-rest-preserved g c =
 pub returns-clause-ok : goal.returns-clause-ok
 returns-clause-ok g c =
     let contents = g.W.Sink.contents in
-    at_end c.args.book.config c.args.script.now (contents c.args.writer.now) (contents c.loop-rest.writer) (so_far c.loop-rest.book.entries c.loop-rest.asked) c.loop-rest.number c.loop-rest.status
+    at_end c.args.book.config c.args.script.now (contents c.args.writer.now) (contents c.loop-rest.writer) c.loop-rest.replies (so_far c.loop-rest.book.entries c.loop-rest.asked) c.loop-rest.number c.loop-rest.status
     (rw c.in_default.is at c.loop-rest.invariant.stands)

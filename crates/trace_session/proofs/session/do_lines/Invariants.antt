@@ -9,7 +9,7 @@ invariant-loop-rest g l =
     let contents = g.W.Sink.contents in
     let failures = g.W.Sink.failures in
     record {
-      stands : Stands l.fn.book.config l.script (contents l.fn.writer) (contents l.writer) (so_far l.book.entries l.asked) (option_copied l.rest) l.number l.status;
+      stands : Stands l.fn.book.config l.script (contents l.fn.writer) (contents l.writer) l.replies (so_far l.book.entries l.asked) (option_copied l.rest) l.number l.status;
       tickets : All (λ entry. entry.ticket < l.asked) l.book.entries;
       few : l.asked < l.number;
       room : l.number + bytes_left (option_copied l.rest) ≤ length l.script + 2;

@@ -1,6 +1,6 @@
 use Rattle.std.proofs.Common.{◌++◌, take, ◌∙◌}
 use Rattle.trace_session.proofs.DeviceLemmas.{Appends_append, more_of_front}
-use Rattle.trace_session.proofs.output.write_all.Goals as goal
+use Rattle.trace_session.proofs.replies.write_all.Goals as goal
 
 pub loop-rest-preserved : goal.loop-rest-preserved
 loop-rest-preserved g c =
