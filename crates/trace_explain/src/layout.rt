@@ -1,0 +1,99 @@
+//! A line with a caret under one of its bytes, and words beside it.
+
+ghost use Rattle.std.specs.Prelude.{◌≡◌, ◌++◌, ◌≤◌, IfOk, map, take, length, codes};
+ghost use Rattle.trace_explain.specs.Layout.{shown_byte, pad_byte, shown_bytes, shown_line, pointer, shown};
+
+use std::alloc::{AllocError, Global};
+
+/// The most bytes that the line of a command has. Of a longer one only so many bytes are shown that it fits a row of a terminal.
+const MOST_BYTES: usize = 4096;
+
+const SHOWN_BYTES: usize = 72;
+
+/// A byte as it is shown: one that no line has is a `?`, so that nothing reaches a terminal but text.
+fn shown_byte(byte: u8) -> u8
+    ensures { result ≡ shown_byte byte }
+{
+    match byte {
+        b'\t' | b' '..=b'~' => byte,
+        _ => b'?',
+    }
+}
+
+/// What stands above a blank before the caret: a tab under a tab, so that both are as wide, and else a space.
+fn pad_byte(byte: u8) -> u8
+    ensures { result ≡ pad_byte byte }
+{
+    if byte == b'\t' { b'\t' } else { b' ' }
+}
+
+/// Bytes as they are shown.
+#[tactic(auto, unfolding(crate::specs::Layout::shown_bytes))]
+pub(crate) fn shown_bytes(alloc: Global, bytes: &[u8]) -> Result<Vec<u8>, AllocError>
+    ensures { IfOk result (λ text. text.items ≡ shown_bytes bytes.now) }
+{
+    bytes.iter().map(|byte| shown_byte(*byte)).collect(alloc)
+}
+
+/// The beginning of a line as it is shown.
+fn shown_start(alloc: Global, line: &[u8]) -> Result<Vec<u8>, AllocError>
+    requires { SHOWN_BYTES ≤ length line.now }
+    ensures { IfOk result (λ text. text.items ≡ shown_bytes (take SHOWN_BYTES line.now) ++ codes " ..") }
+{
+    let mut text = shown_bytes(alloc, &line[..SHOWN_BYTES])?;
+    text.extend_from_slice(b" ..".as_slice())?;
+    Ok(text)
+}
+
+/// A line as it is shown.
+#[tactic(auto, unfolding(crate::specs::Layout::shown_line))]
+fn shown_line(alloc: Global, line: &[u8]) -> Result<Vec<u8>, AllocError>
+    ensures { IfOk result (λ text. text.items ≡ shown_line line.now) }
+{
+    if line.len() > MOST_BYTES {
+        return shown_start(alloc, line);
+    }
+    shown_bytes(alloc, line)
+}
+
+/// What stands before a caret.
+fn padding(alloc: Global, line: &[u8], at: usize) -> Result<Vec<u8>, AllocError>
+    ensures { IfOk result (λ text. text.items ≡ map pad_byte (take at line.now)) }
+{
+    let before = line.get(..at).unwrap_or(line);
+    before.iter().map(|byte| pad_byte(*byte)).collect(alloc)
+}
+
+/// The caret under a byte of a line, with a blank after it; nothing, if it stands under none.
+#[tactic(auto, unfolding(crate::specs::Layout::pointer))]
+fn pointer(alloc: Global, line: &[u8], caret: Option<usize>) -> Result<Vec<u8>, AllocError>
+    ensures { IfOk result (λ text. text.items ≡ pointer line.now caret) }
+{
+    let Some(at) = caret else {
+        return Ok(Vec::new(alloc));
+    };
+    let mut text = padding(alloc, line, at)?;
+    text.extend_from_slice(b"^ ".as_slice())?;
+    Ok(text)
+}
+
+/// A line, and under it the caret and the words.
+#[tactic(auto, unfolding(crate::specs::Layout::shown))]
+pub(crate) fn shown(
+    alloc: Global,
+    line: &[u8],
+    caret: Option<usize>,
+    words: &[u8],
+) -> Result<Vec<u8>, AllocError>
+    ensures { IfOk result (λ text. text.items ≡ shown line.now caret words.now) }
+{
+    let line_text = shown_line(alloc, line)?;
+    let pointer = pointer(alloc, line, caret)?;
+    let mut text = Vec::from_slice(alloc, b"  ".as_slice())?;
+    text.extend_from_slice(&line_text)?;
+    text.extend_from_slice(b"\n  ".as_slice())?;
+    text.extend_from_slice(&pointer)?;
+    text.extend_from_slice(words)?;
+    text.push(b'\n')?;
+    Ok(text)
+}
