@@ -4,14 +4,16 @@
 mod stop;
 mod words;
 
+ghost use Rattle.trace_command.specs.Configs.{IsInRange};
+
 use std::env;
 use std::fs::File;
-use std::io::ErrorKind;
+use std::io::{ErrorKind, Read};
 use std::process::ExitCode;
 use stop::Stop;
 use trace_book::{Book, Config};
-use trace_session::{Input, Output, Source, Status, run_session};
-use words::Words;
+use trace_session::{Input, Output, Status, run_session};
+use words::{Script, Words};
 
 /// The words of the command line, the program's name first.
 fn words_of(rt: &HostRuntime) -> Result<Vec<String>, Stop> {
@@ -22,19 +24,28 @@ fn words_of(rt: &HostRuntime) -> Result<Vec<String>, Stop> {
     }
 }
 
+/// Does the session of a script.
+fn session<R: Read + Drop>(rt: &HostRuntime, config: Config, script: R) -> Status
+    requires { IsInRange config }
+{
+    let mut input = Input::new(script);
+    let mut output = Output::new(rt.stdout());
+    run_session(rt.alloc(), config, &mut input, &mut output)
+}
+
 /// Does the session that the command line asks for.
 fn run(rt: &HostRuntime) -> Result<Status, Stop> {
     let words = words_of(rt)?;
     let Words { config, script } = Words::read(rt.alloc(), &words)?;
     // The session has a book of its own. This one is there so that a bad configuration is told before the script is opened.
     Book::new(rt.alloc(), config)?;
-    let mut output = Output::new(rt.stdout());
-    let status = if script == "-" {
-        let mut input = Input::new(rt.stdin());
-        run_session(rt.alloc(), config, &mut input, &mut output)
-    } else {
-        let mut input = Input::new(File::open(rt, script).map_err(|_| Stop::Device)?);
-        run_session(rt.alloc(), config, &mut input, &mut output)
+    let status = match script {
+        Script::File(name) => {
+            let file = File::open(rt, name).map_err(|_| Stop::Device)?;
+            session(rt, config, file)
+        }
+        Script::Input => session(rt, config, rt.stdin()),
+        Script::Lines(lines) => session(rt, config, lines.as_slice()),
     };
     Ok(status)
 }

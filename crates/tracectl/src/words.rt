@@ -1,7 +1,11 @@
 //! The words of the command line.
+
+ghost use Rattle.std.specs.Prelude.{◌≡◌, ◌++◌, ◌∷◌, [], IfOk};
+ghost use Rattle.std.specs.List.{flat_map};
+
 use clap::error::ErrorKind;
-use clap::{Arg, Command, Error, value_parser};
-use std::alloc::Global;
+use clap::{Arg, ArgAction, Command, Error, value_parser};
+use std::alloc::{AllocError, Global};
 use trace_book::Config;
 
 const CPUS: &str = "cpus";
@@ -11,6 +15,11 @@ const PAGES: &str = "pages";
 const PAGE_BYTES: &str = "page-bytes";
 
 const SCRIPT: &str = "SCRIPT";
+
+const LINE: &str = "LINE";
+
+const USAGE: &str = "tracectl [OPTIONS] SCRIPT
+       tracectl [OPTIONS] -c LINE ..";
 
 /// More entries than a script has room for.
 const HISTORY_LIMIT: u64 = 1 << 32;
@@ -22,7 +31,7 @@ const ABOUT: &str =
 
 /// What `--help` says of scripts.
 const SCRIPTS: &str = "\
-A script has one command on each line. A line that begins with # is a comment.
+A script has one command on each line. A line that begins with # is a comment. After -c each word is a line, up to the next option.
   emit CPU PID EVENT FIELD=VALUE ..  an event happens on a CPU, in a process
   echo WORD .. > PATH                writes to a file, as does >>
   cat PATH                           reads a file
@@ -50,12 +59,21 @@ Exit status:
   3  out of memory
   4  reading or writing failed, or SCRIPT can't be opened";
 
+/// Where the script comes from.
+#[derive(Drop)]
+pub enum Script<'a> {
+    /// The file of this name.
+    File(&'a str),
+    Input,
+    /// The words of the command line have the lines, and these are the bytes of the script.
+    Lines(Vec<u8>),
+}
+
 /// What the command line asks for.
-#[derive(Clone, Copy)]
+#[derive(Drop)]
 pub struct Words<'a> {
     pub config: Config,
-    /// A file's name, or `-` for standard input.
-    pub script: &'a str,
+    pub script: Script<'a>,
 }
 
 /// An option that takes a number. It has a default, which help shows.
@@ -82,16 +100,25 @@ fn command<'a>(alloc: Global) -> Result<Command<'a>, Error> {
         "4080",
         "How many bytes a page has, 64 to 4080, a multiple of 8",
     );
+    let lines = Arg::new(alloc, LINE)
+        .short('c')
+        .value_name(LINE)
+        .num_args(1..)
+        .action(ArgAction::Append)
+        .conflicts_with(SCRIPT)?
+        .help("Lines to do in place of a SCRIPT, a word each");
     let script = Arg::new(alloc, SCRIPT)
-        .required(true)
+        .required_unless_present(LINE)?
         .help("A file, or - for standard input");
     let command = Command::new(alloc, "tracectl")
         .version(VERSION)
         .about(ABOUT)
+        .override_usage(USAGE)
         .after_help(SCRIPTS)
         .arg(cpus)?
         .arg(pages)?
         .arg(page_bytes)?
+        .arg(lines)?
         .arg(script)?;
     Ok(command)
 }
@@ -106,11 +133,24 @@ pub fn not_unicode(alloc: Global) -> Result<Error, Error> {
     Ok(error)
 }
 
+/// The script of these lines, each of them ended by a newline.
+fn script_of(alloc: Global, lines: &[&str]) -> Result<Vec<u8>, AllocError>
+    ensures { IfOk result (λ script. script.items ≡ flat_map (λ line. line.now ++ 10 ∷ []) lines.now) }
+{
+    let mut script = Vec::new(alloc);
+    for line in lines {
+        script.extend_from_slice(line.as_bytes())?;
+        script.push(b'\n')?;
+    }
+    Ok(script)
+}
+
 impl<'a> Words<'a> {
     /// Reads the words, the program's name first.
     pub fn read(alloc: Global, words: &'a [String]) -> Result<Words<'a>, Error> {
         let matches = command(alloc)?.try_get_matches_from(words)?;
-        // Each option has its default and SCRIPT is required, so no value is missing. 0 would be out of range, and no file has an empty name.
+        // Each option has its default, and there are lines or a SCRIPT, so no value is missing. 0 would be out of range, and no file has an
+        // empty name.
         let number = |name| matches.get_one::<u32>(name).unwrap_or(0);
         let config = Config {
             cpus: number(CPUS),
@@ -118,7 +158,13 @@ impl<'a> Words<'a> {
             page_bytes: number(PAGE_BYTES),
             history_limit: HISTORY_LIMIT,
         };
-        let script = matches.get_str(SCRIPT).unwrap_or("");
+        let script = match matches.get_strs(LINE) {
+            Some(lines) => Script::Lines(script_of(alloc, lines)?),
+            None => match matches.get_str(SCRIPT).unwrap_or("") {
+                "-" => Script::Input,
+                name => Script::File(name),
+            },
+        };
         Ok(Words { config, script })
     }
 }
