@@ -1,2 +1,5 @@
 pub mod Devices
 pub mod Sessions
+pub mod Items
+pub mod Parts
+pub mod PartLaws
