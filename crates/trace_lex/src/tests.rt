@@ -1,7 +1,6 @@
-//! Tables of NUMBERs, and strings that grow.
-
+use crate::numeral::number;
+use crate::text::Text;
 use std::test::Fail;
-use trace_lex::{Text, number};
 
 /// Numbers as texts, each with its value, or `-` where it is none.
 const NUMBERS: &str = "\
