@@ -4,7 +4,6 @@
 mod device;
 pub mod laws;
 mod output;
-pub mod part;
 mod replies;
 mod script;
 mod session;
