@@ -2,7 +2,6 @@
 #![tactic(auto)]
 
 mod device;
-pub mod laws;
 mod output;
 mod replies;
 mod script;
