@@ -1,2 +1,6 @@
 pub mod Devices
 pub mod Sessions
+pub mod Items
+pub mod Parts
+pub mod PartLaws
+pub mod PartExamples

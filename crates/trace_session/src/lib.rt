@@ -2,6 +2,7 @@
 #![tactic(auto)]
 
 mod device;
+pub mod laws;
 mod output;
 mod replies;
 mod script;
