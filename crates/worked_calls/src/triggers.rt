@@ -1,12 +1,12 @@
 //! Trigger texts, each with what it says.
 
-use super::*;
 use std::alloc::Global;
 use std::process::Abort;
 use std::test::Fail;
 use trace_filter::Filter;
 use trace_format::EventDef;
 use trace_hist::HistSpec;
+use trace_trigger::{SnapshotTrigger, TriggerFault, TriggerText};
 
 /// Texts for `tick u64 n; char who[8]`, each with what it says or why it is refused.
 const TEXTS: &str = "\

@@ -1,12 +1,12 @@
-use crate::fault::{LineError, ScriptFault};
-use crate::line::{Line, prepare};
-use crate::outcome::{Outcome, render};
+//! Lines as they are read, and outcomes as they are rendered.
+
 use std::alloc::Global;
 use std::process::Abort;
 use std::test::Fail;
 use trace_command::{Command, Refusal, Reply};
 use trace_format::Pair;
 use trace_lex::Text;
+use trace_script::{Line, LineError, Outcome, ScriptFault, prepare, render};
 
 /// What a command is called.
 fn called(command: &Command) -> &'static str {

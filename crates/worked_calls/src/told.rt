@@ -1,7 +1,9 @@
-use crate::Explainer;
+//! What is told of lines that are refused or have a fault.
+
 use std::alloc::Global;
 use std::test::Fail;
 use trace_command::{Refusal, Reply};
+use trace_explain::Explainer;
 use trace_lex::Text;
 use trace_script::{Outcome, ScriptFault};
 

@@ -1,12 +1,15 @@
-//! Worked rows.
+//! Declarations, rows, catalogs.
 
 ghost use Rattle.std.specs.Prelude.{◌≤◌, length};
 ghost use Rattle.trace_format.specs.Cells.{IsRowOf};
 
-use super::*;
 use std::alloc::Global;
+use std::fmt::Write;
 use std::process::Abort;
 use std::test::Fail;
+use trace_format::{
+    Catalog, DefinitionFault, EventDef, Pair, Row, RowFault, RowMemory, Text, payload_size,
+};
 
 /// Declarations, each with the place at which it is refused, or `-` where it is read.
 const DECLARATIONS: &str = "\

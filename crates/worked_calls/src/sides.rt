@@ -2,11 +2,11 @@
 ghost use Rattle.std.specs.Prelude.{◌≡◌, ◌+◌, ◌<◌, ◌≤◌, ◌^◌, sum};
 ghost use Rattle.trace_buffer.specs.Buffers as buffers;
 
-use crate::Sides;
 use std::alloc::AllocError;
 use std::test::Fail;
 use trace_buffer::Buffer;
 use trace_record::{Head, write_head};
+use trace_snapshot::Sides;
 
 // Writes a record of 24 bytes and this time on CPU 0.
 fn write(live: &mut Buffer, ts: u64) -> Result<(), AllocError>

@@ -1,9 +1,9 @@
 //! Worked filters.
 
-use super::*;
 use std::alloc::{AllocError, Global};
 use std::process::Abort;
 use std::test::Fail;
+use trace_filter::{Filter, FilterFault, applies_to};
 use trace_format::{EventDef, Pair, Row};
 use trace_lex::Text;
 

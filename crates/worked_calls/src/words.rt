@@ -1,6 +1,7 @@
-use crate::numeral::number;
-use crate::text::Text;
+//! Tables of NUMBERs, and strings that grow.
+
 use std::test::Fail;
+use trace_lex::{Text, number};
 
 /// Numbers as texts, each with its value, or `-` where it is none.
 const NUMBERS: &str = "\
