@@ -8,8 +8,6 @@ mod formats;
 #[cfg(test)]
 mod lines;
 #[cfg(test)]
-mod sides;
-#[cfg(test)]
 mod told;
 #[cfg(test)]
 mod triggers;
