@@ -4,3 +4,4 @@ pub mod Turns
 pub mod PartSessions
 pub mod PartExamples
 pub mod PartThreads
+pub mod PartReading

@@ -1,22 +1,14 @@
 -- A script as items, in the order of its lines: lines by themselves, and parts whose threads run side by side.
-use Rattle.std.specs.Prelude.{ℕ, zero, suc, ◌+◌, ◌==◌, ◌≢◌, Bool, true, false, if◌then◌else◌, List, [], ◌∷◌, take, position, All, Option, Some, None, Result, Ok, Err}
-use Rattle.trace_command.specs.declared.command.Command.{Command}
+use Rattle.std.specs.Prelude.{ℕ, zero, suc, ◌+◌, ◌==◌, ◌≢◌, Bool, true, false, if◌then◌else◌, List, [], ◌∷◌, ◌++◌, length, All, Option, Some, None, Result, Ok, Err}
+use Rattle.std.specs.List.{list_any}
 use Rattle.trace_script.specs.Lines.{line_of}
 use Rattle.trace_script.specs.declared.fault.ScriptFault.{ScriptFault}
 use Rattle.trace_script.specs.declared.fault.ScriptFault.TheVariants.{BlockOutOfPlace, TooManyThreads}
 use Rattle.trace_script.specs.declared.line.Line.{Line}
 use Rattle.trace_script.specs.declared.line.Line.TheVariants.{Blank, Ask, Parallel, Thread, End}
 use Rattle.trace_session.specs.Sessions.{lines_of}
-
--- a command of a part, and the number of its line
-pub record Numbered : Type 0 where
-  pub number : ℕ
-  pub command : Command
-
--- a fault, and the number of its line
-pub record FaultAt : Type 0 where
-  pub number : ℕ
-  pub fault : ScriptFault
+use Rattle.trace_session.specs.declared.part.FaultAt.{FaultAt}
+use Rattle.trace_session.specs.declared.part.Numbered.{Numbered}
 
 -- an item: a line by itself with its number, a part with the commands of each of its threads, or a part with a fault
 pub data Item : Type 0 where
@@ -55,26 +47,25 @@ first_fault number threads [] = None
 first_fault number threads (line ∷ lines) =
     or_later number (fault_after threads (line_of line)) (first_fault (number + 1) (threads_after threads (line_of line)) lines)
 
--- a line before the commands of lines up to the next `thread`
-abbrev pub own_with : ℕ → Result Line ScriptFault → List Numbered → List Numbered
-own_with number (Ok (Ask command)) own = record { number = number; command = command } ∷ own
-own_with number (Ok Thread) own = []
-own_with number _ own = own
+-- one more command for the last of some threads
+abbrev pub with_command : Numbered → List (List Numbered) → List (List Numbered)
+with_command asked [] = []
+with_command asked (own ∷ []) = (own ++ asked ∷ []) ∷ []
+with_command asked (own ∷ next ∷ threads) = own ∷ with_command asked (next ∷ threads)
 
--- the commands of lines from this number on, up to the next `thread`
-abbrev pub own_commands : ℕ → List (List ℕ) → List Numbered
-own_commands number [] = []
-own_commands number (line ∷ lines) = own_with number (line_of line) (own_commands (number + 1) lines)
+-- a line behind some threads: a `thread` begins one more, and a command is for the last of them
+abbrev pub with_read : ℕ → Result Line ScriptFault → List (List Numbered) → List (List Numbered)
+with_read number (Ok Blank) threads = threads
+with_read number (Ok (Ask command)) threads = with_command (record { number = number; command = command }) threads
+with_read number (Ok Parallel) threads = threads
+with_read number (Ok Thread) threads = threads ++ [] ∷ []
+with_read number (Ok End) threads = threads
+with_read number (Err fault) threads = threads
 
--- a line before threads: a `thread` begins one more
-abbrev pub threads_with : Result Line ScriptFault → List Numbered → List (List Numbered) → List (List Numbered)
-threads_with (Ok Thread) own threads = own ∷ threads
-threads_with _ own threads = threads
-
--- for each `thread` of lines from this number on, its commands
-abbrev pub threads_of : ℕ → List (List ℕ) → List (List Numbered)
-threads_of number [] = []
-threads_of number (line ∷ lines) = threads_with (line_of line) (own_commands (number + 1) lines) (threads_of (number + 1) lines)
+-- for each `thread` its commands, where lines from this number on stand behind some threads
+abbrev pub threads_with : ℕ → List (List Numbered) → List (List ℕ) → List (List Numbered)
+threads_with number threads [] = threads
+threads_with number threads (line ∷ lines) = threads_with (number + 1) (with_read number (line_of line) threads) lines
 
 -- ---- the whole script
 
@@ -92,21 +83,31 @@ part_with (Some at) threads = Faulty at
 part_with None threads = Threads threads
 
 abbrev pub part_of : ℕ → List (List ℕ) → Item
-part_of number lines = part_with (first_fault number 0 lines) (threads_of number lines)
+part_of number lines = part_with (first_fault number 0 lines) (threads_with number [] lines)
+
+-- the lines before the first `end`
+abbrev pub before_end : List (List ℕ) → List (List ℕ)
+before_end [] = []
+before_end (line ∷ lines) = if is_end line then [] else line ∷ before_end lines
+
+-- the lines behind it
+abbrev pub after_end : List (List ℕ) → List (List ℕ)
+after_end [] = []
+after_end (line ∷ lines) = if is_end line then lines else after_end lines
 
 -- an item, and the number of lines that it takes behind its first
 pub record Taken : Type 0 where
   pub item : Item
   pub behind : ℕ
 
--- A `parallel` begins a part that reaches to the first later `end`. Where none comes it is a line by itself, and out of place; so is every
--- other line.
-abbrev pub begun : ℕ → List ℕ → Option ℕ → List (List ℕ) → Taken
-begun number line None lines = record { item = Single number line; behind = 0 }
-begun number line (Some at) lines = record { item = part_of (number + 1) (take at lines); behind = at + 1 }
+-- A `parallel` begins a part that reaches to the first later `end`. Where none comes it is a line by itself, and out of place. Every other
+-- line is one by itself too.
+abbrev pub begun : ℕ → List ℕ → Bool → List (List ℕ) → Taken
+begun number line false own = record { item = Single number line; behind = 0 }
+begun number line true own = record { item = part_of (number + 1) own; behind = length own + 1 }
 
 abbrev pub taken_at : ℕ → List ℕ → Result Line ScriptFault → List (List ℕ) → Taken
-taken_at number line (Ok Parallel) lines = begun number line (position is_end lines) lines
+taken_at number line (Ok Parallel) lines = begun number line (list_any is_end lines) (before_end lines)
 taken_at number line _ lines = record { item = Single number line; behind = 0 }
 
 -- the item that begins with this line of this number, before these lines

@@ -4,6 +4,7 @@
 mod device;
 pub mod laws;
 mod output;
+pub mod part;
 mod replies;
 mod script;
 mod session;
