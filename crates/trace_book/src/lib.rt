@@ -16,6 +16,8 @@ mod resolve;
 mod row;
 mod shown;
 mod state;
+#[cfg(test)]
+mod tests;
 mod text;
 mod trigger;
 mod write;

@@ -9,6 +9,8 @@ pub mod laws;
 mod steps;
 mod syntax;
 mod test;
+#[cfg(test)]
+mod tests;
 mod token;
 
 pub use fault::FilterFault;

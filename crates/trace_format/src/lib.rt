@@ -16,6 +16,8 @@ mod payload;
 mod reader;
 mod row;
 mod sizes;
+#[cfg(test)]
+mod tests;
 mod value;
 mod words;
 

@@ -8,6 +8,8 @@ pub mod laws;
 mod name;
 mod numeral;
 mod prefix;
+#[cfg(test)]
+mod tests;
 mod text;
 
 pub use blanks::{blanks_len, is_blank, trim, trim_end};

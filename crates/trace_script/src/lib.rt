@@ -7,6 +7,8 @@ pub mod laws;
 mod line;
 mod number;
 mod outcome;
+#[cfg(test)]
+mod tests;
 mod token;
 mod word;
 

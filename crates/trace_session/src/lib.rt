@@ -2,9 +2,7 @@
 #![tactic(auto)]
 
 mod device;
-pub mod laws;
 mod output;
-pub mod part;
 mod replies;
 mod script;
 mod session;

@@ -3,5 +3,7 @@
 #![tactic(auto)]
 
 mod sides;
+#[cfg(test)]
+mod tests;
 
 pub use sides::Sides;

@@ -4,6 +4,8 @@
 mod fault;
 pub mod laws;
 mod parts;
+#[cfg(test)]
+mod tests;
 mod trigger;
 
 pub use fault::TriggerFault;
