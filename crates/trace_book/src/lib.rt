@@ -16,8 +16,6 @@ mod resolve;
 mod row;
 mod shown;
 mod state;
-#[cfg(test)]
-mod tests;
 mod text;
 mod trigger;
 mod write;

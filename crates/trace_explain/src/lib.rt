@@ -6,8 +6,6 @@ mod caret;
 mod cause;
 mod explainer;
 mod layout;
-#[cfg(test)]
-mod tests;
 mod wording;
 
 pub use cause::Cause;

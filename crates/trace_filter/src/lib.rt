@@ -9,8 +9,6 @@ pub mod laws;
 mod steps;
 mod syntax;
 mod test;
-#[cfg(test)]
-mod tests;
 mod token;
 
 pub use fault::FilterFault;

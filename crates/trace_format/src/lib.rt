@@ -16,8 +16,6 @@ mod payload;
 mod reader;
 mod row;
 mod sizes;
-#[cfg(test)]
-mod tests;
 mod value;
 mod words;
 

@@ -43,13 +43,6 @@ fn rising(source: SortSource) -> SortRule {
     }
 }
 
-fn falling(source: SortSource) -> SortRule {
-    SortRule {
-        source,
-        descending: true,
-    }
-}
-
 /// Counts rows, each on a line as `n=1 m=2`.
 fn count_lines(alloc: Global, hist: &mut Hist, event: &EventDef, lines: &str) -> Result<(), Fail> {
     for line in lines.lines() {
@@ -96,73 +89,6 @@ fn no_entries(rt: HostRuntime) -> Result<(), Fail> {
     Ok(())
 }
 
-const MOVES: &str = "\
-who=b d=-5
-who=a d=2
-who=b d=1
-who=a d=-9
-who=c d=0";
-
-const MOVES_SHOWN: &str = "\
-b x2 -4
-a x2 -7
-c x1 0
-";
-
-/// By falling hitcount: `b` and `a` tie, and `b` came first.
-#[test]
-fn strings_by_hitcount(rt: HostRuntime) -> Result<(), Fail> {
-    let alloc = rt.alloc();
-    let event = EventDef::parse(alloc, b"move char who[8]; s64 d")?;
-    let spec = by_places(alloc, &[0], &[1], &[falling(SortSource::Hitcount)])?;
-    let mut hist = Hist::new(alloc, spec)?;
-    count_lines(alloc, &mut hist, &event, MOVES)?;
-    assert_eq!(rt; shown(alloc, &hist)?.as_str(), MOVES_SHOWN);
-    Ok(())
-}
-
-const TRIPLES: &str = "\
-a=1 b=2 c=3
-a=1 b=1 c=4
-a=2 b=0 c=5
-a=1 b=2 c=6";
-
-const TRIPLES_SHOWN: &str = "\
-2 0 x1 5
-1 1 x1 4
-1 2 x2 9
-";
-
-/// Two keys, by the first falling and then by the second.
-#[test]
-fn two_keys(rt: HostRuntime) -> Result<(), Fail> {
-    let alloc = rt.alloc();
-    let event = EventDef::parse(alloc, b"tri u32 a; u32 b; u32 c")?;
-    let sort = [falling(SortSource::Key(0)), rising(SortSource::Key(1))];
-    let spec = by_places(alloc, &[0, 1], &[2], &sort)?;
-    let mut hist = Hist::new(alloc, spec)?;
-    count_lines(alloc, &mut hist, &event, TRIPLES)?;
-    assert_eq!(rt; shown(alloc, &hist)?.as_str(), TRIPLES_SHOWN);
-    Ok(())
-}
-
-const LARGE: &str = "\
-n=1 u=18446744073709551615 s=-9223372036854775808
-n=1 u=18446744073709551615 s=-9223372036854775808";
-
-/// Sums that don't fit 64 bits.
-#[test]
-fn large_sums(rt: HostRuntime) -> Result<(), Fail> {
-    let alloc = rt.alloc();
-    let event = EventDef::parse(alloc, b"large u8 n; u64 u; s64 s")?;
-    let spec = by_places(alloc, &[0], &[1, 2], &[rising(SortSource::Hitcount)])?;
-    let mut hist = Hist::new(alloc, spec)?;
-    count_lines(alloc, &mut hist, &event, LARGE)?;
-    let want = "1 x2 36893488147419103230 -18446744073709551616\n";
-    assert_eq!(rt; shown(alloc, &hist)?.as_str(), want);
-    Ok(())
-}
-
 const NAMES: &str = "\
 who=b
 who=ab
@@ -178,30 +104,5 @@ fn strings_by_bytes(rt: HostRuntime) -> Result<(), Fail> {
     let mut hist = Hist::new(alloc, spec)?;
     count_lines(alloc, &mut hist, &event, NAMES)?;
     assert_eq!(rt; shown(alloc, &hist)?.as_str(), "a x1\naa x1\nab x1\nb x1\n");
-    Ok(())
-}
-
-/// The numbers 1 to 130 and then 1 again, with room for 128 entries: 129 and 130 have none, and 1 is shown last.
-#[test]
-fn full_table_shown(rt: HostRuntime) -> Result<(), Fail> {
-    let alloc = rt.alloc();
-    let event = EventDef::parse(alloc, b"tick u64 n")?;
-    let spec = by_places(alloc, &[0], &[], &[rising(SortSource::Hitcount)])?;
-    let mut hist = Hist::new(alloc, spec)?;
-    let mut want = String::new(alloc);
-    for n in 1..131 {
-        count_lines(
-            alloc,
-            &mut hist,
-            &event,
-            format!(in alloc; "n={n}")?.as_str(),
-        )?;
-        if 2 <= n && n <= 128 {
-            want.push_str(format!(in alloc; "{n} x1\n")?.as_str())?;
-        }
-    }
-    count_lines(alloc, &mut hist, &event, "n=1")?;
-    want.push_str("1 x2\n")?;
-    assert_eq!(rt; shown(alloc, &hist)?.as_str(), want.as_str());
     Ok(())
 }

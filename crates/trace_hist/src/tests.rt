@@ -76,18 +76,6 @@ fn told(alloc: Global, hist: &Hist) -> Result<String, AllocError> {
     format!(in alloc; "{hits} {entries} {dropped}")
 }
 
-/// With room for 128 entries, the keys 129 and 130 are dropped, and the second row of key 1 is counted.
-#[test]
-fn full_table(rt: HostRuntime) -> Result<(), Fail> {
-    let event = EventDef::parse(rt.alloc(), b"tick u64 n")?;
-    let spec = by_first_field(rt.alloc(), "n", 128, Action::Attach)?;
-    let mut hist = Hist::new(rt.alloc(), spec)?;
-    count_ticks(rt.alloc(), &mut hist, &event, 1, 130)?;
-    count_ticks(rt.alloc(), &mut hist, &event, 1, 1)?;
-    assert_eq!(rt; told(rt.alloc(), &hist)?.as_str(), "129 128 2");
-    Ok(())
-}
-
 /// A row that comes during a pause is not counted; emptying leaves the pause.
 #[test]
 fn pause_and_clear(rt: HostRuntime) -> Result<(), Fail> {
@@ -116,22 +104,6 @@ fn new_and_paused(rt: HostRuntime) -> Result<(), Fail> {
     count_ticks(rt.alloc(), &mut hist, &event, 1, 1)?;
     assert_eq!(rt; told(rt.alloc(), &hist)?.as_str(), "0 0 0");
     assert_eq!(rt; hist.spec().size, 128);
-    Ok(())
-}
-
-/// String keys: five rows of three keys.
-#[test]
-fn string_keys(rt: HostRuntime) -> Result<(), Fail> {
-    let event = EventDef::parse(rt.alloc(), b"move char who[8]; s64 d")?;
-    let spec = by_first_field(rt.alloc(), "who", 2048, Action::Attach)?;
-    let mut hist = Hist::new(rt.alloc(), spec)?;
-    for fields in "who=b d=-5,who=a d=2,who=b d=1,who=a d=-9,who=c d=0".split(',') {
-        let row = row(rt.alloc(), &event, fields)?;
-        if hist.spec().passes(&row, 0, 7) {
-            count(&mut hist, &row)?;
-        }
-    }
-    assert_eq!(rt; told(rt.alloc(), &hist)?.as_str(), "5 3 0");
     Ok(())
 }
 

@@ -8,8 +8,6 @@ pub mod laws;
 mod name;
 mod numeral;
 mod prefix;
-#[cfg(test)]
-mod tests;
 mod text;
 
 pub use blanks::{blanks_len, is_blank, trim, trim_end};

@@ -1,6 +1,7 @@
 //! The commands of a script, read from the words and redirections of a line.
 
-ghost use Rattle.std.specs.Prelude.{◌≡◌, List, Ok, ◌==◌, ◌++◌, ◌∷◌, [], OnOk, position, if◌then◌else◌};
+ghost use Rattle.std.specs.Prelude.{◌≡◌, List, Ok, ◌==◌, ◌++◌, ◌∷◌, [], OnOk, position, if◌then◌else◌, codes};
+ghost use Rattle.std.specs.Str.{bytes_eq};
 ghost use Rattle.trace_command.specs.declared.command.Command.{Command};
 ghost use Rattle.trace_script.specs.declared.token.Token.{Token};
 ghost use Rattle.trace_script.specs.Outcomes.{Gives, or_fault};
@@ -174,12 +175,19 @@ fn rmdir(alloc: Global, tokens: &[Token]) -> Result<Command, LineError>
     Ok(Command::Rmdir(path))
 }
 
+/// Whether a name is `emit`. Most names are, and a pattern is tested without a call.
+fn is_emit(name: &[u8]) -> bool
+    ensures { result ≡ bytes_eq name.now (codes "emit") }
+{
+    matches!(name, b"emit")
+}
+
 /// The command of this name, with the tokens that follow it.
 #[tactic(auto, unfolding(crate::specs::Lines::named_command))]
 pub(crate) fn command(alloc: Global, name: &[u8], tokens: &[Token]) -> Result<Command, LineError>
     ensures { Gives (λ command. command) result (named_command name.now tokens.now) }
 {
-    if name == b"emit".as_slice() {
+    if is_emit(name) {
         return emission(alloc, tokens);
     }
     if name == b"echo".as_slice() {

@@ -7,8 +7,6 @@ pub mod laws;
 mod line;
 mod number;
 mod outcome;
-#[cfg(test)]
-mod tests;
 mod token;
 mod word;
 

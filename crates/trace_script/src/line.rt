@@ -101,15 +101,15 @@ fn spoken(alloc: Global, line: &[u8]) -> Result<Line, LineError>
     asked(alloc, &tokens)
 }
 
-/// Whether each byte is a tab, or one from 0x20 to 0x7e. A loop without an early exit takes many bytes at once.
+/// Whether each byte is a tab, or one from 0x20 to 0x7e. A loop without an early exit, over a byte, takes many bytes at once.
 fn has_line_bytes(line: &[u8]) -> bool
     ensures { result ≡ list_all is_line_byte line.now }
 {
-    let mut all = true;
+    let mut others = 0u8;
     for byte in line {
-        all &= matches!(*byte, b'\t' | b' '..=b'~');
+        others |= u8::from(!matches!(*byte, b'\t' | b' '..=b'~'));
     }
-    all
+    others == 0
 }
 
 /// What a line asks for. A fault is the first that is found, in the order of [`ScriptFault`].

@@ -1,5 +1,5 @@
 -- Reads and writes one behind the other.
-use Rattle.std.proofs.Common.{◌≡◌, ℕ, ◌-◌, ◌<◌, ◌≤◌, List, [], ◌++◌, length, take, drop, Option, Some, None, IfSome, refl, ap, sym, ◌∙◌, arith, append_assoc, length-append}
+use Rattle.std.proofs.Common.{◌≡◌, ℕ, ◌-◌, ◌<◌, ◌≤◌, List, [], ◌++◌, length, take, drop, Option, Some, None, IfSome, refl, ap, sym, subst, ◌∙◌, arith, append_assoc, length-append}
 use Rattle.std.proofs.lemmas.List.{append-nil, take-append-drop, take_rest}
 use Rattle.std.specs.Io.KnownBytes.{Appends, Consumes, IsAtEnd}
 use Rattle.trace_session.specs.Devices.{AppendsFront, ConsumesAtMost, Passes}
@@ -67,6 +67,18 @@ Passes_front a b c u v xs ys p q = (
       ∙ (ap (λ (text : List ℕ). p.0 ++ text) q.2 ∙ sym (append_assoc p.0 q.0 q.1)))),
   Appends_append a b c p.0 q.0 p.2 q.3,
 )
+
+-- nothing was written, and all waits on
+pub Passes_nothing : (a : Option (List ℕ)) (u : List ℕ) → Passes a u a u []
+Passes_nothing a u = ([], append-nil u, Appends_nothing a)
+
+-- what waited was written, and no more
+pub Passes_all : (a b : Option (List ℕ)) (u waits : List ℕ) → waits ≡ [] → Appends a b u → Passes a u b waits []
+Passes_all a b u waits e p = (u, ap (λ (xs : List ℕ). u ++ xs) (sym e), p)
+
+-- and then what waits, or nothing, was written
+pub Passes_flushed : (a b c : Option (List ℕ)) (u v w xs : List ℕ) → Passes a u b v xs → Passes b v c w [] → Passes a u c w xs
+Passes_flushed a b c u v w xs p q = subst (λ (text : List ℕ). Passes a u c w text) (append-nil xs) (Passes_append a b c u v w xs [] p q)
 
 -- what waited was written
 pub Passes_flush : (a b c : Option (List ℕ)) (u v xs : List ℕ) → Passes a u b v xs → Appends b c v → Appends a c (u ++ xs)

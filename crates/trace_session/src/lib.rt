@@ -2,7 +2,9 @@
 #![tactic(auto)]
 
 mod device;
+pub mod laws;
 mod output;
+pub mod part;
 mod replies;
 mod script;
 mod session;

@@ -1,6 +1,6 @@
 //! One line of a session: it is done, and what it gives is written.
 
-ghost use Rattle.std.specs.Prelude.{◌≡◌, ◌-◌, ◌^◌, ◌+◌, ◌<◌, ◌≤◌, [], ◌∷◌, ◌++◌, All, IfOk, OnOk, IsErrOf};
+ghost use Rattle.std.specs.Prelude.{◌≡◌, ◌-◌, ◌^◌, ◌+◌, ◌<◌, ◌≤◌, [], ◌∷◌, ◌++◌, All, IfOk, OnOk, OnErr, IsErrOf};
 ghost use Rattle.trace_session.specs.Devices.{AppendsFront, HasRisen, Passes};
 ghost use Rattle.trace_session.specs.Sessions.{so_far, turn_of, text_of, status_of};
 
@@ -61,14 +61,29 @@ fn line_status(outcome: &Option<Outcome>) -> Status
     }
 }
 
-/// Has a writer that is to hear of lines hear what became of the line of this number.
-fn tell<W: Sink>(number: usize, line: &[u8], outcome: &Option<Outcome>, writer: &mut W)
-    ensures contents { W.contents writer.new ≡ W.contents writer.old }
-    ensures failures { W.failures writer.new ≡ W.failures writer.old }
+/// Has a writer that is to hear of lines hear what became of the line of this number. What waits is written before it hears of a refusal or a
+/// fault, so what it tells of them comes after their own lines.
+fn tell<W: Sink>(
+    number: usize,
+    line: &[u8],
+    outcome: &Option<Outcome>,
+    replies: &mut Replies,
+    writer: &mut W,
+) -> Result<(), Stop>
+    ensures written { OnOk result (Passes (W.contents writer.old) replies.old (W.contents writer.new) replies.new []) }
+    ensures failures { OnOk result (W.failures writer.new ≡ W.failures writer.old) }
+    ensures err { IsErrOf result Stop.Memory → ⊥ }
+    ensures failed { OnErr result (HasRisen (W.failures writer.old) (W.failures writer.new)
+        × AppendsFront (W.contents writer.old) (W.contents writer.new) replies.old) }
 {
-    if writer.hears() {
-        writer.hear(number, line, outcome);
+    if !writer.hears() {
+        return Ok(());
     }
+    if line_status(outcome) != Status::Done {
+        replies.flush(writer)?;
+    }
+    writer.hear(number, line, outcome);
+    Ok(())
 }
 
 /// Does the line of this number, adds what it gives to the replies, and gives its own status.
@@ -102,6 +117,6 @@ pub(crate) fn turn<W: Sink>(
 {
     let outcome = outcome(alloc, book, asked, line)?;
     write_outcome(alloc, number, &outcome, replies, writer)?;
-    tell(number, line, &outcome, writer);
+    tell(number, line, &outcome, replies, writer)?;
     Ok(line_status(&outcome))
 }

@@ -13,32 +13,6 @@ use trace_buffer::{Buffer, Taken};
 use trace_format::{Catalog, EventDef};
 use trace_record::{Head, write_head};
 
-/// `trace` after emissions on CPU 1, 0 and 1.
-const TRACE_OF_TWO_CPUS: &str = "\
-# tracer: nop
-#
-# entries-in-buffer/entries-written: 3/3   #P:2
-#
-7 [001] 1: tick: n=1
-7 [000] 2: tick: n=2
-7 [001] 3: tick: n=3
-";
-
-/// What `take 2 trace_pipe` then shows.
-const PIPE_OF_TWO_CPUS: &str = "\
-7 [001] 1: tick: n=1
-7 [000] 2: tick: n=2
-";
-
-/// And then `per_cpu/cpu1/trace`.
-const TRACE_OF_CPU_1: &str = "\
-# tracer: nop
-#
-# entries-in-buffer/entries-written: 1/1   #P:2
-#
-7 [001] 3: tick: n=3
-";
-
 /// `per_cpu/cpu0/trace` after two emissions, of one CPU in all.
 const TRACE_OF_ONE_CPU: &str = "\
 # tracer: nop
@@ -195,19 +169,6 @@ fn pipes(alloc: Global, catalog: &Catalog, taken: &[Taken<'_>], text: &str) -> R
     let mut out = begun(alloc)?;
     pipe_text(alloc, catalog, taken, &mut out)?;
     Ok(alone.as_slice() == text.as_bytes() && is_appended(&out, text))
-}
-
-#[test]
-fn merged_reads(rt: HostRuntime) -> Result<(), Fail> {
-    let catalog = ticks(rt.alloc())?;
-    let mut buffer = emitted(rt.alloc(), 2, &[(1, 1), (0, 2), (1, 3)])?;
-    assert!(rt; shows(rt.alloc(), &catalog, &buffer, None, TRACE_OF_TWO_CPUS)?);
-    let taken = buffer.preview_any(2)?;
-    assert!(rt; pipes(rt.alloc(), &catalog, &taken, PIPE_OF_TWO_CPUS)?);
-    drop(taken);
-    assert_eq!(rt; buffer.take_any(2), 2);
-    assert!(rt; shows(rt.alloc(), &catalog, &buffer, Some(1), TRACE_OF_CPU_1)?);
-    Ok(())
 }
 
 #[test]

@@ -4,8 +4,6 @@
 mod fault;
 pub mod laws;
 mod parts;
-#[cfg(test)]
-mod tests;
 mod trigger;
 
 pub use fault::TriggerFault;

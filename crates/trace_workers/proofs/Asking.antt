@@ -1,9 +1,11 @@
 -- A turn at the lock, in which the book is asked.
-use Rattle.std.proofs.Common.{◌≡◌, ◌≢◌, ℕ, ◌+◌, ◌<◌, true, nat_le, nat_lt, List, [], ◌∷◌, ◌++◌, Result, Ok, Err, IfOk, IfErr, OnOk, OnErr, refl, sym, ap, ◌∙◌, subst, arith}
-use Rattle.std.proofs.lemmas.List.Elements.{filter-append}
+use Rattle.std.proofs.Common.{◌≡◌, ◌≢◌, ℕ, ◌+◌, ◌<◌, true, nat_le, nat_lt, List, [], ◌∷◌, ◌++◌, drop, length, All, append-nil, Result, Ok, Err, IfOk, IfErr, OnOk, OnErr, refl, sym, ap, ◌∙◌, subst, arith}
+use Rattle.std.proofs.lemmas.List.{drop_at}
+use Rattle.std.proofs.lemmas.List.Elements.{filter-append, All-head, All-drop, All-same}
 use Rattle.std.proofs.lemmas.Bool.Decides.{nat_tests}
-use Rattle.ticket_lock.specs.Calls.{mine_of, IsDrawn, Finds, IsBack}
+use Rattle.ticket_lock.specs.Calls.{mine_of, IsDrawn, Finds, IsBack, IsWorn}
 use Rattle.ticket_lock.specs.Entries.{is_under, entries_under}
+use Rattle.ticket_lock.specs.Views.{HasAllNames}
 use Rattle.ticket_lock.specs.declared.views.View.{View}
 use Rattle.trace_history.specs.History.{answer_to}
 use Rattle.trace_history.proofs.Unworn.{worn_is_no_answer}
@@ -16,8 +18,8 @@ use Rattle.trace_command.specs.declared.command.Config.{Config}
 use Rattle.trace_command.specs.declared.command.Entry.{Entry}
 use Rattle.trace_command.specs.declared.command.Reply.{Reply}
 use Rattle.trace_command.specs.declared.refusal.Refusal.{Refusal}
-use Rattle.trace_command.specs.declared.refusal.Refusal.TheVariants.{Memory}
-use Rattle.trace_workers.specs.Asks.{caller_of, Rises, IsDone, IsRefused}
+use Rattle.trace_command.specs.declared.refusal.Refusal.TheVariants.{Memory, Worn}
+use Rattle.trace_workers.specs.Asks.{caller_of, AreOthers, Rises, IsDone, IsRefused}
 
 -- an entry under the first name is the pass's own
 own_entry : (low end : ℕ) (entry : Entry) → entry.by ≡ low → low < end → entries_under caller_of low end (entry ∷ []) ≡ entry ∷ []
@@ -25,6 +27,21 @@ own_entry low end entry by named =
     let above : nat_le low entry.by ≡ true = rw by (grind (arith, nat_tests)) in
     let below : nat_lt entry.by end ≡ true = rw by (grind (arith, nat_tests)) in
     grind (arith, above, below)
+
+-- where all entries are of callers, and none is under all names, there is none
+none_of_all : (v : View Entry) (others : List Entry) → HasAllNames v → AreOthers v others → All (λ (e : Entry). e.by < 65536) others → others ≡ []
+none_of_all v [] names none callers = refl
+none_of_all v (e ∷ others) names none callers =
+    let caller : e.by < 65536 = All-head (λ (e : Entry). e.by < 65536) e others callers in
+    let above : nat_le v.low e.by ≡ true = rw names.0 (grind (arith, nat_tests)) in
+    let below : nat_lt e.by v.end ≡ true = rw names.1 (grind (arith, nat_tests)) in
+    absurd (grind (arith, none, above, below))
+
+-- what the lock's history has behind what was seen is of callers
+others_are_callers : (seen others found : List Entry) → found ≡ seen ++ others → All (λ (e : Entry). e.by < 65536) found → All (λ (e : Entry). e.by < 65536) others
+others_are_callers seen others found is all =
+    All-same (λ (e : Entry). e.by < 65536) others (drop (length seen) (seen ++ others)) (sym (drop_at seen others (length seen) refl))
+    (All-drop (λ (e : Entry). e.by < 65536) (length seen) (seen ++ others) (All-same (λ (e : Entry). e.by < 65536) (seen ++ others) found (sym is) all))
 
 module _ (v h w : View Entry) (served : ℕ) (drawn : IsDrawn v h served) where
   rises : (left : List Entry) → IsBack h w left → Rises v w
@@ -41,6 +58,7 @@ module _ (v h w : View Entry) (served : ℕ) (drawn : IsDrawn v h served) where
       entry = entry;
       seen = back.seen ∙ ap (λ (es : List Entry). es ++ entry ∷ []) finds.seen.1;
       by_others = finds.seen.2;
+      alone = λ names. none_of_all v finds.seen.0 names finds.seen.2 (others_are_callers v.seen finds.seen.0 h.seen finds.seen.1 finds.callers);
       mine =
           let at : mine_of caller_of w ≡ entries_under caller_of v.low v.end (h.seen ++ entry ∷ []) =
           rw (back.low ∙ drawn.low, back.end ∙ drawn.end, back.seen) refl in
@@ -64,6 +82,7 @@ module _ (v h w : View Entry) (served : ℕ) (drawn : IsDrawn v h served) where
       others = finds.seen.0;
       seen = back.seen ∙ finds.seen.1;
       by_others = finds.seen.2;
+      alone = λ names. none_of_all v finds.seen.0 names finds.seen.2 (others_are_callers v.seen finds.seen.0 h.seen finds.seen.1 finds.callers);
       mine = rw (back.low ∙ drawn.low, back.end ∙ drawn.end, back.seen) finds.mine;
       answer = λ g same memory unworn.
           let alike : config ≡ g = numbers_of-determines config g (base ∙ sym same) in
@@ -124,3 +143,17 @@ module _
             let R : List Entry → Type 0 = λ es. IsFoundEarly (answer_to before.config es command) → answer_to before.config es command ≡ Err refusal in
             refused v h w served drawn finds before.config base_before command refusal
             (subst P (kept ∙ found) back) (subst Q found is) (subst R found (λ is_early. sym (first is_early)))
+
+-- all tickets are drawn: nothing was seen, and nobody was asked
+pub asked_worn : (v w : View Entry) (command : Command) → IsWorn v w → IsRefused v w command Worn
+asked_worn v w command worn = record {
+  others = [];
+  seen = ap (λ (x : View Entry). x.seen) worn.same ∙ sym (append-nil v.seen);
+  by_others = refl;
+  alone = λ names. refl;
+  mine = ap (λ (x : View Entry). mine_of caller_of x) worn.same;
+  answer = λ g same memory unworn. absurd (unworn refl);
+  early = λ g same unworn. absurd (unworn refl);
+  rises = λ unworn. absurd (unworn refl);
+  worn = λ is. worn;
+}

@@ -35,25 +35,27 @@ pub record Rises (v w : View Entry) : Type 0 where
 abbrev pub AreOthers : View Entry → List Entry → Type 0
 AreOthers v entries = entries_under caller_of v.low v.end entries ≡ []
 
--- A call that was done. Since the pass last saw the history, others had done what `others` lists. All these entries answer the command with
+-- A call that was done. Since the pass last saw the history, others had done what `others` lists; nothing, where it has all names. All these entries answer the command with
 -- this reply, and the one that comes after them is of this command, under the first of the pass's names; of the pass's own entries it is the new one.
 pub record IsDone (v w : View Entry) (command : Command) (reply : Reply) : Type 0 where
   pub others : List Entry
   pub entry : Entry
   pub seen : w.seen ≡ v.seen ++ others ++ entry ∷ []
   pub by_others : AreOthers v others
+  pub alone : HasAllNames v → others ≡ []
   pub mine : mine_of caller_of w ≡ mine_of caller_of v ++ entry ∷ []
   pub done : (g : Config) → numbers_of g ≡ v.base → IsDoneAfter g v.low (v.seen ++ others) command reply entry
   pub ticket : w.front ≡ entry.ticket + 1
   pub rises : Rises v w
 
--- A call that was refused. What the pass sees now is what others have done; the pass has no new entry. Unless the refusal is Memory, or the lock's own
+-- A call that was refused. What the pass sees now is what others have done, nothing where it has all names; the pass has no new entry. Unless the refusal is Memory, or the lock's own
 -- Worn, it is what all these entries answer. A refusal that is found before any memory is taken is told though memory was refused. Where it is
 -- Worn, the pass saw nothing new and all tickets are drawn.
 pub record IsRefused (v w : View Entry) (command : Command) (refusal : Refusal) : Type 0 where
   pub others : List Entry
   pub seen : w.seen ≡ v.seen ++ others
   pub by_others : AreOthers v others
+  pub alone : HasAllNames v → others ≡ []
   pub mine : mine_of caller_of w ≡ mine_of caller_of v
   pub answer : (g : Config) → numbers_of g ≡ v.base → refusal ≢ Memory → IsRefusedAfter g w.seen command refusal
   pub early : (g : Config) → numbers_of g ≡ v.base → refusal ≢ Worn → IsFoundEarly (answer_to g w.seen command) → answer_to g w.seen command ≡ Err refusal

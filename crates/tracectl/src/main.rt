@@ -1,11 +1,13 @@
 //! Reads a tracer's script, does it, and writes the replies to standard output.
 #![tactic(auto)]
 
+mod explained;
 mod stop;
 mod words;
 
 ghost use Rattle.trace_command.specs.Configs.{IsInRange};
 
+use explained::Explained;
 use std::env;
 use std::fs::File;
 use std::io::{ErrorKind, Read};
@@ -24,11 +26,20 @@ fn words_of(rt: &HostRuntime) -> Result<Vec<String>, Stop> {
     }
 }
 
-/// Does the session of a script.
-fn session<R: Read + Drop>(rt: &HostRuntime, config: Config, script: R) -> Status
+/// Does the session of a script, and explains it on standard error, if that is asked for.
+fn session<R: Read + Drop>(
+    rt: &HostRuntime,
+    config: Config,
+    is_explained: bool,
+    script: R,
+) -> Status
     requires { IsInRange config }
 {
     let mut input = Input::new(script);
+    if is_explained {
+        let mut output = Explained::new(rt.alloc(), rt.stdout(), rt.stderr());
+        return run_session(rt.alloc(), config, &mut input, &mut output);
+    }
     let mut output = Output::new(rt.stdout());
     run_session(rt.alloc(), config, &mut input, &mut output)
 }
@@ -36,16 +47,20 @@ fn session<R: Read + Drop>(rt: &HostRuntime, config: Config, script: R) -> Statu
 /// Does the session that the command line asks for.
 fn run(rt: &HostRuntime) -> Result<Status, Stop> {
     let words = words_of(rt)?;
-    let Words { config, script } = Words::read(rt.alloc(), &words)?;
+    let Words {
+        config,
+        is_explained,
+        script,
+    } = Words::read(rt.alloc(), &words)?;
     // The session has a book of its own. This one is there so that a bad configuration is told before the script is opened.
     Book::new(rt.alloc(), config)?;
     let status = match script {
         Script::File(name) => {
             let file = File::open(rt, name).map_err(|_| Stop::Device)?;
-            session(rt, config, file)
+            session(rt, config, is_explained, file)
         }
-        Script::Input => session(rt, config, rt.stdin()),
-        Script::Lines(lines) => session(rt, config, lines.as_slice()),
+        Script::Input => session(rt, config, is_explained, rt.stdin()),
+        Script::Lines(lines) => session(rt, config, is_explained, lines.as_slice()),
     };
     Ok(status)
 }

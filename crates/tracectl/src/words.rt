@@ -14,6 +14,8 @@ const PAGES: &str = "pages";
 
 const PAGE_BYTES: &str = "page-bytes";
 
+const EXPLAIN: &str = "explain";
+
 const SCRIPT: &str = "SCRIPT";
 
 const LINE: &str = "LINE";
@@ -73,6 +75,8 @@ pub enum Script<'a> {
 #[derive(Drop)]
 pub struct Words<'a> {
     pub config: Config,
+    /// Whether it is told on standard error what is wrong with a line.
+    pub is_explained: bool,
     pub script: Script<'a>,
 }
 
@@ -100,6 +104,10 @@ fn command<'a>(alloc: Global) -> Result<Command<'a>, Error> {
         "4080",
         "How many bytes a page has, 64 to 4080, a multiple of 8",
     );
+    let explain = Arg::new(alloc, EXPLAIN)
+        .long(EXPLAIN)
+        .action(ArgAction::SetTrue)
+        .help("After a refusal or a fault, tell on standard error what is wrong and where");
     let lines = Arg::new(alloc, LINE)
         .short('c')
         .value_name(LINE)
@@ -118,6 +126,7 @@ fn command<'a>(alloc: Global) -> Result<Command<'a>, Error> {
         .arg(cpus)?
         .arg(pages)?
         .arg(page_bytes)?
+        .arg(explain)?
         .arg(lines)?
         .arg(script)?;
     Ok(command)
@@ -165,6 +174,11 @@ impl<'a> Words<'a> {
                 name => Script::File(name),
             },
         };
-        Ok(Words { config, script })
+        let is_explained = matches.get_flag(EXPLAIN);
+        Ok(Words {
+            config,
+            is_explained,
+            script,
+        })
     }
 }

@@ -175,6 +175,69 @@ fn rows_of_two_cpus_hold(rt: HostRuntime) {
     hold(&rt, two, &ROWS);
 }
 
+/// Records of eight CPUs, read from one CPU and from all.
+const ROWS_OF_EIGHT: [Row; 1] = [Row {
+    name: "eight_cpus",
+    script: "\
+echo 'tick u64 n' > synthetic_events
+echo 1 > events/enable
+echo 'n != 3 && common_cpu != 6' > events/synthetic/tick/filter
+emit 7 7 tick n=1
+emit 0 7 tick n=2
+emit 5 7 tick n=3
+emit 6 7 tick n=4
+emit 7 7 tick n=5
+take 1 per_cpu/cpu7/trace_pipe
+cat trace_pipe
+take 1 trace_pipe
+cat events/synthetic/tick/enable
+",
+    written: "\
+7 [007] 1: tick: n=1
+7 [000] 2: tick: n=2
+7 [007] 5: tick: n=5
+1
+",
+    status: 0,
+}];
+
+/// The greatest sides, made for a trigger and exchanged by it and by hand.
+const GREATEST_SIDES: [Row; 1] = [Row {
+    name: "greatest_sides",
+    script: "\
+echo 'tick u64 n' > synthetic_events
+echo 1 > events/enable
+echo 'snapshot:1 if n > 1' > events/synthetic/tick/trigger
+emit 7 7 tick n=1
+emit 0 7 tick n=2
+cat trace_pipe
+cat events/synthetic/tick/trigger
+echo 1 > snapshot
+cat trace_pipe
+",
+    written: "\
+snapshot:count=0 if n > 1
+7 [007] 1: tick: n=1
+7 [000] 2: tick: n=2
+",
+    status: 0,
+}];
+
+#[test]
+fn rows_of_eight_cpus_hold(rt: HostRuntime) {
+    let eight = Config {
+        cpus: 8,
+        ..config(64, 1 << 32)
+    };
+    hold(&rt, eight, &ROWS_OF_EIGHT);
+    let greatest = Config {
+        cpus: 8,
+        pages: 1024,
+        ..config(4080, 100)
+    };
+    hold(&rt, greatest, &GREATEST_SIDES);
+}
+
 const STATS: [&str; 9] = [
     "per_cpu/cpu0/stats",
     "per_cpu/cpu1/stats",

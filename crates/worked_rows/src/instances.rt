@@ -3,7 +3,7 @@
 use crate::rows::{Row, hold};
 use crate::sessions::config;
 
-const ROWS: [Row; 6] = [
+const ROWS: [Row; 7] = [
     Row {
         name: "instances",
         script: "\
@@ -198,6 +198,49 @@ mkdir instances/h
 ! 17: N1 NoSuchFile
 ! 18: N1 NoSuchFile
 ! 19: N1 NoSuchFile
+",
+        status: 1,
+    },
+    // As many instances as there may be: one is removed and made again, and is then as new.
+    Row {
+        name: "eight_instances",
+        script: "\
+echo 'tick u64 n' > synthetic_events
+mkdir instances/a
+mkdir instances/b
+mkdir instances/c
+mkdir instances/d
+mkdir instances/e
+mkdir instances/f
+mkdir instances/g
+mkdir instances/h
+echo 'tock u64 n' >> synthetic_events
+echo 1 > instances/g/events/enable
+echo 1 > instances/a/events/enable
+echo 'n > 1' > instances/a/events/synthetic/tick/filter
+echo 0 > instances/a/tracing_on
+echo 0 > instances/a/options/overwrite
+emit 0 7 tick n=1
+cat trace_pipe
+cat instances/g/trace_pipe
+rmdir instances/a
+mkdir instances/a
+cat instances/a/events/enable
+cat instances/a/events/synthetic/tick/filter
+cat instances/a/tracing_on
+cat instances/a/options/overwrite
+echo 1 > instances/a/events/synthetic/tock/enable
+emit 0 7 tock n=2
+cat instances/a/trace_pipe
+",
+        written: "\
+! 9: N16 TooMany
+7 [000] 1: tick: n=1
+0
+none
+1
+1
+7 [000] 2: tock: n=2
 ",
         status: 1,
     },

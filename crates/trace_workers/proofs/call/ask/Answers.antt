@@ -1,6 +1,6 @@
 use Rattle.std.proofs.Common.{◌<◌, arith}
 use Rattle.ticket_lock.specs.Calls.{view_of, held_view, held_ticket, held_value}
-use Rattle.trace_workers.proofs.Asking.{asked_done, asked_refused}
+use Rattle.trace_workers.proofs.Asking.{asked_done, asked_refused, asked_worn}
 use Rattle.trace_workers.proofs.call.ask.Goals as goal
 
 pub returns-in-Ok-clause-done : goal.returns-in-Ok-clause-done
@@ -18,3 +18,6 @@ returns-in-Ok-clause-refused g c =
     (held_value c.in-Ok.held) c.value.result.now c.ask-answer.new.self c.args.command c.ask-answer.result named
     c.in-Ok.ensures.drawn c.in-Ok.ensures.finds c.in-Ok.ensures.entries c.in-Ok.ensures.base c.value.ensures.value
     c.ticket-ticket.ensures c.by-by.ensures c.ask-answer.ensures.reply c.ask-answer.ensures.early c.ask-answer.ensures.refused c.release.ensures.back
+
+pub returns-in-Err-clause-refused : goal.returns-in-Err-clause-refused
+returns-in-Err-clause-refused g c = asked_worn (view_of c.args.pass) (view_of c.in-Err.worn.pass) c.args.command c.in-Err.ensures.worn

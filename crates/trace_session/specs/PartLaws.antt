@@ -1,0 +1,19 @@
+-- What the sessions of scripts with parts come to.
+use Rattle.std.specs.Prelude.{◌≡◌, ◌↔◌, ℕ, ◌≤◌, List, length, All}
+use Rattle.trace_command.specs.declared.command.Config.{Config}
+use Rattle.trace_session.specs.Items.{Item, Threads, HasNoPart, items_of, most_threads}
+use Rattle.trace_session.specs.Parts.{IsSession}
+use Rattle.trace_session.specs.Sessions.{Session, session}
+
+-- a script without parts has one session
+abbrev pub OneThreadHasOneSession : Type 0
+OneThreadHasOneSession = (g : Config) (script : List ℕ) (one : Session) → HasNoPart script → IsSession g script one ↔ (one ≡ session g script)
+
+-- the item has no more threads than a part may have
+abbrev pub HasFewThreads : Item → Type 0
+HasFewThreads (Threads threads) = length threads ≤ most_threads
+HasFewThreads _ = Unit {0}
+
+-- no part has more threads than it may have
+abbrev pub PartsHaveFewThreads : Type 0
+PartsHaveFewThreads = (script : List ℕ) → All HasFewThreads (items_of script)
