@@ -5,3 +5,5 @@ pub mod Parts
 pub mod PartReads
 pub mod PartLaws
 pub mod PartExamples
+pub mod Passes
+pub mod PartTexts
