@@ -5,5 +5,3 @@ pub mod Parts
 pub mod PartReads
 pub mod PartLaws
 pub mod PartExamples
-pub mod Passes
-pub mod PartTexts
