@@ -1,12 +1,14 @@
-//! The texts of files, one kind after the other.
+//! Worked rows.
 
+use super::*;
+use crate::pipe::push_lost_line;
+use crate::record::push_record_line;
+use crate::trace::push_trace_head;
 use page_ring::RingStats;
 use std::alloc::Global;
 use std::process::Abort;
 use std::test::Fail;
-use trace_buffer::Taken;
 use trace_format::{Catalog, EventDef};
-use trace_text::{Shown, declaration_text, format_text, laws, pipe_text, stats_text, trigger_text};
 
 /// The format of `tick u64 n`.
 const FORMAT_OF_TICK: &str = "\
@@ -213,8 +215,7 @@ fn records(rt: HostRuntime) -> Result<(), Fail> {
     }
     for (cpu, rec, text) in RECORDS {
         let mut out = begun(rt.alloc())?;
-        let taken = Taken { cpu, lost: 0, rec };
-        pipe_text(rt.alloc(), &catalog, &[taken], &mut out)?;
+        push_record_line(rt.alloc(), &mut out, &catalog, cpu, rec)?;
         assert!(rt; is_appended(&out, text), "at {text}");
     }
     laws::record_shows_its_row();
@@ -223,20 +224,24 @@ fn records(rt: HostRuntime) -> Result<(), Fail> {
 
 #[test]
 fn lost(rt: HostRuntime) -> Result<(), Fail> {
-    let catalog = Catalog::new(rt.alloc());
     for (cpu, lost, text) in [
         (0, 0, ""),
         (0, 1, "CPU:0 [LOST 1 EVENTS]\n"),
         (12, 20, "CPU:12 [LOST 20 EVENTS]\n"),
     ] {
         let mut out = begun(rt.alloc())?;
-        let taken = Taken {
-            cpu,
-            lost,
-            rec: b"".as_slice(),
-        };
-        pipe_text(rt.alloc(), &catalog, &[taken], &mut out)?;
+        push_lost_line(&mut out, cpu, lost)?;
         assert!(rt; is_appended(&out, text), "at {text}");
     }
+    Ok(())
+}
+
+#[test]
+fn trace_heads(rt: HostRuntime) -> Result<(), Fail> {
+    let mut out = begun(rt.alloc())?;
+    push_trace_head(&mut out, 2, 36893488147419103230, 8)?;
+    let text =
+        "# tracer: nop\n#\n# entries-in-buffer/entries-written: 2/36893488147419103230   #P:8\n#\n";
+    assert!(rt; is_appended(&out, text));
     Ok(())
 }

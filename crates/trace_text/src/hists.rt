@@ -1,14 +1,13 @@
 //! Worked histograms: what `hist` shows of entries that fill their places, and of no hist trigger. The others are scripts of worked_rows.
 ghost use Rattle.trace_hist.specs.HistTexts.{IsHistText};
 
-use crate::counts::{count, row};
-use crate::texts::{begun, is_appended};
-use std::alloc::Global;
+use crate::tests::{begun, is_appended};
+use crate::{Shown, hist_text};
+use std::alloc::{AllocError, Global};
 use std::process::Abort;
 use std::test::Fail;
-use trace_format::EventDef;
+use trace_format::{EventDef, Pair, Row, Text};
 use trace_hist::{Hist, HistSpec};
-use trace_text::{Shown, hist_text};
 
 /// A trigger that takes two snapshots.
 const TWO_SNAPSHOTS: Shown<'static> = Shown::Snapshot {
@@ -39,6 +38,29 @@ Totals:
     Entries: 3
     Dropped: 0
 ";
+
+/// The row of an event whose fields have these values, as `n=1 m=2`.
+fn row(alloc: Global, event: &EventDef, fields: &str) -> Result<Row, Fail> {
+    let mut pairs = Vec::new(alloc);
+    for field in fields.split(' ') {
+        let (name, value) = field.split_once('=').ok_or("a field has an `=`")?;
+        pairs.push(Pair {
+            name: Text::from_slice(alloc, name.as_bytes())?,
+            value: Text::from_slice(alloc, value.as_bytes())?,
+        })?;
+    }
+    Ok(Row::build(alloc, event, &pairs)?)
+}
+
+/// Counts a row, on CPU 0 for process 7.
+fn count(hist: &mut Hist, row: &Row) -> Result<(), AllocError> {
+    hist.reserve_hit(row, 0, 7)?;
+    let totals = hist.totals();
+    if totals.hits < 1000 && totals.dropped < 1000 {
+        hist.hit(row, 0, 7);
+    }
+    Ok(())
+}
 
 /// The histogram of a trigger of an event, after rows, each as its fields with their values.
 fn counted(alloc: Global, event: &[u8], text: &[u8], rows: &str) -> Result<Hist, Fail>

@@ -2,7 +2,7 @@ use Rattle.std.proofs.Common.{refl}
 use Rattle.trace_record.specs.Record.{timestamp}
 use Rattle.page_ring.specs.Cut.{cut}
 use Rattle.page_ring.specs.Account.{account, stats_of, readings_of, put_answer}
-use Rattle.worked_calls.proofs.rings.rows_of_the_definitions.Goals as goal
+use Rattle.page_ring.proofs.tests.rows_of_the_definitions.Goals as goal
 
 pub returns-clause-five : goal.returns-clause-five
 unfolding stats_of timestamp account cut

@@ -1,12 +1,12 @@
 //! Worked reads: what `snapshot` shows of two sides.
 
 use crate::reads::{emit, ticks};
-use crate::texts::{begun, is_appended};
+use crate::snapshot_text;
+use crate::tests::{begun, is_appended};
 use std::alloc::Global;
 use std::test::Fail;
 use trace_format::Catalog;
 use trace_snapshot::Sides;
-use trace_text::snapshot_text;
 
 const FREED: &str = "\
 # * Snapshot is freed *

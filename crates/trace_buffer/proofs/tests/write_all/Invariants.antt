@@ -1,6 +1,6 @@
 use Rattle.std.proofs.Common.{◌≡◌, ◌+◌, ◌≤◌, sum}
 use Rattle.trace_buffer.specs.Buffers.{cpus, offers}
-use Rattle.worked_calls.proofs.buffers.write_all.Given as goal
+use Rattle.trace_buffer.proofs.tests.write_all.Given as goal
 
 abbrev pub invariant-loop-record : goal.invariant-loop-record
 invariant-loop-record l = record {

@@ -1,6 +1,6 @@
 use Rattle.std.proofs.Common.{◌≡◌}
 use Rattle.ticket_lock.specs.Calls.{view_of, IsOf}
-use Rattle.worked_calls.proofs.locks.visit_often.Given as goal
+use Rattle.ticket_lock.proofs.tests.visit_often.Given as goal
 
 -- the pass is of the lock and has the names that it began with
 abbrev pub invariant-loop : goal.invariant-loop

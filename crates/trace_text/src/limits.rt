@@ -1,14 +1,14 @@
-//! The texts of the widest event, and texts after much text.
+//! The texts of the widest event, and texts behind much text.
 
+use super::*;
+use crate::pipe::push_lost_line;
+use crate::record::push_record_line;
+use crate::trace::push_trace_head;
 use page_ring::RingStats;
 use std::alloc::Global;
 use std::fmt::Write;
 use std::test::Fail;
-use trace_buffer::{Buffer, Taken};
 use trace_format::{Catalog, EventDef};
-use trace_text::{
-    Shown, declaration_text, format_text, pipe_text, stats_text, trace_text, trigger_text,
-};
 
 /// What each name begins with: 30 bytes, so that two more make it as long as a name gets.
 const NAME: &str = "a_name_as_long_as_a_name_gets_";
@@ -19,12 +19,12 @@ const TEXT: &str = "no field holds a longer text than this one: it has sixty-thr
 /// The head of a record: tick 5, process 7, event 1, a payload of 1,024 bytes.
 const HEAD: &[u8] = b"\x05\0\0\0\0\0\0\0\x07\0\0\0\x01\0\0\x04";
 
-const LOST: &str = "CPU:255 [LOST 20 EVENTS]\n";
+const LOST: &str = "CPU:12 [LOST 20 EVENTS]\n";
 
 const TRACE_HEAD: &str = "\
 # tracer: nop
 #
-# entries-in-buffer/entries-written: 0/0   #P:8
+# entries-in-buffer/entries-written: 2/3   #P:8
 #
 ";
 
@@ -94,15 +94,11 @@ fn push_each(
     want.push_str(&texts.declaration)?;
     format_text(alloc, 65535, def, out)?;
     want.push_str(&texts.format)?;
-    trace_text(alloc, catalog, &Buffer::new(alloc, 8, 2, 64)?, None, out)?;
+    push_trace_head(out, 2, 3, 8)?;
     want.push_str(TRACE_HEAD)?;
-    let taken = Taken {
-        cpu: 255,
-        lost: 20,
-        rec: &texts.rec,
-    };
-    pipe_text(alloc, catalog, &[taken], out)?;
+    push_lost_line(out, 12, 20)?;
     want.push_str(LOST)?;
+    push_record_line(alloc, out, catalog, 255, &texts.rec)?;
     want.push_str(&texts.line)?;
     let shown = Shown::Snapshot {
         left: Some(3),

@@ -2,11 +2,11 @@
 ghost use Rattle.std.specs.Prelude.{◌≡◌, [], IfOk};
 ghost use Rattle.ticket_lock.specs.Calls.{view_of, IsOf};
 
+use crate::{Logged, Pass, TicketLock};
 use std::sync::Wait;
 use std::test::Fail;
 use std::thread;
 use std::thread::Threads;
-use ticket_lock::{Logged, Pass, TicketLock};
 
 #[derive(Debug, Drop)]
 struct Visits {

@@ -1,6 +1,6 @@
 use Rattle.std.proofs.Common.{◌≡◌, ◌≤◌, ℕ, get_or}
 use Rattle.trace_buffer.specs.Buffers.{cpus, offers}
-use Rattle.worked_calls.proofs.reads.emitted.Given as goal
+use Rattle.trace_text.proofs.reads.emitted.Given as goal
 
 abbrev pub invariant-loop-cpu : goal.invariant-loop-cpu
 invariant-loop-cpu l = record {

@@ -5,7 +5,7 @@ ghost use Rattle.trace_record.specs.Record.{IsRecord, record_size};
 ghost use Rattle.page_ring.specs.Shown.{offered};
 ghost use Rattle.page_ring.specs.Rows.{FiveEmissions, SevenEmissions, StatsAfterOverrun, ReadsAfterOverrun, StatsAfterReads, WriterGoesOn, WriterGoesOnWithoutOverwriting, BigIsDropped, SmallerIsKept, BigLosesPage};
 
-use page_ring::{Head, Put, Ring, RingStats, write_head};
+use crate::{Head, Put, Ring, RingStats, write_head};
 use std::alloc::AllocError;
 use std::process::Abort;
 use std::test::Fail;

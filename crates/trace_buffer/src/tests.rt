@@ -5,11 +5,11 @@ ghost use Rattle.trace_record.specs.Record.{IsRecord};
 ghost use Rattle.trace_buffer.specs.Buffers.{offers};
 ghost use Rattle.trace_buffer.specs.Buffers as seen;
 
+use crate::{Buffer, Taken};
 use page_ring::{Kept, Put};
 use std::alloc::AllocError;
 use std::process::Abort;
 use std::test::Fail;
-use trace_buffer::{Buffer, Taken};
 use trace_record::{Head, read_head, write_head};
 
 // A record of 24 bytes, written at this time.

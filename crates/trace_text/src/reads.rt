@@ -5,13 +5,13 @@ ghost use Rattle.trace_record.specs.Record.{IsRecord};
 ghost use Rattle.trace_buffer.specs.Buffers.{offers};
 ghost use Rattle.trace_buffer.specs.Buffers as seen;
 
-use crate::texts::{begun, is_appended};
+use crate::tests::{begun, is_appended};
+use crate::{pipe_text, trace_text};
 use std::alloc::{AllocError, Global};
 use std::test::Fail;
 use trace_buffer::{Buffer, Taken};
 use trace_format::{Catalog, EventDef};
 use trace_record::{Head, write_head};
-use trace_text::{pipe_text, trace_text};
 
 /// `per_cpu/cpu0/trace` after two emissions, of one CPU in all.
 const TRACE_OF_ONE_CPU: &str = "\
