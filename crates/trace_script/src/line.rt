@@ -1,8 +1,7 @@
 //! A line of a script, read as what it asks for.
 
-ghost use Rattle.std.specs.Prelude.{◌≡◌, ℕ, List, codes};
+ghost use Rattle.std.specs.Prelude.{◌≡◌, ℕ, List};
 ghost use Rattle.std.specs.List.{list_all};
-ghost use Rattle.std.specs.Str.{bytes_eq};
 ghost use Rattle.trace_script.specs.Commands.{AsksFor, IsAskedBy};
 ghost use Rattle.trace_script.specs.Faults.{HasFault};
 ghost use Rattle.trace_script.specs.Outcomes.{Gives};
@@ -47,39 +46,18 @@ fn alone(line: Line, tokens: &[Token]) -> Result<Line, LineError>
     }
 }
 
-/// Whether a name is `parallel`. This and the next two are asked of each line, and a pattern is tested without a call.
-fn is_parallel(name: &[u8]) -> bool
-    ensures { result ≡ bytes_eq name.now (codes "parallel") }
-{
-    matches!(name, b"parallel")
-}
-
-/// Whether a name is `thread`.
-fn is_thread(name: &[u8]) -> bool
-    ensures { result ≡ bytes_eq name.now (codes "thread") }
-{
-    matches!(name, b"thread")
-}
-
-/// Whether a name is `end`.
-fn is_end(name: &[u8]) -> bool
-    ensures { result ≡ bytes_eq name.now (codes "end") }
-{
-    matches!(name, b"end")
-}
-
 /// The line of this name, with the tokens that follow it.
 #[tactic(auto, unfolding(crate::specs::Lines::named_line))]
 fn named(alloc: Global, name: &[u8], tokens: &[Token]) -> Result<Line, LineError>
     ensures { Gives (λ line. line) result (named_line name.now tokens.now) }
 {
-    if is_parallel(name) {
+    if name == b"parallel".as_slice() {
         return alone(Line::Parallel, tokens);
     }
-    if is_thread(name) {
+    if name == b"thread".as_slice() {
         return alone(Line::Thread, tokens);
     }
-    if is_end(name) {
+    if name == b"end".as_slice() {
         return alone(Line::End, tokens);
     }
     Ok(Line::Ask(command(alloc, name, tokens)?))
