@@ -5,6 +5,4 @@ pub mod PartSessions
 pub mod PartExamples
 pub mod PartThreads
 pub mod PartReading
-pub mod PartWriting
-pub mod PartRunning
-pub mod LineAsking
+pub mod ItemReading
