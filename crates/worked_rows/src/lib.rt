@@ -2,6 +2,44 @@
 #![tactic(auto)]
 
 #[cfg(test)]
-mod parts;
+mod cpus;
+#[cfg(test)]
+mod desk;
+#[cfg(test)]
+mod devices;
+#[cfg(test)]
+mod eight_instances;
+#[cfg(test)]
+mod events;
+#[cfg(test)]
+mod fakes;
+#[cfg(test)]
+mod filled_hists;
+#[cfg(test)]
+mod filters;
+#[cfg(test)]
+mod hist_spares;
+#[cfg(test)]
+mod hists;
+#[cfg(test)]
+mod instances;
+#[cfg(test)]
+mod limits;
+#[cfg(test)]
+mod memory;
+#[cfg(test)]
+mod paths;
 #[cfg(test)]
 mod refusals;
+#[cfg(test)]
+mod rows;
+#[cfg(test)]
+mod sessions;
+#[cfg(test)]
+mod sizes;
+#[cfg(test)]
+mod snapshots;
+#[cfg(test)]
+mod spares;
+#[cfg(test)]
+mod triggers;
