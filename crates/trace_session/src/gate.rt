@@ -1,0 +1,34 @@
+//! Gates, which a block asks before and after each command.
+
+ghost use Rattle.std.specs.Prelude.{◌≡◌, Bool, true};
+
+/// Where a worker stands with a command when it asks a gate.
+#[derive(Clone, Copy, Debug, PartialEq, Eq)]
+pub enum Point {
+    /// It is about to ask the command.
+    Asking,
+    /// The command was answered, and the lock is free again.
+    Answered,
+}
+
+/// Lets the workers of a block through, or stops them. A gate may hold a worker for as long as it likes, since its thread is held and no lock.
+pub trait Gate {
+    /// Whether it answers `true` always.
+    ghost is_open: { Self → Bool };
+
+    /// Whether the worker may go on: the part with this place in its block, at the command with this place in its part. Both places count from 0.
+    fn arrive(&self, thread: u32, call: u64, point: Point) -> bool
+        ensures { is_open self.now ≡ true → result ≡ true };
+}
+
+/// A gate that lets everybody through.
+#[derive(Clone, Copy, Debug)]
+pub struct OpenGate;
+
+impl Gate for OpenGate {
+    ghost is_open = { λ _. true };
+
+    fn arrive(&self, _thread: u32, _call: u64, _point: Point) -> bool {
+        true
+    }
+}
