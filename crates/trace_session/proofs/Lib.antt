@@ -1,8 +1,8 @@
 pub mod DeviceLemmas
 pub mod ScriptLemmas
-pub mod Standing
-pub mod Stepping
+pub mod Turns
 pub mod PartSessions
 pub mod PartExamples
 pub mod PartThreads
 pub mod PartReading
+pub mod ItemReading

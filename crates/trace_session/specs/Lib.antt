@@ -4,7 +4,5 @@ pub mod Items
 pub mod Parts
 pub mod PartReads
 pub mod NextItems
-pub mod Passes
-pub mod Fronts
 pub mod PartLaws
 pub mod PartExamples

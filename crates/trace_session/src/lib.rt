@@ -1,24 +1,19 @@
-//! Whole sessions: a script is read from a reader, its lines and parts are done over a book, and what each gives goes to a writer.
+//! Whole sessions: a script is read from a reader, its lines are done over a book, and what each gives goes to a writer.
 #![tactic(auto)]
 
 mod device;
-mod gate;
-mod item;
+pub mod item;
 pub mod laws;
-mod line;
 mod output;
 pub mod part;
-mod part_run;
 mod replies;
 mod script;
 mod session;
 mod status;
-mod step;
 mod stop;
-mod told;
+mod turn;
 
 pub use device::{Input, Output, Sink, Source};
 pub use script::MOST_SCRIPT_BYTES;
 pub use session::run_session;
 pub use status::Status;
-pub use gate::{Gate, OpenGate, Point};
