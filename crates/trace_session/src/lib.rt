@@ -2,7 +2,6 @@
 #![tactic(auto)]
 
 mod device;
-pub mod item;
 pub mod laws;
 mod output;
 pub mod part;
