@@ -5,3 +5,4 @@ pub mod PartSessions
 pub mod PartExamples
 pub mod PartThreads
 pub mod PartReading
+pub mod ItemReading

@@ -3,5 +3,6 @@ pub mod Sessions
 pub mod Items
 pub mod Parts
 pub mod PartReads
+pub mod NextItems
 pub mod PartLaws
 pub mod PartExamples

@@ -2,6 +2,7 @@
 #![tactic(auto)]
 
 mod device;
+pub mod item;
 pub mod laws;
 mod output;
 pub mod part;
