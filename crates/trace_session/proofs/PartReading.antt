@@ -9,7 +9,6 @@ use Rattle.trace_script.specs.declared.line.Line.{Line}
 use Rattle.trace_script.specs.declared.line.Line.TheVariants.{Blank, Ask, Parallel, Thread, End}
 use Rattle.trace_session.specs.Items.{Item, Single, Threads, Faulty, threads_after, fault_after, or_later, first_fault, own_with, own_commands, threads_with, threads_of, part_with, part_of, is_end, before_end, after_end}
 use Rattle.trace_session.specs.PartReads.{commands_in, with_more, with_line, comes_to, IsPartRead}
-use Rattle.trace_session.specs.declared.part.FaultAt.{FaultAt}
 use Rattle.trace_session.specs.declared.part.Numbered.{Numbered}
 
 -- ---- threads

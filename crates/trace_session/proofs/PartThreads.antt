@@ -1,5 +1,5 @@
 -- The threads of a part are few.
-use Rattle.std.proofs.Common.{◌≡◌, ℕ, zero, suc, ◌+◌, ◌≤◌, ◌==◌, Bool, true, false, if◌then◌else◌, List, [], ◌∷◌, length, All, Option, Some, None, Result, Ok, Err, refl, ap, ◌∙◌, arith}
+use Rattle.std.proofs.Common.{◌≡◌, ℕ, zero, suc, ◌+◌, ◌≤◌, ◌==◌, Bool, true, false, if◌then◌else◌, List, [], ◌∷◌, length, All, Option, Some, None, Result, Ok, Err, refl, arith}
 use Rattle.std.proofs.lemmas.Bool.Decides.{nat_tests}
 use Rattle.std.proofs.lemmas.List.Elements.{All-nil, All-cons}
 use Rattle.std.specs.List.{list_any}
@@ -7,7 +7,7 @@ use Rattle.trace_script.specs.Lines.{line_of}
 use Rattle.trace_script.specs.declared.fault.ScriptFault.{ScriptFault}
 use Rattle.trace_script.specs.declared.line.Line.{Line}
 use Rattle.trace_script.specs.declared.line.Line.TheVariants.{Blank, Ask, Parallel, Thread, End}
-use Rattle.trace_session.specs.Items.{Item, threads_after, fault_after, or_later, first_fault, own_commands, threads_with, threads_of, is_end, part_with, part_of, before_end, Taken, begun, taken_at, item_at, items_from, items_of}
+use Rattle.trace_session.specs.Items.{threads_after, fault_after, or_later, first_fault, own_commands, threads_with, threads_of, is_end, part_with, part_of, before_end, begun, taken_at, item_at, items_from, items_of}
 use Rattle.trace_session.specs.PartLaws.{HasFewThreads, PartsHaveFewThreads}
 use Rattle.trace_session.specs.Sessions.{lines_of}
 use Rattle.trace_session.specs.declared.part.FaultAt.{FaultAt}
