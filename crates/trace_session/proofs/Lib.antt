@@ -6,3 +6,5 @@ pub mod PartExamples
 pub mod PartThreads
 pub mod PartReading
 pub mod ItemReading
+pub mod PartWriting
+pub mod PartRunning

@@ -6,3 +6,5 @@ pub mod PartReads
 pub mod NextItems
 pub mod PartLaws
 pub mod PartExamples
+pub mod Passes
+pub mod PartTexts
