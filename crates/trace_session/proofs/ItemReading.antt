@@ -1,13 +1,15 @@
 -- The items of a script, read one after the other.
 use Rattle.std.proofs.Common.{◌≡◌, ℕ, suc, ◌+◌, ◌||◌, Bool, true, false, if◌then◌else◌, List, [], ◌∷◌, length, Result, Ok, Err, refl, ap, sym, ◌∙◌, arith}
-use Rattle.std.specs.List.{list_any}
+use Rattle.std.specs.List.{list_any, slice_get}
 use Rattle.trace_script.specs.Lines.{line_of}
 use Rattle.trace_script.specs.declared.fault.ScriptFault.{ScriptFault}
 use Rattle.trace_script.specs.declared.line.Line.{Line}
 use Rattle.trace_script.specs.declared.line.Line.TheVariants.{Blank, Ask, Parallel, Thread, End}
 use Rattle.trace_session.specs.Items.{Item, Single, is_end, part_of, before_end, after_end, Taken, begun, taken_at, item_at, items_from}
 use Rattle.trace_session.specs.NextItems.{begins_with}
-use Rattle.trace_session.specs.PartReads.{IsPartRead}
+use Rattle.trace_session.specs.PartReads.{IsPartRead, IsLineAt, HasItsLine}
+use Rattle.trace_session.specs.declared.part.Part.{Part}
+use Rattle.trace_session.specs.declared.part.Part.TheVariants as parts
 
 -- ---- after a part
 
@@ -84,3 +86,15 @@ module _ (number : ℕ) (line : List ℕ) (all lines : List (List ℕ)) (read : 
       ∙ ap (λ (first : Item). first ∷ items_from next 0 (after_end lines)) part.1
       ∙ ap (λ (more : List (List ℕ)). item ∷ items_from next 0 more) part.3
       ∙ ap (λ (n : ℕ). item ∷ items_from n 0 rest) (omega (arith, part.2))
+
+-- ---- the line of a fault
+
+line_after : (number at : ℕ) (line first : List ℕ) (all lines : List (List ℕ)) → all ≡ first ∷ lines → IsLineAt (number + 1) lines at line → IsLineAt number all at line
+line_after number at line first all lines is (place, same, found) =
+    (suc place, omega (arith, same), ap (λ (xs : List (List ℕ)). slice_get xs (suc place)) is ∙ found)
+
+-- a part's fault is among the lines that begin with that of `parallel`
+pub its_line_after : (number : ℕ) (part : Part) (first : List ℕ) (all lines : List (List ℕ)) → all ≡ first ∷ lines → HasItsLine (number + 1) lines part
+    → HasItsLine number all part
+its_line_after number (parts.Threads threads) first all lines is its = its
+its_line_after number (parts.Fault at line) first all lines is its = line_after number at.number line.now first all lines is its

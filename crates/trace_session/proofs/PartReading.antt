@@ -1,14 +1,14 @@
 -- The lines of a part, read one after the other.
 use Rattle.std.proofs.Common.{◌≡◌, ℕ, suc, ◌+◌, ◌||◌, Bool, true, false, if◌then◌else◌, List, [], ◌∷◌, ◌++◌, length, map, Option, Some, None, Result, Ok, Err, Vec, refl, sym, ap, ◌∙◌, arith, append_assoc, append-nil}
 use Rattle.std.proofs.lemmas.List.{length_push, length-map, map-append}
-use Rattle.std.specs.List.{list_any}
+use Rattle.std.specs.List.{list_any, slice_get}
 use Rattle.std.specs.declared.alloc.Global.{Global}
 use Rattle.trace_script.specs.Lines.{line_of}
 use Rattle.trace_script.specs.declared.fault.ScriptFault.{ScriptFault}
 use Rattle.trace_script.specs.declared.line.Line.{Line}
 use Rattle.trace_script.specs.declared.line.Line.TheVariants.{Blank, Ask, Parallel, Thread, End}
 use Rattle.trace_session.specs.Items.{Item, Single, Threads, Faulty, threads_after, fault_after, or_later, first_fault, own_with, own_commands, threads_with, threads_of, part_with, part_of, is_end, before_end, after_end}
-use Rattle.trace_session.specs.PartReads.{commands_in, with_more, with_line, comes_to, IsPartRead}
+use Rattle.trace_session.specs.PartReads.{commands_in, with_more, with_line, comes_to, IsPartRead, IsLineAt}
 use Rattle.trace_session.specs.declared.part.Numbered.{Numbered}
 
 -- ---- threads
@@ -133,6 +133,7 @@ pub record Reads (number : ℕ) (all : List (List ℕ)) (item : Item) (lines : �
   pub any : list_any is_end all ≡ list_any is_end left
   pub count : length (before_end all) ≡ lines + length (before_end left)
   pub tail : after_end all ≡ after_end left
+  pub places : (place : ℕ) → slice_get left place ≡ slice_get all (lines + place)
 
 pub starts : (number : ℕ) (all : List (List ℕ)) (item : Item) → item ≡ Threads [] → Reads number all item 0 all
 starts number all item none = record {
@@ -142,6 +143,7 @@ starts number all item none = record {
   any = refl;
   count = omega arith;
   tail = refl;
+  places = λ place. ap (slice_get all) (omega arith);
 }
 
 module _ (number : ℕ) (all : List (List ℕ)) (item : Item) (lines : ℕ) (left : List (List ℕ)) (reads : Reads number all item lines left) where
@@ -168,7 +170,12 @@ module _ (number : ℕ) (all : List (List ℕ)) (item : Item) (lines : ℕ) (lef
           any = reads.any ∙ any_is false goes;
           count = omega (arith, reads.count, count);
           tail = reads.tail ∙ after_is false goes;
+          places = λ place. sym (ap (λ (xs : List (List ℕ)). slice_get xs (suc place)) is) ∙ reads.places (suc place) ∙ ap (slice_get all) (omega arith);
         }
+
+    -- the line is where its number says
+    pub line_here : IsLineAt number all (number + lines) line
+    line_here = (lines, refl, ap (slice_get all) (omega arith) ∙ sym (reads.places 0) ∙ ap (λ (xs : List (List ℕ)). slice_get xs 0) is)
 
     pub ends_here : is_end line ≡ true → IsPartRead number all item lines more
     ends_here end = (

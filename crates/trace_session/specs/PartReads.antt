@@ -1,6 +1,6 @@
 -- What the code that reads a part promises.
-use Rattle.std.specs.Prelude.{◌≡◌, Vec, ℕ, true, List, [], ◌∷◌, ◌++◌, map, length, Result, Ok}
-use Rattle.std.specs.List.{list_any}
+use Rattle.std.specs.Prelude.{◌≡◌, Vec, ℕ, ◌+◌, true, List, [], ◌∷◌, ◌++◌, map, length, Some, Result, Ok}
+use Rattle.std.specs.List.{list_any, slice_get}
 use Rattle.std.specs.declared.alloc.Global.{Global}
 use Rattle.trace_script.specs.declared.fault.ScriptFault.{ScriptFault}
 use Rattle.trace_script.specs.declared.line.Line.{Line}
@@ -37,6 +37,15 @@ comes_to (Single at line) number lines = Single at line
 comes_to (Threads threads) number lines =
     part_with (first_fault number (length threads) lines) (with_more threads (own_commands number lines) (threads_of number lines))
 comes_to (Faulty at) number lines = Faulty at
+
+-- among these lines, which are numbered from `first` on, the one of this number is this line
+abbrev pub IsLineAt : ℕ → List (List ℕ) → ℕ → List ℕ → Type 0
+IsLineAt first lines number line = (place : ℕ) × (number ≡ first + place) × (slice_get lines place ≡ Some line)
+
+-- a fault comes with its line, which is one of these lines, numbered from `first` on
+abbrev pub HasItsLine : ℕ → List (List ℕ) → Part → Type 0
+HasItsLine first lines (parts.Threads threads) = Unit {0}
+HasItsLine first lines (parts.Fault at line) = IsLineAt first lines at.number line.now
 
 -- The part that these lines begin with, which are numbered from this number on, is this item. So many lines stand before its `end`, and these follow it.
 abbrev pub IsPartRead : ℕ → List (List ℕ) → Item → ℕ → List (List ℕ) → Type 0

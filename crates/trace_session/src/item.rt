@@ -1,10 +1,10 @@
 //! The items of a script, read one after the other: a line by itself, or a whole part.
 
-ghost use Rattle.std.specs.Prelude.{◌≡◌, ℕ, ◌+◌, ◌-◌, ◌<◌, ◌≤◌, ◌^◌, ◌∷◌, length, IfOk};
+ghost use Rattle.std.specs.Prelude.{◌≡◌, ℕ, List, ◌+◌, ◌-◌, ◌<◌, ◌≤◌, ◌^◌, ◌∷◌, length, IfOk};
 ghost use Rattle.std.specs.Option.{option_copied};
 ghost use Rattle.trace_session.specs.Items.{items_from};
-ghost use Rattle.trace_session.specs.PartReads.{item_of};
-ghost use Rattle.trace_session.specs.NextItems.{item_read, begins_with, IsSaid};
+ghost use Rattle.trace_session.specs.PartReads.{item_of, HasItsLine};
+ghost use Rattle.trace_session.specs.NextItems.{item_read, begins_with, IsSaid, HasFaultLine};
 ghost use Rattle.trace_session.specs.Sessions.{lines_of, lines_left, bytes_left};
 
 use crate::part::{FaultAt, Numbered, Part, read_line, read_part};
@@ -43,6 +43,7 @@ pub struct NextItem<'a> {
 fn part_item<'a>(part: Part<'a>) -> ItemRead<'a>
     ensures item { (number : ℕ) → item_read number result ≡ item_of part.entry }
     ensures said { IsSaid result }
+    ensures line { (first : ℕ) (lines : List (List ℕ)) → HasItsLine first lines part.entry → HasFaultLine first lines result }
 {
     match part {
         Part::Threads(threads) => ItemRead::Threads(threads),
@@ -69,6 +70,7 @@ pub fn next_item<'a>(
     ensures read { IfOk result (λ next. items_from number 0 (lines_of text.now)
         ≡ item_read number next.item ∷ items_from next.number 0 (lines_left (option_copied next.rest))) }
     ensures said { IfOk result (λ next. IsSaid next.item) }
+    ensures line { IfOk result (λ next. HasFaultLine number (lines_of text.now) next.item) }
     ensures shorter { IfOk result (λ next. bytes_left (option_copied next.rest) ≤ length text.now) }
     ensures room { IfOk result (λ next. next.number + bytes_left (option_copied next.rest) ≤ number + length text.now + 1) }
 {

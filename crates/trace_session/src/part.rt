@@ -5,7 +5,7 @@ ghost use Rattle.std.specs.List.{list_any};
 ghost use Rattle.std.specs.Option.{option_copied};
 ghost use Rattle.trace_script.specs.Lines.{line_of};
 ghost use Rattle.trace_session.specs.Items.{Threads, ends_with, is_end, fault_after};
-ghost use Rattle.trace_session.specs.PartReads.{commands_in, item_of, with_more, with_line, comes_to, IsPartRead};
+ghost use Rattle.trace_session.specs.PartReads.{commands_in, item_of, with_more, with_line, comes_to, IsPartRead, IsLineAt, HasItsLine};
 ghost use Rattle.trace_session.specs.Sessions.{lines_left, bytes_left};
 
 use crate::script::first_line;
@@ -143,6 +143,7 @@ fn read_next<'a>(
     requires { said ≡ line_of line.now }
     ensures reads { IfOk result (λ next. (lines : List (List ℕ))
         → comes_to (Threads (commands_in threads.items)) number (line.now ∷ lines) ≡ comes_to (item_of next) (number + 1) lines) }
+    ensures line { IfOk result (λ next. (first : ℕ) (all : List (List ℕ)) → IsLineAt first all number line.now → HasItsLine first all next) }
     ensures err { IsErrOf result Stop.Device → ⊥ }
 {
     match next_fault(&threads, &said) {
@@ -168,6 +169,8 @@ fn read_on<'a>(
     requires { said ≡ line_of line.now }
     ensures reads { IfOk result (λ next. (lines : List (List ℕ))
         → comes_to (item_of reading.entry) number (line.now ∷ lines) ≡ comes_to (item_of next) (number + 1) lines) }
+    ensures line { IfOk result (λ next. (first : ℕ) (all : List (List ℕ)) → IsLineAt first all number line.now
+        → HasItsLine first all reading.entry → HasItsLine first all next) }
     ensures err { IsErrOf result Stop.Device → ⊥ }
 {
     match reading {
@@ -186,6 +189,7 @@ pub fn read_part<'a>(
     requires room { number + bytes_left (option_copied text) < 2 ^ 63 }
     ensures read { IfOk result (λ found. IfSome found (λ read.
         IsPartRead number (lines_left (option_copied text.entry)) (item_of read.part) read.lines (lines_left (option_copied read.rest)))) }
+    ensures line { IfOk result (λ found. IfSome found (λ read. HasItsLine number (lines_left (option_copied text.entry)) read.part)) }
     ensures shorter { IfOk result (λ found. IfSome found (λ read.
         read.lines + 1 + bytes_left (option_copied read.rest) ≤ bytes_left (option_copied text.entry))) }
     ensures none { IfOk result (λ found. found ≡ None → list_any is_end (lines_left (option_copied text.entry)) ≡ false) }
