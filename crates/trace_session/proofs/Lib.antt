@@ -5,6 +5,3 @@ pub mod PartSessions
 pub mod PartExamples
 pub mod PartThreads
 pub mod PartReading
-pub mod ItemReading
-pub mod PartWriting
-pub mod PartRunning

@@ -28,8 +28,6 @@ mod limits;
 #[cfg(test)]
 mod memory;
 #[cfg(test)]
-mod parts;
-#[cfg(test)]
 mod paths;
 #[cfg(test)]
 mod refusals;
