@@ -9,6 +9,8 @@ mod entries;
 mod lock;
 mod moves;
 mod passes;
+#[cfg(test)]
+mod tests;
 mod turns;
 mod views;
 

@@ -11,6 +11,8 @@ mod cursor;
 pub mod laws;
 mod merge;
 mod taken;
+#[cfg(test)]
+mod tests;
 mod times;
 
 ghost use Rattle.std.specs.Prelude.{◌≡◌};

@@ -5,3 +5,6 @@ pub mod PartSessions
 pub mod PartExamples
 pub mod PartThreads
 pub mod PartReading
+pub mod ItemReading
+pub mod PartWriting
+pub mod PartRunning

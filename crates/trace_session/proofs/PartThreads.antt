@@ -1,5 +1,5 @@
 -- The threads of a part are few.
-use Rattle.std.proofs.Common.{◌≡◌, ℕ, zero, suc, ◌+◌, ◌≤◌, ◌==◌, Bool, true, false, if◌then◌else◌, List, [], ◌∷◌, length, All, Option, Some, None, Result, Ok, Err, refl, ap, ◌∙◌, arith}
+use Rattle.std.proofs.Common.{◌≡◌, ℕ, zero, suc, ◌+◌, ◌≤◌, ◌==◌, Bool, true, false, if◌then◌else◌, List, [], ◌∷◌, length, All, Option, Some, None, Result, Ok, Err, refl, arith}
 use Rattle.std.proofs.lemmas.Bool.Decides.{nat_tests}
 use Rattle.std.proofs.lemmas.List.Elements.{All-nil, All-cons}
 use Rattle.std.specs.List.{list_any}
@@ -7,12 +7,11 @@ use Rattle.trace_script.specs.Lines.{line_of}
 use Rattle.trace_script.specs.declared.fault.ScriptFault.{ScriptFault}
 use Rattle.trace_script.specs.declared.line.Line.{Line}
 use Rattle.trace_script.specs.declared.line.Line.TheVariants.{Blank, Ask, Parallel, Thread, End}
-use Rattle.trace_session.specs.Items.{Item, threads_after, fault_after, or_later, first_fault, with_read, threads_with, is_end, part_with, part_of, before_end, Taken, begun, taken_at, item_at, items_from, items_of}
+use Rattle.trace_session.specs.Items.{threads_after, fault_after, or_later, first_fault, own_commands, threads_with, threads_of, is_end, part_with, part_of, before_end, begun, taken_at, item_at, items_from, items_of}
 use Rattle.trace_session.specs.PartLaws.{HasFewThreads, PartsHaveFewThreads}
 use Rattle.trace_session.specs.Sessions.{lines_of}
 use Rattle.trace_session.specs.declared.part.FaultAt.{FaultAt}
 use Rattle.trace_session.specs.declared.part.Numbered.{Numbered}
-use Rattle.trace_session.proofs.PartReading.{length_read}
 
 -- where no fault is told, no line has one
 none_or : (number : ℕ) (fault : Option ScriptFault) (later : Option FaultAt) → or_later number fault later ≡ None → (fault ≡ None) × (later ≡ None)
@@ -36,23 +35,33 @@ few_after (Ok Thread) threads some none = below_most threads some (passed (threa
 few_after (Ok End) threads some none = some
 few_after (Err fault) threads some none = some
 
-few : (lines : List (List ℕ)) (number : ℕ) (threads : List (List Numbered)) → length threads ≤ 8 → first_fault number (length threads) lines ≡ None
-    → length (threads_with number threads lines) ≤ 8
-few [] number threads some none = some
+length_with : (line : Result Line ScriptFault) (threads : ℕ) (own : List Numbered) (more : List (List Numbered))
+    → threads + length (threads_with line own more) ≡ threads_after threads line + length more
+length_with (Ok Blank) threads own more = refl
+length_with (Ok (Ask command)) threads own more = refl
+length_with (Ok Parallel) threads own more = refl
+length_with (Ok Thread) threads own more = omega arith
+length_with (Ok End) threads own more = refl
+length_with (Err fault) threads own more = refl
+
+few : (lines : List (List ℕ)) (number threads : ℕ) → threads ≤ 8 → first_fault number threads lines ≡ None → threads + length (threads_of number lines) ≤ 8
+few [] number threads some none = omega arith
 few (line ∷ lines) number threads some none =
     let read = line_of line in
-    let later = first_fault (number + 1) (threads_after (length threads) read) lines in
-    let both = none_or number (fault_after (length threads) read) later none in
-    let same : length (with_read number read threads) ≡ threads_after (length threads) read = length_read number read threads in
-    few lines (number + 1) (with_read number read threads) (omega (arith, same, few_after read (length threads) some both.0))
-    (ap (λ (n : ℕ). first_fault (number + 1) n lines) same ∙ both.1)
+    let next = threads_after threads read in
+    let both = none_or number (fault_after threads read) (first_fault (number + 1) next lines) none in
+    omega (
+      arith,
+      length_with read threads (own_commands (number + 1) lines) (threads_of (number + 1) lines),
+      few lines (number + 1) next (few_after read threads some both.0) both.1,
+    )
 
 few_part : (number : ℕ) (lines : List (List ℕ)) → HasFewThreads (part_of number lines)
 few_part number lines = go (first_fault number 0 lines) refl
   where
-    go : (fault : Option FaultAt) → first_fault number 0 lines ≡ fault → HasFewThreads (part_with fault (threads_with number [] lines))
+    go : (fault : Option FaultAt) → first_fault number 0 lines ≡ fault → HasFewThreads (part_with fault (threads_of number lines))
     go (Some at) is = tt
-    go None is = few lines number [] (omega arith) is
+    go None is = omega (arith, few lines number 0 (omega arith) is)
 
 few_taken : (number : ℕ) (line : List ℕ) (read : Result Line ScriptFault) (lines : List (List ℕ)) → HasFewThreads (taken_at number line read lines).item
 few_taken number line (Ok Blank) lines = tt

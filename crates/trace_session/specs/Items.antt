@@ -1,5 +1,5 @@
 -- A script as items, in the order of its lines: lines by themselves, and parts whose threads run side by side.
-use Rattle.std.specs.Prelude.{ℕ, zero, suc, ◌+◌, ◌==◌, ◌≢◌, Bool, true, false, if◌then◌else◌, List, [], ◌∷◌, ◌++◌, length, All, Option, Some, None, Result, Ok, Err}
+use Rattle.std.specs.Prelude.{ℕ, zero, suc, ◌+◌, ◌==◌, ◌≢◌, Bool, true, false, if◌then◌else◌, List, [], ◌∷◌, length, All, Option, Some, None, Result, Ok, Err}
 use Rattle.std.specs.List.{list_any}
 use Rattle.trace_script.specs.Lines.{line_of}
 use Rattle.trace_script.specs.declared.fault.ScriptFault.{ScriptFault}
@@ -47,25 +47,26 @@ first_fault number threads [] = None
 first_fault number threads (line ∷ lines) =
     or_later number (fault_after threads (line_of line)) (first_fault (number + 1) (threads_after threads (line_of line)) lines)
 
--- one more command for the last of some threads
-abbrev pub with_command : Numbered → List (List Numbered) → List (List Numbered)
-with_command asked [] = []
-with_command asked (own ∷ []) = (own ++ asked ∷ []) ∷ []
-with_command asked (own ∷ next ∷ threads) = own ∷ with_command asked (next ∷ threads)
+-- a line before the commands of lines up to the next `thread`
+abbrev pub own_with : ℕ → Result Line ScriptFault → List Numbered → List Numbered
+own_with number (Ok (Ask command)) own = record { number = number; command = command } ∷ own
+own_with number (Ok Thread) own = []
+own_with number _ own = own
 
--- a line behind some threads: a `thread` begins one more, and a command is for the last of them
-abbrev pub with_read : ℕ → Result Line ScriptFault → List (List Numbered) → List (List Numbered)
-with_read number (Ok Blank) threads = threads
-with_read number (Ok (Ask command)) threads = with_command (record { number = number; command = command }) threads
-with_read number (Ok Parallel) threads = threads
-with_read number (Ok Thread) threads = threads ++ [] ∷ []
-with_read number (Ok End) threads = threads
-with_read number (Err fault) threads = threads
+-- the commands of lines from this number on, up to the next `thread`
+abbrev pub own_commands : ℕ → List (List ℕ) → List Numbered
+own_commands number [] = []
+own_commands number (line ∷ lines) = own_with number (line_of line) (own_commands (number + 1) lines)
 
--- for each `thread` its commands, where lines from this number on stand behind some threads
-abbrev pub threads_with : ℕ → List (List Numbered) → List (List ℕ) → List (List Numbered)
-threads_with number threads [] = threads
-threads_with number threads (line ∷ lines) = threads_with (number + 1) (with_read number (line_of line) threads) lines
+-- a line before threads: a `thread` begins one more, with these commands
+abbrev pub threads_with : Result Line ScriptFault → List Numbered → List (List Numbered) → List (List Numbered)
+threads_with (Ok Thread) own threads = own ∷ threads
+threads_with _ own threads = threads
+
+-- for each `thread` of lines from this number on, its commands
+abbrev pub threads_of : ℕ → List (List ℕ) → List (List Numbered)
+threads_of number [] = []
+threads_of number (line ∷ lines) = threads_with (line_of line) (own_commands (number + 1) lines) (threads_of (number + 1) lines)
 
 -- ---- the whole script
 
@@ -83,7 +84,7 @@ part_with (Some at) threads = Faulty at
 part_with None threads = Threads threads
 
 abbrev pub part_of : ℕ → List (List ℕ) → Item
-part_of number lines = part_with (first_fault number 0 lines) (threads_with number [] lines)
+part_of number lines = part_with (first_fault number 0 lines) (threads_of number lines)
 
 -- the lines before the first `end`
 abbrev pub before_end : List (List ℕ) → List (List ℕ)

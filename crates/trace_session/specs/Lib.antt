@@ -3,5 +3,8 @@ pub mod Sessions
 pub mod Items
 pub mod Parts
 pub mod PartReads
+pub mod NextItems
 pub mod PartLaws
 pub mod PartExamples
+pub mod Passes
+pub mod PartTexts

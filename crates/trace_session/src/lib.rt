@@ -2,9 +2,14 @@
 #![tactic(auto)]
 
 mod device;
+pub mod item;
 pub mod laws;
+mod line;
 mod output;
 pub mod part;
+pub mod part_run;
+mod part_split;
+pub mod part_text;
 mod replies;
 mod script;
 mod session;

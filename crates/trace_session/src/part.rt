@@ -1,11 +1,11 @@
 //! A part of a script: its lines are read, and the first of its faults is found, before any of its commands is asked.
 
-ghost use Rattle.std.specs.Prelude.{◌≡◌, ◌+◌, ◌<◌, ◌^◌, ◌∷◌, ◌++◌, [], length, List, ℕ, IfOk, IfSome, OnOk, IsErrOf, Ok, None, false};
+ghost use Rattle.std.specs.Prelude.{◌≡◌, ◌+◌, ◌<◌, ◌≤◌, ◌^◌, ◌∷◌, ◌++◌, [], length, List, ℕ, IfOk, IfSome, OnOk, IsErrOf, None, false};
 ghost use Rattle.std.specs.List.{list_any};
 ghost use Rattle.std.specs.Option.{option_copied};
 ghost use Rattle.trace_script.specs.Lines.{line_of};
-ghost use Rattle.trace_session.specs.Items.{ends_with, is_end, fault_after, with_command, with_read};
-ghost use Rattle.trace_session.specs.PartReads.{commands_in, item_of, comes_to, IsPartRead};
+ghost use Rattle.trace_session.specs.Items.{Threads, ends_with, is_end, fault_after};
+ghost use Rattle.trace_session.specs.PartReads.{commands_in, item_of, with_more, with_line, comes_to, IsPartRead, IsLineAt, HasItsLine};
 ghost use Rattle.trace_session.specs.Sessions.{lines_left, bytes_left};
 
 use crate::script::first_line;
@@ -30,17 +30,17 @@ pub struct FaultAt {
 
 /// What the lines of a part come to.
 #[derive(Debug, Drop)]
-pub enum Part {
+pub enum Part<'a> {
     /// The commands of each of its threads.
     Threads(Vec<Vec<Numbered>>),
-    /// The fault of its earliest line that has one.
-    Fault(FaultAt),
+    /// The fault of its earliest line that has one, and that line.
+    Fault { at: FaultAt, line: &'a [u8] },
 }
 
 /// A part that was read.
 #[derive(Debug, Drop)]
 pub struct PartRead<'a> {
-    pub part: Part,
+    pub part: Part<'a>,
     /// How many lines stand before its `end`.
     pub lines: usize,
     /// What follows its `end`, if anything does.
@@ -51,7 +51,7 @@ pub struct PartRead<'a> {
 const MOST_THREADS: usize = 8;
 
 /// What a line asks for, or its fault.
-fn read_line(alloc: Global, line: &[u8]) -> Result<Result<Line, ScriptFault>, Stop>
+pub(crate) fn read_line(alloc: Global, line: &[u8]) -> Result<Result<Line, ScriptFault>, Stop>
     ensures read { IfOk result (λ read. read ≡ line_of line.now) }
     ensures err { IsErrOf result Stop.Device → ⊥ }
 {
@@ -83,7 +83,7 @@ fn fault_after(threads: usize, line: &Result<Line, ScriptFault>) -> Option<Scrip
     }
 }
 
-/// What is wrong with a line of a part behind these threads.
+/// What is wrong with a line of a part after these threads.
 #[tactic(auto, using(crate::proofs::PartReading::length_commands))]
 fn next_fault(threads: &[Vec<Numbered>], line: &Result<Line, ScriptFault>) -> Option<ScriptFault>
     ensures { result ≡ fault_after (length (commands_in threads.now)) line.now }
@@ -93,7 +93,7 @@ fn next_fault(threads: &[Vec<Numbered>], line: &Result<Line, ScriptFault>) -> Op
 
 /// Adds a command to the last of some threads.
 fn add_command(threads: &mut Vec<Vec<Numbered>>, asked: Numbered) -> Result<(), Stop>
-    ensures added { OnOk result (commands_in threads.new.items ≡ with_command asked (commands_in threads.old.items)) }
+    ensures added { OnOk result (commands_in threads.new.items ≡ with_more (commands_in threads.old.items) (asked ∷ []) []) }
     ensures err { IsErrOf result Stop.Device → ⊥ }
 {
     let Some(mut own) = threads.pop() else {
@@ -121,7 +121,7 @@ fn add_line(
     number: usize,
     line: Result<Line, ScriptFault>,
 ) -> Result<(), Stop>
-    ensures added { OnOk result (commands_in threads.new.items ≡ with_read number line (commands_in threads.old.items)) }
+    ensures added { OnOk result (commands_in threads.new.items ≡ with_line number line (commands_in threads.old.items)) }
     ensures err { IsErrOf result Stop.Device → ⊥ }
 {
     match line {
@@ -131,87 +131,56 @@ fn add_line(
     }
 }
 
-/// The lines of a part so far: its threads up to the first fault.
-#[derive(Drop)]
-struct Reading {
-    threads: Vec<Vec<Numbered>>,
-    fault: Option<FaultAt>,
-}
-
-/// No line.
-fn nothing_read(alloc: Global) -> Reading
-    ensures threads { commands_in result.threads.items ≡ [] }
-    ensures fault { result.fault ≡ None }
-{
-    Reading {
-        threads: Vec::new(alloc),
-        fault: None,
-    }
-}
-
-/// Reads on by a line of this number behind lines without a fault.
+/// Reads on by a line of this number after lines that came to these threads.
 #[tactic(auto, using(crate::proofs::PartReading::at_fault_line, crate::proofs::PartReading::at_line_with))]
-fn read_next(
+fn read_next<'a>(
     alloc: Global,
     mut threads: Vec<Vec<Numbered>>,
     number: usize,
-    line: Result<Line, ScriptFault>,
-) -> Result<Reading, Stop>
-    ensures reads { IfOk result (λ next. (text : List ℕ) (lines : List (List ℕ)) → line_of text ≡ line
-        → comes_to None (commands_in threads.items) number (text ∷ lines)
-        ≡ comes_to next.fault (commands_in next.threads.items) (number + 1) lines) }
+    line: &'a [u8],
+    said: Result<Line, ScriptFault>,
+) -> Result<Part<'a>, Stop>
+    requires { said ≡ line_of line.now }
+    ensures reads { IfOk result (λ next. (lines : List (List ℕ))
+        → comes_to (Threads (commands_in threads.items)) number (line.now ∷ lines) ≡ comes_to (item_of next) (number + 1) lines) }
+    ensures line { IfOk result (λ next. (first : ℕ) (all : List (List ℕ)) → IsLineAt first all number line.now → HasItsLine first all next) }
     ensures err { IsErrOf result Stop.Device → ⊥ }
 {
-    match next_fault(&threads, &line) {
-        Some(fault) => Ok(Reading {
-            threads,
-            fault: Some(FaultAt { number, fault }),
+    match next_fault(&threads, &said) {
+        Some(fault) => Ok(Part::Fault {
+            at: FaultAt { number, fault },
+            line,
         }),
         None => {
-            add_line(alloc, &mut threads, number, line)?;
-            Ok(Reading {
-                threads,
-                fault: None,
-            })
+            add_line(alloc, &mut threads, number, said)?;
+            Ok(Part::Threads(threads))
         }
     }
 }
 
-/// Reads on by a line of this number. Nothing is looked for behind a fault.
-#[tactic(auto, using(crate::proofs::PartReading::at_known))]
-fn read_on(
+/// Reads on by a line of this number. Nothing is looked for after a fault.
+fn read_on<'a>(
     alloc: Global,
-    reading: Reading,
+    reading: Part<'a>,
     number: usize,
-    line: Result<Line, ScriptFault>,
-) -> Result<Reading, Stop>
-    ensures reads { IfOk result (λ next. (text : List ℕ) (lines : List (List ℕ)) → line_of text ≡ line
-        → comes_to reading.fault (commands_in reading.threads.items) number (text ∷ lines)
-        ≡ comes_to next.fault (commands_in next.threads.items) (number + 1) lines) }
+    line: &'a [u8],
+    said: Result<Line, ScriptFault>,
+) -> Result<Part<'a>, Stop>
+    requires { said ≡ line_of line.now }
+    ensures reads { IfOk result (λ next. (lines : List (List ℕ))
+        → comes_to (item_of reading.entry) number (line.now ∷ lines) ≡ comes_to (item_of next) (number + 1) lines) }
+    ensures line { IfOk result (λ next. (first : ℕ) (all : List (List ℕ)) → IsLineAt first all number line.now
+        → HasItsLine first all reading.entry → HasItsLine first all next) }
     ensures err { IsErrOf result Stop.Device → ⊥ }
 {
-    let Reading { threads, fault } = reading;
-    match fault {
-        Some(at) => Ok(Reading {
-            threads,
-            fault: Some(at),
-        }),
-        None => read_next(alloc, threads, number, line),
-    }
-}
-
-/// What was read up to the `end`.
-fn part_read(reading: Reading) -> Part
-    ensures { (number : ℕ) → comes_to reading.fault (commands_in reading.threads.items) number [] ≡ item_of result }
-{
-    match reading.fault {
-        Some(fault) => Part::Fault(fault),
-        None => Part::Threads(reading.threads),
+    match reading {
+        Part::Threads(threads) => read_next(alloc, threads, number, line, said),
+        Part::Fault { at, line } => Ok(Part::Fault { at, line }),
     }
 }
 
 /// Reads the lines of a part, which begin with this number, up to its `end`, and gives what they come to; nothing where no `end` comes.
-#[tactic(auto, using(crate::proofs::PartReading::starts, crate::proofs::PartReading::goes_on, crate::proofs::PartReading::ends_here, crate::proofs::PartReading::ends_not))]
+#[tactic(auto, using(crate::proofs::PartReading::starts, crate::proofs::PartReading::goes_on, crate::proofs::PartReading::ends_not))]
 pub fn read_part<'a>(
     alloc: Global,
     number: usize,
@@ -220,28 +189,30 @@ pub fn read_part<'a>(
     requires room { number + bytes_left (option_copied text) < 2 ^ 63 }
     ensures read { IfOk result (λ found. IfSome found (λ read.
         IsPartRead number (lines_left (option_copied text.entry)) (item_of read.part) read.lines (lines_left (option_copied read.rest)))) }
+    ensures line { IfOk result (λ found. IfSome found (λ read. HasItsLine number (lines_left (option_copied text.entry)) read.part)) }
+    ensures shorter { IfOk result (λ found. IfSome found (λ read.
+        read.lines + 1 + bytes_left (option_copied read.rest) ≤ bytes_left (option_copied text.entry))) }
     ensures none { IfOk result (λ found. found ≡ None → list_any is_end (lines_left (option_copied text.entry)) ≡ false) }
 {
     let mut rest = text;
     let mut lines = 0;
-    let mut reading = nothing_read(alloc);
+    let mut part = Part::Threads(Vec::new(alloc));
     while let Some(here) = rest {
         let (line, after) = first_line(here);
         let Ok(said) = read_line(alloc, line) else {
             return Err(AllocError);
         };
         if ends(&said) {
-            let part = part_read(reading);
             return Ok(Some(PartRead {
                 part,
                 lines,
                 rest: after,
             }));
         }
-        let Ok(next) = read_on(alloc, reading, number + lines, said) else {
+        let Ok(next) = read_on(alloc, part, number + lines, line, said) else {
             return Err(AllocError);
         };
-        reading = next;
+        part = next;
         lines += 1;
         rest = after;
     }

@@ -1,7 +1,7 @@
 -- A turn at the lock, in which the book is asked.
-use Rattle.std.proofs.Common.{◌≡◌, ◌≢◌, ℕ, ◌+◌, ◌<◌, true, nat_le, nat_lt, List, [], ◌∷◌, ◌++◌, drop, length, All, append-nil, Result, Ok, Err, IfOk, IfErr, OnOk, OnErr, refl, sym, ap, ◌∙◌, subst, arith}
+use Rattle.std.proofs.Common.{◌≡◌, ◌≢◌, ℕ, ◌+◌, ◌<◌, ◌≤◌, ◌^◌, true, nat_le, nat_lt, List, [], ◌∷◌, ◌++◌, drop, length, All, append-nil, Result, Ok, Err, IfOk, IfErr, OnOk, OnErr, refl, sym, ap, ◌∙◌, subst, arith}
 use Rattle.std.proofs.lemmas.List.{drop_at}
-use Rattle.std.proofs.lemmas.List.Elements.{filter-append, All-head, All-drop, All-same}
+use Rattle.std.proofs.lemmas.List.Elements.{filter-append, All-head, All-drop, All-same, All-weaker, All-push}
 use Rattle.std.proofs.lemmas.Bool.Decides.{nat_tests}
 use Rattle.ticket_lock.specs.Calls.{mine_of, IsDrawn, Finds, IsBack, IsWorn}
 use Rattle.ticket_lock.specs.Entries.{is_under, entries_under}
@@ -19,7 +19,7 @@ use Rattle.trace_command.specs.declared.command.Entry.{Entry}
 use Rattle.trace_command.specs.declared.command.Reply.{Reply}
 use Rattle.trace_command.specs.declared.refusal.Refusal.{Refusal}
 use Rattle.trace_command.specs.declared.refusal.Refusal.TheVariants.{Memory, Worn}
-use Rattle.trace_workers.specs.Asks.{caller_of, AreOthers, Rises, IsDone, IsRefused}
+use Rattle.trace_workers.specs.Asks.{caller_of, AreOthers, GoesOn, IsAhead, Rises, IsDone, IsRefused}
 
 -- an entry under the first name is the pass's own
 own_entry : (low end : ℕ) (entry : Entry) → entry.by ≡ low → low < end → entries_under caller_of low end (entry ∷ []) ≡ entry ∷ []
@@ -37,6 +37,11 @@ none_of_all v (e ∷ others) names none callers =
     let below : nat_lt e.by v.end ≡ true = rw names.1 (grind (arith, nat_tests)) in
     absurd (grind (arith, none, above, below))
 
+-- entries below a front are below a later one
+pub ahead_of : (front later : ℕ) (entries : List Entry) → front ≤ later → All (λ (e : Entry). e.ticket < front) entries → All (λ (e : Entry). e.ticket < later) entries
+ahead_of front later entries order =
+    All-weaker (λ (e : Entry). e.ticket < front) (λ (e : Entry). e.ticket < later) (λ e below. omega (arith, below, order)) entries
+
 -- what the lock's history has behind what was seen is of callers
 others_are_callers : (seen others found : List Entry) → found ≡ seen ++ others → All (λ (e : Entry). e.by < 65536) found → All (λ (e : Entry). e.by < 65536) others
 others_are_callers seen others found is all =
@@ -48,6 +53,18 @@ module _ (v h w : View Entry) (served : ℕ) (drawn : IsDrawn v h served) where
   rises left back = record {
     risen = omega (arith, drawn.risen, back.front);
     all_names = λ all. back.front ∙ drawn.all_names all;
+  }
+
+  -- what a turn left is below the front, where what it found is below its ticket
+  goes_on : (left : List Entry) → IsBack h w left → All (λ (e : Entry). e.ticket < served + 1) left → GoesOn v w
+  goes_on left back below = record {
+    low = back.low ∙ drawn.low;
+    end = back.end ∙ drawn.end;
+    base = back.base ∙ drawn.base;
+    front = omega (arith, drawn.risen, back.front);
+    ahead = λ known.
+        let P : List Entry → ℕ → Type 0 = λ es front. All (λ (e : Entry). e.ticket < front) es in
+        subst (λ (es : List Entry). P es w.front) (sym back.seen) (subst (λ (n : ℕ). P left n) (sym (back.front ∙ drawn.front)) below);
   }
 
   module _ (finds : Finds (λ (e : Entry). e.ticket) caller_of v served h.seen) (config : Config) (base : numbers_of config ≡ v.base) where
@@ -110,6 +127,25 @@ module _
     found : before.entries ≡ h.seen
     found = rw lent entries
 
+    pub asked_goes_on : OnOk answered (after.entries ≡ before.entries ++ record { ticket = ticket; by = by; command = command } ∷ [])
+        → OnErr answered (after.entries ≡ before.entries) → IsBack h w after.entries → GoesOn v w
+    asked_goes_on grown same back = goes_on v h w served drawn after.entries back (go answered grown same)
+      where
+        P : List Entry → Type 0
+        P es = All (λ (e : Entry). e.ticket < served + 1) es
+
+        below : P h.seen
+        below = ahead_of served (served + 1) h.seen (omega arith) finds.below
+
+        go : (r : Result Reply Refusal) → OnOk r (after.entries ≡ before.entries ++ record { ticket = ticket; by = by; command = command } ∷ [])
+            → OnErr r (after.entries ≡ before.entries) → P after.entries
+        go (Ok text) more kept =
+            let entry : Entry = record { ticket = ticket; by = by; command = command } in
+            let left : after.entries ≡ h.seen ++ entry ∷ [] = more ∙ ap (λ (es : List Entry). es ++ entry ∷ []) found in
+            subst (λ (es : List Entry). P es) (sym left)
+            (All-push (λ (e : Entry). e.ticket < served + 1) h.seen entry below (omega (arith, ticket_is)))
+        go (Err refusal) more kept = subst (λ (es : List Entry). P es) (sym (kept ∙ found)) below
+
     pub asked_done : OrMemory answered (answer_to before.config before.entries command)
         → OnOk answered (after.entries ≡ before.entries ++ record { ticket = ticket; by = by; command = command } ∷ [])
         → IsBack h w after.entries → IfOk answered (IsDone v w command)
@@ -143,6 +179,16 @@ module _
             let R : List Entry → Type 0 = λ es. IsFoundEarly (answer_to before.config es command) → answer_to before.config es command ≡ Err refusal in
             refused v h w served drawn finds before.config base_before command refusal
             (subst P (kept ∙ found) back) (subst Q found is) (subst R found (λ is_early. sym (first is_early)))
+
+-- all tickets are drawn: the front is at its end
+pub worn_goes_on : (v w : View Entry) → v.front ≤ 2 ^ 63 → IsWorn v w → GoesOn v w
+worn_goes_on v w bounded worn = record {
+  low = ap (λ (x : View Entry). x.low) worn.same;
+  end = ap (λ (x : View Entry). x.end) worn.same;
+  base = ap (λ (x : View Entry). x.base) worn.same;
+  front = subst (λ (n : ℕ). v.front ≤ n) (sym (ap (λ (x : View Entry). x.front) worn.same)) bounded;
+  ahead = λ known. subst (λ (x : View Entry). IsAhead x) (sym worn.same) (ahead_of v.front (2 ^ 63) v.seen bounded known);
+}
 
 -- all tickets are drawn: nothing was seen, and nobody was asked
 pub asked_worn : (v w : View Entry) (command : Command) → IsWorn v w → IsRefused v w command Worn

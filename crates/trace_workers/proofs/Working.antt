@@ -13,7 +13,7 @@ use Rattle.trace_history.specs.History.{IsLegal}
 use Rattle.trace_book.specs.Bases.{numbers_of}
 use Rattle.trace_history.specs.Trails.{IsTrail, IsWithout, IsRefusedAfter}
 use Rattle.trace_history.specs.Blocks.{Trail, StandsIn, IsUnworn}
-use Rattle.trace_workers.specs.Asks.{GoesOn, IsDone, IsRefused, AreOthers}
+use Rattle.trace_workers.specs.Asks.{IsAhead, GoesOn, IsDone, IsRefused, AreOthers}
 use Rattle.trace_workers.specs.PartRuns.{IsNameOf, HasRun, begun_trail, HasAsked}
 use Rattle.trace_command.specs.declared.command.Command.{Command}
 use Rattle.trace_command.specs.declared.command.Config.{Config}
@@ -23,6 +23,7 @@ use Rattle.trace_command.specs.declared.refusal.Refusal.{Refusal}
 use Rattle.trace_command.specs.declared.refusal.Refusal.TheVariants as Refusals
 use Rattle.trace_command.specs.declared.refusal.Refusal.TheVariants.{Worn}
 use Rattle.trace_workers.specs.declared.fault.BlockFault.{BlockFault}
+use Rattle.trace_workers.proofs.Asking.{ahead_of}
 use Rattle.trace_history.proofs.Trailing.{trail-grows, trail-append, trail-done, trail-refused}
 
 abbrev Answer : Type 0
@@ -74,7 +75,7 @@ any_append P trails trail (k, x, within, at, holds) =
 -- nothing was done
 pub run_none : (v : View Entry) → HasRun v v []
 run_none v = record {
-  goes_on = record { low = refl; end = refl; base = refl; front = omega arith };
+  goes_on = record { low = refl; end = refl; base = refl; front = omega arith; ahead = λ known. known };
   after = [];
   seen = sym (append-nil v.seen);
   each = λ g is. All-nil (StandsIn g v.seen []);
@@ -90,7 +91,7 @@ pub asked_none : (v : View Entry) (commands : List Command) (fault : Option Bloc
     → HasAsked v v commands [] fault
 asked_none v commands fault some all = record {
   run = record {
-    goes_on = record { low = refl; end = refl; base = refl; front = omega arith };
+    goes_on = record { low = refl; end = refl; base = refl; front = omega arith; ahead = λ known. known };
     after = [];
     seen = sym (append-nil v.seen);
     each = λ g is. one (StandsIn g v.seen []) (begun_trail v.low commands []) (All-nil (λ (entry : Entry). entry.by ≢ v.low));
@@ -150,7 +151,13 @@ asked_then v w x commands others replies answers fault first second =
     let seen : x.seen ≡ v.seen ++ (r.after ++ s.after) = s.seen ∙ ap (λ (es : List Entry). es ++ s.after) r.seen ∙ append_assoc v.seen r.after s.after in
     record {
       run = record {
-        goes_on = record { low = s.goes_on.low ∙ r.goes_on.low; end = s.goes_on.end ∙ r.goes_on.end; base = s.goes_on.base ∙ r.goes_on.base; front = omega (arith, r.goes_on.front, s.goes_on.front) };
+        goes_on = record {
+          low = s.goes_on.low ∙ r.goes_on.low;
+          end = s.goes_on.end ∙ r.goes_on.end;
+          base = s.goes_on.base ∙ r.goes_on.base;
+          front = omega (arith, r.goes_on.front, s.goes_on.front);
+          ahead = λ known. s.goes_on.ahead (r.goes_on.ahead known);
+        };
         after = r.after ++ s.after;
         seen = seen;
         each = λ g is. one (StandsIn g v.seen (r.after ++ s.after)) both
@@ -223,6 +230,20 @@ either_half low middle end by trails trail lower upper =
 longer_is : {X : Type 0} (xs ys : List X) → (longer_of xs ys ≡ xs) ⊎ (longer_of xs ys ≡ ys)
 longer_is xs ys = chosen (nat_lt (length xs) (length ys)) xs ys
 
+-- the front of passes that met is ahead where each of theirs is
+meet_ahead : (v a b x y m : View Entry) → AreHalves v a b → IsMet (λ (e : Entry). e.ticket) (λ (e : Entry). e.by) x y m
+    → IsAhead v → (IsAhead a → IsAhead x) → (IsAhead b → IsAhead y) → IsAhead m
+meet_ahead v a b x y m halves met known first second =
+    let P : List Entry → ℕ → Type 0 = λ es front. All (λ (e : Entry). e.ticket < front) es in
+    let known_a : P a.seen a.front =
+    subst (λ (es : List Entry). P es a.front) (sym halves.seen.0) (subst (λ (n : ℕ). P v.seen n) (sym halves.front.0) known) in
+    let known_b : P b.seen b.front =
+    subst (λ (es : List Entry). P es b.front) (sym halves.seen.1) (subst (λ (n : ℕ). P v.seen n) (sym halves.front.1) known) in
+    elim (longer_is x.seen y.seen) [
+      | inl e ↦ subst (λ (es : List Entry). P es m.front) (sym (met.seen ∙ e)) (ahead_of x.front m.front x.seen met.front.0 (first known_a))
+      | inr e ↦ subst (λ (es : List Entry). P es m.front) (sym (met.seen ∙ e)) (ahead_of y.front m.front y.seen met.front.1 (second known_b))
+    ]
+
 -- what all did under the lower names and what one did under the upper
 pub run_meet : (v a b x y m : View Entry) (trails : List Trail) (trail : Trail) → v.low < v.end
     → AreHalves v a b → HasRun a x trails → HasRun b y (trail ∷ []) → IsMet (λ (e : Entry). e.ticket) (λ (e : Entry). e.by) x y m
@@ -251,7 +272,13 @@ run_meet v a b x y m trails trail some halves lower upper met =
     (λ e none named. none (rw (upper.goes_on.low, upper.goes_on.end) named)) met.second.0 (none_under y.low y.end met.second.0 met.second.2) in
     let of_b : IsNameOf b trail.by = only (λ (t : Trail). IsNameOf b t.by) trail upper.named in
     record {
-      goes_on = record { low = met.low ∙ low_a; end = met.end ∙ end_b; base = met.base ∙ lower.goes_on.base ∙ halves.base.0; front = omega (arith, halves.front.0, lower.goes_on.front, met.front.0) };
+      goes_on = record {
+        low = met.low ∙ low_a;
+        end = met.end ∙ end_b;
+        base = met.base ∙ lower.goes_on.base ∙ halves.base.0;
+        front = omega (arith, halves.front.0, lower.goes_on.front, met.front.0);
+        ahead = λ known. meet_ahead v a b x y m halves met known lower.goes_on.ahead upper.goes_on.ahead;
+      };
       after = after;
       seen = seen;
       each = λ g is.

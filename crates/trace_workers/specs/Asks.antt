@@ -1,5 +1,5 @@
 -- What one `ask` comes to, told by what the caller's pass knows: `v` is that before the call, and `w` after it.
-use Rattle.std.specs.Prelude.{◌≡◌, ◌≢◌, ℕ, ◌+◌, ◌<◌, ◌≤◌, List, [], ◌∷◌, ◌++◌, Err}
+use Rattle.std.specs.Prelude.{◌≡◌, ◌≢◌, ℕ, ◌+◌, ◌<◌, ◌≤◌, List, [], ◌∷◌, ◌++◌, All, Err}
 use Rattle.ticket_lock.specs.Calls.{mine_of, IsWorn}
 use Rattle.ticket_lock.specs.Entries.{entries_under}
 use Rattle.ticket_lock.specs.Views.{HasAllNames}
@@ -19,12 +19,17 @@ use Rattle.trace_command.specs.declared.refusal.Refusal.TheVariants.{Memory, Wor
 abbrev pub caller_of : Entry → ℕ
 caller_of entry = entry.by
 
--- The pass keeps its names and its base, and its front never falls.
+-- the front is above the tickets of all entries that the pass has seen
+abbrev pub IsAhead : View Entry → Type 0
+IsAhead v = All (λ (entry : Entry). entry.ticket < v.front) v.seen
+
+-- The pass keeps its names and its base. Its front never falls, and stays ahead of what the pass has seen.
 pub record GoesOn (v w : View Entry) : Type 0 where
   pub low : w.low ≡ v.low
   pub end : w.end ≡ v.end
   pub base : w.base ≡ v.base
   pub front : v.front ≤ w.front
+  pub ahead : IsAhead v → IsAhead w
 
 -- A ticket was drawn: the front has risen, and that of a pass with all names by just one.
 pub record Rises (v w : View Entry) : Type 0 where

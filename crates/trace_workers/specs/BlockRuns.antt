@@ -5,6 +5,7 @@ use Rattle.ticket_lock.specs.declared.views.View.{View}
 use Rattle.trace_history.specs.History.{IsLegal}
 use Rattle.trace_history.specs.Blocks.{Trail, IsBlock, IsUnworn}
 use Rattle.trace_book.specs.Bases.{numbers_of}
+use Rattle.trace_workers.specs.Asks.{IsAhead}
 use Rattle.trace_workers.specs.declared.part.Part.{Part}
 use Rattle.trace_command.specs.declared.command.Command.{Command}
 use Rattle.trace_command.specs.declared.command.Config.{Config}
@@ -24,6 +25,7 @@ pub record IsAfterBlock (v w : View Entry) (trails : List Trail) : Type 0 where
   pub names : HasAllNames w
   pub base : w.base ≡ v.base
   pub front : v.front ≤ w.front
+  pub ahead : IsAhead v → IsAhead w
   pub after : List Entry
   pub seen : w.seen ≡ v.seen ++ after
   pub block : (g : Config) → numbers_of g ≡ v.base → IsLegal g v.seen → IsBlock g v.seen after trails

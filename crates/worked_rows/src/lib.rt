@@ -28,6 +28,8 @@ mod limits;
 #[cfg(test)]
 mod memory;
 #[cfg(test)]
+mod parts;
+#[cfg(test)]
 mod paths;
 #[cfg(test)]
 mod refusals;

@@ -1,13 +1,14 @@
 use Rattle.std.proofs.Common.{◌+◌, ◌≤◌}
 use Rattle.std.specs.Option.{option_copied}
-use Rattle.trace_session.specs.PartReads.{commands_in}
+use Rattle.trace_session.specs.PartReads.{item_of, HasItsLine}
 use Rattle.trace_session.specs.Sessions.{lines_left, bytes_left}
 use Rattle.trace_session.proofs.PartReading.{Reads}
 use Rattle.trace_session.proofs.part.read_part.Given as goal
 
 abbrev pub invariant-loop-rest : goal.invariant-loop-rest
 invariant-loop-rest l = record {
-  reads : Reads l.number (lines_left (option_copied l.text)) l.reading.fault (commands_in l.reading.threads.items) l.lines (lines_left (option_copied l.rest));
+  reads : Reads l.number (lines_left (option_copied l.text)) (item_of l.part) l.lines (lines_left (option_copied l.rest));
+  kept : HasItsLine l.number (lines_left (option_copied l.text)) l.part;
   room : l.lines + bytes_left (option_copied l.rest) ≤ bytes_left (option_copied l.text);
 }
 

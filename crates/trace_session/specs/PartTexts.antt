@@ -1,0 +1,35 @@
+-- What the code that writes for a part promises. It has the numbers of the commands' lines, and no longer the commands.
+use Rattle.std.specs.Prelude.{◌≡◌, Vec, ℕ, ◌+◌, Bool, List, [], ◌∷◌, ◌++◌, map, length, Some, Result}
+use Rattle.std.specs.declared.alloc.Global.{Global}
+use Rattle.trace_command.specs.declared.command.Reply.{Reply}
+use Rattle.trace_command.specs.declared.refusal.Refusal.{Refusal}
+use Rattle.trace_script.specs.Rendering.{rendered}
+use Rattle.trace_session.specs.Parts.{outcome_of, thread_line}
+use Rattle.trace_session.specs.Sessions.{is_refusal}
+use Rattle.trace_workers.specs.declared.part.Part.{Part}
+
+-- what is written for replies to commands that stand in lines of these numbers
+abbrev pub numbered_text : List ℕ → List (Result Reply Refusal) → List ℕ
+numbered_text (number ∷ numbers) (reply ∷ replies) = rendered number (outcome_of reply) ++ numbered_text numbers replies
+numbered_text _ _ = []
+
+-- the same for threads from this one on
+abbrev pub numbered_threads : ℕ → List (List ℕ) → List (List (Result Reply Refusal)) → List ℕ
+numbered_threads thread (own ∷ numbers) (replies ∷ more) = thread_line thread ++ numbered_text own replies ++ numbered_threads (thread + 1) numbers more
+numbered_threads thread _ _ = []
+
+-- the reply is a refusal
+abbrev pub refuses : Result Reply Refusal → Bool
+refuses reply = is_refusal (Some (outcome_of reply))
+
+-- the replies of each part of a block
+abbrev pub replies_in : List Part → List (List (Result Reply Refusal))
+replies_in done = map (λ (part : Part). part.replies.items) done
+
+-- the items of each
+abbrev pub items_in : {X : Type 0} → List (Vec X Global) → List (List X)
+items_in {X} all = map (λ (own : Vec X Global). own.items) all
+
+-- there is a number for each reply
+abbrev pub AreNumbered : List (List ℕ) → List (List (Result Reply Refusal)) → Type 0
+AreNumbered numbers replies = map (λ (own : List ℕ). length own) numbers ≡ map (λ (own : List (Result Reply Refusal)). length own) replies

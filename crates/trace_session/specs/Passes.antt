@@ -1,0 +1,21 @@
+-- What a session's pass knows between two items.
+use Rattle.std.specs.Prelude.{◌≡◌, ◌<◌, All}
+use Rattle.ticket_lock.specs.Views.{HasAllNames}
+use Rattle.ticket_lock.specs.declared.views.View.{View}
+use Rattle.trace_book.specs.Bases.{numbers_of}
+use Rattle.trace_command.specs.declared.command.Config.{Config}
+use Rattle.trace_command.specs.declared.command.Entry.{Entry}
+use Rattle.trace_history.specs.History.{IsLegal}
+use Rattle.trace_session.specs.Sessions.{Progress, so_far}
+
+-- how far the session has come. Its lock's tickets count from 0, so as many were drawn as commands were asked
+abbrev pub progress_of : View Entry → Progress
+progress_of v = so_far v.seen v.front
+
+-- The pass of a session: it has all names, and its lock is over a book of this configuration. What it has seen is a legal history, with tickets
+-- below the next one.
+pub record IsSessionPass (g : Config) (v : View Entry) : Type 0 where
+  pub names : HasAllNames v
+  pub base : numbers_of g ≡ v.base
+  pub legal : IsLegal g v.seen
+  pub below : All (λ (entry : Entry). entry.ticket < v.front) v.seen

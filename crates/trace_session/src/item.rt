@@ -1,0 +1,95 @@
+//! The items of a script, read one after the other: a line by itself, or a whole part.
+
+ghost use Rattle.std.specs.Prelude.{◌≡◌, ℕ, List, ◌+◌, ◌-◌, ◌<◌, ◌≤◌, ◌^◌, ◌∷◌, length, IfOk};
+ghost use Rattle.std.specs.Option.{option_copied};
+ghost use Rattle.trace_session.specs.Items.{items_from};
+ghost use Rattle.trace_session.specs.PartReads.{item_of, HasItsLine};
+ghost use Rattle.trace_session.specs.NextItems.{item_read, begins_with, IsSaid, HasFaultLine};
+ghost use Rattle.trace_session.specs.Sessions.{lines_of, lines_left, bytes_left};
+
+use crate::part::{FaultAt, Numbered, Part, read_line, read_part};
+use crate::script::first_line;
+use std::alloc::{AllocError, Global};
+use trace_script::{Line, ScriptFault};
+
+/// An item that was read.
+#[derive(Debug, Drop)]
+pub enum ItemRead<'a> {
+    /// A line by itself, and what it asks for or its fault.
+    Line {
+        line: &'a [u8],
+        said: Result<Line, ScriptFault>,
+    },
+    /// The commands of each thread of a part.
+    Threads(Vec<Vec<Numbered>>),
+    /// The fault of the earliest line of a part that has one, and that line.
+    Fault {
+        at: FaultAt,
+        line: &'a [u8],
+    },
+}
+
+/// The next item of a script, and what follows it.
+#[derive(Debug, Drop)]
+pub struct NextItem<'a> {
+    pub item: ItemRead<'a>,
+    /// The number of the first line after it.
+    pub number: usize,
+    /// What follows it, if anything does.
+    pub rest: Option<&'a [u8]>,
+}
+
+/// A part that was read, as an item.
+fn part_item<'a>(part: Part<'a>) -> ItemRead<'a>
+    ensures item { (number : ℕ) → item_read number result ≡ item_of part.entry }
+    ensures said { IsSaid result }
+    ensures line { (first : ℕ) (lines : List (List ℕ)) → HasItsLine first lines part.entry → HasFaultLine first lines result }
+{
+    match part {
+        Part::Threads(threads) => ItemRead::Threads(threads),
+        Part::Fault { at, line } => ItemRead::Fault { at, line },
+    }
+}
+
+/// Whether a line begins a part, if an `end` follows it.
+fn begins(said: &Result<Line, ScriptFault>) -> bool
+    ensures { result ≡ begins_with said.now }
+{
+    matches!(said, Ok(Line::Parallel))
+}
+
+/// Reads the item that a string begins with, whose first line has this number: a part, where that line is `parallel` and a line `end` follows
+/// it; else one line. It fails only if memory is refused.
+#[tactic(auto, using(crate::proofs::ItemReading::part_next, crate::proofs::ItemReading::line_next, crate::proofs::ItemReading::endless_next))]
+pub fn next_item<'a>(
+    alloc: Global,
+    number: usize,
+    text: &'a [u8],
+) -> Result<NextItem<'a>, AllocError>
+    requires room { number + length text.now < 2 ^ 63 - 1 }
+    ensures read { IfOk result (λ next. items_from number 0 (lines_of text.now)
+        ≡ item_read number next.item ∷ items_from next.number 0 (lines_left (option_copied next.rest))) }
+    ensures said { IfOk result (λ next. IsSaid next.item) }
+    ensures line { IfOk result (λ next. HasFaultLine number (lines_of text.now) next.item) }
+    ensures shorter { IfOk result (λ next. bytes_left (option_copied next.rest) ≤ length text.now) }
+    ensures room { IfOk result (λ next. next.number + bytes_left (option_copied next.rest) ≤ number + length text.now + 1) }
+{
+    let (line, after) = first_line(text);
+    let Ok(said) = read_line(alloc, line) else {
+        return Err(AllocError);
+    };
+    if begins(&said) {
+        if let Some(read) = read_part(alloc, number + 1, after)? {
+            return Ok(NextItem {
+                item: part_item(read.part),
+                number: number + 1 + read.lines + 1,
+                rest: read.rest,
+            });
+        }
+    }
+    Ok(NextItem {
+        item: ItemRead::Line { line, said },
+        number: number + 1,
+        rest: after,
+    })
+}

@@ -1,0 +1,72 @@
+//! A line by itself, asked through the lock.
+
+ghost use Rattle.std.specs.Prelude.{◌≡◌, ℕ, List, IfOk, IsErrOf};
+ghost use Rattle.ticket_lock.specs.Calls.{view_of, IsOf};
+ghost use Rattle.trace_command.specs.declared.command.Config.{Config};
+ghost use Rattle.trace_history.specs.History.{answer_to};
+ghost use Rattle.trace_script.specs.Lines.{line_of};
+ghost use Rattle.trace_session.specs.Passes.{IsSessionPass, progress_of};
+ghost use Rattle.trace_session.specs.Sessions.{answered, turn_of};
+
+use crate::stop::Stop;
+use std::sync::Wait;
+use ticket_lock::{Pass, TicketLock};
+use trace_book::Book;
+use trace_command::{Command, Refusal};
+use trace_script::{Line, Outcome, ScriptFault};
+use trace_workers::ask;
+
+/// Asks a command. That all tickets are drawn no script comes to; it stops the session as refused memory does.
+fn ask_command<R: Wait>(
+    rt: &R,
+    lock: &TicketLock<Book>,
+    pass: Pass<Book>,
+    command: Command,
+) -> (Pass<Book>, Result<Outcome, Stop>)
+    requires { IsOf lock.now pass }
+    ensures of { IsOf lock.now result.0 }
+    ensures session { (g : Config) → IsSessionPass g (view_of pass) → IsSessionPass g (view_of result.0) }
+    ensures turn { IfOk result.1 (λ outcome. (g : Config) → IsSessionPass g (view_of pass)
+        → answered (progress_of (view_of pass)) command (answer_to g (view_of pass).seen command)
+        ≡ record { outcome = Some outcome; progress = progress_of (view_of result.0) }) }
+    ensures device { IsErrOf result.1 Stop.Device → ⊥ }
+{
+    let (pass, answer) = ask(rt, lock, pass, command);
+    match answer {
+        Ok(reply) => (pass, Ok(Outcome::Replied(reply))),
+        Err(Refusal::Memory | Refusal::Worn) => (pass, Err(Stop::Memory)),
+        Err(refusal) => (pass, Ok(Outcome::Refused(refusal))),
+    }
+}
+
+/// Asks for what a line asks for. The ticket of a command is the number of commands that were asked before it.
+#[tactic(auto, unfolding(crate::specs::Sessions::turn_of))]
+pub(crate) fn ask_line<R: Wait>(
+    rt: &R,
+    lock: &TicketLock<Book>,
+    pass: Pass<Book>,
+    said: Result<Line, ScriptFault>,
+) -> (Pass<Book>, Result<Option<Outcome>, Stop>)
+    requires { IsOf lock.now pass }
+    ensures of { IsOf lock.now result.0 }
+    ensures session { (g : Config) → IsSessionPass g (view_of pass) → IsSessionPass g (view_of result.0) }
+    ensures turn { IfOk result.1 (λ outcome. (g : Config) (text : List ℕ) → IsSessionPass g (view_of pass) → said ≡ line_of text
+        → turn_of g (progress_of (view_of pass)) text
+        ≡ record { outcome = outcome; progress = progress_of (view_of result.0) }) }
+    ensures device { IsErrOf result.1 Stop.Device → ⊥ }
+{
+    match said {
+        Ok(Line::Blank) => (pass, Ok(None)),
+        Ok(Line::Ask(command)) => {
+            let (pass, outcome) = ask_command(rt, lock, pass, command);
+            match outcome {
+                Ok(outcome) => (pass, Ok(Some(outcome))),
+                Err(stop) => (pass, Err(stop)),
+            }
+        }
+        Ok(Line::Parallel | Line::Thread | Line::End) => {
+            (pass, Ok(Some(Outcome::Fault(ScriptFault::BlockOutOfPlace))))
+        }
+        Err(fault) => (pass, Ok(Some(Outcome::Fault(fault)))),
+    }
+}

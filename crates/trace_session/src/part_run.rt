@@ -1,0 +1,56 @@
+//! A part: its threads ask their commands side by side, and what they give is put together.
+
+ghost use Rattle.std.specs.Prelude.{◌≡◌, ◌≢◌, ◌≤◌, true, vec_len, IfOk, IfErr};
+ghost use Rattle.ticket_lock.specs.Calls.{view_of, IsOf};
+ghost use Rattle.trace_command.specs.declared.command.Config.{Config};
+ghost use Rattle.trace_session.specs.PartReads.{commands_in};
+ghost use Rattle.trace_session.specs.Parts.{Given, PartMayGive};
+ghost use Rattle.trace_session.specs.Passes.{IsSessionPass, progress_of};
+ghost use Rattle.trace_session.specs.Sessions.{status_of};
+ghost use Rattle.trace_workers.specs.declared.fault.BlockFault.TheVariants.{Stopped};
+
+use crate::part::Numbered;
+use crate::part_split::split_threads;
+use crate::part_text::{Written, write_threads};
+use std::alloc::Global;
+use std::sync::Wait;
+use std::thread::Threads;
+use ticket_lock::{Pass, TicketLock};
+use trace_book::Book;
+use trace_workers::{BlockFault, Gate, run_block};
+
+/// Runs the threads of a part side by side, and gives what is to be written for it.
+///
+/// Memory is told where it was refused, and where a command got no turn since all tickets are drawn, to which no script comes. After a fault
+/// nothing is to be written for the part, though some of its commands may have been done: the pass has seen them.
+pub fn run_part<R: Threads + Wait + Sync, G: Gate + Sync>(
+    rt: &R,
+    alloc: Global,
+    lock: &TicketLock<Book>,
+    pass: Pass<Book>,
+    threads: Vec<Vec<Numbered>>,
+    gate: &G,
+) -> (Pass<Book>, Result<Written, BlockFault>)
+    requires of { IsOf lock.now pass }
+    requires session { (g : Config) × IsSessionPass g (view_of pass) }
+    requires few { vec_len threads ≤ 8 }
+    ensures of { IsOf lock.now result.0 }
+    ensures session { (g : Config) → IsSessionPass g (view_of pass) → IsSessionPass g (view_of result.0) }
+    ensures given { IfOk result.1 (λ written. (g : Config) → IsSessionPass g (view_of pass)
+        → (given : Given) × PartMayGive g (commands_in threads.items) (progress_of (view_of pass)) (progress_of (view_of result.0)) given
+        × (given.text ≡ written.text.items) × (written.status ≡ status_of given.outcomes)) }
+    ensures open { G.is_open gate.now ≡ true → IfErr result.1 (λ fault. fault ≢ Stopped) }
+{
+    let Ok((numbers, commands)) = split_threads(alloc, threads) else {
+        return (pass, Err(BlockFault::Memory));
+    };
+    let (pass, replied) = run_block(rt, alloc, lock, pass, commands, gate);
+    let done = match replied {
+        Ok(done) => done,
+        Err(fault) => return (pass, Err(fault)),
+    };
+    match write_threads(alloc, &numbers, done) {
+        Ok(written) => (pass, Ok(written)),
+        Err(_) => (pass, Err(BlockFault::Memory)),
+    }
+}

@@ -1,0 +1,154 @@
+//! What is written for a part. All of it is put together before any of it is written, so that no half of a part is.
+
+ghost use Rattle.std.specs.Prelude.{◌≡◌, ◌≢◌, ◌||◌, ◌++◌, if◌then◌else◌, All, length, Err, IfOk, OnOk, IsErrOf};
+ghost use Rattle.std.specs.List.{list_any};
+ghost use Rattle.trace_command.specs.declared.refusal.Refusal.TheVariants.{Worn};
+ghost use Rattle.trace_history.specs.Blocks.{IsUnworn};
+ghost use Rattle.trace_script.specs.Rendering.{rendered};
+ghost use Rattle.trace_session.specs.Parts.{outcome_of, outcomes_in, thread_line};
+ghost use Rattle.trace_session.specs.PartTexts.{numbered_text, numbered_threads, refuses, replies_in, items_in, AreNumbered};
+ghost use Rattle.trace_session.specs.Sessions.{status_of};
+
+use crate::status::Status;
+use crate::stop::Stop;
+use std::alloc::{AllocError, Global};
+use trace_command::{Refusal, Reply};
+use trace_script::{Outcome, render};
+use trace_workers::Part;
+
+/// What a part gives: the bytes that are to be written for it, and the status of its commands.
+#[derive(Debug, Drop)]
+pub struct Written {
+    pub text: Vec<u8>,
+    pub status: Status,
+}
+
+/// What the first commands of a part give, and whether any of them was refused.
+#[derive(Drop)]
+struct Writing {
+    text: Vec<u8>,
+    is_refused: bool,
+}
+
+/// Adds what is written for the line of this number.
+fn add_outcome(
+    alloc: Global,
+    number: usize,
+    outcome: &Outcome,
+    text: &mut Vec<u8>,
+) -> Result<(), AllocError>
+    ensures { OnOk result (text.new.items ≡ text.old.items ++ rendered number outcome.now) }
+{
+    match outcome {
+        Outcome::Replied(Reply::Text(reply)) => text.extend_from_slice(reply.as_bytes()),
+        outcome => {
+            let line = render(alloc, number, outcome)?;
+            text.extend_from_slice(&line)
+        }
+    }
+}
+
+/// Adds what is written for a command in the line of this number. A command that got no turn is told as refused memory.
+fn add_reply(
+    alloc: Global,
+    number: usize,
+    reply: Result<Reply, Refusal>,
+    writing: &mut Writing,
+) -> Result<(), Stop>
+    ensures text { OnOk result (writing.new.text.items ≡ writing.old.text.items ++ rendered number (outcome_of reply)) }
+    ensures refused { OnOk result (writing.new.is_refused ≡ (writing.old.is_refused || refuses reply)) }
+    ensures unworn { OnOk result (reply ≢ Err Worn) }
+    ensures device { IsErrOf result Stop.Device → ⊥ }
+{
+    let outcome = match reply {
+        Ok(reply) => Outcome::Replied(reply),
+        Err(Refusal::Worn) => return Err(Stop::Memory),
+        Err(refusal) => {
+            writing.is_refused = true;
+            Outcome::Refused(refusal)
+        }
+    };
+    add_outcome(alloc, number, &outcome, &mut writing.text)?;
+    Ok(())
+}
+
+/// Adds what is written for a thread's commands, which stand in lines of these numbers.
+fn add_replies(
+    alloc: Global,
+    numbers: &[usize],
+    replies: Vec<Result<Reply, Refusal>>,
+    writing: &mut Writing,
+) -> Result<(), Stop>
+    requires { length numbers.now ≡ length replies.items }
+    ensures text { OnOk result (writing.new.text.items ≡ writing.old.text.items ++ numbered_text numbers.now replies.items) }
+    ensures refused { OnOk result (writing.new.is_refused ≡ (writing.old.is_refused || list_any refuses replies.items)) }
+    ensures unworn { OnOk result (IsUnworn replies.items) }
+    ensures device { IsErrOf result Stop.Device → ⊥ }
+{
+    let mut i = 0;
+    for reply in replies {
+        add_reply(alloc, numbers[i], reply, writing)?;
+        i += 1;
+    }
+    Ok(())
+}
+
+/// Adds the line of a thread, and what is written for its commands.
+fn add_thread(
+    alloc: Global,
+    thread: usize,
+    numbers: &[usize],
+    replies: Vec<Result<Reply, Refusal>>,
+    writing: &mut Writing,
+) -> Result<(), Stop>
+    requires { length numbers.now ≡ length replies.items }
+    ensures text { OnOk result (writing.new.text.items
+        ≡ writing.old.text.items ++ (thread_line thread ++ numbered_text numbers.now replies.items)) }
+    ensures refused { OnOk result (writing.new.is_refused ≡ (writing.old.is_refused || list_any refuses replies.items)) }
+    ensures unworn { OnOk result (IsUnworn replies.items) }
+    ensures device { IsErrOf result Stop.Device → ⊥ }
+{
+    let line = format!(in alloc; "-- thread {thread}\n")?;
+    writing.text.extend_from_slice(line.as_bytes())?;
+    add_replies(alloc, numbers, replies, writing)
+}
+
+/// What a part gives, all of whose commands give this.
+fn finish(writing: Writing) -> Written
+    ensures text { result.text.items ≡ writing.text.items }
+    ensures status { result.status ≡ (if writing.is_refused then Status.Refused else Status.Done) }
+{
+    Written {
+        text: writing.text,
+        status: if writing.is_refused {
+            Status::Refused
+        } else {
+            Status::Done
+        },
+    }
+}
+
+/// What the threads of a part give, whose commands stand in lines of these numbers.
+pub(crate) fn write_threads(
+    alloc: Global,
+    numbers: &[Vec<usize>],
+    done: Vec<Part>,
+) -> Result<Written, Stop>
+    requires { AreNumbered (items_in numbers.now) (replies_in done.items) }
+    ensures text { IfOk result (λ written.
+        written.text.items ≡ numbered_threads 0 (items_in numbers.now) (replies_in done.items)) }
+    ensures status { IfOk result (λ written. written.status ≡ status_of (outcomes_in (replies_in done.items))) }
+    ensures unworn { OnOk result (All IsUnworn (replies_in done.items)) }
+    ensures device { IsErrOf result Stop.Device → ⊥ }
+{
+    let mut writing = Writing {
+        text: Vec::new(alloc),
+        is_refused: false,
+    };
+    let mut thread = 0;
+    for part in done {
+        add_thread(alloc, thread, &numbers[thread], part.replies, &mut writing)?;
+        thread += 1;
+    }
+    Ok(finish(writing))
+}
