@@ -14,7 +14,7 @@ use std::io::{ErrorKind, Read};
 use std::process::ExitCode;
 use stop::Stop;
 use trace_book::{Book, Config};
-use trace_session::{Input, OpenGate, Output, Status, run_session};
+use trace_session::{Input, Output, Status, run_session};
 use words::{Script, Words};
 
 /// The words of the command line, the program's name first.
@@ -38,10 +38,10 @@ fn session<R: Read + Drop>(
     let mut input = Input::new(script);
     if is_explained {
         let mut output = Explained::new(rt.alloc(), rt.stdout(), rt.stderr());
-        return run_session(rt, rt.alloc(), config, &mut input, &mut output, &OpenGate);
+        return run_session(rt.alloc(), config, &mut input, &mut output);
     }
     let mut output = Output::new(rt.stdout());
-    run_session(rt, rt.alloc(), config, &mut input, &mut output, &OpenGate)
+    run_session(rt.alloc(), config, &mut input, &mut output)
 }
 
 /// Does the session that the command line asks for.
