@@ -101,7 +101,6 @@ sound_none a p s h =
       tail_number = rw h.tail_number s.tail_number;
       tail_filled = rw h.tail_filled s.tail_filled;
       arranged = h.arranged a.page_count a.reader_page s.arranged;
-      fresh = s.fresh;
       buffer = s.buffer;
       room = λ k. absurd (omega arith);
     }
@@ -136,7 +135,6 @@ sound_taken a p page size r s h e =
       tail_number = rw h.tail_number s.tail_number;
       tail_filled = rw h.tail_filled s.tail_filled;
       arranged = h.arranged a.page_count a.reader_page s.arranged;
-      fresh = s.fresh;
       buffer = s.buffer;
       room = λ k. absurd (omega arith);
     }

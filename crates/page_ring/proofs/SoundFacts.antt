@@ -78,13 +78,13 @@ bytes_small a s =
     omega arith
 
 -- a ring stays sound where a record joins what is left
-pub sound_put : (a : Inside) (p : Pages) (left : List Accepted) (entries size : ℕ) (fresh : VecDeque Stored Global) (buffer : Vec ℕ Global) (bytes : List ℕ)
+pub sound_put : (a : Inside) (p : Pages) (left : List Accepted) (entries size : ℕ) (spare : VecDeque Stored Global) (buffer : Vec ℕ Global) (bytes : List ℕ)
     → IsSound a → kept_in p ≡ left ++ record { number = a.accepted; page = p.tail.number; bytes = bytes } ∷ []
     → IsRising a.next a.accepted left → AllByRecursion IsStorable left → entries ≡ length left → size ≡ sum_by (λ r. length r.bytes) left → entries ≤ a.entries
     → IsArranged a.page_count a.reader_page p → p.tail.number ≤ a.accepted + 1 → p.tail.filled ≤ a.page_bytes
-    → 16 ≤ length bytes → length bytes ≤ 4080 → a.accepted + a.dropped < 2 ^ 32 → fresh.items ≡ [] → buffer.items ≡ []
-    → IsSound (record a { pages = p; entries = entries + 1; bytes = size + length bytes; accepted = a.accepted + 1; ready = 0; fresh = fresh; buffer = buffer })
-sound_put a p left entries size fresh buffer bytes s kept numbered storable count sum less arranged number filled head short few no_fresh no_buffer = record {
+    → 16 ≤ length bytes → length bytes ≤ 4080 → a.accepted + a.dropped < 2 ^ 32 → buffer.items ≡ []
+    → IsSound (record a { pages = p; entries = entries + 1; bytes = size + length bytes; accepted = a.accepted + 1; ready = 0; spare = spare; buffer = buffer })
+sound_put a p left entries size spare buffer bytes s kept numbered storable count sum less arranged number filled head short few no_buffer = record {
   two_pages = s.two_pages;
   few_pages = s.few_pages;
   short_pages = s.short_pages;
@@ -98,7 +98,6 @@ sound_put a p left entries size fresh buffer bytes s kept numbered storable coun
   tail_number = number;
   tail_filled = filled;
   arranged = arranged;
-  fresh = no_fresh;
   buffer = no_buffer;
   room = λ k. absurd (omega arith);
 }
@@ -108,13 +107,13 @@ pub kept_next : (a : Inside) (mid end : Pages) (bytes : List ℕ) → IsSound a 
 kept_next a mid end bytes s moves did =
     kept_with mid end a.accepted bytes did ∙ ap (λ (xs : List Accepted). xs ++ record { number = a.accepted; page = end.tail.number; bytes = bytes } ∷ []) (kept_moved a.page_count a.reader_page a.pages mid moves s.arranged ∙ sym (at_next a s).1)
 
-pub sound_next : (a : Inside) (mid end : Pages) (lost lost_bytes : ℕ) (fresh : VecDeque Stored Global) (buffer : Vec ℕ Global) (bytes : List ℕ)
+pub sound_next : (a : Inside) (mid end : Pages) (lost lost_bytes : ℕ) (spare : VecDeque Stored Global) (buffer : Vec ℕ Global) (bytes : List ℕ)
     → IsSound a → lost ≡ sum_by (λ p. length p.records.items) (overrun_head a.page_count a.pages.tail.number a.pages.circle.items)
     → lost_bytes ≡ sum_by (λ p. p.filled) (overrun_head a.page_count a.pages.tail.number a.pages.circle.items)
     → MovesTail a.page_count a.reader_page a.pages mid → Appends mid end a.accepted bytes
-    → 16 ≤ length bytes → length bytes ≤ a.page_bytes → a.page_bytes < a.pages.tail.filled + length bytes → a.accepted + a.dropped < 2 ^ 32 → fresh.items ≡ [] → buffer.items ≡ []
-    → IsSound (record a { pages = end; entries = a.entries - lost + 1; bytes = a.bytes - lost_bytes + length bytes; accepted = a.accepted + 1; ready = 0; fresh = fresh; buffer = buffer })
-sound_next a mid end lost lost_bytes fresh buffer bytes s gone gone_bytes moves did head fits full few no_fresh no_buffer =
+    → 16 ≤ length bytes → length bytes ≤ a.page_bytes → a.page_bytes < a.pages.tail.filled + length bytes → a.accepted + a.dropped < 2 ^ 32 → buffer.items ≡ []
+    → IsSound (record a { pages = end; entries = a.entries - lost + 1; bytes = a.bytes - lost_bytes + length bytes; accepted = a.accepted + 1; ready = 0; spare = spare; buffer = buffer })
+sound_next a mid end lost lost_bytes spare buffer bytes s gone gone_bytes moves did head fits full few no_buffer =
     let left = left_by a.page_count (seen a).shown (a.pages.tail.number + 1) in
     let count = lost_le_entries a s lost gone in
     let sum = lost_le_bytes a s lost_bytes gone_bytes in
@@ -125,10 +124,10 @@ sound_next a mid end lost lost_bytes fresh buffer bytes s gone gone_bytes moves 
     let same : end.tail.number ≡ mid.tail.number = did.tail_number in
     let none : mid.tail.filled ≡ 0 = moves.tail_filled in
     let filled : end.tail.filled ≡ mid.tail.filled + length bytes = did.tail_filled in
-    sound_put a end left (a.entries - lost) (a.bytes - lost_bytes) fresh buffer bytes s (kept_next a mid end bytes s moves did)
+    sound_put a end left (a.entries - lost) (a.bytes - lost_bytes) spare buffer bytes s (kept_next a mid end bytes s moves did)
     (rising_filter _ a.next a.accepted (kept_in a.pages) s.numbered) (all_filter IsStorable _ (kept_in a.pages) s.storable) (omega arith) (omega arith) (omega arith)
     (arranged_appended a.page_count a.reader_page mid end a.accepted bytes did (arranged_moved a.page_count a.reader_page a.pages mid two (omega arith) moves s.arranged))
-    (omega arith) (omega arith) head (omega arith) few no_fresh no_buffer
+    (omega arith) (omega arith) head (omega arith) few no_buffer
 
 pub shown_next : (a : Inside) (mid end : Pages) (bytes : List ℕ) → IsSound a → MovesTail a.page_count a.reader_page a.pages mid → Appends mid end a.accepted bytes → (seen (record a { pages = end; accepted = a.accepted + 1 })).shown ≡ appended (moved a.page_count (seen a).shown) bytes
 shown_next a mid end bytes s moves did =

@@ -63,6 +63,5 @@ pub record IsSound (a : Inside) : Type 0 where
   pub tail_number : a.pages.tail.number ≤ a.accepted
   pub tail_filled : a.pages.tail.filled ≤ a.page_bytes
   pub arranged : IsArranged a.page_count a.reader_page a.pages
-  pub fresh : a.fresh.items ≡ []
   pub buffer : a.buffer.items ≡ []
-  pub room : 0 < a.ready → (deque_len a.pages.circle < deque_capacity a.pages.circle) × (deque_len a.pages.tail.records < deque_capacity a.pages.tail.records) × (deque_len a.fresh < deque_capacity a.fresh) × (a.ready ≤ vec_capacity a.buffer)
+  pub room : 0 < a.ready → (deque_len a.pages.circle < deque_capacity a.pages.circle) × (deque_len a.pages.tail.records < deque_capacity a.pages.tail.records) × (deque_len a.spare < deque_capacity a.spare) × (a.ready ≤ vec_capacity a.buffer)

@@ -80,9 +80,14 @@ impl Pages {
     }
 
     /// Moves the tail on to the next page, whose list of records is given, and drops the head page
-    /// where that is in the way. The old tail page stays in the circle, or outside as the reader
-    /// page.
-    pub fn move_tail(&mut self, pages: u64, reader_page: Option<u64>, fresh: VecDeque<Stored>)
+    /// where that is in the way: its list of records is given back. The old tail page stays in the
+    /// circle, or outside as the reader page.
+    pub fn move_tail(
+        &mut self,
+        pages: u64,
+        reader_page: Option<u64>,
+        fresh: VecDeque<Stored>,
+    ) -> Option<VecDeque<Stored>>
         requires small { self.old.tail.number + pages + 1 < 2 ^ 64 }
         requires circle { (low : ℕ)
             × IsCircle pages self.old.tail.number low self.old.circle.items }
@@ -99,9 +104,11 @@ impl Pages {
             ++ (if is_reader_page reader_page self.old.tail.number
             then [] else self.old.tail ∷ []) }
     {
-        if self.head_is_in_the_way(pages) {
-            self.circle.pop_front();
-        }
+        let lost = if self.head_is_in_the_way(pages) {
+            self.circle.pop_front().map(|head| head.records)
+        } else {
+            None
+        };
         let next = Page {
             number: self.tail.number + 1,
             filled: 0,
@@ -113,6 +120,7 @@ impl Pages {
         } else {
             self.circle.push_back_reserved(old);
         }
+        lost
     }
 
     /// Writes a record at the end of the tail page.

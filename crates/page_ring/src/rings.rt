@@ -75,9 +75,10 @@ pub struct Ring {
     dropped: u64,
     read: u64,
     // Up to what length memory is at hand for a record: a slot in the circle, in the tail page and
-    // in a fresh list of records, and a buffer.
+    // in a spare list of records, and a buffer. The spare list is that of the page that was lost last;
+    // the buffers of the records that it still has are used for the next ones.
     ready: usize,
-    fresh: VecDeque<Stored>,
+    spare: VecDeque<Stored>,
     buffer: Vec<u8>,
 }
 
@@ -124,7 +125,7 @@ impl Ring {
             dropped: 0,
             read: 0,
             ready: 0,
-            fresh: VecDeque::new(alloc),
+            spare: VecDeque::new(alloc),
             buffer: Vec::new(alloc),
         })
     }
@@ -140,7 +141,7 @@ impl Ring {
     {
         self.pages.circle.reserve(1)?;
         self.pages.tail.records.reserve(1)?;
-        self.fresh.reserve(1)?;
+        self.spare.reserve(1)?;
         self.buffer.reserve(len)?;
         self.ready = self.ready.max(len);
         Ok(())
@@ -237,7 +238,8 @@ impl Ring {
         ensures pages { self.new.pages ≡ self.old.pages }
         ensures page_bytes { self.new.page_bytes ≡ self.old.page_bytes }
     {
-        let bytes = filled_from(mem::replace(&mut self.buffer, Vec::new(self.alloc)), rec);
+        let next = next_buffer(self.alloc, &mut self.spare, rec.len());
+        let bytes = filled_from(mem::replace(&mut self.buffer, next), rec);
         self.pages.append(self.accepted, bytes);
         self.entries += 1;
         self.bytes += rec.len() as u64;
@@ -258,10 +260,14 @@ impl Ring {
         let (lost, lost_bytes) = self.pages.lost_by_moving(self.page_count);
         self.entries -= lost;
         self.bytes -= lost_bytes;
-        let fresh = mem::replace(&mut self.fresh, VecDeque::new(self.alloc));
-        self.pages
+        let mut fresh = mem::replace(&mut self.spare, VecDeque::new(self.alloc));
+        fresh.clear();
+        let lost = self
+            .pages
             .move_tail(self.page_count, self.reader_page, fresh);
-        let bytes = filled_from(mem::replace(&mut self.buffer, Vec::new(self.alloc)), rec);
+        self.spare = lost.unwrap_or(VecDeque::new(self.alloc));
+        let next = next_buffer(self.alloc, &mut self.spare, rec.len());
+        let bytes = filled_from(mem::replace(&mut self.buffer, next), rec);
         self.pages.append(self.accepted, bytes);
         self.entries += 1;
         self.bytes += rec.len() as u64;
@@ -448,6 +454,20 @@ impl<'a> Iterator for KeptRecords<'a> {
             }
             None => None,
         }
+    }
+}
+
+// The buffer of the first spare record, or else a new one. A buffer of more than twice this length is not
+// kept, so that short records do not come to lie in long buffers.
+fn next_buffer(alloc: Global, spare: &mut VecDeque<Stored>, len: usize) -> Vec<u8>
+    ensures { result.items ≡ [] }
+{
+    match spare.pop_front() {
+        Some(Stored { mut bytes, .. }) if bytes.capacity() / 2 <= len => {
+            bytes.clear();
+            bytes
+        }
+        _ => Vec::new(alloc),
     }
 }
 

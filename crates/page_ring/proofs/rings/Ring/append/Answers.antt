@@ -28,7 +28,7 @@ invariant_of-self c =
     let number : c.append.new.self.tail.number ≡ a.pages.tail.number = did.tail_number in
     let filled : c.append.new.self.tail.filled ≡ a.pages.tail.filled + length rec = did.tail_filled in
     let behind : a.pages.tail.number ≤ a.accepted = s.tail_number in
-    sound_put a c.append.new.self (kept_in a.pages) a.entries a.bytes a.fresh c.replace.new.dest rec s
+    sound_put a c.append.new.self (kept_in a.pages) a.entries a.bytes c.next_buffer-next.new.spare c.replace.new.dest rec s
     (kept_with a.pages c.append.new.self a.accepted rec did)
     s.numbered s.storable s.entries s.bytes (omega arith) (arranged_appended a.page_count a.reader_page a.pages c.append.new.self a.accepted rec did s.arranged)
-    (omega arith) (omega arith) c.requires.head (omega arith) few s.fresh (rw c.replace.ensures.after c.new.ensures.items)
+    (omega arith) (omega arith) c.requires.head (omega arith) few (rw c.replace.ensures.after c.next_buffer-next.ensures)

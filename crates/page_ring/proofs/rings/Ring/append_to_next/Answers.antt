@@ -29,9 +29,9 @@ invariant_of-self c =
     let a = c.self.inside in
     let s = c.self.invariant in
     let rec = c.args.rec.now in
-    let m = c.move_tail.ensures in
+    let m = c.move_tail-lost.ensures in
     let e = c.append.ensures in
-    let mid = c.move_tail.new.self in
+    let mid = c.move_tail-lost.new.self in
     let end = c.append.new.self in
     let Fits : Seen → Type 0 = λ s. length rec ≤ s.page_bytes in
     let fits = subst Fits (sym c.self.view_is) c.requires.fits in
@@ -39,21 +39,21 @@ invariant_of-self c =
     let full = subst Full (sym c.self.view_is) c.requires.full in
     let Few : Seen → Type 0 = λ s. offered s < 2 ^ 32 in
     let few = subst Few (sym c.self.view_is) c.requires.few in
-    let moves : MovesTail a.page_count a.reader_page a.pages mid = record { tail_number = m.tail_number; tail_filled = m.tail_filled; tail_records = rw (m.tail_records, c.replace-fresh.ensures.value) s.fresh; reader = m.reader; circle = m.circle } in
+    let moves : MovesTail a.page_count a.reader_page a.pages mid = record { tail_number = m.tail_number; tail_filled = m.tail_filled; tail_records = rw m.tail_records c.clear.ensures.items; reader = m.reader; circle = m.circle } in
     let did : Appends mid end a.accepted rec = appends_from mid end a.accepted c.filled_from-bytes.result rec c.filled_from-bytes.ensures e.tail_number e.tail_filled e.tail_records e.circle e.reader in
-    sound_next a mid end c.lost_by_moving-lost.result.0 c.lost_by_moving-lost.result.1 c.replace-fresh.new.dest c.replace.new.dest rec s c.lost_by_moving-lost.ensures.records c.lost_by_moving-lost.ensures.bytes moves did
-    c.requires.head fits full few (rw c.replace-fresh.ensures.after c.new.ensures.items) (rw c.replace.ensures.after c.new-2.ensures.items)
+    sound_next a mid end c.lost_by_moving-lost.result.0 c.lost_by_moving-lost.result.1 c.next_buffer-next.new.spare c.replace.new.dest rec s c.lost_by_moving-lost.ensures.records c.lost_by_moving-lost.ensures.bytes moves did
+    c.requires.head fits full few (rw c.replace.ensures.after c.next_buffer-next.ensures)
 
 pub returns-clause-shown : goal.returns-clause-shown
 returns-clause-shown c =
     let a = c.self.inside in
     let s = c.self.invariant in
     let rec = c.args.rec.now in
-    let m = c.move_tail.ensures in
+    let m = c.move_tail-lost.ensures in
     let e = c.append.ensures in
-    let mid = c.move_tail.new.self in
+    let mid = c.move_tail-lost.new.self in
     let end = c.append.new.self in
-    let moves : MovesTail a.page_count a.reader_page a.pages mid = record { tail_number = m.tail_number; tail_filled = m.tail_filled; tail_records = rw (m.tail_records, c.replace-fresh.ensures.value) s.fresh; reader = m.reader; circle = m.circle } in
+    let moves : MovesTail a.page_count a.reader_page a.pages mid = record { tail_number = m.tail_number; tail_filled = m.tail_filled; tail_records = rw m.tail_records c.clear.ensures.items; reader = m.reader; circle = m.circle } in
     let did : Appends mid end a.accepted rec = appends_from mid end a.accepted c.filled_from-bytes.result rec c.filled_from-bytes.ensures e.tail_number e.tail_filled e.tail_records e.circle e.reader in
     let P : Seen → Type 0 = λ v. (seen (record a { pages = end; accepted = a.accepted + 1 })).shown ≡ appended (moved v.pages v.shown) rec in
     subst P c.self.view_is (shown_next a mid end rec s moves did)
