@@ -1,7 +1,6 @@
 pub mod DeviceLemmas
 pub mod ScriptLemmas
-pub mod Standing
-pub mod Stepping
+pub mod Turns
 pub mod PartSessions
 pub mod PartExamples
 pub mod PartThreads

@@ -4,8 +4,7 @@ pub mod Items
 pub mod Parts
 pub mod PartReads
 pub mod NextItems
-pub mod Passes
-pub mod PartTexts
-pub mod Fronts
 pub mod PartLaws
 pub mod PartExamples
+pub mod Passes
+pub mod PartTexts

@@ -15,8 +15,6 @@ pub enum Status {
     Memory,
     /// A read or a write failed, or the script is too long.
     Device,
-    /// The gate stopped a part.
-    Stopped,
 }
 
 impl Status {
@@ -32,7 +30,6 @@ impl Status {
             Status::Fault => 2,
             Status::Memory => 3,
             Status::Device => 4,
-            Status::Stopped => 1,
         }
     }
 }

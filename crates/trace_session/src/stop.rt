@@ -9,8 +9,6 @@ pub(crate) enum Stop {
     Memory,
     /// A read or a write failed, or the script is too long.
     Device,
-    /// The gate stopped a part.
-    Stopped,
 }
 
 impl From<AllocError> for Stop {

@@ -18,8 +18,6 @@ mod filled_hists;
 #[cfg(test)]
 mod filters;
 #[cfg(test)]
-mod gates;
-#[cfg(test)]
 mod hist_spares;
 #[cfg(test)]
 mod hists;
