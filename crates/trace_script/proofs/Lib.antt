@@ -4,4 +4,5 @@ pub mod GrammarLaws
 pub mod CommandLemmas
 pub mod CommandLaws
 pub mod LineLaws
+pub mod EmissionLines
 pub mod FaultOrder

@@ -54,7 +54,7 @@ fn pairs(alloc: Global, tokens: &[Token]) -> Result<Pairs, LineError>
 
 /// `emit CPU PID EVENT FIELD=VALUE ..`
 #[tactic(auto, unfolding(crate::specs::Lines::emission_of))]
-fn emission(alloc: Global, tokens: &[Token]) -> Result<Command, LineError>
+pub(crate) fn emission(alloc: Global, tokens: &[Token]) -> Result<Command, LineError>
     ensures { Gives (λ command. command) result (emission_of tokens.now) }
 {
     let [cpu, pid, event, _, ..] = tokens else {
@@ -176,7 +176,7 @@ fn rmdir(alloc: Global, tokens: &[Token]) -> Result<Command, LineError>
 }
 
 /// Whether a name is `emit`. Most names are, and a pattern is tested without a call.
-fn is_emit(name: &[u8]) -> bool
+pub(crate) fn is_emit(name: &[u8]) -> bool
     ensures { result ≡ bytes_eq name.now (codes "emit") }
 {
     matches!(name, b"emit")

@@ -10,7 +10,7 @@ ghost use Rattle.trace_script.specs.Lines.{alone, named_line, asked_of, is_line_
 ghost use Rattle.trace_script.specs.declared.token.Token.{Token};
 ghost use Rattle.trace_script.specs.declared.line.Line.{Line as LineValue};
 
-use crate::command::command;
+use crate::command::{command, emission, is_emit};
 use crate::fault::{LineError, ScriptFault};
 use crate::token::{Token, tokens};
 use std::alloc::Global;
@@ -46,9 +46,11 @@ fn alone(line: Line, tokens: &[Token]) -> Result<Line, LineError>
     }
 }
 
-/// The line of this name, with the tokens that follow it.
+/// The line of a name, with the tokens that follow it. It is kept out of line, so that an emission doesn't take the room of the other
+/// commands.
+#[inline(never)]
 #[tactic(auto, unfolding(crate::specs::Lines::named_line))]
-fn named(alloc: Global, name: &[u8], tokens: &[Token]) -> Result<Line, LineError>
+fn any_line(alloc: Global, name: &[u8], tokens: &[Token]) -> Result<Line, LineError>
     ensures { Gives (λ line. line) result (named_line name.now tokens.now) }
 {
     if name == b"parallel".as_slice() {
@@ -61,6 +63,17 @@ fn named(alloc: Global, name: &[u8], tokens: &[Token]) -> Result<Line, LineError
         return alone(Line::End, tokens);
     }
     Ok(Line::Ask(command(alloc, name, tokens)?))
+}
+
+/// The line of this name, with the tokens that follow it. Most lines are emissions, so these are looked for first.
+#[tactic(auto, using(crate::proofs::EmissionLines::emission_line))]
+fn named(alloc: Global, name: &[u8], tokens: &[Token]) -> Result<Line, LineError>
+    ensures { Gives (λ line. line) result (named_line name.now tokens.now) }
+{
+    if is_emit(name) {
+        return Ok(Line::Ask(emission(alloc, tokens)?));
+    }
+    any_line(alloc, name, tokens)
 }
 
 /// What the tokens of a line ask for. The first of them names it.

@@ -132,7 +132,7 @@ fn first_word(alloc: Global, line: &[u8]) -> Result<(Word<'_>, &[u8]), LineError
     let (part, rest) = line.split_at(plain_len(line));
     if begins_with_quote(rest) {
         let (copy, rest) = quoted_word(alloc, line)?;
-        return Ok((Word::of_copy(copy), rest));
+        return Ok((Word::of_copy(alloc, copy)?, rest));
     }
     Ok((Word::of_part(part), rest))
 }
