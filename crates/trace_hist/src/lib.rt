@@ -17,18 +17,12 @@ mod parts;
 mod piece;
 mod place;
 mod read;
-#[cfg(test)]
-mod shown;
 mod size;
 mod sort;
 mod source;
 mod spec;
 mod stored;
-#[cfg(test)]
-mod tests;
 pub mod text_laws;
-#[cfg(test)]
-mod texts;
 mod written;
 
 pub use entry::HistRow;

@@ -1,11 +1,10 @@
 //! Trigger strings, each with what it says or why it is refused.
 
-use crate::sort::{SortRule, SortSource};
-use crate::*;
 use std::alloc::Global;
 use std::process::Abort;
 use std::test::Fail;
-use trace_format::EventDef;
+use trace_format::{EventDef, Text};
+use trace_hist::{HistFault, HistSpec, SortKey};
 
 /// Strings for `tick u64 n`, each with the trigger that it says.
 const SAID: &str = "\
@@ -28,7 +27,11 @@ hist:keys=n:clear@hist:keys=n:vals=hitcount:sort=hitcount:size=2048 [Clear]
 hist:keys=n:size=65@hist:keys=n:vals=hitcount:sort=hitcount:size=128 [Attach]
 hist:keys=n:size=100@hist:keys=n:vals=hitcount:sort=hitcount:size=128 [Attach]
 hist:keys=n:size=128@hist:keys=n:vals=hitcount:sort=hitcount:size=128 [Attach]
+hist:keys=n:size=129@hist:keys=n:vals=hitcount:sort=hitcount:size=256 [Attach]
 hist:keys=n:size=000129@hist:keys=n:vals=hitcount:sort=hitcount:size=256 [Attach]
+hist:keys=n:size=2048@hist:keys=n:vals=hitcount:sort=hitcount:size=2048 [Attach]
+hist:keys=n:size=2049@hist:keys=n:vals=hitcount:sort=hitcount:size=4096 [Attach]
+hist:keys=n:size=65537@hist:keys=n:vals=hitcount:sort=hitcount:size=131072 [Attach]
 hist:keys=n:size=131072@hist:keys=n:vals=hitcount:sort=hitcount:size=131072 [Attach]
 hist:keys=n  \t@hist:keys=n:vals=hitcount:sort=hitcount:size=2048 [Attach]
 hist:keys=n if n > 1@hist:keys=n:vals=hitcount:sort=hitcount:size=2048 if n > 1 [Attach]
@@ -246,37 +249,4 @@ fn names_are_few(rt: HostRuntime) -> Result<(), Fail> {
         b"five u8 a; u8 b; u8 c; u8 d; u8 e",
         OF_FIVE,
     )
-}
-
-/// What two sort keys of a trigger mean.
-fn sorted_by(alloc: Global, text: &str) -> Result<(SortRule, SortRule), Fail> {
-    let event = EventDef::parse(alloc, b"five u8 a; u8 b; u8 c; u8 d; u8 e")?;
-    let text = text.as_bytes();
-    if !text.starts_with(b"hist:") {
-        return Err("no text of a hist trigger".into());
-    }
-    let spec = HistSpec::parse(alloc, text, &event)?;
-    match spec.sort_sources.as_slice() {
-        [first, second] => Ok((*first, *second)),
-        _ => Err("two sort keys are written".into()),
-    }
-}
-
-fn rule(source: SortSource, descending: bool) -> SortRule {
-    SortRule { source, descending }
-}
-
-/// A name that is a key and a value means the value. The place of a value is counted without `hitcount`.
-#[test]
-fn sort_keys_mean(rt: HostRuntime) -> Result<(), Fail> {
-    let both = sorted_by(rt.alloc(), "hist:keys=a,b:vals=c,b:sort=b,a.descending")?;
-    assert_eq!(rt; both.0, rule(SortSource::Value(1), false));
-    assert_eq!(rt; both.1, rule(SortSource::Key(0), true));
-    let counted = sorted_by(
-        rt.alloc(),
-        "hist:keys=a,b:vals=hitcount,c:sort=c,hitcount.descending",
-    )?;
-    assert_eq!(rt; counted.0, rule(SortSource::Value(0), false));
-    assert_eq!(rt; counted.1, rule(SortSource::Hitcount, true));
-    Ok(())
 }
