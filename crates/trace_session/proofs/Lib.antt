@@ -1,6 +1,7 @@
 pub mod DeviceLemmas
 pub mod ScriptLemmas
-pub mod Turns
+pub mod Standing
+pub mod Stepping
 pub mod PartSessions
 pub mod PartExamples
 pub mod PartThreads

@@ -1,6 +1,7 @@
 -- A script without parts has one session.
-use Rattle.std.proofs.Common.{◌≡◌, ◌≢◌, ◌↔◌, ℕ, ◌+◌, ◌||◌, Bool, true, false, if◌then◌else◌, List, [], ◌∷◌, map, flat_map, All, Option, Some, None, Result, Ok, Err, refl, sym, ap, ◌∙◌, subst}
+use Rattle.std.proofs.Common.{◌≡◌, ◌≢◌, ◌↔◌, ℕ, zero, suc, ◌+◌, ◌||◌, Bool, true, false, if◌then◌else◌, List, [], ◌∷◌, map, flat_map, take, All, Option, Some, None, Result, Ok, Err, refl, sym, ap, ◌∙◌, subst}
 use Rattle.std.proofs.lemmas.List.Elements.{All-head, All-tail}
+use Rattle.std.proofs.lemmas.List.{take-map}
 use Rattle.trace_command.specs.declared.command.Config.{Config}
 use Rattle.trace_script.specs.Lines.{line_of}
 use Rattle.trace_script.specs.declared.fault.ScriptFault.{ScriptFault}
@@ -10,7 +11,7 @@ use Rattle.trace_script.specs.declared.outcome.Outcome.{Outcome}
 use Rattle.trace_script.specs.declared.outcome.Outcome.TheVariants as outcomes
 use Rattle.trace_session.specs.Items.{Item, Single, Threads, Faulty, Taken, taken_at, item_at, items_from, items_of, HasNoPart}
 use Rattle.trace_session.specs.Parts.{Given, given_by, ends, EndsOr, MayGiveAll, session_with, IsSession}
-use Rattle.trace_session.specs.PartLaws.{OneThreadHasOneSession}
+use Rattle.trace_session.specs.PartLaws.{OneThreadHasOneSession, OneThreadBeginsOneSession}
 use Rattle.trace_session.specs.Sessions.{Progress, Session, beginning, lines_of, turn_of, is_fault, outcomes_of, text_of, texts_from, status_of, session}
 
 -- lines by themselves
@@ -172,3 +173,35 @@ pub one_thread_has_one_session : OneThreadHasOneSession
 one_thread_has_one_session g script one none =
     let both = plain_sessions g script one (plain g script none) in
     (λ is. both.0 is ∙ session_is g script none, λ is. both.1 (is ∙ sym (session_is g script none)))
+
+-- ---- and so far as it came, the first texts of that one
+
+take_plain : (items : List Item) (count : ℕ) → ArePlain items → ArePlain (take count items)
+take_plain items zero plain = tt
+take_plain [] (suc count) plain = tt
+take_plain (Single number line ∷ items) (suc count) plain = take_plain items count plain
+take_plain (Threads threads ∷ items) (suc count) plain = absurd plain
+take_plain (Faulty at ∷ items) (suc count) plain = take_plain items count plain
+
+front_after : (ended : Bool) (count : ℕ) (front all : List Given) → front ≡ take count all → (if ended then [] else front) ≡ take count (if ended then [] else all)
+front_after true zero front all is = refl
+front_after true (suc count) front all is = refl
+front_after false count front all is = is
+
+front_given : (g : Config) (items : List Item) (before : Progress) (count : ℕ) → plain_given g before (take count items) ≡ take count (plain_given g before items)
+front_given g items before zero = refl
+front_given g [] before (suc count) = refl
+front_given g (item ∷ items) before (suc count) =
+    ap (λ (xs : List Given). given_of g before item ∷ xs)
+    (front_after (ends (given_of g before item)) count (plain_given g (next_of g before item) (take count items)) (plain_given g (next_of g before item) items)
+    (front_given g items (next_of g before item) count))
+
+pub one_thread_begins_one_session : OneThreadBeginsOneSession
+one_thread_begins_one_session g script texts none (count, given, all, is) =
+    let given_is : given ≡ take count (plain_given g beginning (items_of script)) =
+    only g (take count (items_of script)) beginning given (take_plain (items_of script) count (plain g script none)) all ∙ front_given g (items_of script) beginning count in (
+      count,
+      is
+          ∙ (ap (map (λ (one : Given). one.text)) given_is
+          ∙ (sym (take-map (λ (one : Given). one.text) count (plain_given g beginning (items_of script))) ∙ ap (λ (s : Session). take count s.texts) (session_is g script none))),
+    )

@@ -1,6 +1,5 @@
 -- What reads and writes do to the bytes and the failures of a device.
-use Rattle.std.specs.Prelude.{◌≡◌, ◌<◌, ◌≤◌, ◌⊎◌, ℕ, ◌+◌, ◌-◌, ◌^◌, ◌==◌, ◌&&◌, nat_lt, min, if◌then◌else◌, List, ◌++◌, length, take, Option, Result, Ok, Err}
-use Rattle.std.specs.List.{concat}
+use Rattle.std.specs.Prelude.{◌≡◌, ◌<◌, ◌≤◌, ◌⊎◌, ℕ, ◌+◌, ◌-◌, ◌^◌, ◌==◌, ◌&&◌, nat_lt, min, if◌then◌else◌, List, ◌++◌, length, Option, Result, Ok, Err}
 use Rattle.std.specs.Io.KnownBytes.{Appends, Consumes}
 
 -- the greatest count of failures, the greatest number of 64 bits
@@ -36,11 +35,3 @@ AppendsFront old new text = (front : List ℕ) × (rest : List ℕ) × (text ≡
 -- of bytes that waited and a text after them, known bytes grow by a front, and the rest waits
 abbrev pub Passes : Option (List ℕ) → List ℕ → Option (List ℕ) → List ℕ → List ℕ → Type 0
 Passes old waited new waits text = (front : List ℕ) × (waited ++ text ≡ front ++ waits) × Appends old new front
-
--- known bytes grow by the first of the texts, each of them whole
-abbrev pub AppendsWhole : Option (List ℕ) → Option (List ℕ) → List (List ℕ) → Type 0
-AppendsWhole old new texts = (count : ℕ) × Appends old new (concat (take count texts))
-
--- of bytes that waited and the first of the texts after them, each of them whole, known bytes grow by a front, and the rest waits
-abbrev pub PassesWhole : Option (List ℕ) → List ℕ → Option (List ℕ) → List ℕ → List (List ℕ) → Type 0
-PassesWhole old waited new waits texts = (count : ℕ) × Passes old waited new waits (concat (take count texts))

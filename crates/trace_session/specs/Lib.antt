@@ -4,7 +4,8 @@ pub mod Items
 pub mod Parts
 pub mod PartReads
 pub mod NextItems
-pub mod PartLaws
-pub mod PartExamples
 pub mod Passes
 pub mod PartTexts
+pub mod Fronts
+pub mod PartLaws
+pub mod PartExamples

@@ -1,13 +1,18 @@
 -- What the sessions of scripts with parts come to.
-use Rattle.std.specs.Prelude.{◌≡◌, ◌↔◌, ℕ, ◌≤◌, List, length, All}
+use Rattle.std.specs.Prelude.{◌≡◌, ◌↔◌, ℕ, ◌≤◌, List, length, take, All}
 use Rattle.trace_command.specs.declared.command.Config.{Config}
 use Rattle.trace_session.specs.Items.{Item, Threads, HasNoPart, items_of, most_threads}
-use Rattle.trace_session.specs.Parts.{IsSession}
+use Rattle.trace_session.specs.Parts.{IsSession, IsBegun}
 use Rattle.trace_session.specs.Sessions.{Session, session}
 
 -- a script without parts has one session
 abbrev pub OneThreadHasOneSession : Type 0
 OneThreadHasOneSession = (g : Config) (script : List ℕ) (one : Session) → HasNoPart script → IsSession g script one ↔ (one ≡ session g script)
+
+-- and what a script without parts began to write is the first texts of that session
+abbrev pub OneThreadBeginsOneSession : Type 0
+OneThreadBeginsOneSession = (g : Config) (script : List ℕ) (texts : List (List ℕ)) → HasNoPart script → IsBegun g script texts
+    → (count : ℕ) × (texts ≡ take count (session g script).texts)
 
 -- the item has no more threads than a part may have
 abbrev pub HasFewThreads : Item → Type 0

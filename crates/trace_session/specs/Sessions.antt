@@ -126,7 +126,14 @@ session config script =
 abbrev pub IsWhole : Status → Type 0
 IsWhole statuses.Memory = ⊥
 IsWhole statuses.Device = ⊥
+IsWhole statuses.Stopped = ⊥
 IsWhole _ = Unit {0}
+
+-- the script was read to its end, and is not too long
+abbrev pub IsRead : Status → Type 0
+IsRead statuses.Memory = ⊥
+IsRead statuses.Device = ⊥
+IsRead _ = Unit {0}
 
 -- the status as a number
 abbrev pub code_of : Status → ℕ
@@ -135,3 +142,4 @@ code_of statuses.Refused = 1
 code_of statuses.Fault = 2
 code_of statuses.Memory = 3
 code_of statuses.Device = 4
+code_of statuses.Stopped = 1

@@ -1,4 +1,4 @@
-//! Whole sessions: a script is read from a reader, its lines are done over a book, and what each gives goes to a writer.
+//! Whole sessions: a script is read from a reader, its lines and parts are done over a book, and what each gives goes to a writer.
 #![tactic(auto)]
 
 mod device;
@@ -7,17 +7,19 @@ pub mod laws;
 mod line;
 mod output;
 pub mod part;
-pub mod part_run;
+mod part_run;
 mod part_split;
-pub mod part_text;
+mod part_text;
 mod replies;
 mod script;
 mod session;
 mod status;
+mod step;
 mod stop;
-mod turn;
+mod told;
 
 pub use device::{Input, Output, Sink, Source};
 pub use script::MOST_SCRIPT_BYTES;
 pub use session::run_session;
 pub use status::Status;
+pub use trace_workers::{Gate, OpenGate, Point};

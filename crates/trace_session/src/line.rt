@@ -30,6 +30,7 @@ fn ask_command<R: Wait>(
         → answered (progress_of (view_of pass)) command (answer_to g (view_of pass).seen command)
         ≡ record { outcome = Some outcome; progress = progress_of (view_of result.0) }) }
     ensures device { IsErrOf result.1 Stop.Device → ⊥ }
+    ensures stopped { IsErrOf result.1 Stop.Stopped → ⊥ }
 {
     let (pass, answer) = ask(rt, lock, pass, command);
     match answer {
@@ -54,6 +55,7 @@ pub(crate) fn ask_line<R: Wait>(
         → turn_of g (progress_of (view_of pass)) text
         ≡ record { outcome = outcome; progress = progress_of (view_of result.0) }) }
     ensures device { IsErrOf result.1 Stop.Device → ⊥ }
+    ensures stopped { IsErrOf result.1 Stop.Stopped → ⊥ }
 {
     match said {
         Ok(Line::Blank) => (pass, Ok(None)),

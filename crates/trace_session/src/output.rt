@@ -25,6 +25,7 @@ pub(crate) fn write_outcome<W: Sink>(
     ensures memory { IsErrOf result Stop.Memory
         → Passes (W.contents writer.old) replies.old (W.contents writer.new) replies.new [] }
     ensures unfailed { IsErrOf result Stop.Memory → W.failures writer.new ≡ W.failures writer.old }
+    ensures stopped { IsErrOf result Stop.Stopped → ⊥ }
     ensures device { IsErrOf result Stop.Device → HasRisen (W.failures writer.old) (W.failures writer.new)
         × AppendsFront (W.contents writer.old) (W.contents writer.new) (replies.old ++ text_of number outcome.now) }
 {

@@ -19,6 +19,7 @@ fn write_some<W: Sink>(writer: &mut W, text: &[u8]) -> Result<usize, Stop>
         × Appends (W.contents writer.old) (W.contents writer.new) (take count text.now)) }
     ensures failures { OnOk result (W.failures writer.new ≡ W.failures writer.old) }
     ensures err { IsErrOf result Stop.Memory → ⊥ }
+    ensures stopped { IsErrOf result Stop.Stopped → ⊥ }
     ensures failed { OnErr result (HasRisen (W.failures writer.old) (W.failures writer.new)
         × Appends (W.contents writer.old) (W.contents writer.new) []) }
 {
@@ -34,6 +35,7 @@ fn write_all<W: Sink>(writer: &mut W, text: &[u8]) -> Result<(), Stop>
     ensures bytes { OnOk result (Appends (W.contents writer.old) (W.contents writer.new) text.now) }
     ensures failures { OnOk result (W.failures writer.new ≡ W.failures writer.old) }
     ensures err { IsErrOf result Stop.Memory → ⊥ }
+    ensures stopped { IsErrOf result Stop.Stopped → ⊥ }
     ensures failed { OnErr result (HasRisen (W.failures writer.old) (W.failures writer.new)
         × AppendsFront (W.contents writer.old) (W.contents writer.new) text.now) }
 {
@@ -87,6 +89,7 @@ impl Replies {
         ensures bytes { OnOk result (Appends (W.contents writer.old) (W.contents writer.new) self.old) }
         ensures failures { OnOk result (W.failures writer.new ≡ W.failures writer.old) }
         ensures err { IsErrOf result Stop.Memory → ⊥ }
+        ensures stopped { IsErrOf result Stop.Stopped → ⊥ }
         ensures failed { OnErr result (HasRisen (W.failures writer.old) (W.failures writer.new)
             × AppendsFront (W.contents writer.old) (W.contents writer.new) self.old) }
     {
@@ -100,6 +103,7 @@ impl Replies {
         ensures bytes { OnOk result (Passes (W.contents writer.old) self.old (W.contents writer.new) self.new text.now) }
         ensures failures { OnOk result (W.failures writer.new ≡ W.failures writer.old) }
         ensures err { IsErrOf result Stop.Memory → ⊥ }
+        ensures stopped { IsErrOf result Stop.Stopped → ⊥ }
         ensures failed { OnErr result (HasRisen (W.failures writer.old) (W.failures writer.new)
             × AppendsFront (W.contents writer.old) (W.contents writer.new) (self.old ++ text.now)) }
     {

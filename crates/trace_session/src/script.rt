@@ -36,6 +36,7 @@ fn read_more<R: Source>(
     ensures failures { OnOk result (R.failures reader.new ≡ R.failures reader.old) }
     ensures memory { IsErrOf result Stop.Memory → (R.failures reader.new ≡ R.failures reader.old)
         × ConsumesAtMost (MOST_SCRIPT_BYTES - length script.old.items) (R.remaining reader.old) (R.remaining reader.new) }
+    ensures stopped { IsErrOf result Stop.Stopped → ⊥ }
     ensures device { IsErrOf result Stop.Device → HasRisen (R.failures reader.old) (R.failures reader.new)
         ⊎ IfSome (R.remaining reader.old) (λ bytes. MOST_SCRIPT_BYTES - length script.old.items < length bytes) }
 {
@@ -59,6 +60,7 @@ pub(crate) fn read_script<R: Source>(alloc: Global, reader: &mut R) -> Result<Ve
     ensures failures { OnOk result (R.failures reader.new ≡ R.failures reader.old) }
     ensures memory { IsErrOf result Stop.Memory → (R.failures reader.new ≡ R.failures reader.old)
         × ConsumesAtMost MOST_SCRIPT_BYTES (R.remaining reader.old) (R.remaining reader.new) }
+    ensures stopped { IsErrOf result Stop.Stopped → ⊥ }
     ensures device { IsErrOf result Stop.Device → HasRisen (R.failures reader.old) (R.failures reader.new)
         ⊎ IfSome (R.remaining reader.old) (λ bytes. MOST_SCRIPT_BYTES < length bytes) }
 {

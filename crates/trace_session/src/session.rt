@@ -1,92 +1,124 @@
-//! A whole session: a script is read, each of its lines is done, and what it gives is written.
+//! A whole session: a script is read, each of its items is done, and what it gives is written.
 
-ghost use Rattle.std.specs.Prelude.{◌≡◌, ◌≢◌, ◌<◌, ◌≤◌, ◌⊎◌, [], length, IfOk, IfSome, OnOk, IsErrOf};
-ghost use Rattle.std.specs.List.{concat};
+ghost use Rattle.std.specs.Prelude.{◌≡◌, ◌≢◌, ◌<◌, ◌≤◌, ◌⊎◌, [], length, true, IfOk, IfSome, OnOk, IsErrOf};
 ghost use Rattle.std.specs.Io.KnownBytes.{Appends, IsAtEnd};
+ghost use Rattle.ticket_lock.specs.Calls.{view_of, IsOf};
 ghost use Rattle.trace_command.specs.Configs.{IsInRange};
-ghost use Rattle.trace_session.specs.Devices.{AppendsFront, AppendsWhole, ConsumesAtMost, HasRisen, Passes, PassesWhole};
-ghost use Rattle.trace_session.specs.Sessions.{session, IsWhole};
+ghost use Rattle.trace_command.specs.declared.command.Config.{Config};
+ghost use Rattle.trace_session.specs.Devices.{ConsumesAtMost, HasRisen};
+ghost use Rattle.trace_session.specs.Fronts.{AppendsSession, AppendsBegun, AppendsBegunFront, PassesSession, PassesBegun};
+ghost use Rattle.trace_session.specs.Passes.{IsSessionPass, progress_of};
+ghost use Rattle.trace_session.specs.Sessions.{beginning, IsWhole, IsRead};
 
 use crate::device::{Sink, Source};
+use crate::item::next_item;
 use crate::replies::Replies;
-use crate::script::{MOST_SCRIPT_BYTES, first_line, read_script};
+use crate::script::{MOST_SCRIPT_BYTES, read_script};
 use crate::status::Status;
+use crate::step::do_item;
 use crate::stop::Stop;
-use crate::turn::turn;
 use std::alloc::Global;
+use std::sync::Wait;
+use std::thread::Threads;
+use ticket_lock::{Pass, TicketLock};
 use trace_book::Book;
 use trace_command::Config;
+use trace_workers::Gate;
 
-/// The status of lines and of one more, which is no fault.
-fn with_line(status: Status, line: Status) -> Status
-    ensures refused { line ≡ Status.Refused → result ≡ Status.Refused }
-    ensures other { line ≢ Status.Refused → result ≡ status }
+/// The status of items and of one more, which is no fault.
+fn with_item(status: Status, item: Status) -> Status
+    ensures refused { item ≡ Status.Refused → result ≡ Status.Refused }
+    ensures other { item ≢ Status.Refused → result ≡ status }
 {
-    match line {
+    match item {
         Status::Refused => Status::Refused,
         _ => status,
     }
 }
 
-/// Does the lines of a script in turn, up to its end or the first fault, and adds what they give to the replies.
-fn do_lines<W: Sink>(
+/// Does the items of a script in turn, up to its end or the first fault, and adds what they give to the replies.
+fn do_items<R: Threads + Wait + Sync, W: Sink, G: Gate + Sync>(
+    rt: &R,
     alloc: Global,
-    mut book: Book,
+    lock: &TicketLock<Book>,
+    pass: Pass<Book>,
     script: &[u8],
+    gate: &G,
     replies: &mut Replies,
     writer: &mut W,
 ) -> Result<Status, Stop>
-    requires begins { book.entries ≡ [] }
+    requires of { IsOf lock.now pass }
+    requires session { (g : Config) × IsSessionPass g (view_of pass) }
+    requires begins { progress_of (view_of pass) ≡ beginning }
     requires short { length script.now ≤ MOST_SCRIPT_BYTES }
     requires none { replies.old ≡ [] }
-    ensures ok { IfOk result (λ status. (status ≡ (session book.config script.now).status)
-        × Passes (W.contents writer.old) [] (W.contents writer.new) replies.new
-        (concat (session book.config script.now).texts)) }
+    ensures ok { IfOk result (λ status. (g : Config) → IsSessionPass g (view_of pass)
+        → PassesSession g script.now status (W.contents writer.old) (W.contents writer.new) replies.new) }
     ensures whole { IfOk result IsWhole }
     ensures failures { OnOk result (W.failures writer.new ≡ W.failures writer.old) }
-    ensures memory { IsErrOf result Stop.Memory
-        → PassesWhole (W.contents writer.old) [] (W.contents writer.new) replies.new (session book.config script.now).texts }
+    ensures memory { IsErrOf result Stop.Memory → (g : Config) → IsSessionPass g (view_of pass)
+        → PassesBegun g script.now (W.contents writer.old) (W.contents writer.new) replies.new }
     ensures unfailed { IsErrOf result Stop.Memory → W.failures writer.new ≡ W.failures writer.old }
-    ensures device { IsErrOf result Stop.Device → HasRisen (W.failures writer.old) (W.failures writer.new)
-        × AppendsFront (W.contents writer.old) (W.contents writer.new) (concat (session book.config script.now).texts) }
+    ensures stopped { IsErrOf result Stop.Stopped → (g : Config) → IsSessionPass g (view_of pass)
+        → PassesBegun g script.now (W.contents writer.old) (W.contents writer.new) replies.new }
+    ensures unwritten { IsErrOf result Stop.Stopped → W.failures writer.new ≡ W.failures writer.old }
+    ensures open { G.is_open gate.now ≡ true → IsErrOf result Stop.Stopped → ⊥ }
+    ensures risen { IsErrOf result Stop.Device → HasRisen (W.failures writer.old) (W.failures writer.new) }
+    ensures device { IsErrOf result Stop.Device → (g : Config) → IsSessionPass g (view_of pass)
+        → AppendsBegunFront g script.now (W.contents writer.old) (W.contents writer.new) }
 {
+    let mut pass = pass;
     let mut rest = Some(script);
     let mut number = 1;
-    let mut asked = 0;
     let mut status = Status::Done;
     while let Some(text) = rest {
-        let (line, after) = first_line(text);
-        match turn(alloc, &mut book, &mut asked, number, line, replies, writer)? {
+        let next = next_item(alloc, number, text)?;
+        let (back, done) = do_item(
+            rt, alloc, lock, pass, number, next.item, gate, replies, writer,
+        );
+        pass = back;
+        match done? {
             Status::Fault => return Ok(Status::Fault),
-            line_status => status = with_line(status, line_status),
+            item_status => status = with_item(status, item_status),
         }
-        number += 1;
-        rest = after;
+        number = next.number;
+        rest = next.rest;
     }
     Ok(status)
 }
 
-/// Does the lines of a script in turn, up to its end or the first fault, and writes what they give. Nothing waits after it, except where a
+/// Does the items of a script in turn, up to its end or the first fault, and writes what they give. Nothing waits after it, except where a
 /// device failed.
-fn do_script<W: Sink>(
+fn do_script<R: Threads + Wait + Sync, W: Sink, G: Gate + Sync>(
+    rt: &R,
     alloc: Global,
-    book: Book,
+    lock: &TicketLock<Book>,
+    pass: Pass<Book>,
     script: &[u8],
+    gate: &G,
     writer: &mut W,
 ) -> Result<Status, Stop>
-    requires begins { book.entries ≡ [] }
+    requires of { IsOf lock.now pass }
+    requires session { (g : Config) × IsSessionPass g (view_of pass) }
+    requires begins { progress_of (view_of pass) ≡ beginning }
     requires short { length script.now ≤ MOST_SCRIPT_BYTES }
-    ensures ok { IfOk result (λ status. (status ≡ (session book.config script.now).status)
-        × Appends (W.contents writer.old) (W.contents writer.new) (concat (session book.config script.now).texts)) }
+    ensures ok { IfOk result (λ status. (g : Config) → IsSessionPass g (view_of pass)
+        → AppendsSession g script.now status (W.contents writer.old) (W.contents writer.new)) }
     ensures whole { IfOk result IsWhole }
     ensures failures { OnOk result (W.failures writer.new ≡ W.failures writer.old) }
-    ensures memory { IsErrOf result Stop.Memory → AppendsWhole (W.contents writer.old) (W.contents writer.new) (session book.config script.now).texts }
+    ensures memory { IsErrOf result Stop.Memory → (g : Config) → IsSessionPass g (view_of pass)
+        → AppendsBegun g script.now (W.contents writer.old) (W.contents writer.new) }
     ensures unfailed { IsErrOf result Stop.Memory → W.failures writer.new ≡ W.failures writer.old }
-    ensures device { IsErrOf result Stop.Device → HasRisen (W.failures writer.old) (W.failures writer.new)
-        × AppendsFront (W.contents writer.old) (W.contents writer.new) (concat (session book.config script.now).texts) }
+    ensures stopped { IsErrOf result Stop.Stopped → (g : Config) → IsSessionPass g (view_of pass)
+        → AppendsBegun g script.now (W.contents writer.old) (W.contents writer.new) }
+    ensures unwritten { IsErrOf result Stop.Stopped → W.failures writer.new ≡ W.failures writer.old }
+    ensures open { G.is_open gate.now ≡ true → IsErrOf result Stop.Stopped → ⊥ }
+    ensures risen { IsErrOf result Stop.Device → HasRisen (W.failures writer.old) (W.failures writer.new) }
+    ensures device { IsErrOf result Stop.Device → (g : Config) → IsSessionPass g (view_of pass)
+        → AppendsBegunFront g script.now (W.contents writer.old) (W.contents writer.new) }
 {
     let mut replies = Replies::new(alloc)?;
-    match do_lines(alloc, book, script, &mut replies, writer) {
+    match do_items(rt, alloc, lock, pass, script, gate, &mut replies, writer) {
         Ok(status) => {
             replies.flush(writer)?;
             Ok(status)
@@ -95,34 +127,64 @@ fn do_script<W: Sink>(
             replies.flush(writer)?;
             Err(Stop::Memory)
         }
+        Err(Stop::Stopped) => {
+            replies.flush(writer)?;
+            Err(Stop::Stopped)
+        }
         Err(Stop::Device) => Err(Stop::Device),
     }
 }
 
+/// A new book under a lock whose first ticket is 0, and its root pass.
+fn new_book(alloc: Global, config: Config) -> Result<(TicketLock<Book>, Pass<Book>), Stop>
+    requires { IsInRange config }
+    ensures of { IfOk result (λ made. IsOf made.0 made.1) }
+    ensures session { IfOk result (λ made. IsSessionPass config (view_of made.1)) }
+    ensures begins { IfOk result (λ made. progress_of (view_of made.1) ≡ beginning) }
+    ensures device { IsErrOf result Stop.Device → ⊥ }
+    ensures stopped { IsErrOf result Stop.Stopped → ⊥ }
+{
+    // The configuration is in range, so a book is refused only where memory is.
+    let Ok(book) = Book::new(alloc, config) else {
+        return Err(Stop::Memory);
+    };
+    let made = TicketLock::starting_at(alloc, 0, book)?;
+    Ok(made)
+}
+
 /// The session, or why it stopped.
-fn attempt<R: Source, W: Sink>(
+#[tactic(auto, using(crate::proofs::Standing::nothing_begun, crate::proofs::Standing::nothing_begun_front))]
+fn attempt<T: Threads + Wait + Sync, R: Source, W: Sink, G: Gate + Sync>(
+    rt: &T,
     alloc: Global,
     config: Config,
     reader: &mut R,
     writer: &mut W,
+    gate: &G,
 ) -> Result<Status, Stop>
     requires { IsInRange config }
-    ensures status { IfOk result (λ status. IfSome (R.remaining reader.old) (λ script. status ≡ (session config script).status)) }
-    ensures bytes { OnOk result (IfSome (R.remaining reader.old) (λ script.
-        Appends (W.contents writer.old) (W.contents writer.new) (concat (session config script).texts))) }
+    ensures session { IfOk result (λ status. IfSome (R.remaining reader.old) (λ script.
+        AppendsSession config script status (W.contents writer.old) (W.contents writer.new))) }
     ensures whole { IfOk result IsWhole }
     ensures end { OnOk result (IsAtEnd (R.remaining reader.new)) }
     ensures short { OnOk result (IfSome (R.remaining reader.old) (λ script. length script ≤ MOST_SCRIPT_BYTES)) }
     ensures reads { OnOk result (R.failures reader.new ≡ R.failures reader.old) }
     ensures writes { OnOk result (W.failures writer.new ≡ W.failures writer.old) }
     ensures memory { IsErrOf result Stop.Memory → IfSome (R.remaining reader.old) (λ script.
-        AppendsWhole (W.contents writer.old) (W.contents writer.new) (session config script).texts) }
+        AppendsBegun config script (W.contents writer.old) (W.contents writer.new)) }
     ensures unread { IsErrOf result Stop.Memory → R.failures reader.new ≡ R.failures reader.old }
     ensures unfailed { IsErrOf result Stop.Memory → W.failures writer.new ≡ W.failures writer.old }
     ensures consumed { IsErrOf result Stop.Memory
         → ConsumesAtMost MOST_SCRIPT_BYTES (R.remaining reader.old) (R.remaining reader.new) }
+    ensures stopped { IsErrOf result Stop.Stopped → IfSome (R.remaining reader.old) (λ script.
+        AppendsBegun config script (W.contents writer.old) (W.contents writer.new)) }
+    ensures open { G.is_open gate.now ≡ true → IsErrOf result Stop.Stopped → ⊥ }
+    ensures stopped_end { IsErrOf result Stop.Stopped → IsAtEnd (R.remaining reader.new) }
+    ensures stopped_short { IsErrOf result Stop.Stopped → IfSome (R.remaining reader.old) (λ script. length script ≤ MOST_SCRIPT_BYTES) }
+    ensures stopped_reads { IsErrOf result Stop.Stopped → R.failures reader.new ≡ R.failures reader.old }
+    ensures stopped_writes { IsErrOf result Stop.Stopped → W.failures writer.new ≡ W.failures writer.old }
     ensures device { IsErrOf result Stop.Device → IfSome (R.remaining reader.old) (λ script.
-        AppendsFront (W.contents writer.old) (W.contents writer.new) (concat (session config script).texts)) }
+        AppendsBegunFront config script (W.contents writer.old) (W.contents writer.new)) }
     ensures unwritten { IsErrOf result Stop.Device → (HasRisen (W.failures writer.old) (W.failures writer.new)
         × (R.failures reader.new ≡ R.failures reader.old)
         × IfSome (R.remaining reader.old) (λ script. length script ≤ MOST_SCRIPT_BYTES))
@@ -131,39 +193,46 @@ fn attempt<R: Source, W: Sink>(
         ⊎ HasRisen (W.failures writer.old) (W.failures writer.new)
         ⊎ IfSome (R.remaining reader.old) (λ script. MOST_SCRIPT_BYTES < length script) }
 {
-    // The configuration is in range, so a book is refused only where memory is.
-    let Ok(book) = Book::new(alloc, config) else {
-        return Err(Stop::Memory);
-    };
+    let (lock, root) = new_book(alloc, config)?;
     let script = read_script(alloc, reader)?;
-    do_script(alloc, book, &script, writer)
+    do_script(rt, alloc, &lock, root, &script, gate, writer)
 }
 
-/// A session on one thread: reads a script to its end, does its lines in turn over a new book, and writes what each gives.
+/// A session: reads a script to its end, does its lines and parallel parts in turn over a new book, and writes what each gives. The threads of a
+/// part ask the book side by side, and what they give is written once all of them have ended.
 ///
-/// At the statuses `Done`, `Refused` and `Fault` the bytes and the status are those of the script's session. At `Memory` no call of a
-/// device failed, and the first replies of the session were written, each of them whole. At `Device` a read or a write failed or the script
-/// has over 16,777,216 bytes, and a prefix of the session was written: nothing, where a read failed or the script is too long.
-pub fn run_session<R: Source, W: Sink>(
+/// At the statuses `Done`, `Refused` and `Fault` the bytes and the status are those of a lawful session of the script (`IsSession`). A script
+/// with no parallel part has only one. At `Memory` no call of a device failed, and what the first items of a session give was written, whole.
+/// At `Stopped` the same was written; it comes only where the gate is not open. At `Device` a read or a write failed or the script has over
+/// 16,777,216 bytes, and a prefix of a session was written: nothing, where a read failed or the script is too long.
+///
+/// It waits for its turns and for the threads of parts. That it returns is not promised.
+pub fn run_session<T: Threads + Wait + Sync, R: Source, W: Sink, G: Gate + Sync>(
+    rt: &T,
     alloc: Global,
     config: Config,
     reader: &mut R,
     writer: &mut W,
+    gate: &G,
 ) -> Status
     requires { IsInRange config }
 
-    // With memory and without failures: the session of the bytes read.
-    ensures status { IsWhole result → IfSome (R.remaining reader.old) (λ script. result ≡ (session config script).status) }
-    ensures bytes { IsWhole result → IfSome (R.remaining reader.old) (λ script.
-        Appends (W.contents writer.old) (W.contents writer.new) (concat (session config script).texts)) }
-    ensures end { IsWhole result → IsAtEnd (R.remaining reader.new) }
-    ensures short { IsWhole result → IfSome (R.remaining reader.old) (λ script. length script ≤ MOST_SCRIPT_BYTES) }
-    ensures failures { IsWhole result
+    // With memory and without failures: a lawful session of the bytes read.
+    ensures session { IsWhole result → IfSome (R.remaining reader.old) (λ script.
+        AppendsSession config script result (W.contents writer.old) (W.contents writer.new)) }
+    ensures end { IsRead result → IsAtEnd (R.remaining reader.new) }
+    ensures short { IsRead result → IfSome (R.remaining reader.old) (λ script. length script ≤ MOST_SCRIPT_BYTES) }
+    ensures failures { IsRead result
         → (R.failures reader.new ≡ R.failures reader.old) × (W.failures writer.new ≡ W.failures writer.old) }
+
+    // Stopped by the gate: what the items before this part give was written.
+    ensures stopped { result ≡ Status.Stopped → IfSome (R.remaining reader.old) (λ script.
+        AppendsBegun config script (W.contents writer.old) (W.contents writer.new)) }
+    ensures open { G.is_open gate.now ≡ true → result ≢ Status.Stopped }
 
     // Out of memory: no device failed, and the script was not seen to be too long.
     ensures memory { result ≡ Status.Memory → IfSome (R.remaining reader.old) (λ script.
-        AppendsWhole (W.contents writer.old) (W.contents writer.new) (session config script).texts) }
+        AppendsBegun config script (W.contents writer.old) (W.contents writer.new)) }
     ensures unfailed { result ≡ Status.Memory
         → (R.failures reader.new ≡ R.failures reader.old) × (W.failures writer.new ≡ W.failures writer.old) }
     ensures consumed { result ≡ Status.Memory
@@ -171,7 +240,7 @@ pub fn run_session<R: Source, W: Sink>(
 
     // A failure, or a script that is too long.
     ensures device { result ≡ Status.Device → IfSome (R.remaining reader.old) (λ script.
-        AppendsFront (W.contents writer.old) (W.contents writer.new) (concat (session config script).texts)) }
+        AppendsBegunFront config script (W.contents writer.old) (W.contents writer.new)) }
     ensures unwritten { result ≡ Status.Device → (HasRisen (W.failures writer.old) (W.failures writer.new)
         × (R.failures reader.new ≡ R.failures reader.old)
         × IfSome (R.remaining reader.old) (λ script. length script ≤ MOST_SCRIPT_BYTES))
@@ -180,9 +249,10 @@ pub fn run_session<R: Source, W: Sink>(
         ⊎ HasRisen (W.failures writer.old) (W.failures writer.new)
         ⊎ IfSome (R.remaining reader.old) (λ script. MOST_SCRIPT_BYTES < length script) }
 {
-    match attempt(alloc, config, reader, writer) {
+    match attempt(rt, alloc, config, reader, writer, gate) {
         Ok(status) => status,
         Err(Stop::Memory) => Status::Memory,
         Err(Stop::Device) => Status::Device,
+        Err(Stop::Stopped) => Status::Stopped,
     }
 }

@@ -15,6 +15,8 @@ pub enum Status {
     Memory,
     /// A read or a write failed, or the script is too long.
     Device,
+    /// The gate stopped a part.
+    Stopped,
 }
 
 impl Status {
@@ -30,6 +32,7 @@ impl Status {
             Status::Fault => 2,
             Status::Memory => 3,
             Status::Device => 4,
+            Status::Stopped => 1,
         }
     }
 }

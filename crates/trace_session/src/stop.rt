@@ -9,6 +9,8 @@ pub(crate) enum Stop {
     Memory,
     /// A read or a write failed, or the script is too long.
     Device,
+    /// The gate stopped a part.
+    Stopped,
 }
 
 impl From<AllocError> for Stop {

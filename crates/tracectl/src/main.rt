@@ -12,9 +12,11 @@ use std::env;
 use std::fs::File;
 use std::io::{ErrorKind, Read};
 use std::process::ExitCode;
+use std::sync::Wait;
+use std::thread::Threads;
 use stop::Stop;
 use trace_book::{Book, Config};
-use trace_session::{Input, Output, Status, run_session};
+use trace_session::{Input, OpenGate, Output, Status, run_session};
 use words::{Script, Words};
 
 /// The words of the command line, the program's name first.
@@ -26,9 +28,10 @@ fn words_of(rt: &HostRuntime) -> Result<Vec<String>, Stop> {
     }
 }
 
-/// Does the session of a script, and explains it on standard error, if that is asked for.
+/// Does the session of a script, its parts on these threads, and explains it on standard error, if that is asked for.
 fn session<R: Read + Drop>(
     rt: &HostRuntime,
+    threads: &(impl Threads + Wait + Sync),
     config: Config,
     is_explained: bool,
     script: R,
@@ -38,14 +41,28 @@ fn session<R: Read + Drop>(
     let mut input = Input::new(script);
     if is_explained {
         let mut output = Explained::new(rt.alloc(), rt.stdout(), rt.stderr());
-        return run_session(rt.alloc(), config, &mut input, &mut output);
+        return run_session(
+            threads,
+            rt.alloc(),
+            config,
+            &mut input,
+            &mut output,
+            &OpenGate,
+        );
     }
     let mut output = Output::new(rt.stdout());
-    run_session(rt.alloc(), config, &mut input, &mut output)
+    run_session(
+        threads,
+        rt.alloc(),
+        config,
+        &mut input,
+        &mut output,
+        &OpenGate,
+    )
 }
 
 /// Does the session that the command line asks for.
-fn run(rt: &HostRuntime) -> Result<Status, Stop> {
+fn run(rt: &HostRuntime, threads: &(impl Threads + Wait + Sync)) -> Result<Status, Stop> {
     let words = words_of(rt)?;
     let Words {
         config,
@@ -57,16 +74,16 @@ fn run(rt: &HostRuntime) -> Result<Status, Stop> {
     let status = match script {
         Script::File(name) => {
             let file = File::open(rt, name).map_err(|_| Stop::Device)?;
-            session(rt, config, is_explained, file)
+            session(rt, threads, config, is_explained, file)
         }
-        Script::Input => session(rt, config, is_explained, rt.stdin()),
-        Script::Lines(lines) => session(rt, config, is_explained, lines.as_slice()),
+        Script::Input => session(rt, threads, config, is_explained, rt.stdin()),
+        Script::Lines(lines) => session(rt, threads, config, is_explained, lines.as_slice()),
     };
     Ok(status)
 }
 
 fn main(rt: HostRuntime) -> ExitCode {
-    match run(&rt) {
+    match run(&rt, &rt) {
         Ok(Status::Memory) => Stop::Memory.tell(&rt),
         Ok(Status::Device) => Stop::Device.tell(&rt),
         Ok(status) => ExitCode::from(status.code()),

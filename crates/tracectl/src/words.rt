@@ -39,6 +39,7 @@ A script has one command on each line. A line that begins with # is a comment. A
   cat PATH                           reads a file
   take N PATH                        reads at most N records of a pipe
   mkdir PATH, rmdir PATH             make and remove an instance
+  parallel, thread, end              threads of commands that are done side by side
 
 Files, as in Linux tracefs:
   synthetic_events                   declarations of events

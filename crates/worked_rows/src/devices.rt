@@ -6,7 +6,9 @@ use crate::sessions::config;
 use std::alloc::Global;
 use std::io;
 use std::io::Read;
-use trace_session::{Input, MOST_SCRIPT_BYTES, Output, Status, run_session};
+use std::sync::Wait;
+use std::thread::Threads;
+use trace_session::{Input, MOST_SCRIPT_BYTES, OpenGate, Output, Status, run_session};
 
 /// What a session wrote, how often its devices failed, and its status.
 #[derive(Drop)]
@@ -28,6 +30,7 @@ impl Ended {
 
 /// A session whose writer takes so many bytes, one at a time.
 fn narrow_session(
+    rt: &(impl Threads + Wait + Sync),
     alloc: Global,
     script: &[u8],
     room: usize,
@@ -42,7 +45,14 @@ fn narrow_session(
         room,
         when_full,
     });
-    let status = run_session(alloc, config(64, 1 << 32), &mut input, &mut output);
+    let status = run_session(
+        rt,
+        alloc,
+        config(64, 1 << 32),
+        &mut input,
+        &mut output,
+        &OpenGate,
+    );
     Ended {
         written: output.device.taken,
         failures: output.failures,
@@ -59,7 +69,7 @@ fn a_full_writer_gets_a_front(rt: HostRuntime) {
     let mut refusals = Refusals::new();
     for when_full in [WhenFull::Fails, WhenFull::TakesNothing] {
         for room in 0..39 {
-            let ended = refusals.tried(&rt, || narrow_session(alloc, script, room, when_full));
+            let ended = refusals.tried(&rt, || narrow_session(&rt, alloc, script, room, when_full));
             let is_whole = room == written.len();
             let front = &written[..room.min(written.len())];
             assert_eq!(rt; ended.written.as_slice(), front, "{room}");
@@ -78,10 +88,21 @@ fn a_full_writer_gets_a_front(rt: HostRuntime) {
 }
 
 /// A session over this reader.
-fn session_of<R: Read + Drop>(alloc: Global, device: R) -> Result<Ended, Refused> {
+fn session_of<R: Read + Drop>(
+    rt: &(impl Threads + Wait + Sync),
+    alloc: Global,
+    device: R,
+) -> Result<Ended, Refused> {
     let mut input = Input::new(device);
     let mut output = Output::new(Vec::with_capacity(alloc, 64)?);
-    let status = run_session(alloc, config(64, 1 << 32), &mut input, &mut output);
+    let status = run_session(
+        rt,
+        alloc,
+        config(64, 1 << 32),
+        &mut input,
+        &mut output,
+        &OpenGate,
+    );
     Ended {
         written: output.device,
         failures: input.failures,
@@ -98,7 +119,7 @@ fn a_failed_read_writes_nothing(rt: HostRuntime) {
             rest: b"cat nothing\n",
             fails_at_end: true,
         };
-        session_of(alloc, reader)
+        session_of(&rt, alloc, reader)
     });
     assert_eq!(rt; ended.status, Status::Device);
     assert_eq!(rt; ended.failures, 1);
@@ -114,7 +135,7 @@ fn a_script_has_a_greatest_length(rt: HostRuntime) {
         (1, Status::Device, b"".as_slice()),
     ] {
         let most = MOST_SCRIPT_BYTES as u64 + more;
-        let ended = refusals.tried(&rt, || session_of(alloc, io::repeat(b'#').take(most)));
+        let ended = refusals.tried(&rt, || session_of(&rt, alloc, io::repeat(b'#').take(most)));
         assert_eq!(rt; ended.status, status);
         assert_eq!(rt; ended.written.as_slice(), written);
     }

@@ -18,6 +18,8 @@ mod filled_hists;
 #[cfg(test)]
 mod filters;
 #[cfg(test)]
+mod gates;
+#[cfg(test)]
 mod hist_spares;
 #[cfg(test)]
 mod hists;

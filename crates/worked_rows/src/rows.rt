@@ -5,6 +5,8 @@ ghost use Rattle.trace_command.specs.Configs.{IsInRange};
 use crate::refusals::Refusals;
 use crate::sessions::{config, session};
 use std::process::Abort;
+use std::sync::Wait;
+use std::thread::Threads;
 use trace_book::Config;
 
 /// A script, what is written for it, and the exit status.
@@ -214,7 +216,11 @@ echo 'tick u64 n
 ];
 
 /// Sees that sessions of this configuration write what the rows say.
-pub(crate) fn hold(rt: &(impl Abort + AllocGlobal), config: Config, rows: &[Row])
+pub(crate) fn hold(
+    rt: &(impl Abort + AllocGlobal + Threads + Wait + Sync),
+    config: Config,
+    rows: &[Row],
+)
     requires { IsInRange config }
 {
     let mut refusals = Refusals::new();

@@ -6,8 +6,10 @@ ghost use Rattle.trace_command.specs.Configs.{IsInRange};
 use crate::refusals::Refusals;
 use std::alloc::Global;
 use std::process::Abort;
+use std::sync::Wait;
+use std::thread::Threads;
 use trace_book::Config;
-use trace_session::{Input, Output, Status, run_session};
+use trace_session::{Input, OpenGate, Output, Status, run_session};
 
 /// One CPU with two pages of so many bytes.
 pub(crate) fn config(page_bytes: u32, history_limit: u64) -> Config
@@ -27,32 +29,37 @@ pub(crate) fn config(page_bytes: u32, history_limit: u64) -> Config
 /// What a session over memory writes for a script, and its status: where memory was refused, those of a second session, and the first
 /// wrote a prefix of its bytes.
 pub(crate) fn session(
-    rt: &(impl Abort + AllocGlobal),
+    rt: &(impl Abort + AllocGlobal + Threads + Wait + Sync),
     refusals: &mut Refusals,
     config: Config,
     script: &[u8],
 ) -> (Vec<u8>, Status)
     requires { IsInRange config }
 {
-    let (begun, status) = attempt(rt.alloc(), config, script);
+    let (begun, status) = attempt(rt, rt.alloc(), config, script);
     if !is_stopped(status) {
         return (begun, status);
     }
     refusals.meet(rt);
     assert!(rt; status == Status::Device || is_whole_lines(&begun));
-    let (written, status) = attempt(rt.alloc(), config, script);
+    let (written, status) = attempt(rt, rt.alloc(), config, script);
     assert!(rt; !is_stopped(status), "memory was refused a second time");
     assert!(rt; written.starts_with(&begun));
     (written, status)
 }
 
 /// A session over memory: what it wrote, and its status.
-fn attempt(alloc: Global, config: Config, script: &[u8]) -> (Vec<u8>, Status)
+fn attempt(
+    rt: &(impl Threads + Wait + Sync),
+    alloc: Global,
+    config: Config,
+    script: &[u8],
+) -> (Vec<u8>, Status)
     requires { IsInRange config }
 {
     let mut input = Input::new(script);
     let mut output = Output::new(Vec::new(alloc));
-    let status = run_session(alloc, config, &mut input, &mut output);
+    let status = run_session(rt, alloc, config, &mut input, &mut output, &OpenGate);
     (output.device, status)
 }
 

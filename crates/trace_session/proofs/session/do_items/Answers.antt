@@ -1,0 +1,92 @@
+use Rattle.std.proofs.Common.{◌∙◌, refl, arith}
+use Rattle.std.proofs.lemmas.Result.{err_from_is_err_and}
+use Rattle.std.specs.Option.{option_copied}
+use Rattle.ticket_lock.specs.Calls.{view_of}
+use Rattle.trace_session.specs.NextItems.{item_read}
+use Rattle.trace_session.specs.Passes.{progress_of}
+use Rattle.trace_session.proofs.Standing.{begins, few, keeps, at_fault, at_device, at_stop, at_stop_here, at_end}
+use Rattle.trace_session.proofs.session.do_items.Goals as goal
+
+pub loop-rest-init : goal.loop-rest-init
+loop-rest-init g c = record {
+  of = c.requires.of;
+  seated = λ config seat. seat;
+  stands = λ config seat.
+      rw c.requires.none
+      (begins config c.args.script.now (g.W.Sink.contents c.args.writer.now) (progress_of (view_of c.args.pass)) c.requires.begins);
+  room = omega arith;
+  unfailed = refl;
+}
+
+pub returns-in_err-next-clause-memory : goal.returns-in_err-next-clause-memory
+returns-in_err-next-clause-memory g c h config seat =
+    let contents = g.W.Sink.contents in
+    at_stop_here config c.args.script.now (contents c.args.writer.now) (contents c.loop-rest.writer) c.loop-rest.replies (progress_of (view_of c.loop-rest.pass)) c.in-Some.text.now
+    c.loop-rest.number c.loop-rest.status (rw c.in-Some.is at c.loop-rest.invariant.stands config seat)
+
+pub do_item-back-requires-clause-few : goal.do_item-back-requires-clause-few
+do_item-back-requires-clause-few g c κs within =
+    let contents = g.W.Sink.contents in
+    let config = c.requires.session.0 in
+    few config c.args.script.now (contents c.args.writer.now) (contents c.loop-rest.writer) c.loop-rest.replies (progress_of (view_of c.loop-rest.pass)) c.in-Some.text.now
+    c.loop-rest.number c.loop-rest.status (rw c.in-Some.is at c.loop-rest.invariant.stands config c.requires.session.1)
+    (item_read c.loop-rest.number c.in_ok-next.next.item) (option_copied c.in_ok-next.next.rest) c.in_ok-next.next.number c.in_ok-next.ensures.read
+
+pub returns-in_err-item_status-clause-memory : goal.returns-in_err-item_status-clause-memory
+returns-in_err-item_status-clause-memory g c h config seat =
+    let contents = g.W.Sink.contents in
+    let p = err_from_is_err_and c.from_residual-in_err-item_status.result c.from_residual-in_err-item_status.ensures.1 in
+    at_stop config c.args.script.now (contents c.args.writer.now) (contents c.loop-rest.writer) c.loop-rest.replies (progress_of (view_of c.loop-rest.pass)) c.in-Some.text.now
+    c.loop-rest.number c.loop-rest.status (rw c.in-Some.is at c.loop-rest.invariant.stands config seat)
+    (contents c.do_item-back.new.writer) c.do_item-back.new.replies (c.do_item-back.ensures.memory (cc (h, p.1, p.2, c.in_err-item_status.was)))
+
+pub returns-in_err-item_status-clause-stopped : goal.returns-in_err-item_status-clause-stopped
+returns-in_err-item_status-clause-stopped g c h config seat =
+    let contents = g.W.Sink.contents in
+    let p = err_from_is_err_and c.from_residual-in_err-item_status.result c.from_residual-in_err-item_status.ensures.1 in
+    at_stop config c.args.script.now (contents c.args.writer.now) (contents c.loop-rest.writer) c.loop-rest.replies (progress_of (view_of c.loop-rest.pass)) c.in-Some.text.now
+    c.loop-rest.number c.loop-rest.status (rw c.in-Some.is at c.loop-rest.invariant.stands config seat)
+    (contents c.do_item-back.new.writer) c.do_item-back.new.replies (c.do_item-back.ensures.stopped (cc (h, p.1, p.2, c.in_err-item_status.was)))
+
+pub returns-in_err-item_status-clause-device : goal.returns-in_err-item_status-clause-device
+returns-in_err-item_status-clause-device g c h config seat =
+    let contents = g.W.Sink.contents in
+    let p = err_from_is_err_and c.from_residual-in_err-item_status.result c.from_residual-in_err-item_status.ensures.1 in
+    at_device config c.args.script.now (contents c.args.writer.now) (contents c.loop-rest.writer) c.loop-rest.replies (progress_of (view_of c.loop-rest.pass)) c.in-Some.text.now
+    c.loop-rest.number c.loop-rest.status (rw c.in-Some.is at c.loop-rest.invariant.stands config seat)
+    (item_read c.loop-rest.number c.in_ok-next.next.item) (option_copied c.in_ok-next.next.rest) c.in_ok-next.next.number c.in_ok-next.ensures.read
+    (contents c.do_item-back.new.writer) (progress_of (view_of c.do_item-back.result.0))
+    (c.do_item-back.ensures.device (cc (h, p.1, p.2, c.in_err-item_status.was)) config (c.loop-rest.invariant.seated config seat))
+
+pub returns-in-Fault-clause-ok : goal.returns-in-Fault-clause-ok
+returns-in-Fault-clause-ok g c config seat =
+    let contents = g.W.Sink.contents in
+    at_fault config c.args.script.now (contents c.args.writer.now) (contents c.loop-rest.writer) c.loop-rest.replies (progress_of (view_of c.loop-rest.pass)) c.in-Some.text.now
+    c.loop-rest.number c.loop-rest.status (rw c.in-Some.is at c.loop-rest.invariant.stands config seat)
+    (item_read c.loop-rest.number c.in_ok-next.next.item) (option_copied c.in_ok-next.next.rest) c.in_ok-next.next.number c.in_ok-next.ensures.read
+    (contents c.do_item-back.new.writer) c.do_item-back.new.replies (progress_of (view_of c.do_item-back.result.0)) c.in_ok-item_status.item_status
+    ((rw c.in_ok-item_status.was at c.do_item-back.ensures.done) config (c.loop-rest.invariant.seated config seat)) c.in-Fault.is
+
+pub loop-rest-preserved : goal.loop-rest-preserved
+loop-rest-preserved g c =
+    let contents = g.W.Sink.contents in
+    let done = c.do_item-back.ensures in
+    record {
+      of = done.of;
+      seated = λ config seat. done.session config (c.loop-rest.invariant.seated config seat);
+      stands = λ config seat.
+          keeps config c.args.script.now (contents c.args.writer.now) (contents c.loop-rest.writer) c.loop-rest.replies (progress_of (view_of c.loop-rest.pass)) c.in-Some.text.now
+          c.loop-rest.number c.loop-rest.status (rw c.in-Some.is at c.loop-rest.invariant.stands config seat)
+          (item_read c.loop-rest.number c.in_ok-next.next.item) (option_copied c.in_ok-next.next.rest) c.in_ok-next.next.number c.in_ok-next.ensures.read
+          (contents c.do_item-back.new.writer) c.do_item-back.new.replies (progress_of (view_of c.do_item-back.result.0)) c.in_ok-item_status.item_status
+          ((rw c.in_ok-item_status.was at done.done) config (c.loop-rest.invariant.seated config seat))
+          c.with_item-status.result c.in_default-2.not-Fault c.with_item-status.ensures.refused c.with_item-status.ensures.other;
+      room = omega (arith, rw c.in-Some.is at c.loop-rest.invariant.room, c.in_ok-next.ensures.room);
+      unfailed = (rw c.in_ok-item_status.was at done.failures) ∙ c.loop-rest.invariant.unfailed;
+    }
+
+pub returns-clause-ok : goal.returns-clause-ok
+returns-clause-ok g c config seat =
+    let contents = g.W.Sink.contents in
+    at_end config c.args.script.now (contents c.args.writer.now) (contents c.loop-rest.writer) c.loop-rest.replies (progress_of (view_of c.loop-rest.pass)) c.loop-rest.number c.loop-rest.status
+    (rw c.in_default.is at c.loop-rest.invariant.stands config seat)

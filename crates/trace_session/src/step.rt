@@ -1,0 +1,180 @@
+//! One item of a session: a line by itself or a part is asked, and what it gives is written.
+
+ghost use Rattle.std.specs.Prelude.{◌≡◌, ◌≤◌, List, ℕ, [], true, vec_len, IfOk, OnOk, IsErrOf};
+ghost use Rattle.ticket_lock.specs.Calls.{view_of, IsOf};
+ghost use Rattle.trace_command.specs.declared.command.Config.{Config};
+ghost use Rattle.trace_script.specs.Lines.{line_of};
+ghost use Rattle.trace_session.specs.Devices.{HasRisen, Passes};
+ghost use Rattle.trace_session.specs.Fronts.{PassesItem, AppendsItem};
+ghost use Rattle.trace_session.specs.Items.{Single, Threads, Faulty};
+ghost use Rattle.trace_session.specs.NextItems.{item_read, IsSaid};
+ghost use Rattle.trace_session.specs.PartLaws.{HasFewThreads};
+ghost use Rattle.trace_session.specs.PartReads.{commands_in};
+ghost use Rattle.trace_session.specs.Passes.{IsSessionPass, progress_of};
+ghost use Rattle.trace_session.specs.Sessions.{Progress};
+
+use crate::device::Sink;
+use crate::item::ItemRead;
+use crate::line::ask_line;
+use crate::part::{FaultAt, Numbered};
+use crate::part_run::run_part;
+use crate::replies::Replies;
+use crate::status::Status;
+use crate::stop::Stop;
+use crate::told::give;
+use std::alloc::Global;
+use std::sync::Wait;
+use std::thread;
+use ticket_lock::{Pass, TicketLock};
+use trace_book::Book;
+use trace_script::{Line, Outcome, ScriptFault};
+use trace_workers::{BlockFault, Gate};
+
+/// Asks for what a line by itself asks for, and writes what it gives.
+fn do_line<R: Wait, W: Sink>(
+    rt: &R,
+    alloc: Global,
+    lock: &TicketLock<Book>,
+    pass: Pass<Book>,
+    number: usize,
+    line: &[u8],
+    said: Result<Line, ScriptFault>,
+    replies: &mut Replies,
+    writer: &mut W,
+) -> (Pass<Book>, Result<Status, Stop>)
+    requires of { IsOf lock.now pass }
+    requires session { (g : Config) × IsSessionPass g (view_of pass) }
+    requires said { said ≡ line_of line.now }
+    ensures of { IsOf lock.now result.0 }
+    ensures session { (g : Config) → IsSessionPass g (view_of pass) → IsSessionPass g (view_of result.0) }
+    ensures done { IfOk result.1 (λ status. (g : Config) → IsSessionPass g (view_of pass)
+        → PassesItem g (Single number line.now) (progress_of (view_of pass)) (progress_of (view_of result.0)) status
+        (W.contents writer.old) replies.old (W.contents writer.new) replies.new) }
+    ensures failures { OnOk result.1 (W.failures writer.new ≡ W.failures writer.old) }
+    ensures memory { IsErrOf result.1 Stop.Memory
+        → Passes (W.contents writer.old) replies.old (W.contents writer.new) replies.new [] }
+    ensures unfailed { IsErrOf result.1 Stop.Memory → W.failures writer.new ≡ W.failures writer.old }
+    ensures stopped { IsErrOf result.1 Stop.Stopped → ⊥ }
+    ensures risen { IsErrOf result.1 Stop.Device → HasRisen (W.failures writer.old) (W.failures writer.new) }
+    ensures device { IsErrOf result.1 Stop.Device → (g : Config) → IsSessionPass g (view_of pass)
+        → AppendsItem g (Single number line.now) (progress_of (view_of pass)) (progress_of (view_of result.0))
+        (W.contents writer.old) replies.old (W.contents writer.new) }
+{
+    let (pass, asked) = ask_line(rt, lock, pass, said);
+    match asked {
+        Ok(outcome) => (pass, give(alloc, number, line, &outcome, replies, writer)),
+        Err(stop) => (pass, Err(stop)),
+    }
+}
+
+/// Asks the commands of a part, and writes what they give once all of them were asked.
+fn do_part<R: thread::Threads + Wait + Sync, W: Sink, G: Gate + Sync>(
+    rt: &R,
+    alloc: Global,
+    lock: &TicketLock<Book>,
+    pass: Pass<Book>,
+    threads: Vec<Vec<Numbered>>,
+    gate: &G,
+    replies: &mut Replies,
+    writer: &mut W,
+) -> (Pass<Book>, Result<Status, Stop>)
+    requires of { IsOf lock.now pass }
+    requires session { (g : Config) × IsSessionPass g (view_of pass) }
+    requires few { vec_len threads ≤ 8 }
+    ensures of { IsOf lock.now result.0 }
+    ensures session { (g : Config) → IsSessionPass g (view_of pass) → IsSessionPass g (view_of result.0) }
+    ensures done { IfOk result.1 (λ status. (g : Config) → IsSessionPass g (view_of pass)
+        → PassesItem g (Threads (commands_in threads.items)) (progress_of (view_of pass)) (progress_of (view_of result.0)) status
+        (W.contents writer.old) replies.old (W.contents writer.new) replies.new) }
+    ensures failures { OnOk result.1 (W.failures writer.new ≡ W.failures writer.old) }
+    ensures memory { IsErrOf result.1 Stop.Memory
+        → Passes (W.contents writer.old) replies.old (W.contents writer.new) replies.new [] }
+    ensures unfailed { IsErrOf result.1 Stop.Memory → W.failures writer.new ≡ W.failures writer.old }
+    ensures stopped { IsErrOf result.1 Stop.Stopped
+        → Passes (W.contents writer.old) replies.old (W.contents writer.new) replies.new [] }
+    ensures unwritten { IsErrOf result.1 Stop.Stopped → W.failures writer.new ≡ W.failures writer.old }
+    ensures open { G.is_open gate.now ≡ true → IsErrOf result.1 Stop.Stopped → ⊥ }
+    ensures risen { IsErrOf result.1 Stop.Device → HasRisen (W.failures writer.old) (W.failures writer.new) }
+    ensures device { IsErrOf result.1 Stop.Device → (g : Config) → IsSessionPass g (view_of pass)
+        → AppendsItem g (Threads (commands_in threads.items)) (progress_of (view_of pass)) (progress_of (view_of result.0))
+        (W.contents writer.old) replies.old (W.contents writer.new) }
+{
+    let (pass, ran) = run_part(rt, alloc, lock, pass, threads, gate);
+    match ran {
+        Ok(written) => match replies.add(writer, &written.text) {
+            Ok(()) => (pass, Ok(written.status)),
+            Err(stop) => (pass, Err(stop)),
+        },
+        Err(BlockFault::Stopped) => (pass, Err(Stop::Stopped)),
+        Err(BlockFault::Memory | BlockFault::NoThread) => (pass, Err(Stop::Memory)),
+    }
+}
+
+/// Writes the fault of a part, none of whose commands is asked.
+fn do_fault<W: Sink>(
+    alloc: Global,
+    at: FaultAt,
+    line: &[u8],
+    replies: &mut Replies,
+    writer: &mut W,
+) -> Result<Status, Stop>
+    ensures done { IfOk result (λ status. (g : Config) (before : Progress)
+        → PassesItem g (Faulty at) before before status (W.contents writer.old) replies.old (W.contents writer.new) replies.new) }
+    ensures failures { OnOk result (W.failures writer.new ≡ W.failures writer.old) }
+    ensures memory { IsErrOf result Stop.Memory
+        → Passes (W.contents writer.old) replies.old (W.contents writer.new) replies.new [] }
+    ensures unfailed { IsErrOf result Stop.Memory → W.failures writer.new ≡ W.failures writer.old }
+    ensures stopped { IsErrOf result Stop.Stopped → ⊥ }
+    ensures risen { IsErrOf result Stop.Device → HasRisen (W.failures writer.old) (W.failures writer.new) }
+    ensures device { IsErrOf result Stop.Device → (g : Config) (before : Progress)
+        → AppendsItem g (Faulty at) before before (W.contents writer.old) replies.old (W.contents writer.new) }
+{
+    let outcome = Some(Outcome::Fault(at.fault));
+    give(alloc, at.number, line, &outcome, replies, writer)
+}
+
+/// Does an item whose first line has this number: adds what it gives to the replies, and gives its own status. Of a part nothing is added before
+/// all its commands were asked. A writer that hears is told of lines by themselves and of faults, and not of the commands of parts.
+pub(crate) fn do_item<R: thread::Threads + Wait + Sync, W: Sink, G: Gate + Sync>(
+    rt: &R,
+    alloc: Global,
+    lock: &TicketLock<Book>,
+    pass: Pass<Book>,
+    number: usize,
+    item: ItemRead<'_>,
+    gate: &G,
+    replies: &mut Replies,
+    writer: &mut W,
+) -> (Pass<Book>, Result<Status, Stop>)
+    requires of { IsOf lock.now pass }
+    requires session { (g : Config) × IsSessionPass g (view_of pass) }
+    requires said { IsSaid item }
+    requires few { HasFewThreads (item_read number item) }
+    ensures of { IsOf lock.now result.0 }
+    ensures session { (g : Config) → IsSessionPass g (view_of pass) → IsSessionPass g (view_of result.0) }
+    ensures done { IfOk result.1 (λ status. (g : Config) → IsSessionPass g (view_of pass)
+        → PassesItem g (item_read number item.entry) (progress_of (view_of pass)) (progress_of (view_of result.0)) status
+        (W.contents writer.old) replies.old (W.contents writer.new) replies.new) }
+    ensures failures { OnOk result.1 (W.failures writer.new ≡ W.failures writer.old) }
+    ensures memory { IsErrOf result.1 Stop.Memory
+        → Passes (W.contents writer.old) replies.old (W.contents writer.new) replies.new [] }
+    ensures unfailed { IsErrOf result.1 Stop.Memory → W.failures writer.new ≡ W.failures writer.old }
+    ensures stopped { IsErrOf result.1 Stop.Stopped
+        → Passes (W.contents writer.old) replies.old (W.contents writer.new) replies.new [] }
+    ensures unwritten { IsErrOf result.1 Stop.Stopped → W.failures writer.new ≡ W.failures writer.old }
+    ensures open { G.is_open gate.now ≡ true → IsErrOf result.1 Stop.Stopped → ⊥ }
+    ensures risen { IsErrOf result.1 Stop.Device → HasRisen (W.failures writer.old) (W.failures writer.new) }
+    ensures device { IsErrOf result.1 Stop.Device → (g : Config) → IsSessionPass g (view_of pass)
+        → AppendsItem g (item_read number item.entry) (progress_of (view_of pass)) (progress_of (view_of result.0))
+        (W.contents writer.old) replies.old (W.contents writer.new) }
+{
+    match item {
+        ItemRead::Line { line, said } => {
+            do_line(rt, alloc, lock, pass, number, line, said, replies, writer)
+        }
+        ItemRead::Threads(threads) => {
+            do_part(rt, alloc, lock, pass, threads, gate, replies, writer)
+        }
+        ItemRead::Fault { at, line } => { (pass, do_fault(alloc, at, line, replies, writer)) }
+    }
+}
