@@ -1,6 +1,7 @@
 -- The steps as the lock's calls make them, with the facts that are known there.
 use Rattle.std.proofs.Common.{◌≡◌, ℕ, true, zero, suc, eqb, ◌+◌, ◌<◌, ◌≤◌, ◌^◌, List, [], ◌∷◌, sym, refl, ap, ◌∙◌, subst, inl, ⊎_elim, arith}
-use Rattle.std.specs.Prelude.{Option, Some, All, AllPairs}
+use Rattle.std.specs.Prelude.{Option, Some, All, AllPairs, Box}
+use Rattle.std.specs.declared.alloc.Global.{Global}
 use mathlib.Core.Option as maybe
 use mathlib.Core.Option.{some, some-injective, some-ne-none}
 use lib.ListN.{get_elem?}
@@ -14,6 +15,7 @@ use Rattle.ticket_lock.specs.Seats.{Each, AtMostOne}
 use Rattle.ticket_lock.specs.Views.{IsLive, HoldsWith, HasAllNames, is_idle, is_holding, is_blank}
 use Rattle.ticket_lock.specs.Rule.{Homes, IsInLine, IsHome, IsOut, IsPass}
 use Rattle.ticket_lock.specs.Moves.{Seated, ticket_of, root, after_look, after_draw, after_entry, FindsHistory, draws, enters, leaves}
+use Rattle.ticket_lock.specs.Boxes.{inside}
 use Rattle.ticket_lock.specs.Calls.{MayLeave, Finds}
 use Rattle.ticket_lock.proofs.Histories.{continues_itself, mine_continues}
 use Rattle.ticket_lock.proofs.KnownKept.{idle_pass, is_alone}
@@ -134,6 +136,18 @@ module _ {T E : Type 0} (entries : T → List E) (base_of : T → List ℕ) (tic
   takes_slot slots n t me now after same waits hit told =
       let (value, is, same_base, found) = told.2 (hit ∙ sym (ap (λ (z : Seated T E). ticket_of z.0.stage) same ∙ ap ticket_of waits)) in
       (Some value, ap (λ (z : Seated T E). z.1) is ∙ ap (λ (z : List (ℕ × Option T)). (0, Some value) ∷ z) (sym (ap (λ (z : Seated T E). rest z.1) is)))
+
+module _ {T E : Type 0} (entries : T → List E) (base_of : T → List ℕ) (ticket by : E → ℕ) where
+  -- a new lock over the box in which the value lies
+  pub opens_boxed : (first : ℕ) (value told : T) (box : Box T Global) (slots : List (Option (Box T Global))) → told ≡ value → box.value ≡ value → slots ≡ Some box ∷ [] → first ≤ 2 ^ 63 → AllPairs (IsBefore ticket) (entries value) → All (λ e. ticket e < first) (entries value)
+      → All (λ e. by e < 65536) (entries value) → Sound (inside entries) (inside base_of) ticket by (base_of told) (opening (first ∷ first ∷ []) slots (root (entries told) (base_of told) first))
+  opens_boxed first value told box slots same kept is few rising below callers =
+      let back : value ≡ box.value = sym kept in
+      subst (λ (x : T). Sound (inside entries) (inside base_of) ticket by (base_of x) (opening (first ∷ first ∷ []) slots (root (entries x) (base_of x) first))) (kept ∙ sym same)
+      (opens_at (inside entries) (inside base_of) ticket by first box box slots refl is few
+      (subst (λ (x : T). AllPairs (IsBefore ticket) (entries x)) back rising)
+      (subst (λ (x : T). All (λ e. ticket e < first) (entries x)) back below)
+      (subst (λ (x : T). All (λ e. by e < 65536) (entries x)) back callers))
 
 -- what a pass finds that drew a ticket and then entered
 pub finds_after : {T E : Type 0} (ticket by : E → ℕ) (v drew : View E) (n : ℕ) (log : List E) (after : Seated T E) (slots : List (ℕ × Option T)) → drew ≡ after_draw v n → FindsHistory ticket by drew log → after ≡ (after_entry drew log, slots)

@@ -27,7 +27,7 @@ module _ {T E : Type 0} {L : Ghosts T E} where
 
   -- the value as it is now
   abbrev pub held_value : Held T E L → T
-  held_value held = held.value
+  held_value held = held.value.value
 
   -- the pass is of this lock
   abbrev pub IsOf : TicketLock T E → Pass T E L → Type 0
@@ -39,7 +39,7 @@ module _ {T E : Type 0} {L : Ghosts T E} where
 
   -- the turn with another value
   abbrev pub with_value : Held T E L → T → Held T E L
-  with_value held value = record held { value = value }
+  with_value held value = record held { value = record { ptr = held.value.ptr; alloc = held.value.alloc; value = value } }
 
 -- the turn ends with the last value that was written through the reference
 abbrev pub LendsValue : (T E : RattleType) (L : Ghosts T.Denot E.Denot) → MutBor (Held T.Denot E.Denot L) → MutBor T.Denot → Fml

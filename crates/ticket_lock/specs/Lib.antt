@@ -3,4 +3,5 @@ pub mod Seats
 pub mod Views
 pub mod Rule
 pub mod Moves
+pub mod Boxes
 pub mod Calls

@@ -33,7 +33,7 @@ const LAST: u64 = 1 << 63;
 /// A lock that serves its callers in the order in which they draw their tickets.
 #[derive(Drop)]
 pub struct TicketLock<T: Logged> {
-    table: Table<Option<T>, View<T::Entry>, Opening<T>, Line, Global>,
+    table: Table<Option<Box<T>>, View<T::Entry>, Opening<T>, Line, Global>,
     ghost words: { table.shared.table_id.words ≡ 2 },
     ghost slots: { table.shared.table_id.slots ≡ 1 },
 }
@@ -76,11 +76,14 @@ impl<T: Logged> TicketLock<T> {
             first,
             value: Snapshot::of(&value),
         };
+        let boxed = Box::new(alloc, value)?;
         let mut slots = Vec::new(alloc);
-        if let Err(AllocFailed { value }) = slots.push(Some(value)) {
+        if let Err(AllocFailed { value }) = slots.push(Some(boxed)) {
             slots.destroy_empty();
-            let Some(value) = value else { unreachable!() };
-            return Err(AllocFailed { value });
+            let Some(boxed) = value else { unreachable!() };
+            return Err(AllocFailed {
+                value: Box::into_inner(boxed),
+            });
         }
         match Table::new(alloc, &[first, first], slots, &opening) {
             Ok((table, seat)) => {
@@ -91,7 +94,9 @@ impl<T: Logged> TicketLock<T> {
                 };
                 Ok((TicketLock { table }, pass))
             }
-            Err(Refused { slots }) => Err(AllocFailed { value: only(slots) }),
+            Err(Refused { slots }) => Err(AllocFailed {
+                value: Box::into_inner(only(slots)),
+            }),
         }
     }
 
@@ -176,7 +181,7 @@ impl<T: Logged> TicketLock<T> {
     //
     // It waits before it draws, until nobody is in line. A drawn ticket fixes who goes next, so a thread that waits with a
     // ticket and isn't running stops all others. One that waits without a ticket stops nobody.
-    fn draw<R: Wait>(&self, rt: &R, seat: &mut Seat<Option<T>, View<T::Entry>>) -> Option<u64>
+    fn draw<R: Wait>(&self, rt: &R, seat: &mut Seat<Option<Box<T>>, View<T::Entry>>) -> Option<u64>
         requires of { seat.old.table_id ≡ self.now.table.shared.table_id }
         requires idle { seat.old.me.0.stage ≡ Idle }
         ensures of { seat.new.table_id ≡ seat.old.table_id }
@@ -209,14 +214,19 @@ impl<T: Logged> TicketLock<T> {
     }
 
     // Waits until the ticket is served, and takes the value out of its slot.
-    fn enter<R: Wait>(&self, rt: &R, seat: &mut Seat<Option<T>, View<T::Entry>>, ticket: u64) -> T
+    fn enter<R: Wait>(
+        &self,
+        rt: &R,
+        seat: &mut Seat<Option<Box<T>>, View<T::Entry>>,
+        ticket: u64,
+    ) -> Box<T>
         requires of { seat.old.table_id ≡ self.now.table.shared.table_id }
         requires waiting { seat.old.me.0.stage ≡ Waiting ticket }
         requires slots { seat.old.me.1 ≡ [] }
         ensures of { seat.new.table_id ≡ seat.old.table_id }
-        ensures view { seat.new.me ≡ (after_entry seat.old.me.0 (T.entries result), (0, None) ∷ []) }
-        ensures base { T.base result ≡ seat.old.me.0.base }
-        ensures finds { FindsHistory T.ticket T.by seat.old.me.0 (T.entries result) }
+        ensures view { seat.new.me ≡ (after_entry seat.old.me.0 (T.entries result.value), (0, None) ∷ []) }
+        ensures base { T.base result.value ≡ seat.old.me.0.base }
+        ensures finds { FindsHistory T.ticket T.by seat.old.me.0 (T.entries result.value) }
     {
         let backoff = Backoff::new();
         for _ in rt.forever() {
@@ -272,7 +282,7 @@ impl<T: Logged> TicketLock<T> {
         let slot = closed.take(SLOT);
         closed.free();
         let Some(value) = slot else { unreachable!() };
-        value
+        Box::into_inner(value)
     }
 }
 

@@ -7,11 +7,12 @@ use std::marker::PhantomData;
 /// The line of those who wait. It keeps the rule of the lock between any two steps.
 pub struct Line;
 
-impl<T: Logged> TableRule<Option<T>, View<T::Entry>, Opening<T>> for Line {
+impl<T: Logged> TableRule<Option<Box<T>>, View<T::Entry>, Opening<T>> for Line {
+    ghost use Rattle.ticket_lock.specs.Boxes.{inside};
     ghost use Rattle.ticket_lock.specs.Rule.{IsSound};
     ghost use Rattle.ticket_lock.specs.Moves.{root};
 
-    ghost holds = { λ opening. IsSound T.entries T.base T.ticket T.by (T.base opening.value.value) };
+    ghost holds = { λ opening. IsSound (inside T.entries) (inside T.base) T.ticket T.by (T.base opening.value.value) };
 
     ghost first = { λ opening. root (T.entries opening.value.value) (T.base opening.value.value) opening.first };
 }
@@ -21,10 +22,11 @@ pub struct Looks<T> {
     of: PhantomData<T>,
 }
 
-impl<T: Logged> Play<Option<T>, View<T::Entry>> for Looks<T> {
+impl<T: Logged> Play<Option<Box<T>>, View<T::Entry>> for Looks<T> {
+    ghost use Rattle.ticket_lock.specs.Boxes.{inside};
     ghost use Rattle.ticket_lock.specs.Moves.{looks};
 
-    ghost then = { looks T.entries T.base T.ticket T.by };
+    ghost then = { looks (inside T.entries) (inside T.base) T.ticket T.by };
 }
 
 /// A try to draw a ticket.
@@ -32,10 +34,11 @@ pub struct Draws<T> {
     of: PhantomData<T>,
 }
 
-impl<T: Logged> Play<Option<T>, View<T::Entry>> for Draws<T> {
+impl<T: Logged> Play<Option<Box<T>>, View<T::Entry>> for Draws<T> {
+    ghost use Rattle.ticket_lock.specs.Boxes.{inside};
     ghost use Rattle.ticket_lock.specs.Moves.{draws};
 
-    ghost then = { draws T.entries T.base T.ticket T.by };
+    ghost then = { draws (inside T.entries) (inside T.base) T.ticket T.by };
 }
 
 /// A look at SERVING, by which a pass whose ticket is served enters.
@@ -43,10 +46,11 @@ pub struct Enters<T> {
     of: PhantomData<T>,
 }
 
-impl<T: Logged> Play<Option<T>, View<T::Entry>> for Enters<T> {
+impl<T: Logged> Play<Option<Box<T>>, View<T::Entry>> for Enters<T> {
+    ghost use Rattle.ticket_lock.specs.Boxes.{inside};
     ghost use Rattle.ticket_lock.specs.Moves.{enters};
 
-    ghost then = { enters T.entries T.base T.ticket T.by };
+    ghost then = { enters (inside T.entries) (inside T.base) T.ticket T.by };
 }
 
 /// A store to SERVING, by which the holder puts the value home.
@@ -54,10 +58,11 @@ pub struct Leaves<T> {
     of: PhantomData<T>,
 }
 
-impl<T: Logged> Play<Option<T>, View<T::Entry>> for Leaves<T> {
+impl<T: Logged> Play<Option<Box<T>>, View<T::Entry>> for Leaves<T> {
+    ghost use Rattle.ticket_lock.specs.Boxes.{inside};
     ghost use Rattle.ticket_lock.specs.Moves.{leaves};
 
-    ghost then = { leaves T.entries T.base T.ticket T.by };
+    ghost then = { leaves (inside T.entries) (inside T.base) T.ticket T.by };
 }
 
 /// A split of a pass into two halves.

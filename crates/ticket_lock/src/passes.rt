@@ -13,7 +13,7 @@ use std::ops::Range;
 /// The right to ask a lock for its value, as any of a range of callers. It asks under the first number of the range.
 #[derive(Drop)]
 pub struct Pass<T: Logged> {
-    pub(crate) seat: Seat<Option<T>, View<T::Entry>>,
+    pub(crate) seat: Seat<Option<Box<T>>, View<T::Entry>>,
     pub(crate) low: u32,
     pub(crate) end: u32,
     ghost low_is: { low ≡ seat.me.0.low },

@@ -11,7 +11,7 @@ use std::fmt::{Debug, Formatter};
 
 /// The seat of the pass whose ticket is served. The slot that it has taken is empty.
 pub struct Turn<T: Logged> {
-    pub(crate) seat: Seat<Option<T>, View<T::Entry>>,
+    pub(crate) seat: Seat<Option<Box<T>>, View<T::Entry>>,
     pub(crate) low: u32,
     pub(crate) end: u32,
     pub(crate) ticket: u64,
@@ -27,7 +27,7 @@ pub struct Turn<T: Logged> {
 /// The value, for as long as the pass's ticket is served. It has to be given to `TicketLock::release`: it cannot be dropped.
 pub struct Held<T: Logged> {
     pub(crate) turn: Turn<T>,
-    pub(crate) value: T,
+    pub(crate) value: Box<T>,
 }
 
 impl<T: Logged> Held<T> {

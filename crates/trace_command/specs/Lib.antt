@@ -1,4 +1,5 @@
 pub mod Configs
+pub mod PairLists
 pub mod Paths
 pub mod Places
 pub mod Refusals

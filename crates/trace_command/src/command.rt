@@ -1,99 +1,10 @@
 //! Commands, their replies, and the entries of a history.
 
-ghost use Rattle.std.specs.Prelude.{◌≡◌, [], ◌∷◌, ◌++◌, ◌↔◌, IfOk, IsTrue, OnOk, OnErr, Some, None, true, false};
+ghost use Rattle.std.specs.Prelude.{◌≡◌, IfOk, Some, None, true, false};
 
+use crate::pairs::Pairs;
 use std::alloc::{AllocError, Global};
-use std::marker::Model;
-use trace_format::Pair;
 use trace_lex::Text;
-
-/// The pairs of an emission, in the order given.
-#[derive(Debug, Drop)]
-pub struct Pairs {
-    pairs: Vec<Pair>,
-}
-
-impl Model for Pairs {
-    ghost use Rattle.std.specs.Prelude.{List};
-    ghost use Rattle.trace_format.specs.declared.pair.Pair.{Pair};
-
-    ghost Value = { List Pair };
-
-    ghost view = { λ p. p.pairs.items };
-}
-
-impl From<Vec<Pair>> for Pairs {
-    ghost from_gives = { λ pairs result. result ≡ pairs.items };
-
-    fn from(pairs: Vec<Pair>) -> Pairs {
-        Pairs { pairs }
-    }
-}
-
-/// Pairs are equal if they are the same in the same order.
-impl PartialEq for Pairs {
-    ghost use Rattle.std.specs.Cmp.Lexicographic.{pointwise, lists_per};
-    ghost use Rattle.trace_format.specs.contracts.pair.PairPartialEq.TheImpl.Laws.{laws-law};
-
-    ghost eq = { pointwise ⟦<Pair as PartialEq>⟧.eq };
-
-    ghost laws = { lists_per laws-law };
-
-    #[tactic(auto, using(crate::proofs::EqualLemmas::pairs_decided))]
-    fn eq(&self, other: &Pairs) -> bool
-        ensures value { result ≡ pointwise ⟦<Pair as PartialEq>⟧.eq self.now other.now }
-        ensures same { IsTrue result ↔ (self.now ≡ other.now) }
-    {
-        self.pairs == other.pairs
-    }
-}
-
-impl Eq for Pairs {
-    ghost use Rattle.std.specs.Cmp.Lexicographic.{lists_equiv};
-    ghost use Rattle.trace_format.specs.contracts.pair.PairEq.TheImpl.Laws.{laws-law};
-
-    ghost laws = { lists_equiv laws-law };
-}
-
-/// A clone is of the same pairs.
-impl Clone for Pairs {
-    ghost is_clone = { λ pairs copy. copy ≡ pairs };
-
-    fn clone(&self) -> Result<Pairs, AllocError> {
-        Ok(Pairs {
-            pairs: self.pairs.clone()?,
-        })
-    }
-}
-
-impl Pairs {
-    /// No pair.
-    pub fn new(alloc: Global) -> Pairs
-        ensures { result ≡ [] }
-    {
-        Pairs {
-            pairs: Vec::new(alloc),
-        }
-    }
-
-    /// Puts the pair of a field's name and the value that is written for it at the end.
-    pub fn push(&mut self, alloc: Global, name: &[u8], value: &[u8]) -> Result<(), AllocError>
-        ensures ok { OnOk result (self.new ≡ self.old ++ record { name = name.now; value = value.now } ∷ []) }
-        ensures err { OnErr result (self.new ≡ self.old) }
-    {
-        let name = Text::from_slice(alloc, name)?;
-        let value = Text::from_slice(alloc, value)?;
-        self.pairs.push(Pair { name, value })?;
-        Ok(())
-    }
-
-    /// The pairs.
-    pub fn as_slice(&self) -> &[Pair]
-        ensures { result.now ≡ self.now }
-    {
-        &self.pairs
-    }
-}
 
 /// What is asked of a tracer.
 #[derive(Clone, Debug, PartialEq, Eq, Drop)]

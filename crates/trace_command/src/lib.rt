@@ -3,9 +3,11 @@
 
 mod command;
 pub mod laws;
+mod pairs;
 mod place;
 mod refusal;
 
-pub use command::{Command, Config, Entry, Pairs, Reply};
+pub use command::{Command, Config, Entry, Reply};
+pub use pairs::Pairs;
 pub use place::{Address, Place, address_of, instance_of};
 pub use refusal::Refusal;

@@ -9,16 +9,16 @@ unreachable-requires g c =
 
 pub returns-clause-entries : goal.returns-clause-entries
 returns-clause-entries g c =
-    (closes_some _ _ _ _ _ _ _ _ _ _ _ (idle_stage _ c.args.pass.idle) c.requires.all_names c.close_with-closed.ensures.values.2 c.take-slot.ensures.value c.in-Some.is).entries_are
+    rw c.into_inner.ensures ((closes_some _ _ _ _ _ _ _ _ _ _ _ (idle_stage _ c.args.pass.idle) c.requires.all_names c.close_with-closed.ensures.values.2 c.take-slot.ensures.value c.in-Some.is).entries_are)
 
 pub returns-clause-base : goal.returns-clause-base
 returns-clause-base g c =
-    (closes_some _ _ _ _ _ _ _ _ _ _ _ (idle_stage _ c.args.pass.idle) c.requires.all_names c.close_with-closed.ensures.values.2 c.take-slot.ensures.value c.in-Some.is).base_is
+    rw c.into_inner.ensures ((closes_some _ _ _ _ _ _ _ _ _ _ _ (idle_stage _ c.args.pass.idle) c.requires.all_names c.close_with-closed.ensures.values.2 c.take-slot.ensures.value c.in-Some.is).base_is)
 
 pub returns-clause-rising : goal.returns-clause-rising
 returns-clause-rising g c =
-    (closes_some _ _ _ _ _ _ _ _ _ _ _ (idle_stage _ c.args.pass.idle) c.requires.all_names c.close_with-closed.ensures.values.2 c.take-slot.ensures.value c.in-Some.is).rising
+    rw c.into_inner.ensures ((closes_some _ _ _ _ _ _ _ _ _ _ _ (idle_stage _ c.args.pass.idle) c.requires.all_names c.close_with-closed.ensures.values.2 c.take-slot.ensures.value c.in-Some.is).rising)
 
 pub returns-clause-callers : goal.returns-clause-callers
 returns-clause-callers g c =
-    (closes_some _ _ _ _ _ _ _ _ _ _ _ (idle_stage _ c.args.pass.idle) c.requires.all_names c.close_with-closed.ensures.values.2 c.take-slot.ensures.value c.in-Some.is).callers
+    rw c.into_inner.ensures ((closes_some _ _ _ _ _ _ _ _ _ _ _ (idle_stage _ c.args.pass.idle) c.requires.all_names c.close_with-closed.ensures.values.2 c.take-slot.ensures.value c.in-Some.is).callers)

@@ -1,0 +1,9 @@
+-- The pairs of an emission, wherever they lie.
+use Rattle.std.specs.Prelude.{List, [], ◌∷◌}
+use Rattle.trace_format.specs.declared.pair.Pair.{Pair}
+use Rattle.trace_command.specs.declared.pairs.PairList.{PairList}
+use Rattle.trace_command.specs.declared.pairs.PairList.TheVariants.{One, Many}
+
+abbrev pub pairs_in : PairList → List Pair
+pairs_in (One pair) = pair ∷ []
+pairs_in (Many pairs) = pairs.items
