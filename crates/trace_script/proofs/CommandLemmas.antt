@@ -1,5 +1,5 @@
 -- Steps of the loops that read a command, and what `echo` writes.
-use Rattle.std.proofs.Common.{◌≡◌, ℕ, suc, arith, ◌==◌, if◌then◌else◌, List, [], ◌∷◌, ◌++◌, length, map, Bool, Option, Some, None, Result, Ok, refl, ap, sym, ◌∙◌, append_assoc}
+use Rattle.std.proofs.Common.{◌≡◌, ℕ, suc, arith, ◌==◌, if◌then◌else◌, List, [], ◌∷◌, ◌++◌, length, length-append, map, Bool, false, Option, Some, None, Result, Ok, refl, ap, sym, ◌∙◌, append_assoc}
 use Rattle.std.proofs.lemmas.List.{append-nil}
 use Rattle.std.proofs.lemmas.Bool.Decides.{nat_tests}
 use Rattle.std.specs.List.{join_with_byte}
@@ -22,19 +22,23 @@ later_space : (n : ℕ) → ◌≡◌ {A = List ℕ} (if suc n == 0 then [] else
 later_space n = grind (arith, nat_tests)
 
 -- one more word
-pub join-push : (words : List (List ℕ)) (word : List ℕ) → join_with_byte 32 (words ++ word ∷ []) ≡ join_with_byte 32 words ++ (if length words == 0 then [] else 32 ∷ []) ++ word
-join-push [] word = refl
-join-push (x ∷ []) word = sym (append_assoc x (32 ∷ []) word)
-join-push (x ∷ y ∷ words) word =
-    ap (λ (rest : List ℕ). x ++ (32 ∷ rest)) (join-push (y ∷ words) word)
+pub join_push : (words : List (List ℕ)) (word : List ℕ) → join_with_byte 32 (words ++ word ∷ []) ≡ join_with_byte 32 words ++ (if length words == 0 then [] else 32 ∷ []) ++ word
+join_push [] word = refl
+join_push (x ∷ []) word = sym (append_assoc x (32 ∷ []) word)
+join_push (x ∷ y ∷ words) word =
+    ap (λ (rest : List ℕ). x ++ (32 ∷ rest)) (join_push (y ∷ words) word)
     ∙ (ap (λ (space : List ℕ). x ++ (32 ∷ (join_with_byte 32 (y ∷ words) ++ space ++ word))) (later_space (length words))
     ∙ (regrouped x (join_with_byte 32 (y ∷ words)) (32 ∷ []) word
     ∙ ap (λ (space : List ℕ). x ++ (32 ∷ join_with_byte 32 (y ∷ words)) ++ space ++ word) (sym (later_space (suc (length words))))))
 
+-- some words are not none
+pub push_some : (words : List (List ℕ)) (word : List ℕ) → false ≡ (length (words ++ word ∷ []) == 0)
+push_some words word = grind (arith, nat_tests, length-append)
+
 -- pairs found one after the other
-pub pairs-append : (xs : List Pair) (y : Pair) (rest : Option (List Pair)) → option_map (λ more. (xs ++ y ∷ []) ++ more) rest ≡ option_map (λ more. xs ++ more) (option_map (λ more. y ∷ more) rest)
-pairs-append xs y None = refl
-pairs-append xs y (Some more) = ap Some (append_assoc xs (y ∷ []) more)
+pub pairs_append : (xs : List Pair) (y : Pair) (rest : Option (List Pair)) → option_map (λ more. (xs ++ y ∷ []) ++ more) rest ≡ option_map (λ more. xs ++ more) (option_map (λ more. y ∷ more) rest)
+pairs_append xs y None = refl
+pairs_append xs y (Some more) = ap Some (append_assoc xs (y ∷ []) more)
 
 -- ---- what `echo` writes
 

@@ -1,5 +1,7 @@
 pub mod TokenLemmas
 pub mod WordLemmas
+pub mod TakingLemmas
+pub mod TakenCommands
 pub mod GrammarLaws
 pub mod CommandLemmas
 pub mod CommandLaws

@@ -6,3 +6,5 @@ pub mod Commands
 pub mod Faults
 pub mod Rendering
 pub mod Words
+pub mod TokensLeft
+pub mod TokensIn

@@ -42,11 +42,15 @@ pairs_of [] = Some []
 pairs_of (Redirect append ∷ tokens) = None
 pairs_of (Word word ∷ tokens) = option_and_then (λ pair. option_map (λ pairs. pair ∷ pairs) (pairs_of tokens)) (pair_of word)
 
+-- the emission of these words and pairs
+abbrev pub emission_with : List ℕ → List ℕ → List ℕ → List Pair → Result Command ScriptFault
+emission_with cpu pid event pairs =
+    or_fault BadNumber (number_up_to (2 ^ 32 - 1) cpu) >>= λ cpu. or_fault BadNumber (process_id pid) >>= λ pid. Ok (Emit event cpu pid pairs)
+
 -- `emit CPU PID EVENT FIELD=VALUE ..`, with one pair or more
 unfoldable pub emission_of : List Token → Result Command ScriptFault
 emission_of (Word cpu ∷ Word pid ∷ Word event ∷ pair ∷ more) =
-    or_fault WrongWords (pairs_of (pair ∷ more)) >>= λ pairs. or_fault BadNumber (number_up_to (2 ^ 32 - 1) cpu) >>= λ cpu. or_fault BadNumber (process_id pid)
-    >>= λ pid. Ok (Emit event cpu pid pairs)
+    or_fault WrongWords (pairs_of (pair ∷ more)) >>= λ pairs. emission_with cpu pid event pairs
 emission_of _ = Err WrongWords
 
 -- one word and nothing else

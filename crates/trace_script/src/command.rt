@@ -1,17 +1,19 @@
 //! The commands of a script, read from the words and redirections of a line.
 
-ghost use Rattle.std.specs.Prelude.{◌≡◌, List, Ok, ◌==◌, ◌++◌, ◌∷◌, [], OnOk, position, if◌then◌else◌, codes};
+ghost use Rattle.std.specs.Prelude.{◌≡◌, List, Ok, Err, ◌==◌, ◌++◌, ◌∷◌, [], IfOk, IfErr, OnOk, MatchOption, position, if◌then◌else◌, codes};
+ghost use Rattle.std.specs.Option.{option_map};
 ghost use Rattle.std.specs.Str.{bytes_eq};
 ghost use Rattle.trace_command.specs.declared.command.Command.{Command};
 ghost use Rattle.trace_script.specs.declared.token.Token.{Token};
-ghost use Rattle.trace_script.specs.Outcomes.{Gives, or_fault};
+ghost use Rattle.trace_script.specs.Outcomes.{Fails, Gives, or_fault};
 ghost use Rattle.trace_script.specs.Commands.{IsWriteOf};
-ghost use Rattle.trace_script.specs.Lines.{pair_of, pairs_of, emission_of, only_word, redirected_to, write_of, read_of, take_of, mkdir_of, rmdir_of, named_command};
+ghost use Rattle.trace_script.specs.TokensLeft.{IsPairAnd};
+ghost use Rattle.trace_script.specs.Lines.{pair_of, pairs_of, emission_with, emission_of, only_word, redirected_to, write_of, read_of, take_of, mkdir_of, rmdir_of, named_command};
 ghost use Rattle.trace_script.specs.declared.fault.ScriptFault.TheVariants.{WrongWords};
 
 use crate::fault::{LineError, ScriptFault};
 use crate::number::{cpu_number, process_id};
-use crate::token::Token;
+use crate::tokens::{Piece, Tokens};
 use std::alloc::{AllocError, Global};
 use trace_command::{Command, Pairs};
 use trace_format::Pair;
@@ -37,100 +39,159 @@ fn pair(alloc: Global, word: &[u8]) -> Result<Pair, LineError>
     Ok(Pair { name, value })
 }
 
-/// The pairs that the tokens write, each of them a word.
-#[tactic(auto, unfolding(crate::specs::Lines::pairs_of))]
-fn pairs(alloc: Global, tokens: &[Token]) -> Result<Pairs, LineError>
-    ensures { Gives (λ pairs. pairs) result (or_fault WrongWords (pairs_of tokens.now)) }
+/// Takes the pair that the next token writes, if one is left.
+#[tactic(auto, using(crate::proofs::TakenCommands::pair_taken, crate::proofs::TakenCommands::no_pair, crate::proofs::TakenCommands::pair_redirected))]
+fn next_pair(alloc: Global, tokens: &mut Tokens<'_>) -> Result<Option<Pair>, LineError>
+    ensures pair { IfOk result (λ taken. MatchOption taken (tokens.old ≡ []) (λ pair. IsPairAnd tokens.old pair tokens.new)) }
+    ensures err { IfErr result (λ error. Fails error (or_fault WrongWords (pairs_of tokens.old))) }
 {
-    let mut pairs = Vec::with_capacity(alloc, tokens.len())?;
-    for token in tokens {
-        match token {
-            Token::Word(word) => pairs.push(pair(alloc, word.as_bytes())?)?,
-            Token::Redirect { .. } => return Err(LineError::Fault(ScriptFault::WrongWords)),
-        }
+    match tokens.next() {
+        Some(Piece::Word(word)) => Ok(Some(pair(alloc, word)?)),
+        Some(Piece::Redirect { .. }) => Err(LineError::Fault(ScriptFault::WrongWords)),
+        None => Ok(None),
+    }
+}
+
+/// The pairs that the tokens write, each of them a word. A pair that is alone takes no block of its own; more lie in one with room for all of
+/// them, since each has a `=`.
+#[tactic(auto, using(crate::proofs::TakenCommands::pairs_of_none))]
+fn pairs(alloc: Global, tokens: &mut Tokens<'_>) -> Result<Pairs, LineError>
+    ensures { Gives (λ pairs. pairs) result (or_fault WrongWords (pairs_of tokens.old)) }
+{
+    let Some(first) = next_pair(alloc, tokens)? else {
+        return Ok(Pairs::new(alloc));
+    };
+    if tokens.is_empty() {
+        return Ok(Pairs::from(first));
+    }
+    more_pairs(alloc, first, tokens)
+}
+
+/// A pair and those that the tokens write after it.
+#[tactic(auto, using(crate::proofs::CommandLemmas::pairs_append, crate::proofs::TakenCommands::pairs_done))]
+fn more_pairs(alloc: Global, first: Pair, tokens: &mut Tokens<'_>) -> Result<Pairs, LineError>
+    ensures { Gives (λ pairs. pairs) result (or_fault WrongWords (option_map (λ more. first ∷ more) (pairs_of tokens.old))) }
+{
+    let mut pairs = Vec::with_capacity(alloc, tokens.most_pairs().saturating_add(1))?;
+    pairs.push(first)?;
+    while let Some(pair) = next_pair(alloc, tokens)? {
+        pairs.push(pair)?;
     }
     Ok(Pairs::from(pairs))
 }
 
-/// `emit CPU PID EVENT FIELD=VALUE ..`
-#[tactic(auto, unfolding(crate::specs::Lines::emission_of))]
-pub(crate) fn emission(alloc: Global, tokens: &[Token]) -> Result<Command, LineError>
-    ensures { Gives (λ command. command) result (emission_of tokens.now) }
+/// Lets the pairs of an emission go that has a fault, or for which memory is short. It is kept out of line, so that a right one doesn't take
+/// its room.
+#[cold]
+#[inline(never)]
+fn without_command(_pairs: Pairs, error: LineError) -> Result<Command, LineError>
+    ensures { result ≡ Err error }
 {
-    let [cpu, pid, event, _, ..] = tokens else {
+    Err(error)
+}
+
+/// The emission of these words and pairs.
+fn emission_with(
+    alloc: Global,
+    cpu: &[u8],
+    pid: &[u8],
+    event: &[u8],
+    pairs: Pairs,
+) -> Result<Command, LineError>
+    ensures { Gives (λ command. command) result (emission_with cpu.now pid.now event.now pairs) }
+{
+    let (Some(cpu), Some(pid)) = (cpu_number(cpu), process_id(pid)) else {
+        return without_command(pairs, LineError::Fault(ScriptFault::BadNumber));
+    };
+    match Text::from_slice(alloc, event) {
+        Ok(event) => Ok(Command::Emit {
+            event,
+            cpu,
+            pid,
+            pairs,
+        }),
+        Err(_) => without_command(pairs, LineError::Memory),
+    }
+}
+
+/// `emit CPU PID EVENT FIELD=VALUE ..`
+#[tactic(auto, using(crate::proofs::TakenCommands::no_cpu, crate::proofs::TakenCommands::no_process, crate::proofs::TakenCommands::no_event, crate::proofs::TakenCommands::no_pairs, crate::proofs::TakenCommands::bad_pairs))]
+pub(crate) fn emission(alloc: Global, tokens: &mut Tokens<'_>) -> Result<Command, LineError>
+    ensures { Gives (λ command. command) result (emission_of tokens.old) }
+{
+    let Some(cpu) = tokens.next_word() else {
         return Err(LineError::Fault(ScriptFault::WrongWords));
     };
-    let (Token::Word(cpu), Token::Word(pid), Token::Word(event)) = (cpu, pid, event) else {
+    let Some(pid) = tokens.next_word() else {
         return Err(LineError::Fault(ScriptFault::WrongWords));
     };
-    let pairs = pairs(alloc, &tokens[3..])?;
-    let Some(cpu) = cpu_number(cpu.as_bytes()) else {
-        return Err(LineError::Fault(ScriptFault::BadNumber));
+    let Some(event) = tokens.next_word() else {
+        return Err(LineError::Fault(ScriptFault::WrongWords));
     };
-    let Some(pid) = process_id(pid.as_bytes()) else {
-        return Err(LineError::Fault(ScriptFault::BadNumber));
-    };
-    let event = Text::from_slice(alloc, event.as_bytes())?;
-    Ok(Command::Emit {
-        event,
-        cpu,
-        pid,
-        pairs,
-    })
+    if tokens.is_empty() {
+        return Err(LineError::Fault(ScriptFault::WrongWords));
+    }
+    let pairs = pairs(alloc, tokens)?;
+    emission_with(alloc, cpu, pid, event, pairs)
 }
 
 /// Appends a word to those before it, after a space where it is not the first.
-fn append_word(text: &mut Vec<u8>, index: usize, word: &[u8]) -> Result<(), AllocError>
-    ensures { OnOk result (text.new.items ≡ text.old.items ++ (if index == 0 then [] else 32 ∷ []) ++ word.now) }
+fn append_word(text: &mut Vec<u8>, is_first: bool, word: &[u8]) -> Result<(), AllocError>
+    ensures { OnOk result (text.new.items ≡ text.old.items ++ (if is_first then [] else 32 ∷ []) ++ word.now) }
 {
-    if index > 0 {
+    if !is_first {
         text.push(b' ')?;
     }
     text.extend_from_slice(word)
 }
 
 /// The one word that the tokens are.
-fn only_word(alloc: Global, tokens: &[Token]) -> Result<Text, LineError>
-    ensures { Gives (λ word. word) result (only_word tokens.now) }
+#[tactic(auto, using(crate::proofs::TakenCommands::no_only_word, crate::proofs::TakenCommands::more_than_word, crate::proofs::TakenCommands::just_word))]
+fn only_word(alloc: Global, tokens: &mut Tokens<'_>) -> Result<Text, LineError>
+    ensures { Gives (λ word. word) result (only_word tokens.old) }
 {
-    let [token] = tokens else {
-        return Err(LineError::Fault(ScriptFault::WrongWords));
-    };
-    match token {
-        Token::Word(word) => Ok(Text::from_slice(alloc, word.as_bytes())?),
-        Token::Redirect { .. } => Err(LineError::Fault(ScriptFault::WrongWords)),
+    match tokens.next_word() {
+        Some(word) if tokens.is_empty() => Ok(Text::from_slice(alloc, word)?),
+        _ => Err(LineError::Fault(ScriptFault::WrongWords)),
     }
 }
 
 /// The write of a string to the path that follows a redirection.
-fn redirected(alloc: Global, append: bool, text: Text, rest: &[Token]) -> Result<Command, LineError>
-    ensures { Gives (λ command. command) result (redirected_to append text rest.now) }
+fn redirected(
+    alloc: Global,
+    append: bool,
+    text: Text,
+    tokens: &mut Tokens<'_>,
+) -> Result<Command, LineError>
+    ensures { Gives (λ command. command) result (redirected_to append text tokens.old) }
 {
-    let path = only_word(alloc, rest)?;
+    let path = only_word(alloc, tokens)?;
     Ok(Command::Write { path, append, text })
 }
 
 /// An `echo`, with `>` or `>>` before its path: what is written is the words with a space between each two.
 #[tactic(auto, unfolding(crate::specs::Lines::write_of))]
-fn write(alloc: Global, tokens: &[Token]) -> Result<Command, LineError>
-    ensures { Gives (λ command. command) result (write_of tokens.now) }
+fn write(alloc: Global, tokens: &mut Tokens<'_>) -> Result<Command, LineError>
+    ensures { Gives (λ command. command) result (write_of tokens.old) }
 {
     let mut text = Vec::new(alloc);
-    for (index, token) in tokens.iter().enumerate() {
+    let mut is_first = true;
+    while let Some(token) = tokens.next() {
         match token {
-            Token::Word(word) => append_word(&mut text, index, word.as_bytes())?,
-            Token::Redirect { append } => {
-                return redirected(alloc, *append, Text::from(text), &tokens[index + 1..]);
+            Piece::Word(word) => append_word(&mut text, is_first, word)?,
+            Piece::Redirect { append } => {
+                return redirected(alloc, append, Text::from(text), tokens);
             }
         }
+        is_first = false;
     }
     Err(LineError::Fault(ScriptFault::WrongWords))
 }
 
 /// `cat PATH`
 #[tactic(auto, unfolding(crate::specs::Lines::read_of))]
-fn read(alloc: Global, tokens: &[Token]) -> Result<Command, LineError>
-    ensures { Gives (λ command. command) result (read_of tokens.now) }
+fn read(alloc: Global, tokens: &mut Tokens<'_>) -> Result<Command, LineError>
+    ensures { Gives (λ command. command) result (read_of tokens.old) }
 {
     let path = only_word(alloc, tokens)?;
     Ok(Command::Read { path, limit: None })
@@ -138,19 +199,16 @@ fn read(alloc: Global, tokens: &[Token]) -> Result<Command, LineError>
 
 /// `take N PATH`: a read of at most N records.
 #[tactic(auto, unfolding(crate::specs::Lines::take_of))]
-fn take(alloc: Global, tokens: &[Token]) -> Result<Command, LineError>
-    ensures { Gives (λ command. command) result (take_of tokens.now) }
+fn take(alloc: Global, tokens: &mut Tokens<'_>) -> Result<Command, LineError>
+    ensures { Gives (λ command. command) result (take_of tokens.old) }
 {
-    let [count, path] = tokens else {
+    let Some(count) = tokens.next_word() else {
         return Err(LineError::Fault(ScriptFault::WrongWords));
     };
-    let (Token::Word(count), Token::Word(path)) = (count, path) else {
-        return Err(LineError::Fault(ScriptFault::WrongWords));
-    };
-    let Some(limit) = decimal_number(count.as_bytes(), u64::MAX) else {
+    let path = only_word(alloc, tokens)?;
+    let Some(limit) = decimal_number(count, u64::MAX) else {
         return Err(LineError::Fault(ScriptFault::BadNumber));
     };
-    let path = Text::from_slice(alloc, path.as_bytes())?;
     Ok(Command::Read {
         path,
         limit: Some(limit),
@@ -159,8 +217,8 @@ fn take(alloc: Global, tokens: &[Token]) -> Result<Command, LineError>
 
 /// `mkdir PATH`
 #[tactic(auto, unfolding(crate::specs::Lines::mkdir_of))]
-fn mkdir(alloc: Global, tokens: &[Token]) -> Result<Command, LineError>
-    ensures { Gives (λ command. command) result (mkdir_of tokens.now) }
+fn mkdir(alloc: Global, tokens: &mut Tokens<'_>) -> Result<Command, LineError>
+    ensures { Gives (λ command. command) result (mkdir_of tokens.old) }
 {
     let path = only_word(alloc, tokens)?;
     Ok(Command::Mkdir(path))
@@ -168,8 +226,8 @@ fn mkdir(alloc: Global, tokens: &[Token]) -> Result<Command, LineError>
 
 /// `rmdir PATH`
 #[tactic(auto, unfolding(crate::specs::Lines::rmdir_of))]
-fn rmdir(alloc: Global, tokens: &[Token]) -> Result<Command, LineError>
-    ensures { Gives (λ command. command) result (rmdir_of tokens.now) }
+fn rmdir(alloc: Global, tokens: &mut Tokens<'_>) -> Result<Command, LineError>
+    ensures { Gives (λ command. command) result (rmdir_of tokens.old) }
 {
     let path = only_word(alloc, tokens)?;
     Ok(Command::Rmdir(path))
@@ -184,8 +242,12 @@ pub(crate) fn is_emit(name: &[u8]) -> bool
 
 /// The command of this name, with the tokens that follow it.
 #[tactic(auto, unfolding(crate::specs::Lines::named_command))]
-pub(crate) fn command(alloc: Global, name: &[u8], tokens: &[Token]) -> Result<Command, LineError>
-    ensures { Gives (λ command. command) result (named_command name.now tokens.now) }
+pub(crate) fn command(
+    alloc: Global,
+    name: &[u8],
+    tokens: &mut Tokens<'_>,
+) -> Result<Command, LineError>
+    ensures { Gives (λ command. command) result (named_command name.now tokens.old) }
 {
     if is_emit(name) {
         return emission(alloc, tokens);

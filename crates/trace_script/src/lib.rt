@@ -8,6 +8,7 @@ mod line;
 mod number;
 mod outcome;
 mod token;
+mod tokens;
 mod word;
 
 pub use command::writes_are_as_written;

@@ -1,10 +1,12 @@
 //! A line of a script, read as what it asks for.
 
 ghost use Rattle.std.specs.Prelude.{◌≡◌, ℕ, List};
-ghost use Rattle.std.specs.List.{list_all};
+ghost use Rattle.std.specs.List.{list_all, list_any};
 ghost use Rattle.trace_script.specs.Commands.{AsksFor, IsAskedBy};
 ghost use Rattle.trace_script.specs.Faults.{HasFault};
 ghost use Rattle.trace_script.specs.Outcomes.{Gives};
+ghost use Rattle.trace_script.specs.TokensLeft.{asked_after};
+ghost use Rattle.trace_script.specs.Tokens.{is_quote, tokens_of};
 ghost use Rattle.trace_script.specs.declared.fault.ScriptFault.{ScriptFault as FaultValue};
 ghost use Rattle.trace_script.specs.Lines.{alone, named_line, asked_of, is_line_byte, says_nothing, spoken, line_of};
 ghost use Rattle.trace_script.specs.declared.token.Token.{Token};
@@ -12,7 +14,8 @@ ghost use Rattle.trace_script.specs.declared.line.Line.{Line as LineValue};
 
 use crate::command::{command, emission, is_emit};
 use crate::fault::{LineError, ScriptFault};
-use crate::token::{Token, tokens};
+use crate::token::tokens;
+use crate::tokens::{Piece, Tokens};
 use std::alloc::Global;
 use trace_command::Command;
 use trace_lex::is_blank;
@@ -36,7 +39,7 @@ pub enum Line {
 }
 
 /// A line of one word, if no token follows its name.
-fn alone(line: Line, tokens: &[Token]) -> Result<Line, LineError>
+fn alone(line: Line, tokens: &Tokens<'_>) -> Result<Line, LineError>
     ensures { Gives (λ line. line) result (alone line tokens.now) }
 {
     if tokens.is_empty() {
@@ -50,8 +53,8 @@ fn alone(line: Line, tokens: &[Token]) -> Result<Line, LineError>
 /// commands.
 #[inline(never)]
 #[tactic(auto, unfolding(crate::specs::Lines::named_line))]
-fn any_line(alloc: Global, name: &[u8], tokens: &[Token]) -> Result<Line, LineError>
-    ensures { Gives (λ line. line) result (named_line name.now tokens.now) }
+fn any_line(alloc: Global, name: &[u8], tokens: &mut Tokens<'_>) -> Result<Line, LineError>
+    ensures { Gives (λ line. line) result (named_line name.now tokens.old) }
 {
     if name == b"parallel".as_slice() {
         return alone(Line::Parallel, tokens);
@@ -67,8 +70,8 @@ fn any_line(alloc: Global, name: &[u8], tokens: &[Token]) -> Result<Line, LineEr
 
 /// The line of this name, with the tokens that follow it. Most lines are emissions, so these are looked for first.
 #[tactic(auto, using(crate::proofs::EmissionLines::emission_line))]
-fn named(alloc: Global, name: &[u8], tokens: &[Token]) -> Result<Line, LineError>
-    ensures { Gives (λ line. line) result (named_line name.now tokens.now) }
+fn named(alloc: Global, name: &[u8], tokens: &mut Tokens<'_>) -> Result<Line, LineError>
+    ensures { Gives (λ line. line) result (named_line name.now tokens.old) }
 {
     if is_emit(name) {
         return Ok(Line::Ask(emission(alloc, tokens)?));
@@ -78,15 +81,14 @@ fn named(alloc: Global, name: &[u8], tokens: &[Token]) -> Result<Line, LineError
 
 /// What the tokens of a line ask for. The first of them names it.
 #[tactic(auto, unfolding(crate::specs::Lines::asked_of))]
-fn asked(alloc: Global, tokens: &[Token]) -> Result<Line, LineError>
-    ensures { Gives (λ line. line) result (asked_of tokens.now) }
+fn asked(alloc: Global, tokens: &mut Tokens<'_>) -> Result<Line, LineError>
+    ensures { Gives (λ line. line) result (asked_of tokens.old) }
 {
-    let [first, rest @ ..] = tokens else {
-        return Err(LineError::Fault(ScriptFault::UnknownCommand));
-    };
-    match first {
-        Token::Word(name) => named(alloc, name.as_bytes(), rest),
-        Token::Redirect { .. } => Err(LineError::Fault(ScriptFault::UnknownCommand)),
+    match tokens.next() {
+        Some(Piece::Word(name)) => named(alloc, name, tokens),
+        Some(Piece::Redirect { .. }) | None => {
+            Err(LineError::Fault(ScriptFault::UnknownCommand))
+        }
     }
 }
 
@@ -102,27 +104,54 @@ fn says_nothing(line: &[u8]) -> bool
     true
 }
 
-/// What a line of lawful length and bytes asks for.
+/// What a line asks for that may have quotes. It is kept out of line, as `any_line` is.
+#[inline(never)]
+fn quoted(alloc: Global, line: &[u8]) -> Result<Line, LineError>
+    ensures { Gives (λ line. line) result (asked_after (tokens_of line.now)) }
+{
+    let list = tokens(alloc, line)?;
+    asked(alloc, &mut Tokens::of_list(&list))
+}
+
+/// What a line of lawful length and bytes asks for, of which is known whether it has a quote.
 #[tactic(auto, unfolding(crate::specs::Lines::spoken))]
-fn spoken(alloc: Global, line: &[u8]) -> Result<Line, LineError>
+fn spoken(alloc: Global, line: &[u8], has_quote: bool) -> Result<Line, LineError>
+    requires { has_quote ≡ list_any is_quote line.now }
     ensures { Gives (λ line. line) result (spoken line.now) }
 {
     if says_nothing(line) {
         return Ok(Line::Blank);
     }
-    let tokens = tokens(alloc, line)?;
-    asked(alloc, &tokens)
+    if has_quote {
+        return quoted(alloc, line);
+    }
+    asked(alloc, &mut Tokens::of_line(line))
 }
 
-/// Whether each byte is a tab, or one from 0x20 to 0x7e. A loop without an early exit, over a byte, takes many bytes at once.
-fn has_line_bytes(line: &[u8]) -> bool
-    ensures { result ≡ list_all is_line_byte line.now }
+/// What one pass over the bytes of a line tells.
+#[derive(Clone, Copy)]
+struct LineBytes {
+    /// Whether each of them is a tab, or one from 0x20 to 0x7e.
+    are_lawful: bool,
+    /// Whether one of them is a quote.
+    have_quote: bool,
+}
+
+/// Looks at the bytes of a line. A loop without an early exit, over a byte, takes many bytes at once.
+fn bytes_of(line: &[u8]) -> LineBytes
+    ensures lawful { result.are_lawful ≡ list_all is_line_byte line.now }
+    ensures quote { result.have_quote ≡ list_any is_quote line.now }
 {
     let mut others = 0u8;
+    let mut quotes = 0u8;
     for byte in line {
         others |= u8::from(!matches!(*byte, b'\t' | b' '..=b'~'));
+        quotes |= u8::from(*byte == b'\'' || *byte == b'"');
     }
-    others == 0
+    LineBytes {
+        are_lawful: others == 0,
+        have_quote: quotes != 0,
+    }
 }
 
 /// What a line asks for. A fault is the first that is found, in the order of [`ScriptFault`].
@@ -133,10 +162,11 @@ pub fn prepare(alloc: Global, line: &[u8]) -> Result<Line, LineError>
     if line.len() > MOST_BYTES {
         return Err(LineError::Fault(ScriptFault::LineTooLong));
     }
-    if !has_line_bytes(line) {
+    let bytes = bytes_of(line);
+    if !bytes.are_lawful {
         return Err(LineError::Fault(ScriptFault::BadByte));
     }
-    spoken(alloc, line)
+    spoken(alloc, line, bytes.have_quote)
 }
 
 /// The grammar of commands: tokens ask for a command, or for a line of a parallel part, exactly where they are written as it is. So they

@@ -1,11 +1,12 @@
 //! The words and redirections of a line.
 
 ghost use Rattle.std.specs.Prelude.{◌≡◌, ◌≢◌, ℕ, List, ◌<◌, ◌≤◌, ◌∷◌, [], false, IfOk, IfErr, OnOk, length, Some, None, Ok, Err};
-ghost use Rattle.std.specs.List.{prefix_len};
+ghost use Rattle.std.specs.List.{list_any, prefix_len};
 ghost use Rattle.trace_script.specs.Tokens.{Arrow, InWord, behind, is_end, is_quote, tokens_from, tokens_of};
 ghost use Rattle.trace_script.specs.Words.{is_plain, begins_with_quote, begins_with_arrow, BeginsToken, BeginsWord, place_in, IsWordAnd, IsUnclosed};
 ghost use Rattle.trace_script.specs.Grammar.{IsWritten};
 ghost use Rattle.trace_script.specs.declared.token.Token.{Token as TokenValue};
+ghost use Rattle.trace_script.specs.declared.token.Token.TheVariants.{Redirect as IsRedirect};
 ghost use Rattle.trace_script.specs.Outcomes.{Gives, or_fault};
 ghost use Rattle.trace_script.specs.declared.fault.ScriptFault.TheVariants.{UnclosedQuote};
 
@@ -66,7 +67,7 @@ fn begins_with_quote(text: &[u8]) -> bool
 }
 
 /// Whether a string begins with a `>`.
-fn begins_with_arrow(text: &[u8]) -> bool
+pub(crate) fn begins_with_arrow(text: &[u8]) -> bool
     ensures { result ≡ begins_with_arrow text.now }
 {
     match text {
@@ -76,7 +77,9 @@ fn begins_with_arrow(text: &[u8]) -> bool
 }
 
 /// What is left of a line after the blanks at its front.
-fn without_blanks(line: &[u8]) -> &[u8]
+#[tactic(auto, using(crate::proofs::TakingLemmas::unquoted_drop))]
+pub(crate) fn without_blanks(line: &[u8]) -> &[u8]
+    ensures unquoted { list_any is_quote line.now ≡ false → list_any is_quote result.now ≡ false }
     ensures tokens { tokens_of result.now ≡ tokens_of line.now }
     ensures first { result.now ≢ [] → BeginsToken result.now }
     ensures shorter { length result.now ≤ length line.now }
@@ -122,6 +125,17 @@ fn quoted_word(alloc: Global, line: &[u8]) -> Result<(Text, &[u8]), LineError>
     }
 }
 
+/// The bytes at the front of a line that a word has as they are, and what follows them. Where no quote follows they are the word.
+#[tactic(auto, using(crate::proofs::WordLemmas::plain_takes, crate::proofs::TakingLemmas::unquoted_drop))]
+pub(crate) fn plain_part(line: &[u8]) -> (&[u8], &[u8])
+    requires { BeginsWord line.now }
+    ensures word { begins_with_quote result.1.now ≡ false → IsWordAnd line.now result.0.now result.1.now }
+    ensures shorter { begins_with_quote result.1.now ≡ false → length result.1.now < length line.now }
+    ensures unquoted { list_any is_quote line.now ≡ false → list_any is_quote result.1.now ≡ false }
+{
+    line.split_at(plain_len(line))
+}
+
 /// A word at the front of a line, and what follows it.
 fn first_word(alloc: Global, line: &[u8]) -> Result<(Word<'_>, &[u8]), LineError>
     requires { BeginsWord line.now }
@@ -129,7 +143,7 @@ fn first_word(alloc: Global, line: &[u8]) -> Result<(Word<'_>, &[u8]), LineError
     ensures shorter { IfOk result (λ taken. length taken.1.now < length line.now) }
     ensures err { IfErr result (λ error. IsUnclosed error (tokens_from InWord [] line.now)) }
 {
-    let (part, rest) = line.split_at(plain_len(line));
+    let (part, rest) = plain_part(line);
     if begins_with_quote(rest) {
         let (copy, rest) = quoted_word(alloc, line)?;
         return Ok((Word::of_copy(alloc, copy)?, rest));
@@ -137,17 +151,18 @@ fn first_word(alloc: Global, line: &[u8]) -> Result<(Word<'_>, &[u8]), LineError
     Ok((Word::of_part(part), rest))
 }
 
-/// The redirection that a `>` begins, and what follows it.
-#[tactic(auto, using(crate::proofs::WordLemmas::arrow_len, crate::proofs::WordLemmas::arrows, crate::proofs::WordLemmas::single_arrow))]
-fn redirection(after: &[u8]) -> (Token<'_>, &[u8])
-    ensures token { tokens_from Arrow [] after.now ≡ behind (result.0 ∷ []) (tokens_of result.1.now) }
+/// Whether the redirection that a `>` begins appends, and what follows it.
+#[tactic(auto, using(crate::proofs::WordLemmas::arrow_len, crate::proofs::WordLemmas::arrows, crate::proofs::WordLemmas::single_arrow, crate::proofs::TakingLemmas::unquoted_drop))]
+pub(crate) fn redirection(after: &[u8]) -> (bool, &[u8])
+    ensures token { tokens_from Arrow [] after.now ≡ behind (IsRedirect result.0 ∷ []) (tokens_of result.1.now) }
     ensures shorter { length result.1.now ≤ length after.now }
+    ensures unquoted { list_any is_quote after.now ≡ false → list_any is_quote result.1.now ≡ false }
 {
     if begins_with_arrow(after) {
         let (_, rest) = after.split_at(1);
-        return (Token::Redirect { append: true }, rest);
+        return (true, rest);
     }
-    (Token::Redirect { append: false }, after)
+    (false, after)
 }
 
 /// The first token of a line that begins with one, and what follows it.
@@ -160,7 +175,8 @@ fn first_token(alloc: Global, line: &[u8]) -> Result<(Token<'_>, &[u8]), LineErr
 {
     if begins_with_arrow(line) {
         let (_, after) = line.split_at(1);
-        return Ok(redirection(after));
+        let (append, rest) = redirection(after);
+        return Ok((Token::Redirect { append }, rest));
     }
     let (word, rest) = first_word(alloc, line)?;
     Ok((Token::Word(word), rest))
