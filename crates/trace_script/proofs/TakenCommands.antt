@@ -1,5 +1,5 @@
 -- Commands whose tokens are taken one by one.
-use Rattle.std.proofs.Common.{◌≡◌, ℕ, Bool, true, false, List, [], ◌∷◌, ◌++◌, length, Option, Some, None, Result, Ok, Err, MatchOption, IsErrAnd, IfErr, refl, ap, sym, subst, ◌∙◌, arith}
+use Rattle.std.proofs.Common.{◌≡◌, ℕ, Bool, true, false, List, [], ◌∷◌, ◌++◌, length, Option, Some, None, Result, Ok, Err, MatchOption, IsErrAnd, refl, ap, sym, subst, ◌∙◌, arith}
 use Rattle.std.specs.Option.{option_map}
 use Rattle.std.proofs.lemmas.List.{append-nil}
 use Rattle.trace_format.specs.declared.pair.Pair.{Pair}
@@ -49,13 +49,14 @@ pub pairs_of_none : (tokens : List Token) → tokens ≡ [] → pairs_of tokens 
 unfolding pairs_of
 pairs_of_none tokens is = ap pairs_of is
 
-pub none_taken : (o : Option Pair) (P : Type 0) (Q : Pair → Type 0) → MatchOption o P Q → ((pair : Pair) → o ≡ Some pair → ⊥) → P
-none_taken None P Q h none = h
-none_taken (Some pair) P Q h none = absurd (none pair refl)
+-- a pair is taken that is the last
+pub one_pair : (tokens more : List Token) (pair : Pair) → pairs_of tokens ≡ option_map (λ more. pair ∷ more) (pairs_of more) → more ≡ [] → or_fault WrongWords (pairs_of tokens) ≡ Ok (pair ∷ [])
+unfolding pairs_of
+one_pair tokens more pair taken none = ap (or_fault WrongWords) (taken ∙ ap (λ ts. option_map (λ more. pair ∷ more) (pairs_of ts)) none)
 
-pub if_err : {A : Type 0} (r : Result A LineError) (error : LineError) (P : LineError → Type 0) → IsErrAnd r (λ e. e ≡ error) → P error → IfErr r P
-if_err (Ok a) error P is p = tt
-if_err (Err e) error P is p = subst P (sym is) p
+pub none_taken : {A : Type 0} (o : Option A) (P : Type 0) (Q : A → Type 0) → MatchOption o P Q → ((a : A) → o ≡ Some a → ⊥) → P
+none_taken None P Q h none = h
+none_taken (Some a) P Q h none = absurd (none a refl)
 
 pub gives_err : {A : Type 0} (r : Result A LineError) (error : LineError) (read : Result A ScriptFault) → IsErrAnd r (λ e. e ≡ error) → Fails error read → Gives (λ a. a) r read
 gives_err (Ok a) error read is fails = absurd is
@@ -109,6 +110,25 @@ pub pairs_done : (tokens left : List Token) (first : Pair) (items : List Pair) �
 unfolding pairs_of
 pairs_done tokens left first items e none =
     ap (or_fault WrongWords) (sym e ∙ ap (λ ts. option_map (λ more. items ++ more) (pairs_of ts)) none) ∙ ap Ok (append-nil items)
+
+-- a redirection comes where a pair had to come
+pub more_redirected : (tokens left more : List Token) (first : Pair) (items : List Pair) (append : Bool) → option_map (λ more. items ++ more) (pairs_of left) ≡ option_map (λ more. first ∷ more) (pairs_of tokens) → left ≡ Redirect append ∷ more
+    → or_fault WrongWords (option_map (λ more. first ∷ more) (pairs_of tokens)) ≡ Err WrongWords
+unfolding pairs_of
+more_redirected tokens left more first items append e is =
+    ap (or_fault WrongWords) (sym e ∙ ap (λ ts. option_map (λ more. items ++ more) (pairs_of ts)) is)
+
+no_pairs_of : (o : Option (List Pair)) (fault : ScriptFault) → or_fault WrongWords o ≡ Err fault → (o ≡ None) × (fault ≡ WrongWords)
+no_pairs_of None fault e = (refl, cc)
+no_pairs_of (Some ps) fault e = absurd (cc)
+
+-- or a word that is no pair
+pub more_wrong : (error : LineError) (tokens left more : List Token) (first : Pair) (items : List Pair) (word : List ℕ) → option_map (λ more. items ++ more) (pairs_of left) ≡ option_map (λ more. first ∷ more) (pairs_of tokens) → left ≡ Word word ∷ more
+    → Fails error (or_fault WrongWords (pair_of word)) → Fails error (or_fault WrongWords (option_map (λ more. first ∷ more) (pairs_of tokens)))
+more_wrong Memory tokens left more first items word e is fails = tt
+more_wrong (Fault fault) tokens left more first items word e is fails =
+    let h = no_pairs_of (pairs_of left) fault (no_pair (Fault fault) left more word is fails) in
+    ap (or_fault WrongWords) (sym e ∙ ap (λ o. option_map (λ more. items ++ more) o) h.0) ∙ ap Err (sym h.1)
 
 -- an emission with a CPU, a process, an event and a pair or more
 emission_is : (tokens after behind pairs : List Token) (cpu pid event : List ℕ) → tokens ≡ Word cpu ∷ after → after ≡ Word pid ∷ behind → behind ≡ Word event ∷ pairs → (pairs ≡ [] → ⊥)

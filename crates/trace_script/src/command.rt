@@ -39,43 +39,35 @@ fn pair(alloc: Global, word: &[u8]) -> Result<Pair, LineError>
     Ok(Pair { name, value })
 }
 
-/// Takes the pair that the next token writes, if one is left.
-#[tactic(auto, using(crate::proofs::TakenCommands::pair_taken, crate::proofs::TakenCommands::no_pair, crate::proofs::TakenCommands::pair_redirected))]
-fn next_pair(alloc: Global, tokens: &mut Tokens<'_>) -> Result<Option<Pair>, LineError>
-    ensures pair { IfOk result (λ taken. MatchOption taken (tokens.old ≡ []) (λ pair. IsPairAnd tokens.old pair tokens.new)) }
-    ensures err { IfErr result (λ error. Fails error (or_fault WrongWords (pairs_of tokens.old))) }
-{
-    match tokens.next() {
-        Some(Piece::Word(word)) => Ok(Some(pair(alloc, word)?)),
-        Some(Piece::Redirect { .. }) => Err(LineError::Fault(ScriptFault::WrongWords)),
-        None => Ok(None),
-    }
-}
-
-/// The pairs that the tokens write, each of them a word. A pair that is alone takes no block of its own; more lie in one with room for all of
-/// them, since each has a `=`.
-#[tactic(auto, using(crate::proofs::TakenCommands::pairs_of_none))]
+/// The pairs that the tokens write, each of them a word. A pair that is alone takes no block of its own.
+#[tactic(auto, using(crate::proofs::TakenCommands::pairs_of_none, crate::proofs::TakenCommands::pair_taken, crate::proofs::TakenCommands::no_pair, crate::proofs::TakenCommands::pair_redirected))]
 fn pairs(alloc: Global, tokens: &mut Tokens<'_>) -> Result<Pairs, LineError>
     ensures { Gives (λ pairs. pairs) result (or_fault WrongWords (pairs_of tokens.old)) }
 {
-    let Some(first) = next_pair(alloc, tokens)? else {
-        return Ok(Pairs::new(alloc));
+    let word = match tokens.next() {
+        Some(Piece::Word(word)) => word,
+        Some(Piece::Redirect { .. }) => return Err(LineError::Fault(ScriptFault::WrongWords)),
+        None => return Ok(Pairs::new(alloc)),
     };
+    let first = pair(alloc, word)?;
     if tokens.is_empty() {
         return Ok(Pairs::from(first));
     }
     more_pairs(alloc, first, tokens)
 }
 
-/// A pair and those that the tokens write after it.
-#[tactic(auto, using(crate::proofs::CommandLemmas::pairs_append, crate::proofs::TakenCommands::pairs_done))]
+/// A pair and those that the tokens write after it, in a block with room for all of them.
+#[tactic(auto, using(crate::proofs::CommandLemmas::pairs_append, crate::proofs::TakenCommands::pair_taken, crate::proofs::TakenCommands::pairs_done, crate::proofs::TakenCommands::more_redirected, crate::proofs::TakenCommands::more_wrong))]
 fn more_pairs(alloc: Global, first: Pair, tokens: &mut Tokens<'_>) -> Result<Pairs, LineError>
     ensures { Gives (λ pairs. pairs) result (or_fault WrongWords (option_map (λ more. first ∷ more) (pairs_of tokens.old))) }
 {
     let mut pairs = Vec::with_capacity(alloc, tokens.most_pairs().saturating_add(1))?;
     pairs.push(first)?;
-    while let Some(pair) = next_pair(alloc, tokens)? {
-        pairs.push(pair)?;
+    while let Some(token) = tokens.next() {
+        let Piece::Word(word) = token else {
+            return Err(LineError::Fault(ScriptFault::WrongWords));
+        };
+        pairs.push(pair(alloc, word)?)?;
     }
     Ok(Pairs::from(pairs))
 }
