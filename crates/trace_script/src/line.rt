@@ -113,45 +113,40 @@ fn quoted(alloc: Global, line: &[u8]) -> Result<Line, LineError>
     asked(alloc, &mut Tokens::of_list(&list))
 }
 
-/// What a line of lawful length and bytes asks for, of which is known whether it has a quote.
+/// What a line of lawful length and bytes asks for.
 #[tactic(auto, unfolding(crate::specs::Lines::spoken))]
-fn spoken(alloc: Global, line: &[u8], has_quote: bool) -> Result<Line, LineError>
-    requires { has_quote ≡ list_any is_quote line.now }
+fn spoken(alloc: Global, line: &[u8]) -> Result<Line, LineError>
     ensures { Gives (λ line. line) result (spoken line.now) }
 {
     if says_nothing(line) {
         return Ok(Line::Blank);
     }
-    if has_quote {
+    if has_quote(line) {
         return quoted(alloc, line);
     }
     asked(alloc, &mut Tokens::of_line(line))
 }
 
-/// What one pass over the bytes of a line tells.
-#[derive(Clone, Copy)]
-struct LineBytes {
-    /// Whether each of them is a tab, or one from 0x20 to 0x7e.
-    are_lawful: bool,
-    /// Whether one of them is a quote.
-    have_quote: bool,
-}
-
-/// Looks at the bytes of a line. A loop without an early exit, over a byte, takes many bytes at once.
-fn bytes_of(line: &[u8]) -> LineBytes
-    ensures lawful { result.are_lawful ≡ list_all is_line_byte line.now }
-    ensures quote { result.have_quote ≡ list_any is_quote line.now }
+/// Whether each byte is a tab, or one from 0x20 to 0x7e. A loop without an early exit, over a byte, takes many bytes at once.
+fn has_line_bytes(line: &[u8]) -> bool
+    ensures { result ≡ list_all is_line_byte line.now }
 {
     let mut others = 0u8;
-    let mut quotes = 0u8;
     for byte in line {
         others |= u8::from(!matches!(*byte, b'\t' | b' '..=b'~'));
-        quotes |= u8::from(*byte == b'\'' || *byte == b'"');
     }
-    LineBytes {
-        are_lawful: others == 0,
-        have_quote: quotes != 0,
+    others == 0
+}
+
+/// Whether a byte is a quote. It looks at many bytes at once, too.
+fn has_quote(line: &[u8]) -> bool
+    ensures { result ≡ list_any is_quote line.now }
+{
+    let mut quotes = 0u8;
+    for byte in line {
+        quotes |= u8::from(matches!(*byte, b'\'' | b'"'));
     }
+    quotes != 0
 }
 
 /// What a line asks for. A fault is the first that is found, in the order of [`ScriptFault`].
@@ -162,11 +157,10 @@ pub fn prepare(alloc: Global, line: &[u8]) -> Result<Line, LineError>
     if line.len() > MOST_BYTES {
         return Err(LineError::Fault(ScriptFault::LineTooLong));
     }
-    let bytes = bytes_of(line);
-    if !bytes.are_lawful {
+    if !has_line_bytes(line) {
         return Err(LineError::Fault(ScriptFault::BadByte));
     }
-    spoken(alloc, line, bytes.have_quote)
+    spoken(alloc, line)
 }
 
 /// The grammar of commands: tokens ask for a command, or for a line of a parallel part, exactly where they are written as it is. So they
