@@ -62,12 +62,13 @@ fn more_pairs(alloc: Global, first: Pair, tokens: &mut Tokens<'_>) -> Result<Pai
     ensures { Gives (λ pairs. pairs) result (or_fault WrongWords (option_map (λ more. first ∷ more) (pairs_of tokens.old))) }
 {
     let mut pairs = Vec::with_capacity(alloc, tokens.most_pairs().saturating_add(1))?;
-    pairs.push(first)?;
+    pairs.push_reserved(first);
     while let Some(token) = tokens.next() {
         let Piece::Word(word) = token else {
             return Err(LineError::Fault(ScriptFault::WrongWords));
         };
-        pairs.push(pair(alloc, word)?)?;
+        pairs.reserve(1)?;
+        pairs.push_reserved(pair(alloc, word)?);
     }
     Ok(Pairs::from(pairs))
 }

@@ -17,7 +17,7 @@ pub loop-token-preserved : goal.loop-token-preserved
 loop-token-preserved c =
     let before = c.loop-token.pairs.items in
     let taken = pair_taken _ _ _ _ (rw c.in-Word.is at c.in-Some.ensures) c.in_ok-pair.ensures in
-    rw c.in_ok-push-2.ensures.items
+    rw (c.push_reserved-in-Some.ensures.items, c.reserve.ensures.items)
     (pairs_append _ _ _ ∙ (ap (λ rest. option_map (λ (more : List Pair). before ++ more) rest) (sym taken.pairs) ∙ c.loop-token.invariant))
 
 pub returns : goal.returns
