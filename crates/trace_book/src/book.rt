@@ -12,6 +12,7 @@ ghost use Rattle.trace_book.specs.Instances.{InstanceStandsFor};
 ghost use Rattle.trace_book.specs.States.{StandsFor};
 ghost use Rattle.trace_command.specs.declared.refusal.Refusal.TheVariants as refusal;
 
+use crate::change::Delivery;
 use crate::instance::Instance;
 use crate::memory::EmissionMemory;
 use crate::state::{Named, Prepared, State};
@@ -87,18 +88,23 @@ impl Book {
         else {
             return self.ask_other(ticket, by, command);
         };
-        let delivery = self.state.prepare_emission(
+        let delivery = match self.state.prepare_emission(
             &mut self.memory,
             &self.config,
             event.as_bytes(),
             *cpu,
             *pid,
             pairs.as_slice(),
-        )?;
+        ) {
+            Ok(delivery) => delivery,
+            Err(refusal) => return refused(command, refusal),
+        };
         if self.config.history_limit <= self.entries.len() as u64 {
-            return Err(Refusal::HistoryFull);
+            return refused_late(command, delivery, Refusal::HistoryFull);
         }
-        self.entries.reserve(1)?;
+        let Ok(()) = self.entries.reserve(1) else {
+            return refused_late(command, delivery, Refusal::Memory);
+        };
         self.state.deliver(&self.config, &delivery);
         self.memory.keep(delivery);
         self.entries.push_reserved(Entry {
@@ -165,6 +171,25 @@ impl Book {
         let place = self.state.place_of(name)?;
         Some(&self.state.instances[place].instance)
     }
+}
+
+// Lets a refused command go. Like the next one it is out of line: code that lets a command go takes much room, for which an emission that is
+// done would pay, too.
+#[cold]
+#[inline(never)]
+fn refused(_command: Command, refusal: Refusal) -> Result<Reply, Refusal>
+    ensures { result ≡ Err refusal }
+{
+    Err(refusal)
+}
+
+// Lets a refused command go, and the delivery that was prepared for it.
+#[cold]
+#[inline(never)]
+fn refused_late(_command: Command, _delivery: Delivery, refusal: Refusal) -> Result<Reply, Refusal>
+    ensures { result ≡ Err refusal }
+{
+    Err(refusal)
 }
 
 // What no request has come to yet: no event, and the top instance.

@@ -26,23 +26,21 @@ invariant_of-self c = record {
   stands = state_alike-stands _ _ _ _ c.prepare_emission.ensures.alike c.self.invariant.stands;
 }
 
-pub returns-in_err-delivery-clause-reply : goal.returns-in_err-delivery-clause-reply
-returns-in_err-delivery-clause-reply c =
+pub returns-in-Err-clause-reply : goal.returns-in-Err-clause-reply
+returns-in-Err-clause-reply c =
     let book = c.self.inside in
     let past = past_of book.entries.items in
-    let out : c.from_residual.result ≡ Err c.in_err-delivery.field-0.0 = search rules in
-    let prepared : IsPreparedEmission book.config past (request_of c.args.command) c.prepare_emission.new.self (Err c.in_err-delivery.field-0.0) =
-    rw (c.in-Emit.is, ← c.as_bytes.ensures, ← c.as_slice.ensures) (c.in_err-delivery.ensures.prepared past c.self.invariant.stands) in
-    rw (← c.self.view_is, out) (refused-reply book.config past (request_of c.args.command) c.prepare_emission.new.self c.in_err-delivery.field-0.0 prepared)
+    let prepared : IsPreparedEmission book.config past (request_of c.args.command) c.prepare_emission.new.self (Err c.in-Err.refusal) =
+    rw (c.in-Emit.is, ← c.as_bytes.ensures, ← c.as_slice.ensures) (c.in-Err.ensures.prepared past c.self.invariant.stands) in
+    rw (← c.self.view_is, c.refused.ensures) (refused-reply book.config past (request_of c.args.command) c.prepare_emission.new.self c.in-Err.refusal prepared)
 
-pub returns-in_err-delivery-clause-early : goal.returns-in_err-delivery-clause-early
-returns-in_err-delivery-clause-early c =
+pub returns-in-Err-clause-early : goal.returns-in-Err-clause-early
+returns-in-Err-clause-early c =
     let book = c.self.inside in
     let past = past_of book.entries.items in
-    let out : c.from_residual.result ≡ Err c.in_err-delivery.field-0.0 = search rules in
-    let prepared : IsPreparedEmission book.config past (request_of c.args.command) c.prepare_emission.new.self (Err c.in_err-delivery.field-0.0) =
-    rw (c.in-Emit.is, ← c.as_bytes.ensures, ← c.as_slice.ensures) (c.in_err-delivery.ensures.prepared past c.self.invariant.stands) in
-    rw (← c.self.view_is, out) (λ early. sym (refused-early book.config past (request_of c.args.command) c.prepare_emission.new.self c.in_err-delivery.field-0.0 prepared early))
+    let prepared : IsPreparedEmission book.config past (request_of c.args.command) c.prepare_emission.new.self (Err c.in-Err.refusal) =
+    rw (c.in-Emit.is, ← c.as_bytes.ensures, ← c.as_slice.ensures) (c.in-Err.ensures.prepared past c.self.invariant.stands) in
+    rw (← c.self.view_is, c.refused.ensures) (λ early. sym (refused-early book.config past (request_of c.args.command) c.prepare_emission.new.self c.in-Err.refusal prepared early))
 
 pub invariant_of-self-then-self-len : goal.invariant_of-self-then-self-len
 invariant_of-self-then-self-len c = record {
@@ -53,15 +51,15 @@ invariant_of-self-then-self-len c = record {
 }
 
 pub returns-then-self-len-clause-reply : goal.returns-then-self-len-clause-reply
-returns-then-self-len-clause-reply c = λ other.
+returns-then-self-len-clause-reply c =
     let book = c.self.inside in
     let past = past_of book.entries.items in
     let full : book.config.history_limit ≤ length past =
     omega (arith, length-past_of book.entries.items, c.len.ensures, book.entries.ok.0) in
     let pid : to_z w32 (of_z w32 c.in-Emit.pid) ≡ c.in-Emit.pid = to_z-of_z w32 c.in-Emit.pid (search rules) in
-    let prepared : IsPreparedEmission book.config past (request_of c.args.command) c.prepare_emission.new.self (Ok c.in_ok-delivery.delivery) =
-    rw (c.in-Emit.is, ← c.as_bytes.ensures, ← c.as_slice.ensures) (rw pid at c.in_ok-delivery.ensures.prepared past c.self.invariant.stands) in
-    rw (← c.self.view_is) (answer-full book.config past (request_of c.args.command) Done prepared.0 full)
+    let prepared : IsPreparedEmission book.config past (request_of c.args.command) c.prepare_emission.new.self (Ok c.in-Ok.delivery) =
+    rw (c.in-Emit.is, ← c.as_bytes.ensures, ← c.as_slice.ensures) (rw pid at c.in-Ok.ensures.prepared past c.self.invariant.stands) in
+    rw (← c.self.view_is, c.refused_late.ensures) (λ other. answer-full book.config past (request_of c.args.command) Done prepared.0 full)
 
 pub returns-then-self-len-clause-early : goal.returns-then-self-len-clause-early
 returns-then-self-len-clause-early c =
@@ -70,21 +68,21 @@ returns-then-self-len-clause-early c =
     let full : book.config.history_limit ≤ length past =
     omega (arith, length-past_of book.entries.items, c.len.ensures, book.entries.ok.0) in
     let pid : to_z w32 (of_z w32 c.in-Emit.pid) ≡ c.in-Emit.pid = to_z-of_z w32 c.in-Emit.pid (search rules) in
-    let prepared : IsPreparedEmission book.config past (request_of c.args.command) c.prepare_emission.new.self (Ok c.in_ok-delivery.delivery) =
-    rw (c.in-Emit.is, ← c.as_bytes.ensures, ← c.as_slice.ensures) (rw pid at c.in_ok-delivery.ensures.prepared past c.self.invariant.stands) in
-    rw (← c.self.view_is) (λ early. sym (answer-full book.config past (request_of c.args.command) Done prepared.0 full))
+    let prepared : IsPreparedEmission book.config past (request_of c.args.command) c.prepare_emission.new.self (Ok c.in-Ok.delivery) =
+    rw (c.in-Emit.is, ← c.as_bytes.ensures, ← c.as_slice.ensures) (rw pid at c.in-Ok.ensures.prepared past c.self.invariant.stands) in
+    rw (← c.self.view_is, c.refused_late.ensures) (λ early. sym (answer-full book.config past (request_of c.args.command) Done prepared.0 full))
 
-pub returns-in_err-reserve-clause-early : goal.returns-in_err-reserve-clause-early
-returns-in_err-reserve-clause-early c =
+pub returns-in_default-reserve-clause-early : goal.returns-in_default-reserve-clause-early
+returns-in_default-reserve-clause-early c =
     let book = c.self.inside in
     let past = past_of book.entries.items in
     let pid : to_z w32 (of_z w32 c.in-Emit.pid) ≡ c.in-Emit.pid = to_z-of_z w32 c.in-Emit.pid (search rules) in
-    let prepared : IsPreparedEmission book.config past (request_of c.args.command) c.prepare_emission.new.self (Ok c.in_ok-delivery.delivery) =
-    rw (c.in-Emit.is, ← c.as_bytes.ensures, ← c.as_slice.ensures) (rw pid at c.in_ok-delivery.ensures.prepared past c.self.invariant.stands) in
+    let prepared : IsPreparedEmission book.config past (request_of c.args.command) c.prepare_emission.new.self (Ok c.in-Ok.delivery) =
+    rw (c.in-Emit.is, ← c.as_bytes.ensures, ← c.as_slice.ensures) (rw pid at c.in-Ok.ensures.prepared past c.self.invariant.stands) in
     rw (← c.self.view_is) (λ early. absurd (late-done book.config past (request_of c.args.command) Done prepared.0 early))
 
-pub invariant_of-self-in_err-reserve : goal.invariant_of-self-in_err-reserve
-invariant_of-self-in_err-reserve c = record {
+pub invariant_of-self-in_default-reserve : goal.invariant_of-self-in_default-reserve
+invariant_of-self-in_default-reserve c = record {
   in_range = c.self.invariant.in_range;
   few = rw c.reserve.ensures.items c.self.invariant.few;
   legal = rw c.reserve.ensures.items c.self.invariant.legal;
@@ -125,8 +123,8 @@ invariant_of-self-2 c =
     let few : length (book.entries.items ++ entry ∷ []) ≤ 2 ^ 32 =
     omega (arith, length-append book.entries.items (entry ∷ []), c.len.ensures, book.entries.ok.0, c.self.invariant.in_range.few_entries) in
     let pid : to_z w32 (of_z w32 c.in-Emit.pid) ≡ c.in-Emit.pid = to_z-of_z w32 c.in-Emit.pid (search rules) in
-    let prepared : IsPreparedEmission book.config past (request_of c.args.command) c.prepare_emission.new.self (Ok c.in_ok-delivery.delivery) =
-    rw (c.in-Emit.is, ← c.as_bytes.ensures, ← c.as_slice.ensures) (rw pid at c.in_ok-delivery.ensures.prepared past c.self.invariant.stands) in
+    let prepared : IsPreparedEmission book.config past (request_of c.args.command) c.prepare_emission.new.self (Ok c.in-Ok.delivery) =
+    rw (c.in-Emit.is, ← c.as_bytes.ensures, ← c.as_slice.ensures) (rw pid at c.in-Ok.ensures.prepared past c.self.invariant.stands) in
     let done = answer-done g past request Done prepared.0 room in
     let Below : BookSeen → Type 0 = λ seen. All (λ (e : Entry). e.ticket < c.args.ticket) seen.entries in
     let below : All (λ (e : Entry). e.ticket < c.args.ticket) book.entries.items = subst Below (sym c.self.view_is) c.requires in
@@ -134,8 +132,8 @@ invariant_of-self-2 c =
     record {
       in_range = c.self.invariant.in_range;
       few = rw items few;
-      legal = rw items (IsLegal-push g book.entries.items entry c.self.invariant.legal (c.ranges.ticket.fits, c.ranges.by.fits, rw c.in-Emit.is (rw pid at c.in_ok-delivery.ensures.fits)) below (rw done refl));
-      stands = rw (items, past_of-push) (stands_after_emission g c.prepare_emission.new.self c.deliver.new.self past request c.in_ok-delivery.delivery stands prepared c.deliver.ensures);
+      legal = rw items (IsLegal-push g book.entries.items entry c.self.invariant.legal (c.ranges.ticket.fits, c.ranges.by.fits, rw c.in-Emit.is (rw pid at c.in-Ok.ensures.fits)) below (rw done refl));
+      stands = rw (items, past_of-push) (stands_after_emission g c.prepare_emission.new.self c.deliver.new.self past request c.in-Ok.delivery stands prepared c.deliver.ensures);
     }
 
 pub returns-clause-reply : goal.returns-clause-reply
@@ -145,8 +143,8 @@ returns-clause-reply c =
     let room : length past < book.config.history_limit =
     omega (arith, length-past_of book.entries.items, c.len.ensures, book.entries.ok.0) in
     let pid : to_z w32 (of_z w32 c.in-Emit.pid) ≡ c.in-Emit.pid = to_z-of_z w32 c.in-Emit.pid (search rules) in
-    let prepared : IsPreparedEmission book.config past (request_of c.args.command) c.prepare_emission.new.self (Ok c.in_ok-delivery.delivery) =
-    rw (c.in-Emit.is, ← c.as_bytes.ensures, ← c.as_slice.ensures) (rw pid at c.in_ok-delivery.ensures.prepared past c.self.invariant.stands) in
+    let prepared : IsPreparedEmission book.config past (request_of c.args.command) c.prepare_emission.new.self (Ok c.in-Ok.delivery) =
+    rw (c.in-Emit.is, ← c.as_bytes.ensures, ← c.as_slice.ensures) (rw pid at c.in-Ok.ensures.prepared past c.self.invariant.stands) in
     rw (← c.self.view_is) (answer-done book.config past (request_of c.args.command) Done prepared.0 room)
 
 pub returns-clause-early : goal.returns-clause-early
@@ -154,8 +152,8 @@ returns-clause-early c =
     let book = c.self.inside in
     let past = past_of book.entries.items in
     let pid : to_z w32 (of_z w32 c.in-Emit.pid) ≡ c.in-Emit.pid = to_z-of_z w32 c.in-Emit.pid (search rules) in
-    let prepared : IsPreparedEmission book.config past (request_of c.args.command) c.prepare_emission.new.self (Ok c.in_ok-delivery.delivery) =
-    rw (c.in-Emit.is, ← c.as_bytes.ensures, ← c.as_slice.ensures) (rw pid at c.in_ok-delivery.ensures.prepared past c.self.invariant.stands) in
+    let prepared : IsPreparedEmission book.config past (request_of c.args.command) c.prepare_emission.new.self (Ok c.in-Ok.delivery) =
+    rw (c.in-Emit.is, ← c.as_bytes.ensures, ← c.as_slice.ensures) (rw pid at c.in-Ok.ensures.prepared past c.self.invariant.stands) in
     rw (← c.self.view_is) (λ early. absurd (late-done book.config past (request_of c.args.command) Done prepared.0 early))
 
 pub deliver-requires-clause-usable : goal.deliver-requires-clause-usable
