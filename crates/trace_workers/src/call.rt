@@ -1,6 +1,6 @@
 //! One call: a turn at the lock, in which the book is asked.
 
-ghost use Rattle.std.specs.Prelude.{◌≡◌, IfOk, IfErr};
+ghost use Rattle.std.specs.Prelude.{◌≡◌, Err, IfOk, IfErr};
 ghost use Rattle.ticket_lock.specs.Calls.{view_of, IsOf};
 ghost use Rattle.trace_history.specs.History.{IsLegal};
 ghost use Rattle.trace_book.specs.Bases.{numbers_of};
@@ -8,9 +8,19 @@ ghost use Rattle.trace_workers.specs.Asks.{GoesOn, IsDone, IsRefused};
 ghost use Rattle.trace_command.specs.declared.command.Config.{Config};
 
 use std::sync::Wait;
-use ticket_lock::{Pass, TicketLock};
+use ticket_lock::{Pass, TicketLock, Worn};
 use trace_book::Book;
 use trace_command::{Command, Refusal, Reply};
+
+/// The answer where no ticket is left. It drops the command out of line, so that a call that draws a ticket goes through none of that.
+#[cold]
+#[inline(never)]
+fn worn_out(worn: Worn<Book>, _command: Command) -> (Pass<Book>, Result<Reply, Refusal>)
+    ensures pass { result.0 ≡ worn.pass }
+    ensures answer { result.1 ≡ Err Refusal.Worn }
+{
+    (worn.pass, Err(Refusal::Worn))
+}
 
 /// Asks the book under the lock, as the first of the pass's names, and gives the pass back with the answer.
 ///
@@ -37,6 +47,6 @@ pub fn ask<R: Wait>(
             let answer = held.value().ask(ticket, by, command);
             (lock.release(held), answer)
         }
-        Err(worn) => (worn.pass, Err(Refusal::Worn)),
+        Err(worn) => worn_out(worn, command),
     }
 }

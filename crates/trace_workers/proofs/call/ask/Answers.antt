@@ -13,7 +13,7 @@ returns-in-Ok-clause-goes_on g c =
 
 pub returns-in-Err-clause-goes_on : goal.returns-in-Err-clause-goes_on
 returns-in-Err-clause-goes_on g c =
-    worn_goes_on (view_of c.args.pass) (view_of c.in-Err.worn.pass) c.args.pass.bounded c.in-Err.ensures.worn
+    rw c.worn_out.ensures.pass (worn_goes_on (view_of c.args.pass) (view_of c.in-Err.worn.pass) c.args.pass.bounded c.in-Err.ensures.worn)
 
 pub returns-in-Ok-clause-done : goal.returns-in-Ok-clause-done
 returns-in-Ok-clause-done g c =
@@ -32,4 +32,6 @@ returns-in-Ok-clause-refused g c =
     c.ticket-ticket.ensures c.by-by.ensures c.ask-answer.ensures.reply c.ask-answer.ensures.early c.ask-answer.ensures.refused c.release.ensures.back
 
 pub returns-in-Err-clause-refused : goal.returns-in-Err-clause-refused
-returns-in-Err-clause-refused g c = asked_worn (view_of c.args.pass) (view_of c.in-Err.worn.pass) c.args.command c.in-Err.ensures.worn
+returns-in-Err-clause-refused g c =
+    rw (c.worn_out.ensures.pass, c.worn_out.ensures.answer)
+    (asked_worn (view_of c.args.pass) (view_of c.in-Err.worn.pass) c.args.command c.in-Err.ensures.worn)
