@@ -1,7 +1,8 @@
 //! The items of a script, read one after the other: a line by itself, or a whole part.
 
-ghost use Rattle.std.specs.Prelude.{◌≡◌, ℕ, List, ◌+◌, ◌-◌, ◌<◌, ◌≤◌, ◌^◌, ◌∷◌, length, IfOk};
+ghost use Rattle.std.specs.Prelude.{◌≡◌, ℕ, List, true, ◌+◌, ◌-◌, ◌<◌, ◌≤◌, ◌^◌, ◌∷◌, length, IfOk};
 ghost use Rattle.std.specs.Option.{option_copied};
+ghost use Rattle.trace_script.specs.Lines.{line_of};
 ghost use Rattle.trace_session.specs.Items.{items_from};
 ghost use Rattle.trace_session.specs.PartReads.{item_of, HasItsLine};
 ghost use Rattle.trace_session.specs.NextItems.{item_read, begins_with, IsSaid, HasFaultLine};
@@ -58,9 +59,47 @@ fn begins(said: &Result<Line, ScriptFault>) -> bool
     matches!(said, Ok(Line::Parallel))
 }
 
+/// Reads on at a line `parallel`: the part that it begins, if a line `end` follows it; else that line by itself. It is kept out of line, so
+/// that other lines don't take the room of a part. The text is that which begins with the line, and is passed for the contract alone.
+#[inline(never)]
+#[tactic(auto, using(crate::proofs::ItemReading::part_next, crate::proofs::ItemReading::endless_next))]
+fn part_or_line<'a>(
+    alloc: Global,
+    number: usize,
+    text: &'a [u8],
+    line: &'a [u8],
+    said: Result<Line, ScriptFault>,
+    after: Option<&'a [u8]>,
+) -> Result<NextItem<'a>, AllocError>
+    requires room { number + length text.now < 2 ^ 63 - 1 }
+    requires lines { lines_of text.now ≡ line.now ∷ lines_left (option_copied after) }
+    requires shorter { bytes_left (option_copied after) ≤ length text.now }
+    requires says { said ≡ line_of line.now }
+    requires begins { begins_with said ≡ true }
+    ensures read { IfOk result (λ next. items_from number 0 (lines_of text.now)
+        ≡ item_read number next.item ∷ items_from next.number 0 (lines_left (option_copied next.rest))) }
+    ensures said { IfOk result (λ next. IsSaid next.item) }
+    ensures line { IfOk result (λ next. HasFaultLine number (lines_of text.now) next.item) }
+    ensures shorter { IfOk result (λ next. bytes_left (option_copied next.rest) ≤ length text.now) }
+    ensures room { IfOk result (λ next. next.number + bytes_left (option_copied next.rest) ≤ number + length text.now + 1) }
+{
+    match read_part(alloc, number + 1, after)? {
+        Some(read) => Ok(NextItem {
+            item: part_item(read.part),
+            number: number + 1 + read.lines + 1,
+            rest: read.rest,
+        }),
+        None => Ok(NextItem {
+            item: ItemRead::Line { line, said },
+            number: number + 1,
+            rest: after,
+        }),
+    }
+}
+
 /// Reads the item that a string begins with, whose first line has this number: a part, where that line is `parallel` and a line `end` follows
 /// it; else one line. It fails only if memory is refused.
-#[tactic(auto, using(crate::proofs::ItemReading::part_next, crate::proofs::ItemReading::line_next, crate::proofs::ItemReading::endless_next))]
+#[tactic(auto, using(crate::proofs::ItemReading::line_next))]
 pub fn next_item<'a>(
     alloc: Global,
     number: usize,
@@ -79,13 +118,7 @@ pub fn next_item<'a>(
         return Err(AllocError);
     };
     if begins(&said) {
-        if let Some(read) = read_part(alloc, number + 1, after)? {
-            return Ok(NextItem {
-                item: part_item(read.part),
-                number: number + 1 + read.lines + 1,
-                rest: read.rest,
-            });
-        }
+        return part_or_line(alloc, number, text, line, said, after);
     }
     Ok(NextItem {
         item: ItemRead::Line { line, said },

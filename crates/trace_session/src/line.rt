@@ -1,12 +1,12 @@
 //! A line by itself, asked through the lock.
 
-ghost use Rattle.std.specs.Prelude.{◌≡◌, ℕ, List, IfOk, IsErrOf};
+ghost use Rattle.std.specs.Prelude.{◌≡◌, ◌≢◌, ℕ, List, Ok, IfOk, IsErrOf};
 ghost use Rattle.ticket_lock.specs.Calls.{view_of, IsOf};
 ghost use Rattle.trace_command.specs.declared.command.Config.{Config};
 ghost use Rattle.trace_history.specs.History.{answer_to};
 ghost use Rattle.trace_script.specs.Lines.{line_of};
 ghost use Rattle.trace_session.specs.Passes.{IsSessionPass, progress_of};
-ghost use Rattle.trace_session.specs.Sessions.{answered, turn_of};
+ghost use Rattle.trace_session.specs.Sessions.{Progress, answered, turn_of};
 
 use crate::stop::Stop;
 use std::sync::Wait;
@@ -22,21 +22,37 @@ fn ask_command<R: Wait>(
     lock: &TicketLock<Book>,
     pass: Pass<Book>,
     command: Command,
-) -> (Pass<Book>, Result<Outcome, Stop>)
+) -> (Pass<Book>, Result<Option<Outcome>, Stop>)
     requires { IsOf lock.now pass }
     ensures of { IsOf lock.now result.0 }
     ensures session { (g : Config) → IsSessionPass g (view_of pass) → IsSessionPass g (view_of result.0) }
     ensures turn { IfOk result.1 (λ outcome. (g : Config) → IsSessionPass g (view_of pass)
         → answered (progress_of (view_of pass)) command (answer_to g (view_of pass).seen command)
-        ≡ record { outcome = Some outcome; progress = progress_of (view_of result.0) }) }
+        ≡ record { outcome = outcome; progress = progress_of (view_of result.0) }) }
     ensures device { IsErrOf result.1 Stop.Device → ⊥ }
     ensures stopped { IsErrOf result.1 Stop.Stopped → ⊥ }
 {
     let (pass, answer) = ask(rt, lock, pass, command);
     match answer {
-        Ok(reply) => (pass, Ok(Outcome::Replied(reply))),
+        Ok(reply) => (pass, Ok(Some(Outcome::Replied(reply)))),
         Err(Refusal::Memory | Refusal::Worn) => (pass, Err(Stop::Memory)),
-        Err(refusal) => (pass, Ok(Outcome::Refused(refusal))),
+        Err(refusal) => (pass, Ok(Some(Outcome::Refused(refusal)))),
+    }
+}
+
+/// What becomes of a line that asks no command. It is kept out of line, so that a command doesn't take the room of what the other lines drop.
+#[inline(never)]
+#[tactic(auto, unfolding(crate::specs::Sessions::turn_of))]
+fn unasked(said: Result<Line, ScriptFault>) -> Option<Outcome>
+    ensures { (g : Config) (before : Progress) (text : List ℕ) → ((command : Command) → said ≢ Ok (Line.Ask command)) → said ≡ line_of text
+        → turn_of g before text ≡ record { outcome = result; progress = before } }
+{
+    match said {
+        Ok(Line::Blank | Line::Ask(_)) => None,
+        Ok(Line::Parallel | Line::Thread | Line::End) => {
+            Some(Outcome::Fault(ScriptFault::BlockOutOfPlace))
+        }
+        Err(fault) => Some(Outcome::Fault(fault)),
     }
 }
 
@@ -58,17 +74,7 @@ pub(crate) fn ask_line<R: Wait>(
     ensures stopped { IsErrOf result.1 Stop.Stopped → ⊥ }
 {
     match said {
-        Ok(Line::Blank) => (pass, Ok(None)),
-        Ok(Line::Ask(command)) => {
-            let (pass, outcome) = ask_command(rt, lock, pass, command);
-            match outcome {
-                Ok(outcome) => (pass, Ok(Some(outcome))),
-                Err(stop) => (pass, Err(stop)),
-            }
-        }
-        Ok(Line::Parallel | Line::Thread | Line::End) => {
-            (pass, Ok(Some(Outcome::Fault(ScriptFault::BlockOutOfPlace))))
-        }
-        Err(fault) => (pass, Ok(Some(Outcome::Fault(fault)))),
+        Ok(Line::Ask(command)) => ask_command(rt, lock, pass, command),
+        said => (pass, Ok(unasked(said))),
     }
 }
