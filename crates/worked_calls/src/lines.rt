@@ -3,7 +3,7 @@
 use std::alloc::Global;
 use std::process::Abort;
 use std::test::Fail;
-use trace_command::{Command, Refusal, Reply};
+use trace_command::{Command, Pairs, Refusal, Reply};
 use trace_format::Pair;
 use trace_lex::Text;
 use trace_script::{Line, LineError, Outcome, ScriptFault, prepare, render};
@@ -156,6 +156,27 @@ fn has_pair(rt: &impl Abort, pairs: &[Pair], place: usize, name: &str, value: &s
     assert!(rt; place < pairs.len());
     assert_eq!(rt; pairs[place].name.as_bytes(), name.as_bytes());
     assert_eq!(rt; pairs[place].value.as_bytes(), value.as_bytes());
+}
+
+#[test]
+fn pairs_come_one_after_the_other(rt: HostRuntime) -> Result<(), Fail> {
+    let alloc = rt.alloc();
+    let name = Text::from_slice(alloc, b"a")?;
+    let value = Text::from_slice(alloc, b"1")?;
+    let mut pairs = Pairs::from(Pair { name, value });
+    let alone = pairs.clone()?;
+    pairs.push(alloc, b"b", b"2")?;
+    pairs.push(alloc, b"c", b"")?;
+    let copy = pairs.clone()?;
+    assert_eq!(rt; alone.as_slice().len(), 1);
+    has_pair(&rt, alone.as_slice(), 0, "a", "1");
+    assert_eq!(rt; copy.as_slice().len(), 3);
+    has_pair(&rt, copy.as_slice(), 0, "a", "1");
+    has_pair(&rt, copy.as_slice(), 1, "b", "2");
+    has_pair(&rt, copy.as_slice(), 2, "c", "");
+    assert!(rt; pairs == copy);
+    assert!(rt; pairs != alone);
+    Ok(())
 }
 
 #[test]
