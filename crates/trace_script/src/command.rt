@@ -4,6 +4,7 @@ ghost use Rattle.std.specs.Prelude.{◌≡◌, List, Ok, Err, ◌==◌, ◌++◌
 ghost use Rattle.std.specs.Option.{option_map};
 ghost use Rattle.std.specs.Str.{bytes_eq};
 ghost use Rattle.trace_command.specs.declared.command.Command.{Command};
+ghost use Rattle.trace_format.specs.declared.pair.Pair.{Pair as PairValue};
 ghost use Rattle.trace_script.specs.declared.token.Token.{Token};
 ghost use Rattle.trace_script.specs.Outcomes.{Fails, Gives, or_fault};
 ghost use Rattle.trace_script.specs.Commands.{IsWriteOf};
@@ -49,11 +50,32 @@ fn pairs(alloc: Global, tokens: &mut Tokens<'_>) -> Result<Pairs, LineError>
         Some(Piece::Redirect { .. }) => return Err(LineError::Fault(ScriptFault::WrongWords)),
         None => return Ok(Pairs::new(alloc)),
     };
-    let first = pair(alloc, word)?;
-    if tokens.is_empty() {
-        return Ok(Pairs::from(first));
+    match pair(alloc, word) {
+        Ok(first) => {
+            if tokens.is_empty() {
+                Ok(Pairs::from(first))
+            } else {
+                more_pairs(alloc, first, tokens)
+            }
+        }
+        Err(error) => Err(error),
     }
-    more_pairs(alloc, first, tokens)
+}
+
+/// Puts the pair that a word writes at the end.
+fn push_pair(alloc: Global, pairs: &mut Vec<Pair>, word: &[u8]) -> Result<(), LineError>
+    ensures pair { OnOk result ((pair : PairValue) × (pairs.new.items ≡ pairs.old.items ++ pair ∷ [])
+        × (or_fault WrongWords (pair_of word.now) ≡ Ok pair)) }
+    ensures err { IfErr result (λ error. Fails error (or_fault WrongWords (pair_of word.now))) }
+{
+    pairs.reserve(1)?;
+    match pair(alloc, word) {
+        Ok(pair) => {
+            pairs.push_reserved(pair);
+            Ok(())
+        }
+        Err(error) => Err(error),
+    }
 }
 
 /// A pair and those that the tokens write after it, in a block with room for all of them.
@@ -67,8 +89,7 @@ fn more_pairs(alloc: Global, first: Pair, tokens: &mut Tokens<'_>) -> Result<Pai
         let Piece::Word(word) = token else {
             return Err(LineError::Fault(ScriptFault::WrongWords));
         };
-        pairs.reserve(1)?;
-        pairs.push_reserved(pair(alloc, word)?);
+        push_pair(alloc, &mut pairs, word)?;
     }
     Ok(Pairs::from(pairs))
 }
@@ -124,8 +145,10 @@ pub(crate) fn emission(alloc: Global, tokens: &mut Tokens<'_>) -> Result<Command
     if tokens.is_empty() {
         return Err(LineError::Fault(ScriptFault::WrongWords));
     }
-    let pairs = pairs(alloc, tokens)?;
-    emission_with(alloc, cpu, pid, event, pairs)
+    match pairs(alloc, tokens) {
+        Ok(pairs) => emission_with(alloc, cpu, pid, event, pairs),
+        Err(error) => Err(error),
+    }
 }
 
 /// Appends a word to those before it, after a space where it is not the first.

@@ -74,7 +74,10 @@ fn named(alloc: Global, name: &[u8], tokens: &mut Tokens<'_>) -> Result<Line, Li
     ensures { Gives (λ line. line) result (named_line name.now tokens.old) }
 {
     if is_emit(name) {
-        return Ok(Line::Ask(emission(alloc, tokens)?));
+        return match emission(alloc, tokens) {
+            Ok(command) => Ok(Line::Ask(command)),
+            Err(error) => Err(error),
+        };
     }
     any_line(alloc, name, tokens)
 }

@@ -11,7 +11,9 @@ use std::alloc::Global;
 use trace_command::Reply;
 use trace_script::{Outcome, render};
 
-/// Adds what a line of this number gives to the replies. The text of a reply is added as it is; all else is rendered first.
+/// Adds what a line of this number gives to the replies; a command without a reply gives nothing. The text of a reply is added as it is; all
+/// else is rendered first.
+#[tactic(auto, using(crate::proofs::DeviceLemmas::Passes_nothing))]
 pub(crate) fn write_outcome<W: Sink>(
     alloc: Global,
     number: usize,
@@ -30,7 +32,7 @@ pub(crate) fn write_outcome<W: Sink>(
         × AppendsFront (W.contents writer.old) (W.contents writer.new) (replies.old ++ text_of number outcome.now) }
 {
     match outcome {
-        None => replies.add(writer, &[]),
+        None | Some(Outcome::Replied(Reply::Done)) => Ok(()),
         Some(Outcome::Replied(Reply::Text(text))) => replies.add(writer, text.as_bytes()),
         Some(outcome) => {
             let text = render(alloc, number, outcome)?;

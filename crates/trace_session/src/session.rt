@@ -72,7 +72,9 @@ fn do_items<R: Threads + Wait + Sync, W: Sink, G: Gate + Sync>(
     let mut number = 1;
     let mut status = Status::Done;
     while let Some(text) = rest {
-        let next = next_item(alloc, number, text)?;
+        let Ok(next) = next_item(alloc, number, text) else {
+            return Err(Stop::Memory);
+        };
         let (back, done) = do_item(
             rt, alloc, lock, pass, number, next.item, gate, replies, writer,
         );

@@ -8,17 +8,17 @@ use Rattle.trace_script.proofs.command.more_pairs.Goals as goal
 pub returns-in_default-token : goal.returns-in_default-token
 returns-in_default-token c = more_redirected _ _ _ _ _ _ c.loop-token.invariant (rw c.in_default-token.is at c.in-Some.ensures)
 
-pub returns-in_err-pair : goal.returns-in_err-pair
-returns-in_err-pair c =
-    gives_err _ _ _ c.from_residual-in_err-pair.ensures.1
-    (more_wrong _ _ _ _ _ _ _ c.loop-token.invariant (rw c.in-Word.is at c.in-Some.ensures) c.in_err-pair.ensures)
+pub returns-in_err-push_pair : goal.returns-in_err-push_pair
+returns-in_err-push_pair c =
+    gives_err _ _ _ c.from_residual-in_err-push_pair.ensures.1
+    (more_wrong _ _ _ _ _ _ _ c.loop-token.invariant (rw c.in-Word.is at c.in-Some.ensures) c.in_err-push_pair.ensures.err)
 
 pub loop-token-preserved : goal.loop-token-preserved
 loop-token-preserved c =
     let before = c.loop-token.pairs.items in
-    let taken = pair_taken _ _ _ _ (rw c.in-Word.is at c.in-Some.ensures) c.in_ok-pair.ensures in
-    rw (c.push_reserved-in-Some.ensures.items, c.reserve.ensures.items)
-    (pairs_append _ _ _ ∙ (ap (λ rest. option_map (λ (more : List Pair). before ++ more) rest) (sym taken.pairs) ∙ c.loop-token.invariant))
+    let pushed = c.in_ok-push_pair.ensures.pair in
+    let taken = pair_taken _ _ _ _ (rw c.in-Word.is at c.in-Some.ensures) pushed.2 in
+    rw pushed.1 (pairs_append _ _ _ ∙ (ap (λ rest. option_map (λ (more : List Pair). before ++ more) rest) (sym taken.pairs) ∙ c.loop-token.invariant))
 
 pub returns : goal.returns
 returns c =

@@ -18,8 +18,8 @@ loop-rest-init g c = record {
   unfailed = refl;
 }
 
-pub returns-in_err-next-clause-memory : goal.returns-in_err-next-clause-memory
-returns-in_err-next-clause-memory g c h config seat =
+pub returns-in_default-next_item-clause-memory : goal.returns-in_default-next_item-clause-memory
+returns-in_default-next_item-clause-memory g c h config seat =
     let contents = g.W.Sink.contents in
     at_stop_here config c.args.script.now (contents c.args.writer.now) (contents c.loop-rest.writer) c.loop-rest.replies (progress_of (view_of c.loop-rest.pass)) c.in-Some.text.now
     c.loop-rest.number c.loop-rest.status (rw c.in-Some.is at c.loop-rest.invariant.stands config seat)
@@ -30,12 +30,12 @@ do_item-back-requires-clause-few g c κs within =
     let config = c.requires.session.0 in
     few config c.args.script.now (contents c.args.writer.now) (contents c.loop-rest.writer) c.loop-rest.replies (progress_of (view_of c.loop-rest.pass)) c.in-Some.text.now
     c.loop-rest.number c.loop-rest.status (rw c.in-Some.is at c.loop-rest.invariant.stands config c.requires.session.1)
-    (item_read c.loop-rest.number c.in_ok-next.next.item) (option_copied c.in_ok-next.next.rest) c.in_ok-next.next.number c.in_ok-next.ensures.read
+    (item_read c.loop-rest.number c.in-Ok.next.item) (option_copied c.in-Ok.next.rest) c.in-Ok.next.number c.in-Ok.ensures.read
 
 pub returns-in_err-item_status-clause-memory : goal.returns-in_err-item_status-clause-memory
 returns-in_err-item_status-clause-memory g c h config seat =
     let contents = g.W.Sink.contents in
-    let p = err_from_is_err_and c.from_residual-in_err-item_status.result c.from_residual-in_err-item_status.ensures.1 in
+    let p = err_from_is_err_and c.from_residual.result c.from_residual.ensures.1 in
     at_stop config c.args.script.now (contents c.args.writer.now) (contents c.loop-rest.writer) c.loop-rest.replies (progress_of (view_of c.loop-rest.pass)) c.in-Some.text.now
     c.loop-rest.number c.loop-rest.status (rw c.in-Some.is at c.loop-rest.invariant.stands config seat)
     (contents c.do_item-back.new.writer) c.do_item-back.new.replies (c.do_item-back.ensures.memory (cc (h, p.1, p.2, c.in_err-item_status.was)))
@@ -43,7 +43,7 @@ returns-in_err-item_status-clause-memory g c h config seat =
 pub returns-in_err-item_status-clause-stopped : goal.returns-in_err-item_status-clause-stopped
 returns-in_err-item_status-clause-stopped g c h config seat =
     let contents = g.W.Sink.contents in
-    let p = err_from_is_err_and c.from_residual-in_err-item_status.result c.from_residual-in_err-item_status.ensures.1 in
+    let p = err_from_is_err_and c.from_residual.result c.from_residual.ensures.1 in
     at_stop config c.args.script.now (contents c.args.writer.now) (contents c.loop-rest.writer) c.loop-rest.replies (progress_of (view_of c.loop-rest.pass)) c.in-Some.text.now
     c.loop-rest.number c.loop-rest.status (rw c.in-Some.is at c.loop-rest.invariant.stands config seat)
     (contents c.do_item-back.new.writer) c.do_item-back.new.replies (c.do_item-back.ensures.stopped (cc (h, p.1, p.2, c.in_err-item_status.was)))
@@ -51,10 +51,10 @@ returns-in_err-item_status-clause-stopped g c h config seat =
 pub returns-in_err-item_status-clause-device : goal.returns-in_err-item_status-clause-device
 returns-in_err-item_status-clause-device g c h config seat =
     let contents = g.W.Sink.contents in
-    let p = err_from_is_err_and c.from_residual-in_err-item_status.result c.from_residual-in_err-item_status.ensures.1 in
+    let p = err_from_is_err_and c.from_residual.result c.from_residual.ensures.1 in
     at_device config c.args.script.now (contents c.args.writer.now) (contents c.loop-rest.writer) c.loop-rest.replies (progress_of (view_of c.loop-rest.pass)) c.in-Some.text.now
     c.loop-rest.number c.loop-rest.status (rw c.in-Some.is at c.loop-rest.invariant.stands config seat)
-    (item_read c.loop-rest.number c.in_ok-next.next.item) (option_copied c.in_ok-next.next.rest) c.in_ok-next.next.number c.in_ok-next.ensures.read
+    (item_read c.loop-rest.number c.in-Ok.next.item) (option_copied c.in-Ok.next.rest) c.in-Ok.next.number c.in-Ok.ensures.read
     (contents c.do_item-back.new.writer) (progress_of (view_of c.do_item-back.result.0))
     (c.do_item-back.ensures.device (cc (h, p.1, p.2, c.in_err-item_status.was)) config (c.loop-rest.invariant.seated config seat))
 
@@ -63,7 +63,7 @@ returns-in-Fault-clause-ok g c config seat =
     let contents = g.W.Sink.contents in
     at_fault config c.args.script.now (contents c.args.writer.now) (contents c.loop-rest.writer) c.loop-rest.replies (progress_of (view_of c.loop-rest.pass)) c.in-Some.text.now
     c.loop-rest.number c.loop-rest.status (rw c.in-Some.is at c.loop-rest.invariant.stands config seat)
-    (item_read c.loop-rest.number c.in_ok-next.next.item) (option_copied c.in_ok-next.next.rest) c.in_ok-next.next.number c.in_ok-next.ensures.read
+    (item_read c.loop-rest.number c.in-Ok.next.item) (option_copied c.in-Ok.next.rest) c.in-Ok.next.number c.in-Ok.ensures.read
     (contents c.do_item-back.new.writer) c.do_item-back.new.replies (progress_of (view_of c.do_item-back.result.0)) c.in_ok-item_status.item_status
     ((rw c.in_ok-item_status.was at c.do_item-back.ensures.done) config (c.loop-rest.invariant.seated config seat)) c.in-Fault.is
 
@@ -77,11 +77,11 @@ loop-rest-preserved g c =
       stands = λ config seat.
           keeps config c.args.script.now (contents c.args.writer.now) (contents c.loop-rest.writer) c.loop-rest.replies (progress_of (view_of c.loop-rest.pass)) c.in-Some.text.now
           c.loop-rest.number c.loop-rest.status (rw c.in-Some.is at c.loop-rest.invariant.stands config seat)
-          (item_read c.loop-rest.number c.in_ok-next.next.item) (option_copied c.in_ok-next.next.rest) c.in_ok-next.next.number c.in_ok-next.ensures.read
+          (item_read c.loop-rest.number c.in-Ok.next.item) (option_copied c.in-Ok.next.rest) c.in-Ok.next.number c.in-Ok.ensures.read
           (contents c.do_item-back.new.writer) c.do_item-back.new.replies (progress_of (view_of c.do_item-back.result.0)) c.in_ok-item_status.item_status
           ((rw c.in_ok-item_status.was at done.done) config (c.loop-rest.invariant.seated config seat))
           c.with_item-status.result c.in_default-2.not-Fault c.with_item-status.ensures.refused c.with_item-status.ensures.other;
-      room = omega (arith, rw c.in-Some.is at c.loop-rest.invariant.room, c.in_ok-next.ensures.room);
+      room = omega (arith, rw c.in-Some.is at c.loop-rest.invariant.room, c.in-Ok.ensures.room);
       unfailed = (rw c.in_ok-item_status.was at done.failures) ∙ c.loop-rest.invariant.unfailed;
     }
 
