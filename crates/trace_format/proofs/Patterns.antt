@@ -2,6 +2,7 @@
 use Rattle.std.proofs.Common.{◌≡◌, ℕ, zero, suc, ◌+◌, ◌-◌, ◌*◌, ◌/◌, ◌%◌, ◌^◌, ◌<◌, ◌≤◌, ℤ, pos, negsuc, neg_ℤ, ◌≤ℤ◌, true, false, nat_lt, nat_le, if◌then◌else◌, ◌⊎◌, List, [], ◌∷◌, ◌++◌, length, set, take, refl, sym, ap, ◌∙◌, subst, inl, inr, ⊎_elim, arith, pow-suc, leb-true, lt-ltb, le-ltb, length-set, append_assoc}
 use Rattle.std.proofs.lemmas.Bool.{agree_below_at, cond-true, cond-false, cases_lt}
 use Rattle.std.proofs.lemmas.Int.{ints}
+use Rattle.std.specs.Int.{w64, to_le_bytes}
 use Rattle.std.proofs.lemmas.List.{take_more_set}
 use Rattle.trace_format.specs.declared.kind.NumberType.{NumberType}
 use Rattle.trace_format.specs.declared.kind.NumberType.TheVariants.{U8, U16, U32, U64, S8, S16, S32, S64, Int, PidT, UnsignedInt, Long, UnsignedLong}
@@ -182,3 +183,15 @@ written_more out i left all within so_far =
     (λ j. take_more_set out i (left % 256) within j ++ little_endian (length-set out i (left % 256) j - (i + 1)) (left / 256))
     ∙ append_assoc (take i out) (left % 256 ∷ []) (little_endian (length out - (i + 1)) (left / 256))
     ∙ ap (λ k. take i out ++ little_endian k left) (sym one_less) ∙ so_far
+
+-- ---- eight bytes at once
+
+pub eight_bytes : (n : ℕ) → to_le_bytes w64 n ≡ little_endian 8 n
+eight_bytes n =
+    let third : n / 256 ^ 2 % 256 ≡ n / 256 / 256 % 256 = omega arith in
+    let fourth : n / 256 ^ 3 % 256 ≡ n / 256 / 256 / 256 % 256 = omega arith in
+    let fifth : n / 256 ^ 4 % 256 ≡ n / 256 / 256 / 256 / 256 % 256 = omega arith in
+    let sixth : n / 256 ^ 5 % 256 ≡ n / 256 / 256 / 256 / 256 / 256 % 256 = omega arith in
+    let seventh : n / 256 ^ 6 % 256 ≡ n / 256 / 256 / 256 / 256 / 256 / 256 % 256 = omega arith in
+    let eighth : n / 256 ^ 7 % 256 ≡ n / 256 / 256 / 256 / 256 / 256 / 256 / 256 % 256 = omega arith in
+    (λ i. n % 256 ∷ n / 256 % 256 ∷ third i ∷ fourth i ∷ fifth i ∷ sixth i ∷ seventh i ∷ eighth i ∷ [])

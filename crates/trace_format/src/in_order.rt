@@ -44,8 +44,8 @@ pub(crate) fn read_in_order(
         let Some(value) = named_value(alloc, field, &pairs[i])? else {
             return Ok(false);
         };
-        kinds.push(field.kind)?;
-        values.push(value)?;
+        kinds.push_reserved(field.kind);
+        values.push_reserved(value);
     }
     Ok(true)
 }

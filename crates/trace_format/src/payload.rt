@@ -63,8 +63,19 @@ fn pattern(number_type: NumberType, number: i128) -> u64
     }
 }
 
-/// Writes the low bytes of a number, the lowest first.
+/// Writes the low bytes of a number, the lowest first. Eight bytes are written at once.
 fn encode_unsigned(number: u64, out: &mut [u8])
+    ensures { out.new ≡ little_endian (length out.old) number }
+{
+    if out.len() == size_of::<u64>() {
+        out.copy_from_slice(&number.to_le_bytes());
+    } else {
+        encode_low_bytes(number, out);
+    }
+}
+
+/// Writes the low bytes of a number one by one, the lowest first.
+fn encode_low_bytes(number: u64, out: &mut [u8])
     ensures { out.new ≡ little_endian (length out.old) number }
 {
     let mut left = number;

@@ -1,6 +1,6 @@
 -- Lemmas on NUMBER.
-use Rattle.std.proofs.Common.{◌≡◌, ◌↔◌, ◌⊎◌, inl, inr, ℕ, suc, ◌+◌, ◌*◌, ◌^◌, ◌<◌, ◌≤◌, Bool, true, false, ◌&&◌, nat_lt, if◌then◌else◌, IsTrue, List, [], ◌∷◌, ◌++◌, length, Option, None, Some, option_and_then, refl, sym, ap, ◌∙◌, true≢false, arith, ltb-true, ltb-false, lt-ltb, le-ltb, le_trans, mul-le-mul_left, mul_comm}
-use Rattle.std.proofs.lemmas.Bool.{cond-true, cond-false, and_from}
+use Rattle.std.proofs.Common.{◌≡◌, ◌↔◌, ◌⊎◌, inl, inr, ℕ, suc, ◌+◌, ◌*◌, ◌^◌, ◌<◌, ◌≤◌, Bool, true, false, ◌&&◌, nat_lt, nat_le, if◌then◌else◌, IsTrue, List, [], ◌∷◌, ◌++◌, length, Option, None, Some, option_and_then, refl, sym, ap, ◌∙◌, true≢false, arith, ltb-true, ltb-false, lt-ltb, le-ltb, leb-true, le_trans, mul-le-mul_left, mul_comm}
+use Rattle.std.proofs.lemmas.Bool.{agree_below_at, cond-true, cond-false, and_from}
 use Rattle.std.proofs.lemmas.List.{length-append}
 use Rattle.std.proofs.lemmas.List.Folds.{list_all-append, list_all_at}
 use Rattle.std.proofs.lemmas.Int.Digits.{digits_value_push}
@@ -42,6 +42,10 @@ digits_after_is base n (b ∷ bs) low small =
     step (is_digit b base) (nat_lt m (2 ^ 64)) (list_all (λ digit. is_digit digit base) bs) (nat_lt (digits_value_after base m bs) (2 ^ 64)) (λ k. digits_after base k bs) m (digits_value_after base m bs)
     (λ _ within. digits_after_is base m bs low (ltb-true m (2 ^ 64) within))
     (λ beyond. le-ltb _ _ (le_trans (ltb-false m (2 ^ 64) beyond) (after_ge base m bs low)))
+
+-- few digits write a small number
+pub few_power : (i : ℕ) → i < 19 → 10 ^ i ≤ 10 ^ 18
+few_power i few = leb-true _ _ (agree_below_at (λ k. nat_le (10 ^ k) (10 ^ 18)) (λ _. true) 19 i refl few)
 
 limited : (passes : Bool) (value : ℕ) → below (2 ^ 64) (if passes then Some value else None) ≡ (if passes && nat_lt value (2 ^ 64) then Some value else None)
 limited true value = refl

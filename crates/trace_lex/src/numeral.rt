@@ -1,6 +1,6 @@
 //! NUMBER: whole numbers as texts.
 
-ghost use Rattle.std.specs.Prelude.{◌≡◌, ◌≤◌, ◌<◌, ◌+◌, ◌*◌, ◌^◌, ◌&&◌, nat_lt, if◌then◌else◌, Some, None, IfSome};
+ghost use Rattle.std.specs.Prelude.{◌≡◌, ◌≤◌, ◌<◌, ◌+◌, ◌*◌, ◌^◌, ◌&&◌, nat_lt, if◌then◌else◌, length, Some, None, IfSome};
 ghost use Rattle.std.specs.Char.{is_digit, digit_value};
 ghost use Rattle.trace_lex.specs.Numbers.{digits_of, magnitude_of, number_of, below};
 
@@ -31,6 +31,47 @@ fn digits(base: u32, text: &[u8]) -> Option<u64>
     Some(value)
 }
 
+/// The greatest number of decimal digits that always fit in 64 bits.
+const FITTING_DIGITS: usize = 19;
+
+/// The value of one more decimal digit behind others, as [`push_digit`] gives it. That is so small that it always fits.
+fn push_decimal(value: u64, byte: u8) -> Option<u64>
+    requires { value < 10 ^ 18 }
+    ensures value { result ≡ (if is_digit byte 10 && nat_lt (value * 10 + digit_value byte) (2 ^ 64) then Some (value * 10 + digit_value byte) else None) }
+    ensures bound { IfSome result (λ next. next < value * 10 + 10) }
+{
+    if !byte.is_ascii_digit() {
+        return None;
+    }
+    Some(value * 10 + u64::from(byte - b'0'))
+}
+
+/// The value of at most [`FITTING_DIGITS`] decimal digits, if they are digits.
+fn few_digits(text: &[u8]) -> Option<u64>
+    requires few { length text.now ≤ FITTING_DIGITS }
+    ensures { result ≡ below (2 ^ 64) (digits_of 10 text.now) }
+{
+    if text.is_empty() {
+        return None;
+    }
+    let mut value = 0;
+    for byte in text {
+        value = push_decimal(value, *byte)?;
+    }
+    Some(value)
+}
+
+/// The value of decimal digits, if it fits. Up to [`FITTING_DIGITS`] of them need no look for what is too much.
+fn decimal_digits(text: &[u8]) -> Option<u64>
+    ensures { result ≡ below (2 ^ 64) (digits_of 10 text.now) }
+{
+    if text.len() <= FITTING_DIGITS {
+        few_digits(text)
+    } else {
+        digits(10, text)
+    }
+}
+
 /// The value of a numeral without a sign, if it fits.
 fn magnitude(text: &[u8]) -> Option<u64>
     ensures { result ≡ below (2 ^ 64) (magnitude_of text.now) }
@@ -40,7 +81,7 @@ fn magnitude(text: &[u8]) -> Option<u64>
         [b'0'] => Some(0),
         [b'0', b'x', hexadecimal @ ..] => digits(16, hexadecimal),
         [b'0', octal @ ..] => digits(8, octal),
-        _ => digits(10, text),
+        _ => decimal_digits(text),
     }
 }
 

@@ -1,5 +1,5 @@
 -- Where the tokens of a line are that were not taken yet.
-use Rattle.std.specs.Prelude.{◌≡◌, ◌≢◌, ℕ, false, List, [], ◌∷◌}
+use Rattle.std.specs.Prelude.{◌≡◌, ◌≢◌, ℕ, false, List, []}
 use Rattle.std.specs.List.{list_any}
 use Rattle.trace_script.specs.Tokens.{is_quote}
 use Rattle.trace_script.specs.TokensLeft.{tokens_left}

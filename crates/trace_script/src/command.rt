@@ -78,12 +78,12 @@ fn push_pair(alloc: Global, pairs: &mut Vec<Pair>, word: &[u8]) -> Result<(), Li
     }
 }
 
-/// A pair and those that the tokens write after it, in a block with room for all of them.
+/// A pair and those that the tokens write after it, in a block that mostly has room for all of them.
 #[tactic(auto, using(crate::proofs::CommandLemmas::pairs_append, crate::proofs::TakenCommands::pair_taken, crate::proofs::TakenCommands::pairs_done, crate::proofs::TakenCommands::more_redirected, crate::proofs::TakenCommands::more_wrong))]
 fn more_pairs(alloc: Global, first: Pair, tokens: &mut Tokens<'_>) -> Result<Pairs, LineError>
     ensures { Gives (λ pairs. pairs) result (or_fault WrongWords (option_map (λ more. first ∷ more) (pairs_of tokens.old))) }
 {
-    let mut pairs = Vec::with_capacity(alloc, tokens.most_pairs().saturating_add(1))?;
+    let mut pairs = Vec::with_capacity(alloc, tokens.first_room().saturating_add(1))?;
     pairs.push_reserved(first);
     while let Some(token) = tokens.next() {
         let Piece::Word(word) = token else {

@@ -1,6 +1,6 @@
 //! A line of a script, read as what it asks for.
 
-ghost use Rattle.std.specs.Prelude.{◌≡◌, ℕ, List};
+ghost use Rattle.std.specs.Prelude.{◌≡◌, ℕ, List, not};
 ghost use Rattle.std.specs.List.{list_all, list_any};
 ghost use Rattle.trace_script.specs.Commands.{AsksFor, IsAskedBy};
 ghost use Rattle.trace_script.specs.Faults.{HasFault};
@@ -14,7 +14,7 @@ ghost use Rattle.trace_script.specs.declared.line.Line.{Line as LineValue};
 
 use crate::command::{command, emission, is_emit};
 use crate::fault::{LineError, ScriptFault};
-use crate::token::tokens;
+use crate::token::{is_quote, tokens};
 use crate::tokens::{Piece, Tokens};
 use std::alloc::Global;
 use trace_command::Command;
@@ -70,22 +70,19 @@ fn any_line(alloc: Global, name: &[u8], tokens: &mut Tokens<'_>) -> Result<Line,
 
 /// The line of this name, with the tokens that follow it. Most lines are emissions, so these are looked for first.
 #[tactic(auto, using(crate::proofs::EmissionLines::emission_line))]
-fn named(alloc: Global, name: &[u8], tokens: &mut Tokens<'_>) -> Result<Line, LineError>
-    ensures { Gives (λ line. line) result (named_line name.now tokens.old) }
+fn named(alloc: Global, name: &[u8], mut tokens: Tokens<'_>) -> Result<Line, LineError>
+    ensures { Gives (λ line. line) result (named_line name.now tokens.entry) }
 {
     if is_emit(name) {
-        return match emission(alloc, tokens) {
-            Ok(command) => Ok(Line::Ask(command)),
-            Err(error) => Err(error),
-        };
+        return Ok(Line::Ask(emission(alloc, &mut tokens)?));
     }
-    any_line(alloc, name, tokens)
+    any_line(alloc, name, &mut tokens)
 }
 
 /// What the tokens of a line ask for. The first of them names it.
 #[tactic(auto, unfolding(crate::specs::Lines::asked_of))]
-fn asked(alloc: Global, tokens: &mut Tokens<'_>) -> Result<Line, LineError>
-    ensures { Gives (λ line. line) result (asked_of tokens.old) }
+fn asked(alloc: Global, mut tokens: Tokens<'_>) -> Result<Line, LineError>
+    ensures { Gives (λ line. line) result (asked_of tokens.entry) }
 {
     match tokens.next() {
         Some(Piece::Word(name)) => named(alloc, name, tokens),
@@ -113,43 +110,54 @@ fn quoted(alloc: Global, line: &[u8]) -> Result<Line, LineError>
     ensures { Gives (λ line. line) result (asked_after (tokens_of line.now)) }
 {
     let list = tokens(alloc, line)?;
-    asked(alloc, &mut Tokens::of_list(&list))
+    asked(alloc, Tokens::of_list(&list))
 }
 
 /// What a line of lawful length and bytes asks for.
 #[tactic(auto, unfolding(crate::specs::Lines::spoken))]
-fn spoken(alloc: Global, line: &[u8]) -> Result<Line, LineError>
+fn spoken(alloc: Global, line: &[u8], has_quotes: bool) -> Result<Line, LineError>
+    requires { has_quotes ≡ list_any is_quote line.now }
     ensures { Gives (λ line. line) result (spoken line.now) }
 {
     if says_nothing(line) {
         return Ok(Line::Blank);
     }
-    if has_quote(line) {
+    if has_quotes {
         return quoted(alloc, line);
     }
-    asked(alloc, &mut Tokens::of_line(line))
+    asked(alloc, Tokens::of_line(line))
 }
 
-/// Whether each byte is a tab, or one from 0x20 to 0x7e. A loop without an early exit, over a byte, takes many bytes at once.
-fn has_line_bytes(line: &[u8]) -> bool
-    ensures { result ≡ list_all is_line_byte line.now }
+/// A byte that a line may have: a tab, or one from 0x20 to 0x7e.
+fn is_line_byte(byte: u8) -> bool
+    ensures { result ≡ is_line_byte byte }
+{
+    matches!(byte, b'\t' | b' '..=b'~')
+}
+
+/// Whether a line has bytes of these kinds.
+#[derive(Clone, Copy)]
+struct Bytes {
+    /// Bytes that no line may have.
+    has_others: bool,
+    has_quotes: bool,
+}
+
+/// Looks at the bytes of a line. A loop without an early exit, over bytes, takes many of them at once.
+fn bytes_of(line: &[u8]) -> Bytes
+    ensures others { not result.has_others ≡ list_all is_line_byte line.now }
+    ensures quotes { result.has_quotes ≡ list_any is_quote line.now }
 {
     let mut others = 0u8;
-    for byte in line {
-        others |= u8::from(!matches!(*byte, b'\t' | b' '..=b'~'));
-    }
-    others == 0
-}
-
-/// Whether a byte is a quote. It looks at many bytes at once, too.
-fn has_quote(line: &[u8]) -> bool
-    ensures { result ≡ list_any is_quote line.now }
-{
     let mut quotes = 0u8;
     for byte in line {
-        quotes |= u8::from(matches!(*byte, b'\'' | b'"'));
+        others |= u8::from(!is_line_byte(*byte));
+        quotes |= u8::from(is_quote(*byte));
     }
-    quotes != 0
+    Bytes {
+        has_others: others != 0,
+        has_quotes: quotes != 0,
+    }
 }
 
 /// What a line asks for. A fault is the first that is found, in the order of [`ScriptFault`].
@@ -160,10 +168,11 @@ pub fn prepare(alloc: Global, line: &[u8]) -> Result<Line, LineError>
     if line.len() > MOST_BYTES {
         return Err(LineError::Fault(ScriptFault::LineTooLong));
     }
-    if !has_line_bytes(line) {
+    let bytes = bytes_of(line);
+    if bytes.has_others {
         return Err(LineError::Fault(ScriptFault::BadByte));
     }
-    spoken(alloc, line)
+    spoken(alloc, line, bytes.has_quotes)
 }
 
 /// The grammar of commands: tokens ask for a command, or for a line of a parallel part, exactly where they are written as it is. So they

@@ -35,7 +35,7 @@ fn is_end(byte: u8) -> bool
 }
 
 /// A quote of either kind.
-fn is_quote(byte: u8) -> bool
+pub(crate) fn is_quote(byte: u8) -> bool
     ensures { result ≡ is_quote byte }
 {
     byte == b'\'' || byte == b'"'

@@ -73,6 +73,15 @@ fn first_piece(line: &[u8]) -> (Piece<'_>, &[u8])
     (Piece::Word(word), without_blanks(rest))
 }
 
+/// The number of `=` in a line, modulo 256. A count in a byte lets the loop take many bytes at once.
+fn equals_in(line: &[u8]) -> u8 {
+    let mut count = 0u8;
+    for byte in line {
+        count = count.wrapping_add(u8::from(*byte == b'='));
+    }
+    count
+}
+
 /// A token of a list, by its bytes.
 fn piece_of<'a>(token: &'a Token<'a>) -> Piece<'a>
     ensures { token_of result ≡ token.entry.now }
@@ -115,10 +124,10 @@ impl<'a> Tokens<'a> {
         }
     }
 
-    /// How many pairs are left at most. Each has a `=`.
-    pub(crate) fn most_pairs(&self) -> usize {
+    /// For how many pairs room is to be taken at first. It is enough for all that are left, but in a line without quotes with over 255 `=`.
+    pub(crate) fn first_room(&self) -> usize {
         match self.left {
-            Left::Unread(line) => line.iter().filter(|byte| **byte == b'=').count(),
+            Left::Unread(line) => usize::from(equals_in(line)),
             Left::Listed(list) => list.len(),
         }
     }

@@ -3,6 +3,7 @@ pub mod ScriptLemmas
 pub mod Standing
 pub mod Stepping
 pub mod PartSessions
+pub mod LineFinding
 pub mod PartExamples
 pub mod PartThreads
 pub mod PartReading

@@ -13,12 +13,13 @@ use Rattle.trace_command.specs.declared.command.Entry.{Entry}
 use Rattle.trace_command.specs.declared.command.Reply.{Reply}
 use Rattle.trace_command.specs.declared.refusal.Refusal.{Refusal}
 use Rattle.trace_session.specs.Parts.{Given, PartMayGive, outcomes_in}
-use Rattle.trace_session.specs.PartTexts.{numbered_threads, items_in, replies_in, AreNumbered}
+use Rattle.trace_session.specs.PartTexts.{numbered_threads, outcomes_of_threads, items_in, replies_in, AreNumbered, AreOutcomesOf}
 use Rattle.trace_session.specs.Passes.{IsSessionPass, progress_of}
 use Rattle.trace_session.specs.Sessions.{status_of}
 use Rattle.trace_session.specs.declared.part.Numbered.{Numbered}
+use Rattle.trace_session.specs.declared.part_text.OutcomeAt.{OutcomeAt}
 use Rattle.trace_session.specs.declared.status.Status.{Status}
-use Rattle.trace_session.proofs.PartWriting.{numbered_is}
+use Rattle.trace_session.proofs.PartWriting.{numbered_is, are_outcomes}
 use Rattle.trace_workers.specs.BlockRuns.{trails_of, IsAfterBlock}
 use Rattle.trace_workers.specs.declared.part.Part.{Part}
 
@@ -103,11 +104,13 @@ block_numbered g v w threads done pass same after =
     are_numbered g v.seen after.after threads done same (after.block g pass.base pass.legal).each
 
 -- the part may give what was written for it
-pub may_give : (g : Config) (v w : View Entry) (threads : List (List Numbered)) (done : List Part) (text : List ℕ) (status : Status)
+pub may_give : (g : Config) (v w : View Entry) (threads : List (List Numbered)) (done : List Part) (text : List ℕ) (status : Status) (told : List OutcomeAt)
     → IsSessionPass g v → length done ≡ length threads → IsAfterBlock v w (trails_of (commands_of threads) done) → All IsUnworn (replies_in done)
     → text ≡ numbered_threads 0 (numbers_of_lines threads) (replies_in done) → status ≡ status_of (outcomes_in (replies_in done))
+    → told ≡ outcomes_of_threads (numbers_of_lines threads) (replies_in done)
     → (given : Given) × PartMayGive g threads (progress_of v) (progress_of w) given × (given.text ≡ text) × (status ≡ status_of given.outcomes)
-may_give g v w threads done text status pass same after unworn written told =
+    × AreOutcomesOf threads given.outcomes told
+may_give g v w threads done text status told pass same after unworn written ended became =
     let same' : length done ≡ length (commands_of threads) = same ∙ sym (length-map threads (map (λ asked. asked.command))) in (
       record { text = text; outcomes = outcomes_in (replies_in done) },
       record {
@@ -127,5 +130,7 @@ may_give g v w threads done text status pass same after unworn written told =
         outcomes = refl;
       },
       refl,
-      told,
+      ended,
+      subst (λ (all : List OutcomeAt). AreOutcomesOf threads (outcomes_in (replies_in done)) all) (sym became)
+          (are_outcomes threads (replies_in done) (block_numbered g v w threads done pass same after)),
     )

@@ -1,19 +1,21 @@
 -- How what is written for the threads of a part is put together.
-use Rattle.std.proofs.Common.{◌≡◌, ℕ, ◌+◌, ◌<◌, Bool, false, ◌||◌, if◌then◌else◌, Some, Ok, Err, Vec, List, [], ◌∷◌, ◌++◌, drop, get_or, length, map, All, Result, refl, sym, ap, subst, ◌∙◌, append_assoc}
+use Rattle.std.proofs.Common.{◌≡◌, ℕ, suc, ◌+◌, ◌<◌, Bool, false, ◌||◌, if◌then◌else◌, Option, Some, Ok, Err, Vec, List, [], ◌∷◌, ◌++◌, drop, get_or, length, map, All, Result, refl, sym, ap, subst, ◌∙◌, arith, append_assoc}
 use Rattle.std.proofs.Math.Bool.{or_assoc}
-use Rattle.std.proofs.lemmas.List.{drop_more}
+use Rattle.std.proofs.lemmas.List.{drop_more, map-append}
 use Rattle.std.proofs.lemmas.List.Elements.{All-cons}
 use Rattle.std.proofs.lemmas.List.Folds.{list_any-append}
 use Rattle.std.specs.List.{list_any}
 use Rattle.std.specs.declared.alloc.Global.{Global}
 use Rattle.trace_history.specs.Blocks.{IsUnworn}
 use Rattle.trace_script.specs.Rendering.{rendered}
+use Rattle.trace_script.specs.declared.outcome.Outcome.{Outcome}
 use Rattle.trace_session.specs.Parts.{outcome_of, outcomes_in, replies_text, thread_line, threads_text}
 use Rattle.trace_session.specs.Sessions.{is_fault, is_refusal, status_of}
 use Rattle.trace_session.specs.declared.part.Numbered.{Numbered}
+use Rattle.trace_session.specs.declared.part_text.OutcomeAt.{OutcomeAt}
 use Rattle.trace_session.specs.declared.status.Status.{Status}
 use Rattle.trace_session.specs.declared.status.Status.TheVariants as statuses
-use Rattle.trace_session.specs.PartTexts.{numbered_text, numbered_threads, refuses, replies_in, items_in, AreNumbered}
+use Rattle.trace_session.specs.PartTexts.{numbered_text, numbered_threads, outcome_at, numbered_outcomes, outcomes_of_threads, refuses, replies_in, items_in, AreNumbered, AreOutcomesOf}
 use Rattle.trace_command.specs.declared.command.Reply.{Reply}
 use Rattle.trace_command.specs.declared.refusal.Refusal.{Refusal}
 use Rattle.trace_workers.specs.declared.part.Part.{Part}
@@ -42,6 +44,15 @@ module _ (numbers : List (Vec ℕ Global)) (thread : ℕ) (own : Vec ℕ Global)
         let these : List ℕ = thread_line thread ++ numbered_text own.items part.replies.items in
         ap (λ (bytes : List ℕ). bytes ++ rest) grown ∙ append_assoc text these rest
         ∙ left_is (λ os ps. text ++ numbered_threads thread (items_in os) (replies_in ps) ≡ all) written
+
+    pub outcomes_later : (told new all : List OutcomeAt) → told ++ outcomes_of_threads (items_in (drop thread numbers)) (replies_in parts) ≡ all
+        → new ≡ told ++ numbered_outcomes own.items part.replies.items
+        → new ++ outcomes_of_threads (items_in (drop (thread + 1) numbers)) (replies_in more) ≡ all
+    outcomes_later told new all written grown =
+        let rest : List OutcomeAt = outcomes_of_threads (items_in (drop (thread + 1) numbers)) (replies_in more) in
+        let these : List OutcomeAt = numbered_outcomes own.items part.replies.items in
+        ap (λ (outcomes : List OutcomeAt). outcomes ++ rest) grown ∙ append_assoc told these rest
+        ∙ left_is (λ os ps. told ++ outcomes_of_threads (items_in os) (replies_in ps) ≡ all) written
 
     pub refused_later : (before now all : Bool) → (before || list_any (list_any refuses) (replies_in parts)) ≡ all
         → now ≡ (before || list_any refuses part.replies.items) → (now || list_any (list_any refuses) (replies_in more)) ≡ all
@@ -105,3 +116,39 @@ numbered_is first (thread ∷ threads) [] = refl
 numbered_is first (thread ∷ threads) (own ∷ replies) =
     ap (λ (text : List ℕ). thread_line first ++ text ++ numbered_threads (first + 1) (map (map (λ (asked : Numbered). asked.number)) threads) replies) (numbered_replies thread own)
     ∙ ap (λ (text : List ℕ). thread_line first ++ replies_text thread own ++ text) (numbered_is (first + 1) threads replies)
+
+-- ---- what became of numbered commands
+
+numbers_told : (numbers : List ℕ) (replies : List (Result Reply Refusal)) → length numbers ≡ length replies
+    → map (λ (one : OutcomeAt). one.number) (numbered_outcomes numbers replies) ≡ numbers
+numbers_told [] replies same = refl
+numbers_told (number ∷ numbers) [] same = absurd (omega (arith, same))
+numbers_told (number ∷ numbers) (reply ∷ replies) same = ap (λ (ns : List ℕ). number ∷ ns) (numbers_told numbers replies (omega (arith, same)))
+
+outcomes_told : (numbers : List ℕ) (replies : List (Result Reply Refusal)) → length numbers ≡ length replies
+    → map (λ (one : OutcomeAt). Some one.outcome) (numbered_outcomes numbers replies) ≡ map (λ (reply : Result Reply Refusal). Some (outcome_of reply)) replies
+outcomes_told [] [] same = refl
+outcomes_told [] (reply ∷ replies) same = absurd (omega (arith, same))
+outcomes_told (number ∷ numbers) [] same = absurd (omega (arith, same))
+outcomes_told (number ∷ numbers) (reply ∷ replies) same =
+    ap (λ (os : List (Option Outcome)). Some (outcome_of reply) ∷ os) (outcomes_told numbers replies (omega (arith, same)))
+
+-- what is told by the numbers is what became of the threads' commands
+pub are_outcomes : (threads : List (List Numbered)) (replies : List (List (Result Reply Refusal))) → AreNumbered (map (map (λ (asked : Numbered). asked.number)) threads) replies
+    → AreOutcomesOf threads (outcomes_in replies) (outcomes_of_threads (map (map (λ (asked : Numbered). asked.number)) threads) replies)
+are_outcomes [] [] same = record { numbers = refl; outcomes = refl }
+are_outcomes [] (own ∷ replies) same = absurd (let h = ap (λ (ns : List ℕ). length ns) same in cc)
+are_outcomes (thread ∷ threads) [] same = absurd (let h = ap (λ (ns : List ℕ). length ns) same in cc)
+are_outcomes (thread ∷ threads) (own ∷ replies) same =
+    let numbers : List ℕ = map (λ (asked : Numbered). asked.number) thread in
+    let first : length numbers ≡ length own = cc in
+    let others = are_outcomes threads replies cc in
+    let more = outcomes_of_threads (map (map (λ (asked : Numbered). asked.number)) threads) replies in
+    record {
+      numbers = map-append (λ (one : OutcomeAt). one.number) (numbered_outcomes numbers own) more
+          ∙ ap (λ (ns : List ℕ). ns ++ map (λ (one : OutcomeAt). one.number) more) (numbers_told numbers own first)
+          ∙ ap (λ (ns : List ℕ). numbers ++ ns) others.numbers;
+      outcomes = map-append (λ (one : OutcomeAt). Some one.outcome) (numbered_outcomes numbers own) more
+          ∙ ap (λ (os : List (Option Outcome)). os ++ map (λ (one : OutcomeAt). Some one.outcome) more) (outcomes_told numbers own first)
+          ∙ ap (λ (os : List (Option Outcome)). map (λ (reply : Result Reply Refusal). Some (outcome_of reply)) own ++ os) others.outcomes;
+    }

@@ -12,7 +12,7 @@ use Rattle.trace_session.specs.declared.item.ItemRead.TheVariants as reads
 -- the item that was read, whose first line has this number
 abbrev pub item_read : ℕ → ItemRead → Item
 item_read number (reads.Line line said) = Single number line.now
-item_read number (reads.Threads threads) = Threads (commands_in threads.items)
+item_read number (reads.Threads text threads) = Threads (commands_in threads.items)
 item_read number (reads.Fault at line) = Faulty at
 
 -- a line by itself comes with what it says
@@ -24,6 +24,11 @@ IsSaid _ = Unit {0}
 abbrev pub HasFaultLine : ℕ → List (List ℕ) → ItemRead → Type 0
 HasFaultLine first lines (reads.Fault at line) = IsLineAt first lines at.number line.now
 HasFaultLine first lines _ = Unit {0}
+
+-- the threads of a part come with the string that begins with its lines
+abbrev pub HasItsText : List ℕ → ItemRead → Type 0
+HasItsText script (reads.Threads text threads) = text.now ≡ script
+HasItsText script _ = Unit {0}
 
 -- the line begins a part, if an `end` follows it
 abbrev pub begins_with : Result Line ScriptFault → Bool

@@ -1,11 +1,14 @@
--- What the code that writes for a part promises. It has the numbers of the commands' lines, and no longer the commands.
-use Rattle.std.specs.Prelude.{◌≡◌, Vec, ℕ, ◌+◌, Bool, List, [], ◌∷◌, ◌++◌, map, length, Some, Result}
+-- What the code that writes for a part promises. It no longer has the commands, only the numbers of their lines.
+use Rattle.std.specs.Prelude.{◌≡◌, Vec, ℕ, ◌+◌, Bool, List, [], ◌∷◌, ◌++◌, map, flat_map, length, Option, Some, Result}
 use Rattle.std.specs.declared.alloc.Global.{Global}
 use Rattle.trace_command.specs.declared.command.Reply.{Reply}
 use Rattle.trace_command.specs.declared.refusal.Refusal.{Refusal}
 use Rattle.trace_script.specs.Rendering.{rendered}
+use Rattle.trace_script.specs.declared.outcome.Outcome.{Outcome}
 use Rattle.trace_session.specs.Parts.{outcome_of, thread_line}
 use Rattle.trace_session.specs.Sessions.{is_refusal}
+use Rattle.trace_session.specs.declared.part.Numbered.{Numbered}
+use Rattle.trace_session.specs.declared.part_text.OutcomeAt.{OutcomeAt}
 use Rattle.trace_workers.specs.declared.part.Part.{Part}
 
 -- what is written for replies to commands that stand in lines of these numbers
@@ -13,7 +16,21 @@ abbrev pub numbered_text : List ℕ → List (Result Reply Refusal) → List ℕ
 numbered_text (number ∷ numbers) (reply ∷ replies) = rendered number (outcome_of reply) ++ numbered_text numbers replies
 numbered_text _ _ = []
 
--- the same for threads from this one on
+-- what became of the command in the line of this number
+abbrev pub outcome_at : ℕ → Result Reply Refusal → OutcomeAt
+outcome_at number reply = record { number = number; outcome = outcome_of reply }
+
+-- likewise for commands that stand in lines of these numbers
+abbrev pub numbered_outcomes : List ℕ → List (Result Reply Refusal) → List OutcomeAt
+numbered_outcomes (number ∷ numbers) (reply ∷ replies) = outcome_at number reply ∷ numbered_outcomes numbers replies
+numbered_outcomes _ _ = []
+
+-- and of the commands of threads
+abbrev pub outcomes_of_threads : List (List ℕ) → List (List (Result Reply Refusal)) → List OutcomeAt
+outcomes_of_threads (own ∷ numbers) (replies ∷ more) = numbered_outcomes own replies ++ outcomes_of_threads numbers more
+outcomes_of_threads _ _ = []
+
+-- what is written for threads from this one on, whose commands stand in lines of these numbers
 abbrev pub numbered_threads : ℕ → List (List ℕ) → List (List (Result Reply Refusal)) → List ℕ
 numbered_threads thread (own ∷ numbers) (replies ∷ more) = thread_line thread ++ numbered_text own replies ++ numbered_threads (thread + 1) numbers more
 numbered_threads thread _ _ = []
@@ -33,3 +50,8 @@ items_in {X} all = map (λ (own : Vec X Global). own.items) all
 -- there is a number for each reply
 abbrev pub AreNumbered : List (List ℕ) → List (List (Result Reply Refusal)) → Type 0
 AreNumbered numbers replies = map (λ (own : List ℕ). length own) numbers ≡ map (λ (own : List (Result Reply Refusal)). length own) replies
+
+-- the outcomes of the threads' commands, each with the number of its command's line
+pub record AreOutcomesOf (threads : List (List Numbered)) (became : List (Option Outcome)) (told : List OutcomeAt) : Type 0 where
+  pub numbers : map (λ (one : OutcomeAt). one.number) told ≡ flat_map (map (λ (asked : Numbered). asked.number)) threads
+  pub outcomes : map (λ (one : OutcomeAt). Some one.outcome) told ≡ became

@@ -43,8 +43,9 @@ pub trait Sink {
         false
     }
 
-    /// Hears what became of the line of this number. Of a refusal or a fault it hears once it has taken all that is written up to there. It may
-    /// tell of it elsewhere; the bytes that it holds stay, and that counts as no failure.
+    /// Hears what became of the line of this number. Of a refusal or a fault it hears once it has taken all that is written up to there. Of a
+    /// parallel part it hears of each command, in the order of their lines, once all of them were asked; if one was refused, it has taken all that
+    /// the part gives by then. It may tell of it elsewhere; the bytes that it holds stay, and that counts as no failure.
     fn hear(&mut self, _number: usize, _line: &[u8], _outcome: &Option<Outcome>)
         ensures bytes { contents self.new ≡ contents self.old }
         ensures failures { failures self.new ≡ failures self.old }

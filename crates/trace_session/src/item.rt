@@ -5,7 +5,7 @@ ghost use Rattle.std.specs.Option.{option_copied};
 ghost use Rattle.trace_script.specs.Lines.{line_of};
 ghost use Rattle.trace_session.specs.Items.{items_from};
 ghost use Rattle.trace_session.specs.PartReads.{item_of, HasItsLine};
-ghost use Rattle.trace_session.specs.NextItems.{item_read, begins_with, IsSaid, HasFaultLine};
+ghost use Rattle.trace_session.specs.NextItems.{item_read, begins_with, IsSaid, HasFaultLine, HasItsText};
 ghost use Rattle.trace_session.specs.Sessions.{lines_of, lines_left, bytes_left};
 
 use crate::part::{FaultAt, Numbered, Part, read_line, read_part};
@@ -21,8 +21,11 @@ pub enum ItemRead<'a> {
         line: &'a [u8],
         said: Result<Line, ScriptFault>,
     },
-    /// The commands of each thread of a part.
-    Threads(Vec<Vec<Numbered>>),
+    /// A part: the string that begins with its lines, and the commands of each of its threads.
+    Threads {
+        text: &'a [u8],
+        threads: Vec<Vec<Numbered>>,
+    },
     /// The fault of the earliest line of a part that has one, and that line.
     Fault {
         at: FaultAt,
@@ -40,14 +43,15 @@ pub struct NextItem<'a> {
     pub rest: Option<&'a [u8]>,
 }
 
-/// A part that was read, as an item.
-fn part_item<'a>(part: Part<'a>) -> ItemRead<'a>
+/// A part that was read, as an item. The string begins with it.
+fn part_item<'a>(text: &'a [u8], part: Part<'a>) -> ItemRead<'a>
+    ensures text { HasItsText text.entry.now result }
     ensures item { (number : ℕ) → item_read number result ≡ item_of part.entry }
     ensures said { IsSaid result }
     ensures line { (first : ℕ) (lines : List (List ℕ)) → HasItsLine first lines part.entry → HasFaultLine first lines result }
 {
     match part {
-        Part::Threads(threads) => ItemRead::Threads(threads),
+        Part::Threads(threads) => ItemRead::Threads { text, threads },
         Part::Fault { at, line } => ItemRead::Fault { at, line },
     }
 }
@@ -60,7 +64,7 @@ fn begins(said: &Result<Line, ScriptFault>) -> bool
 }
 
 /// Reads on at a line `parallel`: the part that it begins, if a line `end` follows it; else that line by itself. It is kept out of line, so
-/// that other lines don't take the room of a part. The text is that which begins with the line, and is passed for the contract alone.
+/// that other lines don't take the room of a part. The text is that which begins with the line.
 #[inline(never)]
 #[tactic(auto, using(crate::proofs::ItemReading::part_next, crate::proofs::ItemReading::endless_next))]
 fn part_or_line<'a>(
@@ -80,12 +84,13 @@ fn part_or_line<'a>(
         ≡ item_read number next.item ∷ items_from next.number 0 (lines_left (option_copied next.rest))) }
     ensures said { IfOk result (λ next. IsSaid next.item) }
     ensures line { IfOk result (λ next. HasFaultLine number (lines_of text.now) next.item) }
+    ensures text { IfOk result (λ next. HasItsText text.now next.item) }
     ensures shorter { IfOk result (λ next. bytes_left (option_copied next.rest) ≤ length text.now) }
     ensures room { IfOk result (λ next. next.number + bytes_left (option_copied next.rest) ≤ number + length text.now + 1) }
 {
     match read_part(alloc, number + 1, after)? {
         Some(read) => Ok(NextItem {
-            item: part_item(read.part),
+            item: part_item(text, read.part),
             number: number + 1 + read.lines + 1,
             rest: read.rest,
         }),
@@ -110,6 +115,7 @@ pub fn next_item<'a>(
         ≡ item_read number next.item ∷ items_from next.number 0 (lines_left (option_copied next.rest))) }
     ensures said { IfOk result (λ next. IsSaid next.item) }
     ensures line { IfOk result (λ next. HasFaultLine number (lines_of text.now) next.item) }
+    ensures text { IfOk result (λ next. HasItsText text.now next.item) }
     ensures shorter { IfOk result (λ next. bytes_left (option_copied next.rest) ≤ length text.now) }
     ensures room { IfOk result (λ next. next.number + bytes_left (option_copied next.rest) ≤ number + length text.now + 1) }
 {

@@ -5,6 +5,7 @@ mod device;
 pub mod item;
 pub mod laws;
 mod line;
+mod lines_from;
 mod output;
 pub mod part;
 mod part_run;

@@ -5,6 +5,7 @@ ghost use Rattle.ticket_lock.specs.Calls.{view_of, IsOf};
 ghost use Rattle.trace_command.specs.declared.command.Config.{Config};
 ghost use Rattle.trace_session.specs.PartReads.{commands_in};
 ghost use Rattle.trace_session.specs.Parts.{Given, PartMayGive};
+ghost use Rattle.trace_session.specs.PartTexts.{AreOutcomesOf};
 ghost use Rattle.trace_session.specs.Passes.{IsSessionPass, progress_of};
 ghost use Rattle.trace_session.specs.Sessions.{status_of};
 ghost use Rattle.trace_workers.specs.declared.fault.BlockFault.TheVariants.{Stopped};
@@ -19,7 +20,7 @@ use ticket_lock::{Pass, TicketLock};
 use trace_book::Book;
 use trace_workers::{BlockFault, Gate, run_block};
 
-/// Runs the threads of a part side by side, and gives what is to be written for it.
+/// Runs the threads of a part side by side, and gives what is to be written for it, and what became of each command.
 ///
 /// Memory is told where it was refused, and where a command got no turn since all tickets are drawn, to which no script comes. After a fault
 /// nothing is to be written for the part, though some of its commands may have been done: the pass has seen them.
@@ -38,7 +39,8 @@ pub fn run_part<R: Threads + Wait + Sync, G: Gate + Sync>(
     ensures session { (g : Config) → IsSessionPass g (view_of pass) → IsSessionPass g (view_of result.0) }
     ensures given { IfOk result.1 (λ written. (g : Config) → IsSessionPass g (view_of pass)
         → (given : Given) × PartMayGive g (commands_in threads.items) (progress_of (view_of pass)) (progress_of (view_of result.0)) given
-        × (given.text ≡ written.text.items) × (written.status ≡ status_of given.outcomes)) }
+        × (given.text ≡ written.text.items) × (written.status ≡ status_of given.outcomes)
+        × AreOutcomesOf (commands_in threads.items) given.outcomes written.outcomes.items) }
     ensures open { G.is_open gate.now ≡ true → IfErr result.1 (λ fault. fault ≢ Stopped) }
 {
     let Ok((numbers, commands)) = split_threads(alloc, threads) else {

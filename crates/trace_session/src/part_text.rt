@@ -1,12 +1,14 @@
-//! What is written for a part. All of it is put together before any of it is written, so that no half of a part is.
+//! What is written for a part, and what became of its commands. All of it is put together before any of it is written, so that no half of a
+//! part is.
 
-ghost use Rattle.std.specs.Prelude.{◌≡◌, ◌≢◌, ◌||◌, ◌++◌, if◌then◌else◌, All, length, Err, IfOk, OnOk, IsErrOf};
+ghost use Rattle.std.specs.Prelude.{◌≡◌, ◌≢◌, ◌||◌, ◌++◌, ◌∷◌, [], if◌then◌else◌, All, length, Err, IfOk, OnOk, IsErrOf};
 ghost use Rattle.std.specs.List.{list_any};
 ghost use Rattle.trace_command.specs.declared.refusal.Refusal.TheVariants.{Worn};
 ghost use Rattle.trace_history.specs.Blocks.{IsUnworn};
 ghost use Rattle.trace_script.specs.Rendering.{rendered};
 ghost use Rattle.trace_session.specs.Parts.{outcome_of, outcomes_in, thread_line};
 ghost use Rattle.trace_session.specs.PartTexts.{numbered_text, numbered_threads, refuses, replies_in, items_in, AreNumbered};
+ghost use Rattle.trace_session.specs.PartTexts.{outcome_at, numbered_outcomes, outcomes_of_threads};
 ghost use Rattle.trace_session.specs.Sessions.{status_of};
 
 use crate::status::Status;
@@ -16,11 +18,20 @@ use trace_command::{Refusal, Reply};
 use trace_script::{Outcome, render};
 use trace_workers::Part;
 
-/// What a part gives: the bytes that are to be written for it, and the status of its commands.
+/// What became of a command of a part, and the number of its line.
+#[derive(Debug, Drop)]
+pub struct OutcomeAt {
+    pub number: usize,
+    pub outcome: Outcome,
+}
+
+/// What a part gives: the bytes that are to be written for it, the status of its commands, and what became of each of them, in the order of
+/// their lines.
 #[derive(Debug, Drop)]
 pub struct Written {
     pub text: Vec<u8>,
     pub status: Status,
+    pub outcomes: Vec<OutcomeAt>,
 }
 
 /// What the first commands of a part give, and whether any of them was refused.
@@ -28,6 +39,7 @@ pub struct Written {
 struct Writing {
     text: Vec<u8>,
     is_refused: bool,
+    outcomes: Vec<OutcomeAt>,
 }
 
 /// Adds what is written for the line of this number.
@@ -48,7 +60,7 @@ fn add_outcome(
     }
 }
 
-/// Adds what is written for a command in the line of this number. A command that got no turn is told as refused memory.
+/// Adds what is written for a command in the line of this number, and what became of it. A command that got no turn is told as refused memory.
 fn add_reply(
     alloc: Global,
     number: usize,
@@ -57,6 +69,7 @@ fn add_reply(
 ) -> Result<(), Stop>
     ensures text { OnOk result (writing.new.text.items ≡ writing.old.text.items ++ rendered number (outcome_of reply)) }
     ensures refused { OnOk result (writing.new.is_refused ≡ (writing.old.is_refused || refuses reply)) }
+    ensures outcomes { OnOk result (writing.new.outcomes.items ≡ writing.old.outcomes.items ++ outcome_at number reply ∷ []) }
     ensures unworn { OnOk result (reply ≢ Err Worn) }
     ensures device { IsErrOf result Stop.Device → ⊥ }
 {
@@ -69,10 +82,11 @@ fn add_reply(
         }
     };
     add_outcome(alloc, number, &outcome, &mut writing.text)?;
+    writing.outcomes.push(OutcomeAt { number, outcome })?;
     Ok(())
 }
 
-/// Adds what is written for a thread's commands, which stand in lines of these numbers.
+/// Adds what is written for a thread's commands, which stand in lines of these numbers, and what became of them.
 fn add_replies(
     alloc: Global,
     numbers: &[usize],
@@ -82,6 +96,8 @@ fn add_replies(
     requires { length numbers.now ≡ length replies.items }
     ensures text { OnOk result (writing.new.text.items ≡ writing.old.text.items ++ numbered_text numbers.now replies.items) }
     ensures refused { OnOk result (writing.new.is_refused ≡ (writing.old.is_refused || list_any refuses replies.items)) }
+    ensures outcomes { OnOk result (writing.new.outcomes.items
+        ≡ writing.old.outcomes.items ++ numbered_outcomes numbers.now replies.items) }
     ensures unworn { OnOk result (IsUnworn replies.items) }
     ensures device { IsErrOf result Stop.Device → ⊥ }
 {
@@ -93,7 +109,7 @@ fn add_replies(
     Ok(())
 }
 
-/// Adds the line of a thread, and what is written for its commands.
+/// Adds the line of a thread, what is written for its commands, and what became of them.
 fn add_thread(
     alloc: Global,
     thread: usize,
@@ -105,6 +121,8 @@ fn add_thread(
     ensures text { OnOk result (writing.new.text.items
         ≡ writing.old.text.items ++ (thread_line thread ++ numbered_text numbers.now replies.items)) }
     ensures refused { OnOk result (writing.new.is_refused ≡ (writing.old.is_refused || list_any refuses replies.items)) }
+    ensures outcomes { OnOk result (writing.new.outcomes.items
+        ≡ writing.old.outcomes.items ++ numbered_outcomes numbers.now replies.items) }
     ensures unworn { OnOk result (IsUnworn replies.items) }
     ensures device { IsErrOf result Stop.Device → ⊥ }
 {
@@ -117,6 +135,7 @@ fn add_thread(
 fn finish(writing: Writing) -> Written
     ensures text { result.text.items ≡ writing.text.items }
     ensures status { result.status ≡ (if writing.is_refused then Status.Refused else Status.Done) }
+    ensures outcomes { result.outcomes.items ≡ writing.outcomes.items }
 {
     Written {
         text: writing.text,
@@ -125,6 +144,7 @@ fn finish(writing: Writing) -> Written
         } else {
             Status::Done
         },
+        outcomes: writing.outcomes,
     }
 }
 
@@ -138,12 +158,15 @@ pub(crate) fn write_threads(
     ensures text { IfOk result (λ written.
         written.text.items ≡ numbered_threads 0 (items_in numbers.now) (replies_in done.items)) }
     ensures status { IfOk result (λ written. written.status ≡ status_of (outcomes_in (replies_in done.items))) }
+    ensures outcomes { IfOk result (λ written.
+        written.outcomes.items ≡ outcomes_of_threads (items_in numbers.now) (replies_in done.items)) }
     ensures unworn { OnOk result (All IsUnworn (replies_in done.items)) }
     ensures device { IsErrOf result Stop.Device → ⊥ }
 {
     let mut writing = Writing {
         text: Vec::new(alloc),
         is_refused: false,
+        outcomes: Vec::new(alloc),
     };
     let mut thread = 0;
     for part in done {

@@ -21,7 +21,7 @@ use crate::part_run::run_part;
 use crate::replies::Replies;
 use crate::status::Status;
 use crate::stop::Stop;
-use crate::told::give;
+use crate::told::{give, give_part};
 use std::alloc::Global;
 use std::sync::Wait;
 use std::thread;
@@ -67,12 +67,15 @@ fn do_line<R: Wait, W: Sink>(
     }
 }
 
-/// Asks the commands of a part, and writes what they give once all of them were asked.
+/// Asks the commands of a part, and writes what they give once all of them were asked. The string begins with the part's first line, which
+/// has this number.
 fn do_part<R: thread::Threads + Wait + Sync, W: Sink, G: Gate + Sync>(
     rt: &R,
     alloc: Global,
     lock: &TicketLock<Book>,
     pass: Pass<Book>,
+    number: usize,
+    text: &[u8],
     threads: Vec<Vec<Numbered>>,
     gate: &G,
     replies: &mut Replies,
@@ -101,10 +104,7 @@ fn do_part<R: thread::Threads + Wait + Sync, W: Sink, G: Gate + Sync>(
 {
     let (pass, ran) = run_part(rt, alloc, lock, pass, threads, gate);
     match ran {
-        Ok(written) => match replies.add(writer, &written.text) {
-            Ok(()) => (pass, Ok(written.status)),
-            Err(stop) => (pass, Err(stop)),
-        },
+        Ok(written) => (pass, give_part(number, text, written, replies, writer)),
         Err(BlockFault::Stopped) => (pass, Err(Stop::Stopped)),
         Err(BlockFault::Memory | BlockFault::NoThread) => (pass, Err(Stop::Memory)),
     }
@@ -134,7 +134,7 @@ fn do_fault<W: Sink>(
 }
 
 /// Does an item whose first line has this number: adds what it gives to the replies, and gives its own status. Of a part nothing is added before
-/// all its commands were asked. A writer that hears is told of lines by themselves and of faults, and not of the commands of parts.
+/// all its commands were asked. A writer that hears is told of each line by itself, of a fault with its line, and of each command of a part.
 pub(crate) fn do_item<R: thread::Threads + Wait + Sync, W: Sink, G: Gate + Sync>(
     rt: &R,
     alloc: Global,
@@ -172,9 +172,9 @@ pub(crate) fn do_item<R: thread::Threads + Wait + Sync, W: Sink, G: Gate + Sync>
         ItemRead::Line { line, said } => {
             do_line(rt, alloc, lock, pass, number, line, said, replies, writer)
         }
-        ItemRead::Threads(threads) => {
-            do_part(rt, alloc, lock, pass, threads, gate, replies, writer)
-        }
+        ItemRead::Threads { text, threads } => do_part(
+            rt, alloc, lock, pass, number, text, threads, gate, replies, writer,
+        ),
         ItemRead::Fault { at, line } => { (pass, do_fault(alloc, at, line, replies, writer)) }
     }
 }

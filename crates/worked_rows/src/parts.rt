@@ -283,12 +283,12 @@ fn add_item(
 ) -> Result<(), Refused> {
     let name = match item {
         ItemRead::Line { said, .. } => line_called(said),
-        ItemRead::Threads(_) | ItemRead::Fault { .. } => "part",
+        ItemRead::Threads { .. } | ItemRead::Fault { .. } => "part",
     };
     told.extend_from_slice(format!(in alloc; "{number} {name}\n")?.as_bytes())?;
     match item {
         ItemRead::Line { .. } => Ok(()),
-        ItemRead::Threads(threads) => add_threads(alloc, told, threads),
+        ItemRead::Threads { threads, .. } => add_threads(alloc, told, threads),
         ItemRead::Fault { at, line } => add_fault(alloc, told, *at, line),
     }
 }

@@ -3,7 +3,7 @@ use Rattle.std.proofs.lemmas.Grind.{common_steps}
 use Rattle.std.specs.List.{list_any}
 use Rattle.trace_session.specs.PartTexts.{refuses, replies_in}
 use Rattle.trace_history.specs.Blocks.{IsUnworn}
-use Rattle.trace_session.proofs.PartWriting.{status_is, numbered_later, text_later, refused_later, unworn_later}
+use Rattle.trace_session.proofs.PartWriting.{status_is, numbered_later, text_later, outcomes_later, refused_later, unworn_later}
 use Rattle.trace_session.proofs.part_text.write_threads.Goals as goal
 
 pub loop-part-preserved : goal.loop-part-preserved
@@ -21,6 +21,8 @@ loop-part-preserved c =
       numbered = numbered_later numbers l.thread own left more c.in-Some.part within c.index-numbers-thread.is next l.invariant.numbered;
       text = text_later numbers l.thread own left more c.in-Some.part within c.index-numbers-thread.is next l.writing.text.items c.add_thread.new.writing.text.items _ l.invariant.text
           (rw (← c.deref.ensures.value) grown.text);
+      outcomes = outcomes_later numbers l.thread own left more c.in-Some.part within c.index-numbers-thread.is next l.writing.outcomes.items c.add_thread.new.writing.outcomes.items _
+          l.invariant.outcomes (rw (← c.deref.ensures.value) grown.outcomes);
       refused = refused_later numbers l.thread own left more c.in-Some.part within c.index-numbers-thread.is next l.writing.is_refused c.add_thread.new.writing.is_refused _ l.invariant.refused
           grown.refused;
       unworn = unworn_later numbers l.thread own left more c.in-Some.part within c.index-numbers-thread.is next (All IsUnworn (replies_in c.args.done.items)) l.invariant.unworn

@@ -1,7 +1,0 @@
-use Rattle.std.proofs.Common.{◌≡◌, take, if◌then◌else◌}
-use Rattle.std.specs.List.{list_any}
-use Rattle.trace_script.specs.Tokens.{is_quote}
-use Rattle.trace_script.proofs.line.has_quote.Given as goal
-
-abbrev pub invariant-loop-byte : goal.invariant-loop-byte
-invariant-loop-byte l = l.quotes ≡ (if list_any is_quote (take l.byte-index l.line) then 1 else 0)
