@@ -12,21 +12,11 @@ mod field;
 mod format;
 mod hist;
 mod hist_line;
-#[cfg(test)]
-mod hists;
 pub mod laws;
-#[cfg(test)]
-mod limits;
 mod pipe;
-#[cfg(test)]
-mod reads;
 mod record;
 mod snapshot;
-#[cfg(test)]
-mod snapshots;
 mod stats;
-#[cfg(test)]
-mod tests;
 mod trace;
 mod trigger;
 
