@@ -3,6 +3,7 @@
 #![tactic(auto)]
 
 ghost use Rattle.page_ring.specs.Laws.{OfferedIsPuts, LostBySomePut, AcceptedAlways, AcceptedWithoutLoss, DroppedOnly, CutIsGreedy, LeastIsRead, LostIsBetween, ReadingsAreAhead, TakesLeaveTheRest, NothingToRead, KeptWerePut, CountsAreOfRecords, DroppedAreRefused};
+ghost use Rattle.page_ring.specs.Rows.{FiveEmissions, SevenEmissions, StatsAfterOverrun, ReadsAfterOverrun, StatsAfterReads, WriterGoesOn, WriterGoesOnWithoutOverwriting, BigIsDropped, SmallerIsKept, BigLosesPage};
 
 /// A ring was offered as many records as were put since it was new or cleared.
 pub fn offered_is_puts()
@@ -49,4 +50,18 @@ pub fn kept_were_put()
 pub fn counts_are_of_records()
     ensures records { CountsAreOfRecords }
     ensures dropped { DroppedAreRefused }
+{}
+
+/// Worked rows: the definitions, computed for rings of two pages of sixty-four bytes.
+pub fn rows_are_as_worked_out()
+    ensures five { FiveEmissions }
+    ensures seven { SevenEmissions }
+    ensures overrun_stats { StatsAfterOverrun }
+    ensures overrun_reads { ReadsAfterOverrun }
+    ensures read_stats { StatsAfterReads }
+    ensures writer { WriterGoesOn }
+    ensures writer_without_overwriting { WriterGoesOnWithoutOverwriting }
+    ensures dropped { BigIsDropped }
+    ensures kept { SmallerIsKept }
+    ensures losing { BigLosesPage }
 {}

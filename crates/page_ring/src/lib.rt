@@ -10,8 +10,6 @@
 pub mod laws;
 mod pages;
 mod rings;
-#[cfg(test)]
-mod tests;
 
 pub use rings::{Kept, KeptRecords, Put, Ring, RingStats};
 pub use trace_record::{Head, read_head, write_head};

@@ -50,7 +50,7 @@ pub struct RingStats {
 }
 
 /// A kept record, as a consuming read finds it.
-#[derive(Clone, Copy, Debug)]
+#[derive(Clone, Copy)]
 pub struct Kept<'a> {
     /// How many accepted records lie between it and the one consumed before it.
     pub lost: u64,

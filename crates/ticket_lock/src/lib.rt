@@ -9,8 +9,6 @@ mod entries;
 mod lock;
 mod moves;
 mod passes;
-#[cfg(test)]
-mod tests;
 mod turns;
 mod views;
 

@@ -52,7 +52,7 @@ impl Book {
         ensures out_of_range { ¬ IsInRange config → IfErr result (λ r. r ≡ refusal.BadValue) }
         ensures refused { IfErr result (λ r. r ≢ refusal.Memory → (r ≡ refusal.BadValue) × ¬ IsInRange config) }
     {
-        if !is_in_range(&config) {
+        if !config.is_in_range() {
             return Err(Refusal::BadValue);
         }
         Ok(Book {
@@ -206,17 +206,4 @@ fn new_state(alloc: Global, config: &Config) -> Result<State, AllocError>
         clock: 0,
         instances: vec![in alloc; top]?,
     })
-}
-
-// Whether each number of a configuration is in its range.
-fn is_in_range(config: &Config) -> bool
-    ensures yes { result ≡ true → IsInRange config.now }
-    ensures no { result ≡ false → ¬ IsInRange config.now }
-{
-    (1..=8).contains(&config.cpus)
-        && (2..=1024).contains(&config.pages)
-        && (64..=4080).contains(&config.page_bytes)
-        && config.page_bytes % 8 == 0
-        && config.history_limit >= 1
-        && config.history_limit <= 1 << 32
 }

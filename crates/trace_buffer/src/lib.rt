@@ -11,8 +11,6 @@ mod cursor;
 pub mod laws;
 mod merge;
 mod taken;
-#[cfg(test)]
-mod tests;
 mod times;
 
 ghost use Rattle.std.specs.Prelude.{◌≡◌};

@@ -8,7 +8,7 @@ use page_ring::{Kept, KeptRecords};
 use std::alloc::AllocError;
 
 /// A record that a consuming read takes, with the CPU of its ring.
-#[derive(Clone, Copy, Debug)]
+#[derive(Clone, Copy)]
 pub struct Taken<'a> {
     /// The CPU.
     pub cpu: u32,

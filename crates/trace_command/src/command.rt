@@ -1,13 +1,14 @@
 //! Commands, their replies, and the entries of a history.
 
 ghost use Rattle.std.specs.Prelude.{◌≡◌, IfOk, Some, None, true, false};
+ghost use Rattle.trace_command.specs.Configs.{IsInRange};
 
 use crate::pairs::Pairs;
 use std::alloc::{AllocError, Global};
 use trace_lex::Text;
 
 /// What is asked of a tracer.
-#[derive(Clone, Debug, PartialEq, Eq, Drop)]
+#[derive(Clone, PartialEq, Eq, Drop)]
 pub enum Command {
     /// An event happens on a CPU, in a process.
     Emit {
@@ -117,7 +118,7 @@ pub enum Reply {
 }
 
 /// A command that was done: its ticket, and its caller's number.
-#[derive(Clone, Debug, PartialEq, Eq, Drop)]
+#[derive(Clone, PartialEq, Eq, Drop)]
 pub struct Entry {
     pub ticket: u64,
     pub by: u32,
@@ -125,7 +126,7 @@ pub struct Entry {
 }
 
 /// What a book is made with.
-#[derive(Clone, Copy, Debug, PartialEq, Eq)]
+#[derive(Clone, Copy, PartialEq, Eq)]
 pub struct Config {
     /// The number of CPUs, from 1 to 8.
     pub cpus: u32,
@@ -135,4 +136,19 @@ pub struct Config {
     pub page_bytes: u32,
     /// The most entries that the history may have, from 1 to 2^32.
     pub history_limit: u64,
+}
+
+impl Config {
+    /// Whether each number is in its range, so that a book can be made with it.
+    pub fn is_in_range(&self) -> bool
+        ensures yes { result ≡ true → IsInRange self.now }
+        ensures no { result ≡ false → ¬ IsInRange self.now }
+    {
+        (1..=8).contains(&self.cpus)
+            && (2..=1024).contains(&self.pages)
+            && (64..=4080).contains(&self.page_bytes)
+            && self.page_bytes % 8 == 0
+            && self.history_limit >= 1
+            && self.history_limit <= 1 << 32
+    }
 }

@@ -9,14 +9,14 @@ use trace_format::Pair;
 use trace_lex::Text;
 
 /// Where pairs lie. Most emissions have one pair, which takes no block of its own.
-#[derive(Debug, Drop)]
+#[derive(Drop)]
 enum PairList {
     One(Pair),
     Many(Vec<Pair>),
 }
 
 /// The pairs of an emission, in the order given.
-#[derive(Debug, Drop)]
+#[derive(Drop)]
 pub struct Pairs {
     list: PairList,
 }

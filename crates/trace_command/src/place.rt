@@ -10,7 +10,7 @@ use trace_lex::{all_digits, has_leading_zero, is_name};
 
 /// A file of the tracing tree, as a path names it (ftrace.rst, "The File System"; events.rst, "Using Event Tracing"): an event's by its name,
 /// a CPU's by the digits of its number.
-#[derive(Clone, Copy, Debug)]
+#[derive(Clone, Copy)]
 pub enum Place<'a> {
     Trace,
     CpuTrace(&'a [u8]),
@@ -44,7 +44,7 @@ fn cut(path: &[u8]) -> (&[u8], Option<&[u8]>)
 }
 
 /// Where a path leads: to an instance, by its name (none is the top one), and there to a file, if the rest of the path names one.
-#[derive(Clone, Copy, Debug)]
+#[derive(Clone, Copy)]
 pub struct Address<'a> {
     pub instance: Option<&'a [u8]>,
     pub place: Option<Place<'a>>,

@@ -16,7 +16,7 @@ use trace_script::{Outcome, ScriptFault};
 const ECHO_PLACES: usize = 5;
 
 /// Where a reader of a line stands.
-#[derive(Clone, Copy, Debug, PartialEq, Eq)]
+#[derive(Clone, Copy, PartialEq, Eq)]
 pub(crate) enum Stand {
     /// Between words.
     Between,

@@ -11,7 +11,7 @@ use trace_format::{Field, Kind, Pair};
 use trace_lex::number;
 
 /// What is wrong with the field that a refused emission names.
-#[derive(Clone, Copy, Debug, PartialEq, Eq)]
+#[derive(Clone, Copy, PartialEq, Eq)]
 pub enum Cause {
     /// The event is not known, so it can't be told.
     NotKnown,

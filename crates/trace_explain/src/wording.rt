@@ -8,7 +8,7 @@ use trace_command::{Command, Place, Refusal, address_of};
 use trace_script::ScriptFault;
 
 /// What a command is about, as far as the words depend on it.
-#[derive(Clone, Copy, Debug, PartialEq, Eq)]
+#[derive(Clone, Copy, PartialEq, Eq)]
 pub(crate) enum Subject {
     /// A declaration is written.
     Declaration,

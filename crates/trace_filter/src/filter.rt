@@ -15,7 +15,7 @@ use trace_lex::{trim, trim_end};
 const LONGEST: usize = 1024;
 
 /// A filter of an event, which passes some of its emissions (events.rst, "Event filtering").
-#[derive(Debug, Drop)]
+#[derive(Drop)]
 pub struct Filter {
     text: Vec<u8>,
     steps: Vec<Step>,

@@ -8,7 +8,7 @@ use arrayvec::ArrayVec;
 const DEEPEST: usize = 16;
 
 /// What was found inside one `(`.
-#[derive(Clone, Copy, Debug, Default)]
+#[derive(Clone, Copy, Default)]
 pub(crate) struct Frame {
     /// Whether an alternative before this one holds.
     any: bool,
@@ -50,7 +50,7 @@ impl Frame {
 }
 
 /// What was found inside the innermost `(`, and inside those outside it.
-#[derive(Debug, Drop)]
+#[derive(Drop)]
 pub(crate) struct Frames {
     current: Frame,
     /// Innermost last.

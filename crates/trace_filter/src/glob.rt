@@ -12,13 +12,13 @@ use trace_lex::len_before;
 pub(crate) const TEXT_END: usize = 256;
 
 /// The bytes that one place of a text may have: those that the members write, or all others.
-#[derive(Clone, Copy, Debug)]
+#[derive(Clone, Copy)]
 pub(crate) struct Class<'a> {
     negated: bool,
     members: &'a [u8],
 }
 
-#[derive(Clone, Copy, Debug)]
+#[derive(Clone, Copy)]
 pub(crate) enum Part<'a> {
     /// `*`.
     AnyBytes,
@@ -26,7 +26,7 @@ pub(crate) enum Part<'a> {
 }
 
 /// A part, and how many bytes behind its first it takes.
-#[derive(Clone, Copy, Debug)]
+#[derive(Clone, Copy)]
 pub(crate) struct PartPiece<'a> {
     part: Part<'a>,
     more: usize,

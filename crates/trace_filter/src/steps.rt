@@ -16,14 +16,14 @@ use std::alloc::Global;
 use trace_format::{Field, Value};
 
 /// A test: the value that the subject has, against a written one.
-#[derive(Debug, Drop)]
+#[derive(Drop)]
 pub(crate) struct Test {
     subject: Subject,
     comparison: Comparison,
     value: Value,
 }
 
-#[derive(Debug, Drop)]
+#[derive(Drop)]
 pub(crate) enum Step {
     Open,
     Close,
@@ -78,7 +78,7 @@ impl Frames {
 }
 
 /// The part of a filter that was compiled.
-#[derive(Debug, Drop)]
+#[derive(Drop)]
 pub(crate) struct Compiler {
     subject: Subject,
     comparison: Comparison,

@@ -16,7 +16,7 @@ const DEEPEST: usize = 16;
 const TOO_MANY: usize = DEEPEST + 1;
 
 /// What may stand next in a filter.
-#[derive(Clone, Copy, Debug, PartialEq, Eq)]
+#[derive(Clone, Copy, PartialEq, Eq)]
 pub(crate) enum Due {
     /// A `!`, a `(` or a field's name.
     Operand,
@@ -29,7 +29,7 @@ pub(crate) enum Due {
 }
 
 /// What the tokens of a text come to.
-#[derive(Clone, Copy, Debug, PartialEq, Eq)]
+#[derive(Clone, Copy, PartialEq, Eq)]
 pub(crate) enum Verdict {
     Fine,
     /// Over 16 `!` and `(` are open at one place.
@@ -39,7 +39,7 @@ pub(crate) enum Verdict {
 }
 
 /// The part of a filter that was read.
-#[derive(Debug, Drop)]
+#[derive(Drop)]
 pub(crate) struct Reader {
     due: Due,
     /// How many `!` are open inside the innermost open `(`.

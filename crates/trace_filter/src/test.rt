@@ -16,7 +16,7 @@ use trace_format::{Field, Kind, Value};
 use trace_lex::number;
 
 /// Which value of an emission a name means.
-#[derive(Clone, Copy, Debug, PartialEq, Eq)]
+#[derive(Clone, Copy, PartialEq, Eq)]
 pub(crate) enum Subject {
     /// `common_pid`.
     Pid,

@@ -9,7 +9,7 @@ ghost use Rattle.trace_filter.specs.Seen.{token_of, IsPiece, IsNextToken};
 use trace_lex::{blanks_len, is_blank, is_name, is_name_byte, len_before, rest_of};
 
 /// How a test compares a field's value with a written one.
-#[derive(Clone, Copy, Debug, PartialEq, Eq)]
+#[derive(Clone, Copy, PartialEq, Eq)]
 pub(crate) enum Comparison {
     Eq,
     Ne,
@@ -24,14 +24,14 @@ pub(crate) enum Comparison {
 }
 
 /// A value as written.
-#[derive(Clone, Copy, Debug)]
+#[derive(Clone, Copy)]
 pub(crate) enum Literal<'a> {
     Word(&'a [u8]),
     /// The bytes between two quotes.
     Quoted(&'a [u8]),
 }
 
-#[derive(Clone, Copy, Debug)]
+#[derive(Clone, Copy)]
 pub(crate) enum Token<'a> {
     Open,
     Close,
@@ -55,7 +55,7 @@ impl Token<'_> {
 }
 
 /// A token with its place in the text.
-#[derive(Clone, Copy, Debug)]
+#[derive(Clone, Copy)]
 pub(crate) struct Spot<'a> {
     /// The place of its first byte.
     pub(crate) at: usize,
@@ -65,7 +65,7 @@ pub(crate) struct Spot<'a> {
 }
 
 /// A token, and how many bytes behind its first it takes.
-#[derive(Clone, Copy, Debug)]
+#[derive(Clone, Copy)]
 pub(crate) struct Piece<'a> {
     token: Token<'a>,
     more: usize,

@@ -11,14 +11,14 @@ use std::marker::Model;
 use trace_lex::Text;
 
 /// A field of an event: a name that no other field of the event has, and a type.
-#[derive(Debug, Drop)]
+#[derive(Drop)]
 pub struct Field {
     pub name: Text,
     pub kind: Kind,
 }
 
 /// An event that a declaration defines: its name, and its fields in order.
-#[derive(Debug, Drop)]
+#[derive(Drop)]
 pub struct EventDef {
     name: Text,
     fields: Vec<Field>,

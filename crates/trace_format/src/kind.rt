@@ -5,7 +5,7 @@ ghost use Rattle.trace_format.specs.declared.kind.Kind.TheVariants as kind;
 ghost use Rattle.trace_format.specs.Kinds.{number_size, is_signed as is_signed_type, least as least_of, greatest as greatest_of, size_of, is_signed_kind, type_name_of, type_of, unsigned_type_of};
 
 /// A type of numbers, after the field types of "Synthetic events" (histogram.rst). `u` and `s` are unsigned and signed, with their bits.
-#[derive(Clone, Copy, Debug, PartialEq, Eq)]
+#[derive(Clone, Copy, PartialEq, Eq)]
 pub enum NumberType {
     U8,
     U16,
@@ -185,7 +185,7 @@ impl NumberType {
 }
 
 /// The type of a field.
-#[derive(Clone, Copy, Debug, PartialEq, Eq)]
+#[derive(Clone, Copy, PartialEq, Eq)]
 pub enum Kind {
     /// A number.
     Number(NumberType),

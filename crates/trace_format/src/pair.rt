@@ -3,7 +3,7 @@
 use trace_lex::Text;
 
 /// A field's name and the text of its value.
-#[derive(Clone, Debug, PartialEq, Eq, Drop)]
+#[derive(Clone, PartialEq, Eq, Drop)]
 pub struct Pair {
     pub name: Text,
     pub value: Text,

@@ -14,7 +14,7 @@ use std::marker::Model;
 use trace_lex::{Text, is_name, len_before};
 
 /// What may stand next in a declaration.
-#[derive(Clone, Copy, Debug, PartialEq, Eq)]
+#[derive(Clone, Copy, PartialEq, Eq)]
 pub(crate) enum Due {
     /// The event's name.
     Name,

@@ -16,7 +16,7 @@ use std::marker::Model;
 use std::mem;
 
 /// A row of an event: a value for each of its fields.
-#[derive(Debug, Drop)]
+#[derive(Drop)]
 pub struct Row {
     kinds: Vec<Kind>,
     values: Vec<Value>,
@@ -35,7 +35,7 @@ impl Model for Row {
 
 /// Memory in which a row is made: that of an earlier one, so that a row of no more fields takes no allocation for the lists of its types and
 /// values. It means nothing: no two are told apart by what they hold or how much room they have.
-#[derive(Debug, Drop)]
+#[derive(Drop)]
 pub struct RowMemory {
     kinds: Vec<Kind>,
     values: Vec<Value>,

@@ -11,7 +11,7 @@ use std::alloc::{AllocError, Global};
 use trace_lex::number;
 
 /// The value of a field.
-#[derive(Debug, Drop)]
+#[derive(Drop)]
 pub enum Value {
     /// A number, in its type's range.
     Num(i128),

@@ -7,7 +7,7 @@ ghost use Rattle.trace_format.specs.Words.{is_word_byte as spec_word_byte, more_
 use trace_lex::{blanks_len, is_blank, rest_of};
 
 /// A word or `;` of a text.
-#[derive(Clone, Copy, Debug)]
+#[derive(Clone, Copy)]
 pub(crate) struct Word<'a> {
     /// The place of its first byte in the text.
     pub(crate) at: usize,

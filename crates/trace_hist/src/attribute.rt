@@ -11,7 +11,7 @@ use trace_format::Text;
 use trace_lex::{len_before, rest_of};
 
 /// What an attribute is about.
-#[derive(Clone, Copy, Debug, PartialEq, Eq)]
+#[derive(Clone, Copy, PartialEq, Eq)]
 pub(crate) enum Topic {
     Keys,
     Values,
@@ -24,7 +24,7 @@ pub(crate) enum Topic {
 }
 
 /// An attribute: its place, what it is about, how many bytes come before its value, and the value.
-#[derive(Debug, Drop)]
+#[derive(Drop)]
 pub(crate) struct Attribute {
     pub(crate) at: usize,
     pub(crate) topic: Topic,

@@ -3,7 +3,7 @@
 use trace_format::Value;
 
 /// An entry of a histogram.
-#[derive(Debug, Drop)]
+#[derive(Drop)]
 pub struct HistRow {
     /// The values of the trigger's keys, in the order in which it names them.
     pub keys: Vec<Value>,

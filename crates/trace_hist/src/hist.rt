@@ -19,7 +19,7 @@ use std::marker::Model;
 use trace_format::Row;
 
 /// What a histogram comes to.
-#[derive(Clone, Copy, Debug, PartialEq, Eq)]
+#[derive(Clone, Copy, PartialEq, Eq)]
 pub struct Totals {
     /// How many rows were counted into entries.
     pub hits: u64,

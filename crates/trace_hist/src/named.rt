@@ -7,7 +7,7 @@ use crate::source::Source;
 use trace_format::{Field, Kind};
 
 /// A value that has a name in an event: where it is, and whether it is a string.
-#[derive(Clone, Copy, Debug)]
+#[derive(Clone, Copy)]
 pub(crate) struct Named {
     pub(crate) source: Source,
     pub(crate) is_text: bool,

@@ -7,7 +7,7 @@ use std::marker::Model;
 
 /// A number that a field, a CPU or a process may have: from -2^63 to 2^64 - 1. No list in memory is long enough for the sum of such numbers to
 /// overflow an `i128`.
-#[derive(Debug, Drop)]
+#[derive(Drop)]
 pub(crate) struct Number {
     value: i128,
 }

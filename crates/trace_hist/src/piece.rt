@@ -8,7 +8,7 @@ use trace_format::Text;
 use trace_lex::{len_before, rest_of};
 
 /// A part of a string, and the place of its first byte in the whole text.
-#[derive(Debug, Drop)]
+#[derive(Drop)]
 pub(crate) struct Piece {
     pub(crate) at: usize,
     pub(crate) bytes: Text,

@@ -11,7 +11,7 @@ use std::cmp::Ordering;
 use trace_format::Value as Cell;
 
 /// What entries are sorted by.
-#[derive(Clone, Copy, Debug, PartialEq, Eq)]
+#[derive(Clone, Copy, PartialEq, Eq)]
 pub(crate) enum SortSource {
     /// A key, by its place among the keys.
     Key(usize),
@@ -22,7 +22,7 @@ pub(crate) enum SortSource {
 }
 
 /// A sort key, as it is looked up.
-#[derive(Clone, Copy, Debug, PartialEq, Eq)]
+#[derive(Clone, Copy, PartialEq, Eq)]
 pub(crate) struct SortRule {
     pub(crate) source: SortSource,
     /// Whether greater ones come first.

@@ -9,7 +9,7 @@ use std::alloc::{AllocError, Global};
 use trace_format::{Row, Value};
 
 /// What a name of a trigger means.
-#[derive(Clone, Copy, Debug, PartialEq, Eq)]
+#[derive(Clone, Copy, PartialEq, Eq)]
 pub(crate) enum Source {
     /// `common_pid`.
     Pid,

@@ -17,7 +17,7 @@ use trace_filter::Filter;
 use trace_format::{EventDef, Row, Text};
 
 /// A key that entries are printed by.
-#[derive(Debug, PartialEq, Eq, Drop)]
+#[derive(PartialEq, Eq, Drop)]
 pub struct SortKey {
     /// `hitcount`, or one of the trigger's keys or values. A name that is both means the value.
     pub name: Text,
@@ -26,7 +26,7 @@ pub struct SortKey {
 }
 
 /// What a written trigger asks for.
-#[derive(Clone, Copy, Debug, PartialEq, Eq)]
+#[derive(Clone, Copy, PartialEq, Eq)]
 pub enum Action {
     /// To be attached, active.
     Attach,
@@ -39,7 +39,7 @@ pub enum Action {
 }
 
 /// What a hist trigger says.
-#[derive(Debug, Drop)]
+#[derive(Drop)]
 pub struct HistSpec {
     pub(crate) keys: Vec<Text>,
     pub(crate) values: Vec<Text>,

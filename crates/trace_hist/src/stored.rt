@@ -13,7 +13,7 @@ use std::alloc::{AllocError, Global};
 use trace_format::{Row, Value};
 
 /// The cells of a row's key, and the numbers that are summed.
-#[derive(Debug, Drop)]
+#[derive(Drop)]
 pub(crate) struct StoredHit {
     pub(crate) key: Vec<Value>,
     pub(crate) numbers: Vec<Number>,

@@ -15,7 +15,7 @@ use trace_format::Text;
 use trace_lex::{is_name, len_before, rest_of};
 
 /// The lists of names, cut into items, and the rest of what the attributes say. Of several attributes on one topic the first counts.
-#[derive(Debug, Drop)]
+#[derive(Drop)]
 pub(crate) struct Written {
     pub(crate) keys: Vec<Piece>,
     pub(crate) values: Vec<Piece>,

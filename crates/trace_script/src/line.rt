@@ -24,7 +24,7 @@ use trace_lex::is_blank;
 const MOST_BYTES: usize = 4096;
 
 /// What a line of a script asks for.
-#[derive(Clone, Debug, PartialEq, Eq, Drop)]
+#[derive(Clone, PartialEq, Eq, Drop)]
 pub enum Line {
     /// Nothing: the line is empty, blank or a comment.
     Blank,

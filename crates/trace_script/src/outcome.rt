@@ -9,7 +9,7 @@ use std::alloc::{AllocError, Global};
 use trace_command::{Refusal, Reply};
 
 /// What became of a line.
-#[derive(Clone, Debug, PartialEq, Eq, Drop)]
+#[derive(Clone, PartialEq, Eq, Drop)]
 pub enum Outcome {
     /// A command that was done, with this reply.
     Replied(Reply),

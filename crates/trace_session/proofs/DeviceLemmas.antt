@@ -1,28 +1,8 @@
--- Reads and writes one behind the other.
-use Rattle.std.proofs.Common.{◌≡◌, ℕ, ◌-◌, ◌<◌, ◌≤◌, List, [], ◌++◌, length, take, drop, Option, Some, None, IfSome, refl, ap, sym, subst, ◌∙◌, arith, append_assoc, length-append}
+-- Writes one behind the other.
+use Rattle.std.proofs.Common.{◌≡◌, ℕ, ◌-◌, List, [], ◌++◌, length, take, drop, Option, Some, None, refl, ap, sym, subst, ◌∙◌, append_assoc}
 use Rattle.std.proofs.lemmas.List.{append-nil, take-append-drop, take_rest}
-use Rattle.std.specs.Io.KnownBytes.{Appends, Consumes, IsAtEnd}
-use Rattle.trace_session.specs.Devices.{AppendsFront, ConsumesAtMost, Passes}
-
-pub Consumes_append : (a b c : Option (List ℕ)) (xs ys : List ℕ) → Consumes a b xs → Consumes b c ys → Consumes a c (xs ++ ys)
-Consumes_append None b c xs ys p q = tt
-Consumes_append (Some us) None c xs ys p q = absurd p
-Consumes_append (Some us) (Some bs) None xs ys p q = absurd q
-Consumes_append (Some us) (Some bs) (Some cs) xs ys p q = p ∙ (ap (λ (rest : List ℕ). xs ++ rest) q ∙ sym (append_assoc xs ys cs))
-
-pub Consumes_nothing : (a : Option (List ℕ)) → Consumes a a []
-Consumes_nothing None = tt
-Consumes_nothing (Some us) = refl
-
-pub Consumes_whole : (a b : Option (List ℕ)) (xs : List ℕ) → Consumes a b xs → IsAtEnd b → IfSome a (λ bytes. xs ≡ bytes)
-Consumes_whole None b xs p e = tt
-Consumes_whole (Some us) None xs p e = absurd p
-Consumes_whole (Some us) (Some bs) xs p e = sym (append-nil xs) ∙ (ap (λ (rest : List ℕ). xs ++ rest) (sym e) ∙ sym p)
-
-pub Consumes_long : (a b : Option (List ℕ)) (xs : List ℕ) (n : ℕ) → Consumes a b xs → n < length xs → IfSome a (λ bytes. n < length bytes)
-Consumes_long None b xs n p h = tt
-Consumes_long (Some us) None xs n p h = absurd p
-Consumes_long (Some us) (Some bs) xs n p h = omega (arith, ap length p, length-append xs bs)
+use Rattle.std.specs.Io.KnownBytes.{Appends}
+use Rattle.trace_session.specs.Devices.{AppendsFront, Passes}
 
 pub Appends_append : (a b c : Option (List ℕ)) (xs ys : List ℕ) → Appends a b xs → Appends b c ys → Appends a c (xs ++ ys)
 Appends_append None b c xs ys p q = tt
@@ -39,11 +19,6 @@ pub more_of_front : (text front rest : List ℕ) (n : ℕ) → text ≡ front ++
 more_of_front text front rest n e =
     e ∙ (ap (λ (xs : List ℕ). front ++ xs) (sym (take-append-drop n rest))
     ∙ (sym (append_assoc front (take n rest) (drop n rest)) ∙ ap (λ (xs : List ℕ). front ++ take n rest ++ xs) (sym (take_rest rest n))))
-
--- what was consumed before, and as much more as is left
-pub ConsumesAtMost_append : (a b c : Option (List ℕ)) (xs : List ℕ) (most : ℕ) → Consumes a b xs → length xs ≤ most → ConsumesAtMost (most - length xs) b c
-    → ConsumesAtMost most a c
-ConsumesAtMost_append a b c xs most p h q = (xs ++ q.0, simp length-append (omega (arith, h, q.1)), Consumes_append a b c xs q.0 p q.2)
 
 -- one text after the other
 pub Passes_append : (a b c : Option (List ℕ)) (u v w xs ys : List ℕ) → Passes a u b v xs → Passes b v c w ys → Passes a u c w (xs ++ ys)

@@ -1,12 +1,7 @@
 pub mod DeviceLemmas
-pub mod ScriptLemmas
 pub mod Standing
 pub mod Stepping
 pub mod PartSessions
-pub mod LineFinding
 pub mod PartExamples
-pub mod PartThreads
-pub mod PartReading
-pub mod ItemReading
 pub mod PartWriting
 pub mod PartRunning

@@ -2,11 +2,11 @@
 use Rattle.std.proofs.Common.{◌≡◌, ℕ, List, refl, ◌∙◌, sym}
 use Rattle.std.specs.Fmt.{digits}
 use Rattle.trace_command.specs.declared.command.Config.{Config}
+use Rattle.trace_items.specs.Items.{item_at, items_of}
 use Rattle.trace_script.specs.Lines.{process_id, pair_of, pairs_of, emission_of, write_of, read_of, take_of, mkdir_of, rmdir_of, named_command, named_line, asked_of, spoken, line_of}
 use Rattle.trace_script.specs.Rendering.{detail_of, fault_name, refusal_line, fault_line}
 use Rattle.trace_script.specs.Tokens.{tokens_of}
 use Rattle.trace_session.proofs.PartSessions.{ArePlain, plain_given, plain_sessions}
-use Rattle.trace_session.specs.Items.{item_at, items_of}
 use Rattle.trace_session.specs.Parts.{session_with}
 use Rattle.trace_session.specs.PartExamples.{HasOnly, end_out_of_place, end_out_of_place_session, part_without_end, part_without_end_session, part_in_a_part, part_in_a_part_session, command_before_threads, command_before_threads_session, fault_in_a_part, fault_in_a_part_session, nine_threads, nine_threads_session}
 use Rattle.trace_session.specs.Sessions.{Session, beginning, turn_of}

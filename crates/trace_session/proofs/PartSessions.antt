@@ -3,16 +3,17 @@ use Rattle.std.proofs.Common.{◌≡◌, ◌≢◌, ◌↔◌, ℕ, zero, suc, �
 use Rattle.std.proofs.lemmas.List.Elements.{All-head, All-tail}
 use Rattle.std.proofs.lemmas.List.{take-map}
 use Rattle.trace_command.specs.declared.command.Config.{Config}
+use Rattle.trace_items.specs.Items.{Item, Single, Threads, Faulty, Taken, taken_at, item_at, items_from, items_of, HasNoPart}
+use Rattle.trace_items.specs.ScriptLines.{lines_of}
 use Rattle.trace_script.specs.Lines.{line_of}
 use Rattle.trace_script.specs.declared.fault.ScriptFault.{ScriptFault}
 use Rattle.trace_script.specs.declared.line.Line.{Line}
 use Rattle.trace_script.specs.declared.line.Line.TheVariants.{Blank, Ask, Parallel, Thread, End}
 use Rattle.trace_script.specs.declared.outcome.Outcome.{Outcome}
 use Rattle.trace_script.specs.declared.outcome.Outcome.TheVariants as outcomes
-use Rattle.trace_session.specs.Items.{Item, Single, Threads, Faulty, Taken, taken_at, item_at, items_from, items_of, HasNoPart}
 use Rattle.trace_session.specs.Parts.{Given, given_by, ends, EndsOr, MayGiveAll, session_with, IsSession}
 use Rattle.trace_session.specs.PartLaws.{OneThreadHasOneSession, OneThreadBeginsOneSession}
-use Rattle.trace_session.specs.Sessions.{Progress, Session, beginning, lines_of, turn_of, is_fault, outcomes_of, text_of, texts_from, status_of, session}
+use Rattle.trace_session.specs.Sessions.{Progress, Session, beginning, turn_of, is_fault, outcomes_of, text_of, texts_from, status_of, session}
 
 -- lines by themselves
 abbrev singles : ℕ → List (List ℕ) → List Item

@@ -7,11 +7,11 @@ use Rattle.std.proofs.lemmas.List.Folds.{list_any-append}
 use Rattle.std.specs.List.{list_any}
 use Rattle.std.specs.declared.alloc.Global.{Global}
 use Rattle.trace_history.specs.Blocks.{IsUnworn}
+use Rattle.trace_items.specs.declared.part.Numbered.{Numbered}
 use Rattle.trace_script.specs.Rendering.{rendered}
 use Rattle.trace_script.specs.declared.outcome.Outcome.{Outcome}
 use Rattle.trace_session.specs.Parts.{outcome_of, outcomes_in, replies_text, thread_line, threads_text}
 use Rattle.trace_session.specs.Sessions.{is_fault, is_refusal, status_of}
-use Rattle.trace_session.specs.declared.part.Numbered.{Numbered}
 use Rattle.trace_session.specs.declared.part_text.OutcomeAt.{OutcomeAt}
 use Rattle.trace_session.specs.declared.status.Status.{Status}
 use Rattle.trace_session.specs.declared.status.Status.TheVariants as statuses

@@ -8,17 +8,18 @@ use Rattle.std.proofs.lemmas.Grind.{flat_map-append}
 use Rattle.std.specs.List.{concat, list_any}
 use Rattle.std.specs.Io.KnownBytes.{Appends}
 use Rattle.trace_command.specs.declared.command.Config.{Config}
+use Rattle.trace_items.specs.Items.{Item, items_from, items_of}
+use Rattle.trace_items.specs.FewThreads.{HasFewThreads}
+use Rattle.trace_items.specs.ScriptLines.{lines_of, lines_left}
+use Rattle.trace_items.proofs.PartThreads.{parts_have_few_threads}
 use Rattle.trace_script.specs.declared.outcome.Outcome.{Outcome}
 use Rattle.trace_session.specs.Devices.{AppendsFront, Passes}
 use Rattle.trace_session.specs.Fronts.{HasGiven, PassesItem, AppendsItem, AppendsBegun, AppendsBegunFront, AppendsSession, PassesSession, PassesBegun}
-use Rattle.trace_session.specs.Items.{Item, items_from, items_of}
-use Rattle.trace_session.specs.PartLaws.{HasFewThreads}
 use Rattle.trace_session.specs.Parts.{Given, MayGive, ends, EndsOr, MayGiveAll, session_with, IsBegun}
-use Rattle.trace_session.specs.Sessions.{Progress, Session, beginning, lines_of, lines_left, is_fault, is_refusal, status_of, IsWhole}
+use Rattle.trace_session.specs.Sessions.{Progress, Session, beginning, is_fault, is_refusal, status_of, IsWhole}
 use Rattle.trace_session.specs.declared.status.Status.{Status}
 use Rattle.trace_session.specs.declared.status.Status.TheVariants as statuses
 use Rattle.trace_session.proofs.DeviceLemmas.{Appends_nothing, Passes_append, Passes_front, Passes_flush, Passes_cut}
-use Rattle.trace_session.proofs.PartThreads.{parts_have_few_threads}
 
 -- ---- what items give
 

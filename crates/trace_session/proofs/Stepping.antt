@@ -1,15 +1,15 @@
 -- One item: what it gives.
 use Rattle.std.proofs.Common.{◌≡◌, ℕ, List, [], ◌∷◌, ◌++◌, Option, Some, Result, Ok, Err, IfOk, OnOk, refl, sym, subst}
 use Rattle.trace_command.specs.declared.command.Config.{Config}
+use Rattle.trace_items.specs.Items.{Item, Faulty}
+use Rattle.trace_items.specs.declared.part.FaultAt.{FaultAt}
+use Rattle.trace_items.specs.declared.stop.Stop.{Stop}
 use Rattle.trace_script.specs.declared.outcome.Outcome.TheVariants as outcomes
 use Rattle.trace_session.specs.Devices.{AppendsFront, Passes}
 use Rattle.trace_session.specs.Fronts.{PassesItem, AppendsItem}
-use Rattle.trace_session.specs.Items.{Item, Faulty}
 use Rattle.trace_session.specs.Parts.{given_by}
 use Rattle.trace_session.specs.Sessions.{Progress, text_of, status_of}
-use Rattle.trace_session.specs.declared.part.FaultAt.{FaultAt}
 use Rattle.trace_session.specs.declared.status.Status.{Status}
-use Rattle.trace_session.specs.declared.stop.Stop.{Stop}
 
 -- the fault of a part
 pub fault_done : (at : FaultAt) (result : Result Status Stop) (old new : Option (List ℕ)) (waited waits : List ℕ)

@@ -3,8 +3,8 @@ use Rattle.std.specs.Prelude.{◌≡◌, ℕ, false, List, [], ◌∷◌, ◌++�
 use Rattle.std.specs.List.{concat}
 use Rattle.std.specs.Io.KnownBytes.{Appends}
 use Rattle.trace_command.specs.declared.command.Config.{Config}
+use Rattle.trace_items.specs.Items.{Item}
 use Rattle.trace_session.specs.Devices.{AppendsFront, Passes}
-use Rattle.trace_session.specs.Items.{Item}
 use Rattle.trace_session.specs.Parts.{Given, MayGive, ends, IsSession, IsBegun}
 use Rattle.trace_session.specs.Sessions.{Progress, Session, status_of}
 use Rattle.trace_session.specs.declared.status.Status.{Status}

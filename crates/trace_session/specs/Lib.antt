@@ -1,9 +1,6 @@
 pub mod Devices
 pub mod Sessions
-pub mod Items
 pub mod Parts
-pub mod PartReads
-pub mod NextItems
 pub mod Passes
 pub mod PartTexts
 pub mod Fronts

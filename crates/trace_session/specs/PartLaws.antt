@@ -1,7 +1,7 @@
 -- What the sessions of scripts with parts come to.
 use Rattle.std.specs.Prelude.{◌≡◌, ◌↔◌, ℕ, ◌≤◌, List, length, take, All}
 use Rattle.trace_command.specs.declared.command.Config.{Config}
-use Rattle.trace_session.specs.Items.{Item, Threads, HasNoPart, items_of, most_threads}
+use Rattle.trace_items.specs.Items.{Item, Threads, HasNoPart, items_of, most_threads}
 use Rattle.trace_session.specs.Parts.{IsSession, IsBegun}
 use Rattle.trace_session.specs.Sessions.{Session, session}
 
@@ -13,12 +13,3 @@ OneThreadHasOneSession = (g : Config) (script : List ℕ) (one : Session) → Ha
 abbrev pub OneThreadBeginsOneSession : Type 0
 OneThreadBeginsOneSession = (g : Config) (script : List ℕ) (texts : List (List ℕ)) → HasNoPart script → IsBegun g script texts
     → (count : ℕ) × (texts ≡ take count (session g script).texts)
-
--- the item has no more threads than a part may have
-abbrev pub HasFewThreads : Item → Type 0
-HasFewThreads (Threads threads) = length threads ≤ most_threads
-HasFewThreads _ = Unit {0}
-
--- no part has more threads than it may have
-abbrev pub PartsHaveFewThreads : Type 0
-PartsHaveFewThreads = (script : List ℕ) → All HasFewThreads (items_of script)

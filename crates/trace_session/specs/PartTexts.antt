@@ -3,11 +3,11 @@ use Rattle.std.specs.Prelude.{◌≡◌, Vec, ℕ, ◌+◌, Bool, List, [], ◌�
 use Rattle.std.specs.declared.alloc.Global.{Global}
 use Rattle.trace_command.specs.declared.command.Reply.{Reply}
 use Rattle.trace_command.specs.declared.refusal.Refusal.{Refusal}
+use Rattle.trace_items.specs.declared.part.Numbered.{Numbered}
 use Rattle.trace_script.specs.Rendering.{rendered}
 use Rattle.trace_script.specs.declared.outcome.Outcome.{Outcome}
 use Rattle.trace_session.specs.Parts.{outcome_of, thread_line}
 use Rattle.trace_session.specs.Sessions.{is_refusal}
-use Rattle.trace_session.specs.declared.part.Numbered.{Numbered}
 use Rattle.trace_session.specs.declared.part_text.OutcomeAt.{OutcomeAt}
 use Rattle.trace_workers.specs.declared.part.Part.{Part}
 

@@ -8,11 +8,11 @@ use Rattle.trace_command.specs.declared.command.Config.{Config}
 use Rattle.trace_command.specs.declared.command.Entry.{Entry}
 use Rattle.trace_command.specs.declared.command.Reply.{Reply}
 use Rattle.trace_command.specs.declared.refusal.Refusal.{Refusal}
+use Rattle.trace_items.specs.Items.{Item, Single, Threads, Faulty, items_of}
+use Rattle.trace_items.specs.declared.part.Numbered.{Numbered}
 use Rattle.trace_script.specs.Rendering.{rendered}
 use Rattle.trace_script.specs.declared.outcome.Outcome.{Outcome}
 use Rattle.trace_script.specs.declared.outcome.Outcome.TheVariants as outcomes
-use Rattle.trace_session.specs.Items.{Item, Single, Threads, Faulty, items_of}
-use Rattle.trace_session.specs.declared.part.Numbered.{Numbered}
 use Rattle.trace_session.specs.Sessions.{Progress, Session, beginning, turn_of, is_fault, text_of, status_of, session}
 
 -- what became of a command

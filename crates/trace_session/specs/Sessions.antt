@@ -1,12 +1,13 @@
 -- What a session writes for a script, and its status.
-use Rattle.std.specs.Prelude.{ℕ, ◌+◌, ◌==◌, Bool, true, false, if◌then◌else◌, List, [], ◌∷◌, ◌++◌, length, Option, Some, None, Result, Ok, Err}
-use Rattle.std.specs.List.{slice_split, list_any}
+use Rattle.std.specs.Prelude.{ℕ, ◌+◌, Bool, true, false, if◌then◌else◌, List, [], ◌∷◌, ◌++◌, Option, Some, None, Result, Ok, Err}
+use Rattle.std.specs.List.{list_any}
 use Rattle.trace_history.specs.History.{answer_to}
 use Rattle.trace_command.specs.declared.command.Command.{Command}
 use Rattle.trace_command.specs.declared.command.Config.{Config}
 use Rattle.trace_command.specs.declared.command.Entry.{Entry}
 use Rattle.trace_command.specs.declared.command.Reply.{Reply}
 use Rattle.trace_command.specs.declared.refusal.Refusal.{Refusal}
+use Rattle.trace_items.specs.ScriptLines.{lines_of}
 use Rattle.trace_script.specs.Lines.{line_of}
 use Rattle.trace_script.specs.Rendering.{rendered}
 use Rattle.trace_script.specs.declared.fault.ScriptFault.{ScriptFault}
@@ -17,20 +18,6 @@ use Rattle.trace_script.specs.declared.outcome.Outcome.{Outcome}
 use Rattle.trace_script.specs.declared.outcome.Outcome.TheVariants as outcomes
 use Rattle.trace_session.specs.declared.status.Status.{Status}
 use Rattle.trace_session.specs.declared.status.Status.TheVariants as statuses
-
--- the lines of a script; a newline ends a line, and an empty line, which says nothing, follows the last one
-abbrev pub lines_of : List ℕ → List (List ℕ)
-lines_of script = slice_split (λ b. b == 10) script
-
--- the lines of what is left of a script, if anything is
-abbrev pub lines_left : Option (List ℕ) → List (List ℕ)
-lines_left None = []
-lines_left (Some rest) = lines_of rest
-
--- one more than the bytes of what is left, or 0 where nothing is
-abbrev pub bytes_left : Option (List ℕ) → ℕ
-bytes_left None = 0
-bytes_left (Some rest) = length rest + 1
 
 -- how far a session has come: the entries done so far, oldest first, and how many commands were asked, done or refused
 pub record Progress : Type 0 where

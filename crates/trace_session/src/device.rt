@@ -1,28 +1,14 @@
-//! What a session reads from and writes to. Contracts see the bytes, where a device tells them, and how many calls failed.
+//! What a session writes to; what it reads from is a `Source` of trace_items. Contracts see the bytes, where a device tells them, and how many
+//! calls failed.
 
 ghost use Rattle.std.specs.Prelude.{◌≡◌, ℕ, List, Option, length};
-ghost use Rattle.std.specs.Io.{ReadsAtMost, WritesAtMost};
-ghost use Rattle.std.specs.Io.KnownBytes.{ReadConsumes, WriteAppends};
-ghost use Rattle.trace_session.specs.Devices.{failures_after_read, failures_after_write};
+ghost use Rattle.std.specs.Io.{WritesAtMost};
+ghost use Rattle.std.specs.Io.KnownBytes.{WriteAppends};
+ghost use Rattle.trace_session.specs.Devices.{failures_after_write};
 
 use std::io;
-use std::io::{Read, Write};
+use std::io::Write;
 use trace_script::Outcome;
-
-/// What gives the bytes of a script.
-pub trait Source {
-    /// The bytes that reads will give from here on, where they are known.
-    ghost remaining: { Self → Option (List ℕ) };
-
-    /// How many calls failed.
-    ghost failures: { Self → ℕ };
-
-    /// Reads some bytes into the front of `buf`, and gives their number; none at the end.
-    fn read(&mut self, buf: &mut [u8]) -> io::Result<usize>
-        ensures bound { ReadsAtMost result buf.new }
-        ensures bytes { ReadConsumes (remaining self.old) (remaining self.new) result buf.new }
-        ensures failures { failures self.new ≡ failures_after_read (failures self.old) result };
-}
 
 /// What takes the bytes that a session writes.
 pub trait Sink {
@@ -50,40 +36,6 @@ pub trait Sink {
         ensures bytes { contents self.new ≡ contents self.old }
         ensures failures { failures self.new ≡ failures self.old }
     {}
-}
-
-/// A reader of std, and how many of its calls failed.
-#[derive(Drop)]
-pub struct Input<R> {
-    pub device: R,
-    pub failures: u64,
-}
-
-impl<R: Read> Input<R> {
-    /// The reader, before its first call.
-    pub fn new(device: R) -> Input<R>
-        ensures device { result.device ≡ device }
-        ensures failures { result.failures ≡ 0 }
-    {
-        Input {
-            device,
-            failures: 0,
-        }
-    }
-}
-
-impl<R: Read> Source for Input<R> {
-    ghost remaining = { λ input. R.remaining input.device };
-
-    ghost failures = { λ input. input.failures };
-
-    fn read(&mut self, buf: &mut [u8]) -> io::Result<usize> {
-        let result = self.device.read(buf);
-        if result.is_err() {
-            self.failures = self.failures.saturating_add(1);
-        }
-        result
-    }
 }
 
 /// A writer of std, and how many of its calls failed, or took no byte though some were offered.

@@ -1,7 +1,9 @@
 //! What the sessions of scripts with parts come to. Each function does nothing: its contract is a theorem.
 
 ghost use Rattle.trace_session.specs.PartExamples.{HasOnly, end_out_of_place, end_out_of_place_session, part_without_end, part_without_end_session, part_in_a_part, part_in_a_part_session, command_before_threads, command_before_threads_session, fault_in_a_part, fault_in_a_part_session, nine_threads, nine_threads_session};
-ghost use Rattle.trace_session.specs.PartLaws.{OneThreadHasOneSession, OneThreadBeginsOneSession, PartsHaveFewThreads};
+ghost use Rattle.trace_session.specs.PartLaws.{OneThreadHasOneSession, OneThreadBeginsOneSession};
+
+pub use trace_items::laws::parts_have_few_threads;
 
 /// A script with no line `parallel` has one lawful session, that of one thread.
 pub fn one_thread_has_one_session()
@@ -11,11 +13,6 @@ pub fn one_thread_has_one_session()
 /// What a script with no line `parallel` began to write is the first strings of that session.
 pub fn one_thread_begins_one_session()
     ensures { OneThreadBeginsOneSession }
-{}
-
-/// A part has at most eight threads; more are a fault.
-pub fn parts_have_few_threads()
-    ensures { PartsHaveFewThreads }
 {}
 
 /// Faults in parts, worked by hand: each of these scripts has one lawful session.

@@ -8,11 +8,11 @@ ghost use Rattle.trace_script.specs.Lines.{line_of};
 ghost use Rattle.trace_session.specs.Passes.{IsSessionPass, progress_of};
 ghost use Rattle.trace_session.specs.Sessions.{Progress, answered, turn_of};
 
-use crate::stop::Stop;
 use std::sync::Wait;
 use ticket_lock::{Pass, TicketLock};
 use trace_book::Book;
 use trace_command::{Command, Refusal};
+use trace_items::Stop;
 use trace_script::{Line, Outcome, ScriptFault};
 use trace_workers::ask;
 

@@ -1,14 +1,15 @@
 //! What a session writes for its lines.
 
 ghost use Rattle.std.specs.Prelude.{◌≡◌, [], ◌++◌, OnOk, IsErrOf};
-ghost use Rattle.trace_session.specs.Devices.{AppendsFront, HasRisen, Passes};
+ghost use Rattle.trace_items.specs.Sources.{HasRisen};
+ghost use Rattle.trace_session.specs.Devices.{AppendsFront, Passes};
 ghost use Rattle.trace_session.specs.Sessions.{text_of};
 
 use crate::device::Sink;
 use crate::replies::Replies;
-use crate::stop::Stop;
 use std::alloc::Global;
 use trace_command::Reply;
+use trace_items::Stop;
 use trace_script::{Outcome, render};
 
 /// Adds what a line of this number gives to the replies; a command without a reply gives nothing. The text of a reply is added as it is; all

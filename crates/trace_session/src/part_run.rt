@@ -3,14 +3,13 @@
 ghost use Rattle.std.specs.Prelude.{◌≡◌, ◌≢◌, ◌≤◌, true, vec_len, IfOk, IfErr};
 ghost use Rattle.ticket_lock.specs.Calls.{view_of, IsOf};
 ghost use Rattle.trace_command.specs.declared.command.Config.{Config};
-ghost use Rattle.trace_session.specs.PartReads.{commands_in};
+ghost use Rattle.trace_items.specs.PartReads.{commands_in};
 ghost use Rattle.trace_session.specs.Parts.{Given, PartMayGive};
 ghost use Rattle.trace_session.specs.PartTexts.{AreOutcomesOf};
 ghost use Rattle.trace_session.specs.Passes.{IsSessionPass, progress_of};
 ghost use Rattle.trace_session.specs.Sessions.{status_of};
 ghost use Rattle.trace_workers.specs.declared.fault.BlockFault.TheVariants.{Stopped};
 
-use crate::part::Numbered;
 use crate::part_split::split_threads;
 use crate::part_text::{Written, write_threads};
 use std::alloc::Global;
@@ -18,6 +17,7 @@ use std::sync::Wait;
 use std::thread::Threads;
 use ticket_lock::{Pass, TicketLock};
 use trace_book::Book;
+use trace_items::part::Numbered;
 use trace_workers::{BlockFault, Gate, run_block};
 
 /// Runs the threads of a part side by side, and gives what is to be written for it, and what became of each command.

@@ -1,12 +1,12 @@
 //! The commands of a part's threads, taken apart from the numbers of their lines.
 
 ghost use Rattle.std.specs.Prelude.{◌≡◌, map, IfOk};
-ghost use Rattle.trace_session.specs.PartReads.{commands_in};
+ghost use Rattle.trace_items.specs.PartReads.{commands_in};
 ghost use Rattle.trace_session.specs.PartTexts.{items_in};
 
-use crate::part::Numbered;
 use std::alloc::{AllocError, Global};
 use trace_command::Command;
+use trace_items::part::Numbered;
 
 /// The numbers and the commands of a thread.
 fn split_thread(

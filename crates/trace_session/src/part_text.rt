@@ -12,14 +12,14 @@ ghost use Rattle.trace_session.specs.PartTexts.{outcome_at, numbered_outcomes, o
 ghost use Rattle.trace_session.specs.Sessions.{status_of};
 
 use crate::status::Status;
-use crate::stop::Stop;
 use std::alloc::{AllocError, Global};
 use trace_command::{Refusal, Reply};
+use trace_items::Stop;
 use trace_script::{Outcome, render};
 use trace_workers::Part;
 
 /// What became of a command of a part, and the number of its line.
-#[derive(Debug, Drop)]
+#[derive(Drop)]
 pub struct OutcomeAt {
     pub number: usize,
     pub outcome: Outcome,
@@ -27,7 +27,7 @@ pub struct OutcomeAt {
 
 /// What a part gives: the bytes that are to be written for it, the status of its commands, and what became of each of them, in the order of
 /// their lines.
-#[derive(Debug, Drop)]
+#[derive(Drop)]
 pub struct Written {
     pub text: Vec<u8>,
     pub status: Status,

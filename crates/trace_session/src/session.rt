@@ -5,24 +5,23 @@ ghost use Rattle.std.specs.Io.KnownBytes.{Appends, IsAtEnd};
 ghost use Rattle.ticket_lock.specs.Calls.{view_of, IsOf};
 ghost use Rattle.trace_command.specs.Configs.{IsInRange};
 ghost use Rattle.trace_command.specs.declared.command.Config.{Config};
-ghost use Rattle.trace_session.specs.Devices.{ConsumesAtMost, HasRisen};
+ghost use Rattle.trace_items.specs.Sources.{ConsumesAtMost, HasRisen};
 ghost use Rattle.trace_session.specs.Fronts.{AppendsSession, AppendsBegun, AppendsBegunFront, PassesSession, PassesBegun};
 ghost use Rattle.trace_session.specs.Passes.{IsSessionPass, progress_of};
 ghost use Rattle.trace_session.specs.Sessions.{beginning, IsWhole, IsRead};
 
-use crate::device::{Sink, Source};
-use crate::item::next_item;
+use crate::device::Sink;
 use crate::replies::Replies;
-use crate::script::{MOST_SCRIPT_BYTES, read_script};
 use crate::status::Status;
 use crate::step::do_item;
-use crate::stop::Stop;
 use std::alloc::Global;
 use std::sync::Wait;
 use std::thread::Threads;
 use ticket_lock::{Pass, TicketLock};
 use trace_book::Book;
 use trace_command::Config;
+use trace_items::item::next_item;
+use trace_items::{MOST_SCRIPT_BYTES, Source, Stop, read_script};
 use trace_workers::Gate;
 
 /// The status of items and of one more, which is no fault.

@@ -1,17 +1,17 @@
 //! What became of a line or of the commands of a part: it is written, and a writer that hears is told.
 
 ghost use Rattle.std.specs.Prelude.{◌≡◌, [], ◌∷◌, ◌++◌, IfOk, OnOk, OnErr, IsErrOf};
-ghost use Rattle.trace_session.specs.Devices.{AppendsFront, HasRisen, Passes};
+ghost use Rattle.trace_items.specs.Sources.{HasRisen};
+ghost use Rattle.trace_session.specs.Devices.{AppendsFront, Passes};
 ghost use Rattle.trace_session.specs.Sessions.{text_of, status_of};
 
 use crate::device::Sink;
-use crate::lines_from::LinesFrom;
 use crate::output::write_outcome;
 use crate::part_text::{OutcomeAt, Written};
 use crate::replies::Replies;
 use crate::status::Status;
-use crate::stop::Stop;
 use std::alloc::Global;
+use trace_items::{LinesFrom, Stop};
 use trace_script::Outcome;
 
 /// The status of a line by itself.

@@ -49,7 +49,7 @@ pub(crate) fn push_trace_head(
 }
 
 /// How many records the rings keep, and how many were lost to overwriting.
-#[derive(Clone, Copy, Debug)]
+#[derive(Clone, Copy)]
 struct Counts {
     kept: u128,
     overrun: u128,

@@ -13,14 +13,14 @@ use trace_hist::HistSpec;
 
 /// A trigger that takes a snapshot for each emission of its event that its filter passes (events.rst, "Event triggers", "snapshot"): at most
 /// `count` times, or without end.
-#[derive(Debug, Drop)]
+#[derive(Drop)]
 pub struct SnapshotTrigger {
     pub count: Option<u32>,
     pub filter: Option<Filter>,
 }
 
 /// What a text says that is written to an event's `trigger` file.
-#[derive(Debug, Drop)]
+#[derive(Drop)]
 pub enum TriggerText {
     /// Nothing is attached or removed: the text has nothing but blanks.
     Nothing,

@@ -2,14 +2,10 @@
 #![tactic(auto)]
 
 mod block;
-#[cfg(test)]
-mod block_tests;
 mod call;
 mod fault;
 mod gate;
 mod part;
-#[cfg(test)]
-mod tests;
 mod thread;
 mod worker;
 

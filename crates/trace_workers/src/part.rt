@@ -3,7 +3,7 @@
 use trace_command::{Refusal, Reply};
 
 /// A part that was asked whole.
-#[derive(Debug, Drop)]
+#[derive(Drop)]
 pub struct Part {
     /// The caller's number under which its commands stand in the history.
     pub by: u32,

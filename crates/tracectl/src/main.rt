@@ -3,30 +3,19 @@
 
 mod explained;
 mod stop;
-mod words;
 
 ghost use Rattle.trace_command.specs.Configs.{IsInRange};
 
 use explained::Explained;
-use std::env;
 use std::fs::File;
-use std::io::{ErrorKind, Read};
+use std::io::Read;
 use std::process::ExitCode;
 use std::sync::Wait;
 use std::thread::Threads;
-use stop::Stop;
-use trace_book::{Book, Config};
+use stop::tell;
+use trace_command::Config;
 use trace_session::{Input, OpenGate, Output, Status, run_session};
-use words::{Script, Words};
-
-/// The words of the command line, the program's name first.
-fn words_of(rt: &HostRuntime) -> Result<Vec<String>, Stop> {
-    match env::args(rt) {
-        Ok(words) => Ok(words.collect(rt.alloc())?),
-        Err(error) if error.kind() == ErrorKind::OutOfMemory => Err(Stop::Memory),
-        Err(_) => Err(Stop::from(words::not_unicode(rt.alloc())?)),
-    }
-}
+use trace_words::{Script, Stop, Words, words_of};
 
 /// Does the session of a script, its parts on these threads, and explains it on standard error, if that is asked for.
 fn session<R: Read + Drop>(
@@ -68,9 +57,7 @@ fn run(rt: &HostRuntime, threads: &(impl Threads + Wait + Sync)) -> Result<Statu
         config,
         is_explained,
         script,
-    } = Words::read(rt.alloc(), &words)?;
-    // The session has a book of its own. This one is there so that a bad configuration is told before the script is opened.
-    Book::new(rt.alloc(), config)?;
+    } = Words::read(rt, &words)?;
     let status = match script {
         Script::File(name) => {
             let file = File::open(rt, name).map_err(|_| Stop::Device)?;
@@ -84,9 +71,9 @@ fn run(rt: &HostRuntime, threads: &(impl Threads + Wait + Sync)) -> Result<Statu
 
 fn main(rt: HostRuntime) -> ExitCode {
     match run(&rt, &rt) {
-        Ok(Status::Memory) => Stop::Memory.tell(&rt),
-        Ok(Status::Device) => Stop::Device.tell(&rt),
+        Ok(Status::Memory) => tell(&rt, Stop::Memory),
+        Ok(Status::Device) => tell(&rt, Stop::Device),
         Ok(status) => ExitCode::from(status.code()),
-        Err(stop) => stop.tell(&rt),
+        Err(stop) => tell(&rt, stop),
     }
 }

@@ -1,15 +1,21 @@
-//! Tests of the public calls of crates below the book. They stand here since a crate with tests is proved twice.
+//! Tests of the public calls of single crates. They stand here since a crate with tests is proved twice.
 #![tactic(auto)]
 
 #[cfg(test)]
-mod filters;
+mod blocks;
+#[cfg(test)]
+mod books;
+#[cfg(test)]
+mod buffers;
+#[cfg(test)]
+mod calls;
 #[cfg(test)]
 mod formats;
 #[cfg(test)]
-mod lines;
+mod locks;
 #[cfg(test)]
-mod told;
+mod records;
 #[cfg(test)]
-mod triggers;
+mod rings;
 #[cfg(test)]
-mod words;
+mod sessions;

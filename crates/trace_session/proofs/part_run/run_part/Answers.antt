@@ -1,7 +1,7 @@
 use Rattle.std.proofs.Common.{◌≡◌, ℕ, Vec, List, length, ap, ◌∙◌, arith}
 use Rattle.std.specs.declared.alloc.Global.{Global}
 use Rattle.ticket_lock.specs.Calls.{view_of}
-use Rattle.trace_session.specs.PartReads.{commands_in}
+use Rattle.trace_items.specs.PartReads.{commands_in}
 use Rattle.trace_session.specs.PartTexts.{items_in, numbered_threads, outcomes_of_threads, replies_in}
 use Rattle.trace_session.proofs.PartRunning.{numbers_of_lines, of_threads, block_numbered, may_give}
 use Rattle.trace_session.proofs.part_run.run_part.Goals as goal

@@ -1,5 +1,5 @@
 use Rattle.std.proofs.Common.{◌≡◌, ◌++◌, map}
-use Rattle.trace_session.specs.declared.part.Numbered.{Numbered}
+use Rattle.trace_items.specs.declared.part.Numbered.{Numbered}
 use Rattle.trace_session.proofs.part_split.split_thread.Given as goal
 
 -- what was split and what is left to split are all

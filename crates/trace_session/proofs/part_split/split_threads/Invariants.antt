@@ -1,7 +1,7 @@
 use Rattle.std.proofs.Common.{◌≡◌, ◌++◌, map}
-use Rattle.trace_session.specs.PartReads.{commands_in}
+use Rattle.trace_items.specs.PartReads.{commands_in}
+use Rattle.trace_items.specs.declared.part.Numbered.{Numbered}
 use Rattle.trace_session.specs.PartTexts.{items_in}
-use Rattle.trace_session.specs.declared.part.Numbered.{Numbered}
 use Rattle.trace_session.proofs.part_split.split_threads.Given as goal
 
 -- what was split and what is left to split are all

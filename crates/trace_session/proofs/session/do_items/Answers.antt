@@ -2,7 +2,7 @@ use Rattle.std.proofs.Common.{◌∙◌, refl, arith}
 use Rattle.std.proofs.lemmas.Result.{err_from_is_err_and}
 use Rattle.std.specs.Option.{option_copied}
 use Rattle.ticket_lock.specs.Calls.{view_of}
-use Rattle.trace_session.specs.NextItems.{item_read}
+use Rattle.trace_items.specs.NextItems.{item_read}
 use Rattle.trace_session.specs.Passes.{progress_of}
 use Rattle.trace_session.proofs.Standing.{begins, few, keeps, at_fault, at_device, at_stop, at_stop_here, at_end}
 use Rattle.trace_session.proofs.session.do_items.Goals as goal

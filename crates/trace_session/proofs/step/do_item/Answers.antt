@@ -1,9 +1,9 @@
 use Rattle.std.proofs.Common.{ap, sym, subst}
 use Rattle.ticket_lock.specs.Calls.{view_of}
 use Rattle.trace_command.specs.declared.command.Config.{Config}
+use Rattle.trace_items.specs.Items.{Item}
+use Rattle.trace_items.specs.NextItems.{item_read}
 use Rattle.trace_session.specs.Fronts.{AppendsItem}
-use Rattle.trace_session.specs.Items.{Item}
-use Rattle.trace_session.specs.NextItems.{item_read}
 use Rattle.trace_session.specs.Passes.{IsSessionPass, progress_of}
 use Rattle.trace_session.proofs.Stepping.{fault_read}
 use Rattle.trace_session.proofs.step.do_item.Goals as goal

@@ -1,0 +1,6 @@
+pub mod SourceLemmas
+pub mod ScriptLemmas
+pub mod LineFinding
+pub mod PartThreads
+pub mod PartReading
+pub mod ItemReading

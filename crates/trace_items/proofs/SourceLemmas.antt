@@ -1,0 +1,30 @@
+-- Reads one behind the other.
+use Rattle.std.proofs.Common.{◌≡◌, ℕ, ◌-◌, ◌<◌, ◌≤◌, List, [], ◌++◌, length, Option, Some, None, IfSome, refl, ap, sym, ◌∙◌, arith, append_assoc, length-append}
+use Rattle.std.proofs.lemmas.List.{append-nil}
+use Rattle.std.specs.Io.KnownBytes.{Consumes, IsAtEnd}
+use Rattle.trace_items.specs.Sources.{ConsumesAtMost}
+
+pub Consumes_append : (a b c : Option (List ℕ)) (xs ys : List ℕ) → Consumes a b xs → Consumes b c ys → Consumes a c (xs ++ ys)
+Consumes_append None b c xs ys p q = tt
+Consumes_append (Some us) None c xs ys p q = absurd p
+Consumes_append (Some us) (Some bs) None xs ys p q = absurd q
+Consumes_append (Some us) (Some bs) (Some cs) xs ys p q = p ∙ (ap (λ (rest : List ℕ). xs ++ rest) q ∙ sym (append_assoc xs ys cs))
+
+pub Consumes_nothing : (a : Option (List ℕ)) → Consumes a a []
+Consumes_nothing None = tt
+Consumes_nothing (Some us) = refl
+
+pub Consumes_whole : (a b : Option (List ℕ)) (xs : List ℕ) → Consumes a b xs → IsAtEnd b → IfSome a (λ bytes. xs ≡ bytes)
+Consumes_whole None b xs p e = tt
+Consumes_whole (Some us) None xs p e = absurd p
+Consumes_whole (Some us) (Some bs) xs p e = sym (append-nil xs) ∙ (ap (λ (rest : List ℕ). xs ++ rest) (sym e) ∙ sym p)
+
+pub Consumes_long : (a b : Option (List ℕ)) (xs : List ℕ) (n : ℕ) → Consumes a b xs → n < length xs → IfSome a (λ bytes. n < length bytes)
+Consumes_long None b xs n p h = tt
+Consumes_long (Some us) None xs n p h = absurd p
+Consumes_long (Some us) (Some bs) xs n p h = omega (arith, ap length p, length-append xs bs)
+
+-- what was consumed before, and as much more as is left
+pub ConsumesAtMost_append : (a b c : Option (List ℕ)) (xs : List ℕ) (most : ℕ) → Consumes a b xs → length xs ≤ most → ConsumesAtMost (most - length xs) b c
+    → ConsumesAtMost most a c
+ConsumesAtMost_append a b c xs most p h q = (xs ++ q.0, simp length-append (omega (arith, h, q.1)), Consumes_append a b c xs q.0 p q.2)

@@ -1,0 +1,14 @@
+use Rattle.std.proofs.Common.{◌∙◌}
+use Rattle.std.proofs.lemmas.Result.{err_from_is_err_and}
+use Rattle.trace_items.proofs.SourceLemmas.{ConsumesAtMost_append}
+use Rattle.trace_items.proofs.script.read_script.Goals as goal
+
+pub returns-in_err-read_more-clause-memory : goal.returns-in_err-read_more-clause-memory
+returns-in_err-read_more-clause-memory g c h =
+    let remaining = g.R.Source.remaining in
+    let p = err_from_is_err_and c.from_residual.result c.from_residual.ensures.1 in
+    let kept = c.loop.invariant in
+    let failed = c.in_err-read_more.ensures.memory (cc (h, p.1, p.2)) in (
+      failed.0 ∙ kept.unfailed,
+      ConsumesAtMost_append (remaining c.args.reader.now) (remaining c.loop.reader) (remaining c.read_more.new.reader) c.loop.script.items 16777216 kept.consumed kept.short failed.1,
+    )

@@ -1,0 +1,6 @@
+pub mod ScriptLines
+pub mod Sources
+pub mod Items
+pub mod PartReads
+pub mod NextItems
+pub mod FewThreads

@@ -1,0 +1,216 @@
+//! The words of the command line.
+
+ghost use Rattle.std.specs.Prelude.{◌≡◌, ◌++◌, ◌∷◌, ◌^◌, [], IfOk};
+ghost use Rattle.std.specs.List.{flat_map};
+ghost use Rattle.trace_command.specs.Configs.{IsInRange};
+
+use crate::stop::{Stop, told};
+use clap::error::ErrorKind;
+use clap::{Arg, ArgAction, Command, Error, value_parser};
+use std::alloc::{AllocError, Global};
+use std::{env, io};
+use trace_command::Config;
+
+const CPUS: &str = "cpus";
+
+const PAGES: &str = "pages";
+
+const PAGE_BYTES: &str = "page-bytes";
+
+const EXPLAIN: &str = "explain";
+
+const SCRIPT: &str = "SCRIPT";
+
+const LINE: &str = "LINE";
+
+const USAGE: &str = "tracectl [OPTIONS] SCRIPT
+       tracectl [OPTIONS] -c LINE ..";
+
+/// More entries than a script has room for.
+const HISTORY_LIMIT: u64 = 1 << 32;
+
+const VERSION: &str = "0.1.0";
+
+const ABOUT: &str =
+    "The control side of a tracer, without a kernel: does the commands of a script, and prints what they read.";
+
+/// What `--help` says of scripts.
+const SCRIPTS: &str = "\
+A script has one command on each line. A line that begins with # is a comment. After -c each word is a line, up to the next option.
+  emit CPU PID EVENT FIELD=VALUE ..  an event happens on a CPU, in a process
+  echo WORD .. > PATH                writes to a file, as does >>
+  cat PATH                           reads a file
+  take N PATH                        reads at most N records of a pipe
+  mkdir PATH, rmdir PATH             make and remove an instance
+  parallel, thread, end              threads of commands that are done side by side
+
+Files, as in Linux tracefs:
+  synthetic_events                   declarations of events
+  events/synthetic/EVENT/..          enable, filter, trigger, hist and format of an event
+  events/enable                      the switches of all events
+  trace, trace_pipe                  records of all CPUs: to look at, to consume
+  per_cpu/cpuN/..                    trace, trace_pipe and stats of one CPU
+  snapshot, tracing_on, options/overwrite
+  instances/NAME/..                  the same files of an instance
+
+These three lines record an event, which cat trace then shows as 7 [000] 1: tick: n=5:
+  echo 'tick u64 n' > synthetic_events
+  echo 1 > events/synthetic/tick/enable
+  emit 0 7 tick n=5
+
+Exit status:
+  0  every command was done
+  1  a command was refused, which a line of the output tells; the others were done
+  2  the command line is wrong, a number is out of range, or the script has a fault
+  3  out of memory
+  4  reading or writing failed, or SCRIPT can't be opened";
+
+/// Where the script comes from.
+#[derive(Drop)]
+pub enum Script<'a> {
+    /// The file of this name.
+    File(&'a str),
+    Input,
+    /// The words of the command line have the lines, and these are the bytes of the script.
+    Lines(Vec<u8>),
+}
+
+/// What the command line asks for.
+#[derive(Drop)]
+pub struct Words<'a> {
+    pub config: Config,
+    /// Whether it is told on standard error what is wrong with a line.
+    pub is_explained: bool,
+    pub script: Script<'a>,
+}
+
+/// An option that takes a number. It has a default, which help shows.
+fn option<'a>(alloc: Global, name: &'a str, default: &'a str, help: &'a str) -> Arg<'a> {
+    Arg::new(alloc, name)
+        .long(name)
+        .value_name("N")
+        .value_parser(value_parser!(u32))
+        .default_value(default)
+        .help(help)
+}
+
+fn command<'a>(alloc: Global) -> Result<Command<'a>, Error> {
+    let cpus = option(alloc, CPUS, "1", "How many CPUs there are, 1 to 8");
+    let pages = option(
+        alloc,
+        PAGES,
+        "16",
+        "How many pages a CPU's ring has, 2 to 1024",
+    );
+    let page_bytes = option(
+        alloc,
+        PAGE_BYTES,
+        "4080",
+        "How many bytes a page has, 64 to 4080, a multiple of 8",
+    );
+    let explain = Arg::new(alloc, EXPLAIN)
+        .long(EXPLAIN)
+        .action(ArgAction::SetTrue)
+        .help("After a refusal or a fault, tell on standard error what is wrong and where");
+    let lines = Arg::new(alloc, LINE)
+        .short('c')
+        .value_name(LINE)
+        .num_args(1..)
+        .action(ArgAction::Append)
+        .conflicts_with(SCRIPT)?
+        .help("Lines to do in place of a SCRIPT, a word each");
+    let script = Arg::new(alloc, SCRIPT)
+        .required_unless_present(LINE)?
+        .help("A file, or - for standard input");
+    let command = Command::new(alloc, "tracectl")
+        .version(VERSION)
+        .about(ABOUT)
+        .override_usage(USAGE)
+        .after_help(SCRIPTS)
+        .arg(cpus)?
+        .arg(pages)?
+        .arg(page_bytes)?
+        .arg(explain)?
+        .arg(lines)?
+        .arg(script)?;
+    Ok(command)
+}
+
+/// The error for words that are not all in UTF-8.
+fn not_unicode(alloc: Global) -> Result<Error, Error> {
+    let mut command = command(alloc)?;
+    let error = command.error(
+        ErrorKind::ValueValidation,
+        "invalid UTF-8 was detected in one or more arguments",
+    )?;
+    Ok(error)
+}
+
+/// The words of the command line, the program's name first. `Told` comes where one of them is not in UTF-8.
+pub fn words_of(rt: &HostRuntime) -> Result<Vec<String>, Stop> {
+    match env::args(rt) {
+        Ok(words) => Ok(words.collect(rt.alloc())?),
+        Err(error) if error.kind() == io::ErrorKind::OutOfMemory => Err(Stop::Memory),
+        Err(_) => match not_unicode(rt.alloc()) {
+            Ok(error) | Err(error) => Err(told(rt, &error)),
+        },
+    }
+}
+
+/// The script of these lines, each of them ended by a newline.
+fn script_of(alloc: Global, lines: &[&str]) -> Result<Vec<u8>, AllocError>
+    ensures { IfOk result (λ script. script.items ≡ flat_map (λ line. line.now ++ 10 ∷ []) lines.now) }
+{
+    let mut script = Vec::new(alloc);
+    for line in lines {
+        script.extend_from_slice(line.as_bytes())?;
+        script.push(b'\n')?;
+    }
+    Ok(script)
+}
+
+/// Reads the words, the program's name first, whatever the numbers of the configuration are.
+fn parsed<'a>(alloc: Global, words: &'a [String]) -> Result<Words<'a>, Error>
+    ensures { IfOk result (λ words. words.config.history_limit ≡ 2 ^ 32) }
+{
+    let matches = command(alloc)?.try_get_matches_from(words)?;
+    // Each option has its default, and there are lines or a SCRIPT, so no value is missing. 0 would be out of range, and no file has an
+    // empty name.
+    let number = |name| matches.get_one::<u32>(name).unwrap_or(0);
+    let config = Config {
+        cpus: number(CPUS),
+        pages: number(PAGES),
+        page_bytes: number(PAGE_BYTES),
+        history_limit: HISTORY_LIMIT,
+    };
+    let script = match matches.get_strs(LINE) {
+        Some(lines) => Script::Lines(script_of(alloc, lines)?),
+        None => match matches.get_str(SCRIPT).unwrap_or("") {
+            "-" => Script::Input,
+            name => Script::File(name),
+        },
+    };
+    let is_explained = matches.get_flag(EXPLAIN);
+    Ok(Words {
+        config,
+        is_explained,
+        script,
+    })
+}
+
+impl<'a> Words<'a> {
+    /// Reads the words, the program's name first, and tells what is wrong with them, or the help or the version that they ask for.
+    pub fn read(rt: &HostRuntime, words: &'a [String]) -> Result<Words<'a>, Stop>
+        ensures in_range { IfOk result (λ words. IsInRange words.config) }
+        ensures limit { IfOk result (λ words. words.config.history_limit ≡ 2 ^ 32) }
+    {
+        let words = match parsed(rt.alloc(), words) {
+            Ok(words) => words,
+            Err(error) => return Err(told(rt, &error)),
+        };
+        if !words.config.is_in_range() {
+            return Err(Stop::BadValue);
+        }
+        Ok(words)
+    }
+}
