@@ -1,0 +1,94 @@
+"""Devices that fail, and the longest script."""
+import os
+import resource
+import signal
+import subprocess
+import tempfile
+
+from cases.emitting import REFUSALS, REFUSED, SILENT
+from cases.running import FAILED, MOST_SCRIPT_BYTES, SECONDS, TOP, Case, Outcome, case_of, differences, run
+
+
+def pipe_without_reader():
+    reader, writer = os.pipe()
+    os.close(reader)
+    return writer
+
+
+def input_cases():
+    folder = os.open(str(TOP), os.O_RDONLY)
+    return [
+        case_of("standard input is a folder", FAILED, stdin=folder),
+        case_of("the script is a folder", FAILED, [str(TOP)]),
+        case_of("standard input is closed", FAILED, before=lambda: os.close(0)),
+        case_of("standard input is empty", Outcome(0, b"", b"")),
+        case_of(
+            "standard input is a folder, standard error is closed",
+            FAILED._replace(stderr=b""),
+            stdin=folder,
+            before=lambda: os.close(2),
+        ),
+    ]
+
+
+def output_cases():
+    done = Outcome(0, b"", b"")
+    full = os.open("/dev/full", os.O_WRONLY)
+    pipe = pipe_without_reader()
+
+    def with_pipe_signal(handler):
+        return lambda: signal.signal(signal.SIGPIPE, handler)
+
+    return [
+        case_of("standard output is a full device", FAILED, script=REFUSED, stdout=full),
+        case_of("a full device, and nothing to write", done, script=SILENT, stdout=full),
+        case_of("standard output is closed", FAILED, script=REFUSED, before=lambda: os.close(1)),
+        case_of("standard output is closed, and nothing to write", done, script=SILENT, before=lambda: os.close(1)),
+        case_of("nobody reads the pipe", FAILED, script=REFUSED, stdout=pipe, before=with_pipe_signal(signal.SIG_DFL)),
+        case_of("nobody reads the pipe, and its signal is ignored", FAILED, script=REFUSED, stdout=pipe, before=with_pipe_signal(signal.SIG_IGN)),
+        Case("a file that may not grow", file_that_may_not_grow),
+        Case("a reader that leaves after a line", reader_that_leaves),
+    ]
+
+
+def file_that_may_not_grow(program):
+    """Standard output is a file that takes 30 bytes: they are the first 30 of the replies, and end within one."""
+
+    def limit_file():
+        signal.signal(signal.SIGXFSZ, signal.SIG_IGN)
+        resource.setrlimit(resource.RLIMIT_FSIZE, (30, 30))
+
+    with tempfile.TemporaryFile() as file:
+        got = run([program, "-"], script=REFUSED, stdout=file, before=limit_file)
+        file.seek(0)
+        return differences(got._replace(stdout=file.read()), FAILED._replace(stdout=REFUSALS[:30]))
+
+
+def reader_that_leaves(program):
+    """As `| head -1` does: one line is read of more than a pipe takes."""
+    with tempfile.TemporaryFile() as script:
+        script.write(b"cat nothing\n" * 100_000)
+        script.seek(0)
+        session = subprocess.Popen([str(program), "-"], stdin=script, stdout=subprocess.PIPE, stderr=subprocess.PIPE)
+        line = session.stdout.readline()
+        session.stdout.close()
+        complaint = session.stderr.read()
+        session.stderr.close()
+        return differences(Outcome(session.wait(timeout=SECONDS), line, complaint), FAILED._replace(stdout=b"! 1: N1 NoSuchFile\n"))
+
+
+def comments(count):
+    """So many bytes that say nothing, the last one a newline."""
+    line = b"#" * 63 + b"\n"
+    short = count % len(line)
+    return b"#" * (short - 1) + b"\n" * min(short, 1) + line * (count // len(line))
+
+
+def length_cases():
+    last = b"cat options/overwrite\n"
+    longest = comments(MOST_SCRIPT_BYTES - len(last)) + last
+    return [
+        case_of("the longest script", Outcome(0, b"1\n", b""), script=longest),
+        case_of("a script that is too long by a byte", FAILED, script=b"\n" + longest),
+        case_of("a script far too long", FAILED, script=last + longest + longest),
+    ]

@@ -1,0 +1,185 @@
+"""What is explained, and lines that have a fault."""
+import os
+import subprocess
+
+from cases.emitting import REFUSED
+from cases.running import FAILED, SECONDS, TOP, Case, Outcome, case_of, differences, quoted, run
+from cases.scripts import scripts_of, wanted, words_of
+
+WRITTEN = "echo 'n == 1 || z == 2' > events/synthetic/tick/filter"
+
+EXPLAINED = [  # the lines of a script, what each one gives, and what is told of it
+    ("echo 'tick u64 n; s8 d; char who[4]' > synthetic_events", "", ""),
+    ("# a comment", "", ""),
+    ("emit 0 7 tick n=1 d=2 who=me m=3", "! 3: N21 BadRow m", "m: the event has no field of this name"),
+    ("emit 0 7 tick n=1 d=2 who=me n=1", "! 4: N21 BadRow n", "n: the field is repeated"),
+    ("emit 0 7 tick n=1 d=2", "! 5: N21 BadRow who", "who: the field is missing"),
+    ("emit 0 7 tick n=1 d=200 who=me", "! 6: N21 BadRow d", "d: its value is out of the range of its type"),
+    ("cat tracing_on", "1", ""),
+    (WRITTEN, "! 8: N10 NoSuchField at 10", " " * WRITTEN.index("z") + "^ the event has no field of this name"),
+    ("emit 0 7 tock n=1", "! 9: N5 NoSuchEvent", "no such event is declared"),
+    ("cat nothing", "! 10: N1 NoSuchFile", "no file has this path"),
+    ("cat 'trace", "! 11: script UnclosedQuote", "    ^ this quote is not closed"),
+]
+
+
+def text_of(lines):
+    return "".join(line + "\n" for line in lines if line).encode()
+
+
+def told(line, words):
+    """What is told of a line, if anything is."""
+    return ["  " + line, "  " + words] if words else []
+
+
+def script_of(lines):
+    return "".join(line + "\n" for line, _, _ in lines).encode()
+
+
+def replies_of(lines):
+    return text_of(reply for _, reply, _ in lines)
+
+
+def explanations_of(lines):
+    return text_of(text for line, _, words in lines for text in told(line, words))
+
+
+PART = [  # a part, whose commands are told of once all that the part writes is written
+    ("parallel", "", ""),
+    ("thread", "-- thread 0", ""),
+    ("emit 0 7 tick n=1 m=3", "! 4: N21 BadRow m", "m: the event has no field of this name"),
+    ("emit 0 7 tick n=1", "", ""),
+    ("# a comment", "", ""),
+    ("cat nothing", "! 7: N1 NoSuchFile", "no file has this path"),
+    ("thread", "-- thread 1", ""),
+    ("", "", ""),
+    ("emit 0 7 tock n=1", "! 10: N5 NoSuchEvent", "no such event is declared"),
+    ("end", "", ""),
+]
+BEFORE_PART = [("echo 'tick u64 n' > synthetic_events", "", "")]
+AFTER_PART = [("cat tracing_on", "1", ""), ("cat nothing", "! 13: N1 NoSuchFile", "no file has this path")]
+EXPLAINED_PART = BEFORE_PART + PART + AFTER_PART
+
+# What both streams give where they are one: each explanation stands right after its own reply, and a part's after all of its replies.
+MINGLED = text_of(text for line, reply, words in EXPLAINED for text in [reply] + told(line, words))
+MINGLED_PART = replies_of(PART) + explanations_of(PART) + text_of(text for line, reply, words in AFTER_PART for text in [reply] + told(line, words))
+
+
+# What a part declares is known behind it: a `Sink` hears of the commands that are done, too.
+DECLARING_PART = [
+    ("parallel", "", ""),
+    ("thread", "-- thread 0", ""),
+    ("echo 'tock u64 n' > synthetic_events", "", ""),
+    ("end", "", ""),
+    ("emit 0 7 tock n=1 m=3", "! 5: N21 BadRow m", "m: the event has no field of this name"),
+]
+
+
+def both_in_one(name, script, want):
+    """Standard error goes where standard output goes."""
+
+    def mingled(program):
+        ended = subprocess.run([str(program), "--explain", "-"], input=script, stdout=subprocess.PIPE, stderr=subprocess.STDOUT, timeout=SECONDS)
+        return differences(Outcome(ended.returncode, ended.stdout, b""), want)
+
+    return Case(name, mingled)
+
+
+def explained_script(script):
+    """That a script has the output and the status that lie beside it, and the explanations that do; where none do, two lines for each line that was
+    refused or has a fault."""
+    beside = script.with_name(script.name + ".explained")
+
+    def explained(program):
+        want = wanted(script)
+        got = run([program, "--explain"] + words_of(script), script=script.read_bytes())
+        if beside.exists():
+            return differences(got, want._replace(stderr=beside.read_bytes()))
+        count = sum(line.startswith(b"! ") for line in want.stdout.splitlines())
+        lines = got.stderr.splitlines()
+        found = differences(got._replace(stderr=b""), want)
+        return found + ([] if len(lines) == 2 * count and all(line.startswith(b"  ") for line in lines) else ["standard error is %s" % quoted(got.stderr)])
+
+    return Case("--explain %s" % script.relative_to(TOP), explained)
+
+
+def explained_cases():
+    script = script_of(EXPLAINED)
+    explained = Outcome(2, replies_of(EXPLAINED), explanations_of(EXPLAINED))
+    part = Outcome(1, replies_of(EXPLAINED_PART), explanations_of(EXPLAINED_PART))
+    declaring = Outcome(1, replies_of(DECLARING_PART), explanations_of(DECLARING_PART))
+    unheard = explained._replace(stderr=b"")
+    scripts = scripts_of(TOP / "examples") + scripts_of(TOP / "tests" / "rows")
+    return [
+        case_of("--explain", explained, ["--explain", "-"], script=script),
+        case_of("nothing is explained without --explain", unheard, ["-"], script=script),
+        case_of("--explain, and standard error is closed", unheard, ["--explain", "-"], script=script, before=lambda: os.close(2)),
+        case_of("--explain, and standard output is a full device", FAILED, ["--explain", "-"], script=REFUSED, stdout=os.open("/dev/full", os.O_WRONLY)),
+        both_in_one("--explain, and both go one way", script, Outcome(2, MINGLED, b"")),
+        case_of("--explain, and a part", part, ["--explain", "-"], script=script_of(EXPLAINED_PART)),
+        both_in_one("--explain and a part, and both go one way", script_of(EXPLAINED_PART), Outcome(1, MINGLED_PART, b"")),
+        case_of("--explain, a part, and standard output is a full device", FAILED, ["--explain", "-"], script=script_of(EXPLAINED_PART), stdout=os.open("/dev/full", os.O_WRONLY)),
+        case_of("--explain, and what a part declares", declaring, ["--explain", "-"], script=script_of(DECLARING_PART)),
+    ] + [explained_script(script) for script in scripts]
+
+
+FAULTS = [  # lines, each with its fault
+    ("# \x7f", "BadByte"),
+    ("cat \x1f", "BadByte"),
+    ("ls 'x", "UnclosedQuote"),
+    ("cat \"x'", "UnclosedQuote"),
+    ("'#' x", "UnknownCommand"),
+    ("'' cat", "UnknownCommand"),
+    ("> x", "UnknownCommand"),
+    ("parallels", "UnknownCommand"),
+    ("END", "UnknownCommand"),
+    ("parallel 'x", "UnclosedQuote"),
+    ("parallel x", "WrongWords"),
+    ("thread > a", "WrongWords"),
+    ("end ''", "WrongWords"),
+    ("end # of it", "WrongWords"),
+    ("cat", "WrongWords"),
+    ("cat a b", "WrongWords"),
+    ("cat > a", "WrongWords"),
+    ("cat a>b", "WrongWords"),
+    ("mkdir", "WrongWords"),
+    ("mkdir a b", "WrongWords"),
+    ("mkdir a > b", "WrongWords"),
+    ("rmdir", "WrongWords"),
+    ("rmdir > a", "WrongWords"),
+    ("take 1", "WrongWords"),
+    ("take x a b", "WrongWords"),
+    ("take x trace_pipe", "BadNumber"),
+    ("take '' trace_pipe", "BadNumber"),
+    ("take 18446744073709551616 trace_pipe", "BadNumber"),
+    ("echo", "WrongWords"),
+    ("echo a", "WrongWords"),
+    ("echo a >", "WrongWords"),
+    ("echo a > b c", "WrongWords"),
+    ("echo a > b > c", "WrongWords"),
+    ("echo a >>> b", "WrongWords"),
+    ("emit 0 7 tick", "WrongWords"),
+    ("emit 0 7 tick n=1 m", "WrongWords"),
+    ("emit x 7 tick n", "WrongWords"),
+    ("emit x 7 tick n=1", "BadNumber"),
+    ("emit -0 7 tick n=1", "BadNumber"),
+    ("emit 4294967296 7 tick n=1", "BadNumber"),
+    ("emit 0 +1 tick n=1", "BadNumber"),
+    ("emit 0 -2147483649 tick n=1", "BadNumber"),
+]
+
+TOLD_FAULTS = [  # lines, each with its fault, how it is shown, and what is told of it
+    ("cat 'a' \"b'", "UnclosedQuote", "cat 'a' \"b'", "        ^ this quote is not closed"),
+    ("cat \u00e9", "BadByte", "cat ??", "    ^ this byte is neither a tab nor one from 0x20 to 0x7e"),
+    ("\tls", "UnknownCommand", "\tls", "\t^ no command is called so"),
+    ("end", "BlockOutOfPlace", "end", "a line of a parallel part can't be here"),
+]
+
+
+def fault_cases():
+    def case(line, fault, words, told):
+        script = b"cat options/overwrite\n" + line.encode() + b"\ncat options/overwrite\n"
+        return case_of("the line %s" % quoted(line.encode()), Outcome(2, b"1\n! 2: script %s\n" % fault.encode(), told.encode()), words, script=script)
+
+    plain = [case(line, fault, ["-"], "") for line, fault in FAULTS]
+    return plain + [case(line, fault, ["--explain", "-"], "  %s\n  %s\n" % (shown, words)) for line, fault, shown, words in TOLD_FAULTS]
