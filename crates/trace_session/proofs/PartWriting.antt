@@ -1,5 +1,5 @@
 -- How what is written for the threads of a part is put together.
-use Rattle.std.proofs.Common.{◌≡◌, ℕ, suc, ◌+◌, ◌<◌, Bool, false, ◌||◌, if◌then◌else◌, Option, Some, Ok, Err, Vec, List, [], ◌∷◌, ◌++◌, drop, get_or, length, map, All, Result, refl, sym, ap, subst, ◌∙◌, arith, append_assoc}
+use Rattle.std.proofs.Common.{◌≡◌, ℕ, ◌+◌, ◌<◌, Bool, false, ◌||◌, if◌then◌else◌, Option, Some, Ok, Err, Vec, List, [], ◌∷◌, ◌++◌, drop, get_or, length, map, All, Result, refl, sym, ap, subst, ◌∙◌, arith, append_assoc}
 use Rattle.std.proofs.Math.Bool.{or_assoc}
 use Rattle.std.proofs.lemmas.List.{drop_more, map-append}
 use Rattle.std.proofs.lemmas.List.Elements.{All-cons}
@@ -15,7 +15,7 @@ use Rattle.trace_session.specs.Sessions.{is_fault, is_refusal, status_of}
 use Rattle.trace_session.specs.declared.part_text.OutcomeAt.{OutcomeAt}
 use Rattle.trace_session.specs.declared.status.Status.{Status}
 use Rattle.trace_session.specs.declared.status.Status.TheVariants as statuses
-use Rattle.trace_session.specs.PartTexts.{numbered_text, numbered_threads, outcome_at, numbered_outcomes, outcomes_of_threads, refuses, replies_in, items_in, AreNumbered, AreOutcomesOf}
+use Rattle.trace_session.specs.PartTexts.{numbered_text, numbered_threads, numbered_outcomes, outcomes_of_threads, refuses, replies_in, items_in, AreNumbered, AreOutcomesOf}
 use Rattle.trace_command.specs.declared.command.Reply.{Reply}
 use Rattle.trace_command.specs.declared.refusal.Refusal.{Refusal}
 use Rattle.trace_workers.specs.declared.part.Part.{Part}
