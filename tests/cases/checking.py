@@ -25,7 +25,7 @@ def checked(words, commands, settings=(), by=None):
             file.chmod(0o755)
         path = "%s:%s" % (Path(top) / "commands", "/usr/bin:/bin")
         command = {None: [Path(top) / "check"], "link": [link], "relative": [os.path.relpath(top) + "/check"]}[by]
-        return run(["env", "PATH=" + path] + list(settings) + command + words)
+        return run(["env", "-u", "RT_JOBS", "PATH=" + path] + list(settings) + command + words)
 
 
 def check_cases():
