@@ -1,11 +1,14 @@
-//! A tracer used as a library: a book, two writes, five emissions and two reads, whose replies are printed.
+//! A tracer used as a library: a book, two writes, five emissions and two reads, whose replies are printed; and threads that share a book.
 #![tactic(auto)]
 
-ghost use Rattle.std.specs.Prelude.{◌<◌, All};
+ghost use Rattle.std.specs.Prelude.{◌≡◌, ◌<◌, All, IfOk, vec_len};
 
-use std::alloc::Global;
+use std::alloc::{AllocError, Global};
 use std::process::ExitCode;
+use std::sync::Wait;
+use std::thread::Threads;
 use trace_book::{Book, Command, Config, Pairs, Refusal, Reply};
+use trace_workers::{BlockFault, OpenGate, history_of};
 
 const CONFIG: Config = Config {
     cpus: 1,
@@ -78,11 +81,40 @@ fn run(rt: &(impl Print + AllocGlobal)) -> Result<(), Refusal> {
     Ok(())
 }
 
+/// Three parts, each of which makes the same instance.
+fn makers(alloc: Global) -> Result<Vec<Vec<Command>>, AllocError>
+    ensures { IfOk result (λ parts. vec_len parts ≡ 3) }
+{
+    let mut parts = Vec::new(alloc);
+    parts.push(vec![in alloc; Command::mkdir(alloc, b"instances/a")?]?)?;
+    parts.push(vec![in alloc; Command::mkdir(alloc, b"instances/a")?]?)?;
+    parts.push(vec![in alloc; Command::mkdir(alloc, b"instances/a")?]?)?;
+    Ok(parts)
+}
+
+/// How many of three threads that make one instance side by side are told that it is done, and how many entries the history has then.
+fn race<R: Threads + Wait + Sync>(rt: &R, alloc: Global) -> Result<(usize, usize), BlockFault> {
+    let parts = makers(alloc).map_err(|_| BlockFault::Memory)?;
+    let (book, done) = history_of(rt, alloc, CONFIG, parts, &OpenGate)?;
+    let made = done
+        .iter()
+        .filter(|part| part.replies.iter().all(|reply| reply.is_ok()))
+        .count();
+    Ok((made, book.entries().len()))
+}
+
 fn main(rt: HostRuntime) -> ExitCode {
-    match run(&rt) {
-        Ok(()) => ExitCode::SUCCESS,
-        Err(refusal) => {
-            let _ = eprintln!(rt; "{refusal}");
+    if let Err(refusal) = run(&rt) {
+        let _ = eprintln!(rt; "{refusal}");
+        return ExitCode::FAILURE;
+    }
+    match race(&rt, rt.alloc()) {
+        Ok((made, entries)) => {
+            let _ = println!(rt; "made by {made} of 3 threads, entries: {entries}");
+            ExitCode::SUCCESS
+        }
+        Err(fault) => {
+            let _ = eprintln!(rt; "{fault}");
             ExitCode::FAILURE
         }
     }

@@ -1,13 +1,13 @@
 -- What a trigger text changes of what is kept of an event's triggers.
 use Rattle.std.proofs.Common.{◌≡◌, ℕ, ◌<◌, nat_lt, Bool, true, false, not, if◌then◌else◌, unwrap_or, List, [], ◌∷◌, ◌++◌, length, map, filter, bytes_eq, Option, None, Some, option_map, Result, Ok, refl, ap, ◌∙◌, arith, lt-ltb, ltb-true, append-nil}
 use Rattle.std.proofs.lemmas.Slice.Eq.{bytes_eq-Decides}
-use Rattle.trace_filter.specs.Truth.{Emission}
+use Rattle.trace_hist.specs.Hits.{Hit}
 use Rattle.trace_format.specs.Definitions.{Definition}
 use Rattle.trace_hist.specs.Groups.{grouped}
-use Rattle.trace_hist.specs.HistSpecs.{SpecSeen}
-use Rattle.trace_hist.specs.Triggers.{is_same}
-use Rattle.trace_hist.specs.declared.spec.Action.{Action}
-use Rattle.trace_hist.specs.declared.spec.Action.TheVariants as action
+use Rattle.trace_trigger.specs.HistSpecs.{SpecSeen}
+use Rattle.trace_trigger.specs.SameSpecs.{is_same}
+use Rattle.trace_trigger.specs.declared.spec.Action.{Action}
+use Rattle.trace_trigger.specs.declared.spec.Action.TheVariants as action
 use Rattle.trace_trigger.specs.TriggerTexts.{said_of}
 use Rattle.trace_trigger.specs.declared.fault.TriggerFault.{TriggerFault}
 use Rattle.trace_trigger.specs.declared.trigger.SnapshotTrigger.{SnapshotTrigger}
@@ -132,14 +132,14 @@ one-asked name past event append text r t is older = by (asked_of t r) paused hi
     hits =
         let less : nat_lt t.number (length past) ≡ true = lt-ltb t.number (length past) older in
         let none : hits_of name event t past ++ counted_by event t (is_paused name event t past) None ≡ hits_of name event t past =
-        ap (λ (rows : List Emission). hits_of name event t past ++ rows) (nothing-counted event t (is_paused name event t past))
+        ap (λ (rows : List Hit). hits_of name event t past ++ rows) (nothing-counted event t (is_paused name event t past))
         ∙ append-nil (hits_of name event t past) in
         let now : hits_of name event t (request ∷ past)
         ≡ (if empties (asked_by event t (written_to name event request)) then []
         else hits_of name event t past ++ counted_by event t (is_paused name event t past) None) = rw less refl in
         now
         ∙ ap (λ (a : Option Action). if empties a then [] else hits_of name event t past ++ counted_by event t (is_paused name event t past) None) asks
-        ∙ ap (λ (rows : List Emission). if empties (asked_of t r) then [] else rows) none
+        ∙ ap (λ (rows : List Hit). if empties (asked_of t r) then [] else rows) none
 
     by : (a : Option Action) → is_paused name event t (request ∷ past) ≡ paused_after a (is_paused name event t past)
         → hits_of name event t (request ∷ past) ≡ (if empties a then [] else hits_of name event t past)

@@ -3,11 +3,12 @@ use Rattle.std.proofs.Common.{◌≡◌, ℕ, zero, suc, ◌+◌, ◌<◌, ◌�
 use Rattle.std.proofs.lemmas.List.{get_or_default, length-map}
 use Rattle.trace_filter.specs.Truth.{Emission}
 use Rattle.trace_hist.specs.Groups.{Table, grouped}
-use Rattle.trace_hist.specs.HistSpecs.{SpecSeen}
+use Rattle.trace_trigger.specs.HistSpecs.{SpecSeen}
+use Rattle.trace_hist.specs.Hits.{Hit, hit_of}
 use Rattle.trace_hist.specs.Hists.{Seen, StandsFor}
-use Rattle.trace_hist.specs.Triggers.{is_passed}
-use Rattle.trace_hist.specs.declared.spec.Action.{Action}
-use Rattle.trace_hist.specs.declared.spec.Action.TheVariants.{Clear}
+use Rattle.trace_trigger.specs.SameSpecs.{is_passed}
+use Rattle.trace_trigger.specs.declared.spec.Action.{Action}
+use Rattle.trace_trigger.specs.declared.spec.Action.TheVariants.{Clear}
 use Rattle.trace_book.specs.KeptHists.{AreHit, CanCount, IsHit, KeptHist, asked, kept_of, rows_counted}
 use Rattle.trace_book.specs.declared.hists.AttachedHist.{AttachedHist}
 
@@ -37,7 +38,7 @@ kept_emptied action old new is spec paused stands =
 
 -- a row reached it that its filter passes
 pub hit_passed : (emission : Emission) (old : AttachedHist) (new : Seen) → is_passed old.hist.spec.filter emission ≡ true
-    → ((rows : List Emission) → StandsFor old.hist rows → old.hist.paused ≡ false → StandsFor new (rows ++ emission ∷ []))
+    → ((rows : List Hit) → StandsFor old.hist rows → old.hist.paused ≡ false → StandsFor new (rows ++ hit_of old.hist.spec emission ∷ []))
     → (old.hist.paused ≡ true → new ≡ old.hist) → new.paused ≡ old.hist.paused → new.spec ≡ old.hist.spec
     → IsHit emission (kept_of old) (kept_of (record old { hist = new }))
 unfolding StandsFor
@@ -48,10 +49,10 @@ hit_passed emission old new passed stands idle state spec = record {
   table = λ rows was. by_pause rows was old.hist.paused refl;
 }
   where
-    by_pause : (rows : List Emission) → old.hist.table ≡ grouped old.hist.spec rows → (paused : Bool) → old.hist.paused ≡ paused
+    by_pause : (rows : List Hit) → old.hist.table ≡ grouped old.hist.spec rows → (paused : Bool) → old.hist.paused ≡ paused
         → new.table ≡ grouped old.hist.spec (rows ++ rows_counted (kept_of old) emission)
     by_pause rows was true is = rw (is, append-nil) (ap (λ (s : Seen). s.table) (idle is) ∙ was)
-    by_pause rows was false is = rw (is, passed) (stands rows was is ∙ ap (λ (s : SpecSeen). grouped s (rows ++ emission ∷ [])) spec)
+    by_pause rows was false is = rw (is, passed) (stands rows was is ∙ ap (λ (s : SpecSeen). grouped s (rows ++ hit_of old.hist.spec emission ∷ [])) spec)
 
 -- ---- one more of a loop
 

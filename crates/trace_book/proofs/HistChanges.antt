@@ -4,7 +4,7 @@ use Rattle.std.proofs.Math.Seq.{map-set_same}
 use Rattle.std.proofs.lemmas.List.{get_or_default, get_or-map, length-map, map-append, map-set}
 use Rattle.std.specs.List.{filter}
 use Rattle.trace_buffer.specs.Buffers as buffers
-use Rattle.trace_hist.specs.HistSpecs.{SpecSeen}
+use Rattle.trace_trigger.specs.HistSpecs.{SpecSeen}
 use Rattle.trace_snapshot.specs.Sides.{HasShapeOf, IsSpareOf, SideFamilies, SidesSeen, StandsFor, with_spare}
 use Rattle.trace_book.specs.Changes.{IsApplied, hists_changed, sides_changed, triggers_after}
 use Rattle.trace_book.specs.Instances.{InstanceSeen, IsAlike, hists_kept}

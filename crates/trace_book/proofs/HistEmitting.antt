@@ -11,11 +11,11 @@ use Rattle.trace_format.specs.Catalogs.{AreEvents}
 use Rattle.trace_format.specs.Definitions.{Definition}
 use Rattle.trace_format.specs.declared.pair.Pair.{Pair}
 use Rattle.trace_hist.specs.Groups.{grouped}
-use Rattle.trace_hist.specs.Triggers.{is_passed}
+use Rattle.trace_trigger.specs.SameSpecs.{is_passed}
 use Rattle.trace_command.specs.Requests.{Request, Emission}
 use Rattle.trace_history.specs.Declarations.{IsPlaceOf}
 use Rattle.trace_history.specs.Emissions.{Emitted, emitted}
-use Rattle.trace_history.specs.HistTriggers.{HistTrigger, counted_by, counted_row, hists_of, hits_of, is_paused, table_of, written_to}
+use Rattle.trace_history.specs.HistTriggers.{HistTrigger, counted_by, counted_hit, counted_row, hists_of, hits_of, is_paused, table_of, written_to}
 use Rattle.trace_history.specs.Settings.{declared_events, makes}
 use Rattle.trace_history.specs.Triggers.{met_by, passes}
 use Rattle.trace_book.specs.KeptHists.{AreHit, IsHit, KeptHist, kept_as, kept_hists, rows_counted}
@@ -83,7 +83,7 @@ counted-same event t false e k own spec paused =
     rw (paused, spec, named) (by (passes t.spec.filter e) (is_passed t.spec.filter (counted_row e)) (passes-same t.spec.filter e))
   where
     by : (one other : Bool) → one ≡ other
-        → map counted_row (if true && one then e ∷ [] else []) ≡ (if other then counted_row e ∷ [] else [])
+        → map (counted_hit t) (if true && one then e ∷ [] else []) ≡ (if other then counted_hit t e ∷ [] else [])
     by true true same = refl
     by false false same = refl
     by true false same = absurd (cc)

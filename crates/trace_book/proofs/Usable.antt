@@ -16,11 +16,11 @@ use Rattle.trace_book.specs.Instances.{InstanceSeen, InstanceStandsFor, kept_tri
 use Rattle.std.proofs.lemmas.List.Filters.{length-filter_both}
 use Rattle.trace_filter.specs.Truth.{Emission}
 use Rattle.trace_hist.specs.Groups.{admitted, grouped, is_among}
-use Rattle.trace_hist.specs.HistSpecs.{SpecSeen}
+use Rattle.trace_trigger.specs.HistSpecs.{SpecSeen}
 use Rattle.trace_hist.specs.Hists.{counted}
 use Rattle.trace_hist.specs.Hits.{Hit, hit_of}
 use Rattle.trace_history.specs.Emissions.{Emitted, emitted}
-use Rattle.trace_history.specs.HistTriggers.{HistTrigger, asked_by, counted_by, counted_row, empties, hists_of, hits_of, is_paused, written_to}
+use Rattle.trace_history.specs.HistTriggers.{HistTrigger, asked_by, counted_by, counted_hit, empties, hists_of, hits_of, is_paused, written_to}
 use Rattle.trace_history.specs.Triggers.{passes}
 use Rattle.trace_book.specs.KeptHists.{HasRoomToCount, KeptHist, kept_as, kept_hists, kept_of}
 use Rattle.trace_book.specs.declared.hists.AttachedHist.{AttachedHist}
@@ -93,12 +93,11 @@ pub few_from_stands : (g : Config) (state : State) (past : List Request) → Sta
 few_from_stands g state past stands short = λ k d inside. few_offers (length past) _ short (stands.each k d inside).offered.0
 
 -- a grouping has as many hits and dropped rows as there are rows
-all_counted : (spec : SpecSeen) (rows : List Emission) → (grouped spec rows).hits + (grouped spec rows).dropped ≡ length rows
+all_counted : (spec : SpecSeen) (hits : List Hit) → (grouped spec hits).hits + (grouped spec hits).dropped ≡ length hits
 unfolding grouped
-all_counted spec rows =
-    let hits = map (hit_of spec) rows in
+all_counted spec hits =
     let among : Hit → Bool = λ hit. is_among (admitted spec.size hits) hit.key in
-    length-filter_both among (λ (hit : Hit). not (among hit)) (λ (hit : Hit). refl) hits ∙ length-map rows (hit_of spec)
+    length-filter_both among (λ (hit : Hit). not (among hit)) (λ (hit : Hit). refl) hits
 
 -- and a trigger counts at most one row of a request
 one_counted : (event : Definition) (t : HistTrigger) (paused : Bool) (e : Option Emitted) → length (counted_by event t paused e) ≤ 1
@@ -106,7 +105,7 @@ one_counted event t true e = omega arith
 one_counted event t false None = omega arith
 one_counted event t false (Some e) = by (bytes_eq event.name e.k.event.name && passes t.spec.filter e)
   where
-    by : (meets : Bool) → length (map counted_row (if meets then e ∷ [] else [])) ≤ 1
+    by : (meets : Bool) → length (map (counted_hit t) (if meets then e ∷ [] else [])) ≤ 1
     by true = omega arith
     by false = omega arith
 

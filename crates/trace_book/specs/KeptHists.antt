@@ -4,10 +4,11 @@ use Rattle.std.specs.List.{filter}
 use Rattle.trace_filter.specs.Truth.{Emission}
 use Rattle.trace_format.specs.Definitions.{Definition}
 use Rattle.trace_hist.specs.Groups.{Table, grouped}
-use Rattle.trace_hist.specs.HistSpecs.{SpecSeen}
+use Rattle.trace_trigger.specs.HistSpecs.{SpecSeen}
+use Rattle.trace_hist.specs.Hits.{Hit, hit_of}
 use Rattle.trace_hist.specs.Hists.{IsReserved, counted}
-use Rattle.trace_hist.specs.Triggers.{is_same, is_passed}
-use Rattle.trace_hist.specs.declared.spec.Action.{Action}
+use Rattle.trace_trigger.specs.SameSpecs.{is_same, is_passed}
+use Rattle.trace_trigger.specs.declared.spec.Action.{Action}
 use Rattle.trace_command.specs.Requests.{Request}
 use Rattle.trace_history.specs.HistTriggers.{HistTrigger, empties, hists_of, is_paused, paused_after, table_of}
 use Rattle.trace_book.specs.declared.hists.AttachedHist.{AttachedHist}
@@ -63,15 +64,15 @@ abbrev pub HasRoomToCount : AttachedHist → Type 0
 HasRoomToCount attached = counted attached.hist < 2 ^ 32
 
 -- the rows that it counts of an emission
-abbrev pub rows_counted : KeptHist → Emission → List Emission
-rows_counted k emission = if k.paused then [] else (if is_passed k.spec.filter emission then emission ∷ [] else [])
+abbrev pub rows_counted : KeptHist → Emission → List Hit
+rows_counted k emission = if k.paused then [] else (if is_passed k.spec.filter emission then hit_of k.spec emission ∷ [] else [])
 
 -- an emission reached it
 pub record IsHit (emission : Emission) (old new : KeptHist) : Type 0 where
   pub number : new.number ≡ old.number
   pub spec : new.spec ≡ old.spec
   pub paused : new.paused ≡ old.paused
-  pub table : (rows : List Emission) → old.table ≡ grouped old.spec rows → new.table ≡ grouped old.spec (rows ++ rows_counted old emission)
+  pub table : (rows : List Hit) → old.table ≡ grouped old.spec rows → new.table ≡ grouped old.spec (rows ++ rows_counted old emission)
 
 -- an emission reached each
 pub record AreHit (emission : Emission) (old new : List KeptHist) : Type 0 where

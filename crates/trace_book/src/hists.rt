@@ -2,7 +2,7 @@
 
 ghost use Rattle.std.specs.Prelude.{◌≡◌, ◌↔◌, ℕ, ◌<◌, ◌^◌, Bool, true, false, not, if◌then◌else◌, List, [], ◌∷◌, ◌++◌, length, map, All, OnOk, OnErr, IfOk};
 ghost use Rattle.std.specs.List.{filter, list_any};
-ghost use Rattle.trace_hist.specs.Triggers.{is_same};
+ghost use Rattle.trace_trigger.specs.SameSpecs.{is_same};
 ghost use Rattle.trace_book.specs.Commands.{shown_kept_hist};
 ghost use Rattle.trace_book.specs.KeptHists as kept;
 ghost use Rattle.trace_text.specs.ShownTriggers.{shown_trigger};

@@ -3,11 +3,10 @@ use Rattle.std.proofs.Common.{◌≡◌, ℕ, zero, suc, ◌+◌, ◌≤◌, ◌
 use Rattle.std.proofs.lemmas.Bool.{lt-ltb, le-ltb}
 use Rattle.std.proofs.lemmas.List.{map-append, length-append}
 use Rattle.trace_format.specs.Cells.{Datum, datum_of}
-use Rattle.trace_filter.specs.Truth.{Emission}
-use Rattle.trace_hist.specs.HistSpecs.{SpecSeen}
+use Rattle.trace_trigger.specs.HistSpecs.{SpecSeen}
 use Rattle.trace_hist.specs.declared.stored.StoredHit.{StoredHit}
 use Rattle.trace_hist.specs.declared.hist.Hist.TheInside.{Inside}
-use Rattle.trace_hist.specs.Hits.{Hit, hit_of}
+use Rattle.trace_hist.specs.Hits.{Hit}
 use Rattle.trace_hist.specs.Groups.{Table, same_key, is_among, distinct, keys_of, group, grouped}
 use Rattle.trace_hist.specs.Hists.{Seen, StandsFor, counted}
 use Rattle.trace_hist.specs.Steps.{stepped, after_row, after_hit}
@@ -122,16 +121,12 @@ pub table-empty : (size width : ℕ) → table_of width [] 0 ≡ group size widt
 table-empty zero width = refl
 table-empty (suc size) width = refl
 
-pub stands-after_hit : (hist : Seen) (rows : List Emission) (emission : Emission) → StandsFor hist rows
-    → StandsFor (after_hit hist (hit_of hist.spec emission)) (rows ++ emission ∷ [])
+pub stands-after_hit : (hist : Seen) (hits : List Hit) (hit : Hit) → StandsFor hist hits → StandsFor (after_hit hist hit) (hits ++ hit ∷ [])
 unfolding StandsFor grouped
-stands-after_hit hist rows emission stands =
+stands-after_hit hist hits hit stands =
     let size = hist.spec.size in
     let width = length hist.spec.value_sources in
-    let hit = hit_of hist.spec emission in
-    ap (λ t. after_row size width t hit) stands
-    ∙ sym (group-push size width (map (hit_of hist.spec) rows) hit)
-    ∙ ap (group size width) (sym (map-append (hit_of hist.spec) rows (emission ∷ [])))
+    ap (λ t. after_row size width t hit) stands ∙ sym (group-push size width hits hit)
 
 counted-stepped : (known room : Bool) (width : ℕ) (table : Table) (hit : Hit)
     → (stepped known room width table hit).hits + (stepped known room width table hit).dropped ≡ table.hits + table.dropped + 1

@@ -5,9 +5,8 @@ use Rattle.std.specs.List.{list_any}
 use Rattle.std.specs.Cmp.Lexicographic.{pointwise}
 use Rattle.std.specs.Ordering.{int_eq}
 use Rattle.trace_format.specs.Cells.{Datum, Whole, Bytes}
-use Rattle.trace_filter.specs.Truth.{Emission}
-use Rattle.trace_hist.specs.HistSpecs.{SpecSeen}
-use Rattle.trace_hist.specs.Hits.{Hit, hit_of}
+use Rattle.trace_trigger.specs.HistSpecs.{SpecSeen}
+use Rattle.trace_hist.specs.Hits.{Hit}
 
 -- ---- keys
 
@@ -82,6 +81,6 @@ group size width hits = record {
   dropped = length (filter (λ hit. not (is_among (admitted size hits) hit.key)) hits);
 }
 
--- the same of emissions, for a trigger
-unfoldable pub grouped : SpecSeen → List Emission → Table
-grouped spec rows = group spec.size (length spec.value_sources) (map (hit_of spec) rows)
+-- the same for a trigger, of rows as triggers read them
+unfoldable pub grouped : SpecSeen → List Hit → Table
+grouped spec hits = group spec.size (length spec.value_sources) hits

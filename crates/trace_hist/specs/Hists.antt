@@ -1,7 +1,7 @@
 -- What a caller sees of a histogram, and when that agrees with a list of rows.
 use Rattle.std.specs.Prelude.{◌≡◌, ℕ, ◌+◌, Bool, List, Option, Some}
 use Rattle.trace_filter.specs.Truth.{Emission}
-use Rattle.trace_hist.specs.HistSpecs.{SpecSeen}
+use Rattle.trace_trigger.specs.HistSpecs.{SpecSeen}
 use Rattle.trace_hist.specs.Hits.{Hit, hit_of}
 use Rattle.trace_hist.specs.Groups.{Table, grouped}
 
@@ -13,8 +13,8 @@ pub record Seen : Type 0 where
   pub next : Option Hit
 
 -- its entries and totals are those of the rows
-unfoldable pub StandsFor : Seen → List Emission → Type 0
-StandsFor hist rows = hist.table ≡ grouped hist.spec rows
+unfoldable pub StandsFor : Seen → List Hit → Type 0
+StandsFor hist hits = hist.table ≡ grouped hist.spec hits
 
 -- memory was taken for a row
 unfoldable pub IsReserved : Seen → Emission → Type 0

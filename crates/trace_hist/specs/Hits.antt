@@ -2,9 +2,9 @@
 use Rattle.std.specs.Prelude.{ℕ, ℤ, pos, List, map, unwrap_or, slice_get}
 use Rattle.trace_format.specs.Cells.{Datum, Whole, Bytes}
 use Rattle.trace_filter.specs.Truth.{Emission}
-use Rattle.trace_hist.specs.declared.source.Source.{Source}
-use Rattle.trace_hist.specs.declared.source.Source.TheVariants.{Pid, Cpu, Field}
-use Rattle.trace_hist.specs.HistSpecs.{SpecSeen}
+use Rattle.trace_trigger.specs.declared.source.Source.{Source}
+use Rattle.trace_trigger.specs.declared.source.Source.TheVariants.{Pid, Cpu, Field}
+use Rattle.trace_trigger.specs.HistSpecs.{SpecSeen}
 
 pub record Hit : Type 0 where
   pub key : List Datum

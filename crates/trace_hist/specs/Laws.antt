@@ -1,6 +1,6 @@
 -- The definitions once more, in the words of the subject.
 use Rattle.std.specs.Prelude.{◌≡◌, List}
-use Rattle.trace_hist.specs.declared.sort.SortRule.{SortRule}
+use Rattle.trace_trigger.specs.declared.sort_rule.SortRule.{SortRule}
 use Rattle.trace_hist.specs.Groups.{Entry}
 use Rattle.trace_hist.specs.PrintOrder.{IsPrintOrder, printed}
 

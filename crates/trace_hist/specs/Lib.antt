@@ -1,19 +1,4 @@
 pub mod Groups
-pub mod HistAttributes
-pub mod HistExamples
-pub mod HistFaultPlaces
-pub mod HistGrammar
-pub mod HistLaws
-pub mod HistLists
-pub mod HistMeanings
-pub mod HistNames
-pub mod HistParts
-pub mod HistPieces
-pub mod HistPlaces
-pub mod HistRefusals
-pub mod HistSizes
-pub mod HistSpecs
-pub mod HistTexts
 pub mod Hists
 pub mod Hits
 pub mod Laws
@@ -22,4 +7,3 @@ pub mod PrintOrder
 pub mod Steps
 pub mod Stored
 pub mod Sums
-pub mod Triggers

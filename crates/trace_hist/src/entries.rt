@@ -10,14 +10,14 @@ ghost use Rattle.trace_hist.specs.PrintOrder as order;
 ghost use Rattle.trace_hist.specs.Stored.{hit_in, table_of};
 ghost use Rattle.trace_hist.specs.Sums.{total_at};
 
+use crate::cell::copy;
 use crate::entry::HistRow;
 use crate::number::Number;
 use crate::sort::sort_entries;
-use crate::source::copy;
-use crate::spec::HistSpec;
 use crate::stored::{StoredHit, is_same_key};
 use std::alloc::{AllocError, Global};
 use trace_format::Value;
+use trace_trigger::HistSpec;
 
 /// The number at a place, or 0 where there is none.
 fn number_at(numbers: &[Number], place: usize) -> i128
@@ -127,8 +127,8 @@ pub(crate) fn entries_in_order(
     ensures { IfOk result (λ shown. map order.row_in shown.items ≡ order.printed spec.now.sort_sources
         (table_of (length spec.now.value_sources) (map hit_in hits.now) 0).entries) }
 {
-    let width = spec.value_sources.len();
+    let width = spec.value_sources().len();
     let mut entries = entries_of(alloc, width, hits)?;
-    sort_entries(&mut entries, &spec.sort_sources)?;
+    sort_entries(&mut entries, spec.sort_sources())?;
     Ok(entries)
 }

@@ -2,21 +2,20 @@
 
 ghost use Rattle.std.specs.Prelude.{◌≡◌, ◌<◌, ◌+◌, ◌^◌, ◌++◌, List, [], ◌∷◌, IfOk, OnOk, OnErr, length, map};
 ghost use Rattle.std.specs.Prelude.{IsTrue, ◌↔◌, IsSome, Some, false, true};
-ghost use Rattle.trace_filter.specs.Truth.{Emission};
-ghost use Rattle.trace_hist.specs.declared.spec.Action.TheVariants as actions;
+ghost use Rattle.trace_trigger.specs.declared.spec.Action.TheVariants as actions;
 ghost use Rattle.trace_hist.specs.Groups.{grouped};
-ghost use Rattle.trace_hist.specs.Hits.{Hit};
+ghost use Rattle.trace_hist.specs.Hits.{Hit, hit_of};
 ghost use Rattle.trace_hist.specs.PrintOrder.{row_in, printed};
 ghost use Rattle.trace_hist.specs.Steps.{after_hit};
 ghost use Rattle.trace_hist.specs.Hists.{StandsFor, IsReserved, counted};
 
 use crate::entries::entries_in_order;
 use crate::entry::HistRow;
-use crate::spec::{Action, HistSpec};
 use crate::stored::{StoredHit, is_known};
 use std::alloc::{AllocError, Global};
 use std::marker::Model;
 use trace_format::Row;
+use trace_trigger::{Action, HistSpec};
 
 /// What a histogram comes to.
 #[derive(Clone, Copy, PartialEq, Eq)]
@@ -65,7 +64,7 @@ impl Hist {
         ensures paused { IfOk result (λ hist. IsTrue hist.paused ↔ (spec.action ≡ actions.Pause)) }
         ensures counted { IfOk result (λ hist. counted hist ≡ 0) }
     {
-        let paused = matches!(spec.action, Action::Pause);
+        let paused = matches!(spec.action(), Action::Pause);
         Ok(Hist {
             alloc,
             spec,
@@ -80,7 +79,7 @@ impl Hist {
     /// Takes the memory that it needs to count a row, until the next row is counted. All that can be seen stays as it was, also where memory
     /// is refused.
     pub fn reserve_hit(&mut self, row: &Row, cpu: u32, pid: i32) -> Result<(), AllocError>
-        ensures stands { (rows : List Emission) → StandsFor self.old rows → StandsFor self.new rows }
+        ensures stands { (rows : List Hit) → StandsFor self.old rows → StandsFor self.new rows }
         ensures spec { self.new.spec ≡ self.old.spec }
         ensures paused { self.new.paused ≡ self.old.paused }
         ensures table { self.new.table ≡ self.old.table }
@@ -101,8 +100,8 @@ impl Hist {
         requires reserved { IsReserved self.old
             (record { values = row.now.values; cpu = cpu; pid = pid }) }
         requires few { counted self.old < 2 ^ 32 }
-        ensures stands { (rows : List Emission) → StandsFor self.old rows → self.old.paused ≡ false
-            → StandsFor self.new (rows ++ record { values = row.now.values; cpu = cpu; pid = pid } ∷ []) }
+        ensures stands { (rows : List Hit) → StandsFor self.old rows → self.old.paused ≡ false
+            → StandsFor self.new (rows ++ hit_of self.old.spec (record { values = row.now.values; cpu = cpu; pid = pid }) ∷ []) }
         ensures paused { self.old.paused ≡ true → self.new ≡ self.old }
         ensures state { self.new.paused ≡ self.old.paused }
         ensures spec { self.new.spec ≡ self.old.spec }
@@ -136,8 +135,10 @@ impl Hist {
     /// Stops counting: rows that come are passed over.
     #[tactic(auto, unfolding(crate::specs::Hists::StandsFor))]
     pub fn pause(&mut self)
-        ensures stands { (rows : List Emission) → StandsFor self.old rows → StandsFor self.new rows }
-        ensures seen { self.new ≡ record self.old { paused = true } }
+        ensures stands { (rows : List Hit) → StandsFor self.old rows → StandsFor self.new rows }
+        ensures spec { self.new.spec ≡ self.old.spec }
+        ensures paused { self.new.paused ≡ true }
+        ensures table { self.new.table ≡ self.old.table }
     {
         self.paused = true;
     }
@@ -145,8 +146,10 @@ impl Hist {
     /// Goes on counting.
     #[tactic(auto, unfolding(crate::specs::Hists::StandsFor))]
     pub fn resume(&mut self)
-        ensures stands { (rows : List Emission) → StandsFor self.old rows → StandsFor self.new rows }
-        ensures seen { self.new ≡ record self.old { paused = false } }
+        ensures stands { (rows : List Hit) → StandsFor self.old rows → StandsFor self.new rows }
+        ensures spec { self.new.spec ≡ self.old.spec }
+        ensures paused { self.new.paused ≡ false }
+        ensures table { self.new.table ≡ self.old.table }
     {
         self.paused = false;
     }
@@ -157,7 +160,6 @@ impl Hist {
         ensures spec { self.new.spec ≡ self.old.spec }
         ensures paused { self.new.paused ≡ self.old.paused }
         ensures counted { counted self.new ≡ 0 }
-        ensures reserved { (emission : Emission) → IsReserved self.old emission → IsReserved self.new emission }
     {
         self.hits.clear();
         self.entries = 0;
@@ -180,10 +182,10 @@ impl Hist {
 
     /// How many rows were counted, into how many entries, and how many had no room. It takes no memory.
     pub fn totals(&self) -> Totals
-        ensures hits { (rows : List Emission) → StandsFor self.now rows → result.hits ≡ (grouped self.now.spec rows).hits }
-        ensures entries { (rows : List Emission) → StandsFor self.now rows
+        ensures hits { (rows : List Hit) → StandsFor self.now rows → result.hits ≡ (grouped self.now.spec rows).hits }
+        ensures entries { (rows : List Hit) → StandsFor self.now rows
             → result.entries ≡ length (grouped self.now.spec rows).entries }
-        ensures dropped { (rows : List Emission) → StandsFor self.now rows
+        ensures dropped { (rows : List Hit) → StandsFor self.now rows
             → result.dropped ≡ (grouped self.now.spec rows).dropped }
         ensures counted { result.hits + result.dropped ≡ counted self.now }
         ensures table { (result.hits ≡ self.now.table.hits) × (result.entries ≡ length self.now.table.entries)
@@ -198,7 +200,7 @@ impl Hist {
 
     /// The entries in print order: by the sort keys in turn, those that tie in order of first occurrence.
     pub fn rows(&self) -> Result<Vec<HistRow>, AllocError>
-        ensures rows { (rows : List Emission) → StandsFor self.now rows → IfOk result (λ shown. map row_in shown.items
+        ensures rows { (rows : List Hit) → StandsFor self.now rows → IfOk result (λ shown. map row_in shown.items
             ≡ printed self.now.spec.sort_sources (grouped self.now.spec rows).entries) }
         ensures table { IfOk result (λ shown. map row_in shown.items ≡ printed self.now.spec.sort_sources self.now.table.entries) }
     {

@@ -9,25 +9,7 @@ use crate::entry::HistRow;
 use std::alloc::AllocError;
 use std::cmp::Ordering;
 use trace_format::Value as Cell;
-
-/// What entries are sorted by.
-#[derive(Clone, Copy, PartialEq, Eq)]
-pub(crate) enum SortSource {
-    /// A key, by its place among the keys.
-    Key(usize),
-    /// A value's sum, by its place among the values.
-    Value(usize),
-    /// The hitcount.
-    Hitcount,
-}
-
-/// A sort key, as it is looked up.
-#[derive(Clone, Copy, PartialEq, Eq)]
-pub(crate) struct SortRule {
-    pub(crate) source: SortSource,
-    /// Whether greater ones come first.
-    pub(crate) descending: bool,
-}
+use trace_trigger::{SortRule, SortSource};
 
 fn compare_cells(left: &Cell, right: &Cell) -> Ordering
     ensures { result ≡ order.datum_cmp (datum_of left.now) (datum_of right.now) }
@@ -60,28 +42,24 @@ fn sum_at(sums: &[i128], place: usize) -> i128
     }
 }
 
-impl SortSource {
-    fn compare(self, left: &HistRow, right: &HistRow) -> Ordering
-        ensures { result ≡ order.directed false self (order.row_in left.now) (order.row_in right.now) }
-    {
-        match self {
-            SortSource::Key(place) => compare_keys(&left.keys, &right.keys, place),
-            SortSource::Value(place) => sum_at(&left.sums, place).cmp(&sum_at(&right.sums, place)),
-            SortSource::Hitcount => left.hitcount.cmp(&right.hitcount),
-        }
+fn compare_by(source: SortSource, left: &HistRow, right: &HistRow) -> Ordering
+    ensures { result ≡ order.directed false source (order.row_in left.now) (order.row_in right.now) }
+{
+    match source {
+        SortSource::Key(place) => compare_keys(&left.keys, &right.keys, place),
+        SortSource::Value(place) => sum_at(&left.sums, place).cmp(&sum_at(&right.sums, place)),
+        SortSource::Hitcount => left.hitcount.cmp(&right.hitcount),
     }
 }
 
-impl SortRule {
-    fn compare(self, left: &HistRow, right: &HistRow) -> Ordering
-        ensures { result ≡ order.directed self.descending self.source
-            (order.row_in left.now) (order.row_in right.now) }
-    {
-        if self.descending {
-            self.source.compare(right, left)
-        } else {
-            self.source.compare(left, right)
-        }
+fn compare_as(rule: SortRule, left: &HistRow, right: &HistRow) -> Ordering
+    ensures { result ≡ order.directed rule.descending rule.source
+        (order.row_in left.now) (order.row_in right.now) }
+{
+    if rule.descending {
+        compare_by(rule.source, right, left)
+    } else {
+        compare_by(rule.source, left, right)
     }
 }
 
@@ -91,7 +69,7 @@ fn compare(rules: &[SortRule], left: &HistRow, right: &HistRow) -> Ordering
 {
     match rules {
         [] => Ordering::Equal,
-        [rule, rules @ ..] => match rule.compare(left, right) {
+        [rule, rules @ ..] => match compare_as(*rule, left, right) {
             Ordering::Equal => compare(rules, left, right),
             decided => decided,
         },

@@ -2,15 +2,16 @@
 
 ghost use Rattle.std.specs.Prelude.{◌≡◌, map, IfOk};
 ghost use Rattle.trace_format.specs.Cells.{datum_of};
-ghost use Rattle.trace_hist.specs.Hits.{hit_of, cell_of, number_at};
+ghost use Rattle.trace_hist.specs.Hits as reads;
+ghost use Rattle.trace_hist.specs.Hits.{hit_of};
 ghost use Rattle.trace_hist.specs.Groups as groups;
 ghost use Rattle.trace_hist.specs.Stored.{hit_in, is_stored};
 
+use crate::cell::{cell_of, number_of};
 use crate::number::Number;
-use crate::source::Source;
-use crate::spec::HistSpec;
 use std::alloc::{AllocError, Global};
 use trace_format::{Row, Value};
+use trace_trigger::{HistSpec, Source};
 
 /// The cells of a row's key, and the numbers that are summed.
 #[derive(Drop)]
@@ -31,8 +32,8 @@ impl StoredHit {
         ensures { IfOk result (λ hit. hit_in hit
             ≡ hit_of spec.now (record { values = row.now.values; cpu = cpu; pid = pid })) }
     {
-        let key = key_of(alloc, &spec.key_sources, row.values(), cpu, pid)?;
-        let numbers = numbers_of(alloc, &spec.value_sources, row, cpu, pid)?;
+        let key = key_of(alloc, spec.key_sources(), row.values(), cpu, pid)?;
+        let numbers = numbers_of(alloc, spec.value_sources(), row, cpu, pid)?;
         Ok(StoredHit { key, numbers })
     }
 }
@@ -45,11 +46,11 @@ fn key_of(
     pid: i32,
 ) -> Result<Vec<Value>, AllocError>
     ensures { IfOk result (λ key. map datum_of key.items
-        ≡ map (cell_of (record { values = map datum_of values.now; cpu = cpu; pid = pid })) sources.now) }
+        ≡ map (reads.cell_of (record { values = map datum_of values.now; cpu = cpu; pid = pid })) sources.now) }
 {
     let mut key = Vec::with_capacity(alloc, sources.len())?;
     for source in sources {
-        key.push(source.cell(alloc, values, cpu, pid)?)?;
+        key.push(cell_of(alloc, *source, values, cpu, pid)?)?;
     }
     Ok(key)
 }
@@ -62,11 +63,11 @@ fn numbers_of(
     pid: i32,
 ) -> Result<Vec<Number>, AllocError>
     ensures { IfOk result (λ numbers. numbers.items
-        ≡ map (number_at (record { values = row.now.values; cpu = cpu; pid = pid })) sources.now) }
+        ≡ map (reads.number_at (record { values = row.now.values; cpu = cpu; pid = pid })) sources.now) }
 {
     sources
         .iter()
-        .map(|source| source.number(row, cpu, pid))
+        .map(|source| number_of(*source, row, cpu, pid))
         .collect(alloc)
 }
 

@@ -4,15 +4,15 @@ use Rattle.std.specs.List.{list_any}
 use Rattle.std.proofs.lemmas.List.{length-append, append_assoc}
 use Rattle.std.proofs.lemmas.List.Elements.{All-nil, All-append, All-cons}
 use Rattle.std.proofs.lemmas.Slice.Eq.{bytes_eq-Decides}
-use Rattle.trace_filter.specs.Truth.{Emission}
+use Rattle.trace_hist.specs.Hits.{Hit}
 use Rattle.trace_format.specs.Definitions.{Definition}
-use Rattle.trace_hist.specs.Triggers.{IsSame}
-use Rattle.trace_hist.specs.declared.spec.Action.{Action}
-use Rattle.trace_hist.specs.declared.spec.Action.TheVariants.{Clear}
+use Rattle.trace_trigger.specs.SameSpecs.{IsSame}
+use Rattle.trace_trigger.specs.declared.spec.Action.{Action}
+use Rattle.trace_trigger.specs.declared.spec.Action.TheVariants.{Clear}
 use Rattle.trace_command.specs.Paths.{EventTrigger}
 use Rattle.trace_command.specs.Requests.{Request, WriteFile, Emission as Emits}
 use Rattle.trace_history.specs.Emissions.{Emitted, emitted}
-use Rattle.trace_history.specs.HistTriggers.{HistTrigger, Written, written_to, hists_after, hists_of, asked_by, paused_after, is_paused, counted_row, counted_by, empties, hits_of}
+use Rattle.trace_history.specs.HistTriggers.{HistTrigger, Written, written_to, hists_after, hists_of, asked_by, paused_after, is_paused, counted_hit, counted_by, empties, hits_of}
 use Rattle.trace_history.specs.Laws.{asks, clears, meets, IsRowOfEmission, CountedRowsAreOfEmissions, EmissionsAreCountedOnce, EmissionsAreCounted, PausesCountNothing, ClearsLeaveNone, OtherRequestsLeaveHistTriggers}
 use Rattle.trace_history.proofs.HistTriggers.{hists_of-after, same-back}
 use Rattle.trace_history.proofs.PipeReads.{is_same-self}
@@ -56,7 +56,7 @@ first-false true y is = absurd (cc)
 first-false false y is = (refl, is)
 
 -- the same emission, one request later
-older-row : (instance : Option (List ℕ)) (event : Definition) (t : HistTrigger) (past : List Request) (request : Request) (row : Emission)
+older-row : (instance : Option (List ℕ)) (event : Definition) (t : HistTrigger) (past : List Request) (request : Request) (row : Hit)
     → clears instance event t request ≡ false → IsRowOfEmission instance event t past row → IsRowOfEmission instance event t (request ∷ past) row
 older-row instance event t past request row kept is = record {
   later = request ∷ is.later;
@@ -77,14 +77,14 @@ new-rows : (instance : Option (List ℕ)) (event : Definition) (t : HistTrigger)
     → All (IsRowOfEmission instance event t (request ∷ past)) (counted_by event t (is_paused instance event t past) (emitted past request))
 new-rows instance event t past request before = by (is_paused instance event t past) refl
   where
-    P : Emission → Type 0
+    P : Hit → Type 0
     P = IsRowOfEmission instance event t (request ∷ past)
 
     by_met : is_paused instance event t past ≡ false → (e : Emitted) → emitted past request ≡ Some e → (met : Bool) → meets event t e ≡ met
-        → All P (map counted_row (if met then e ∷ [] else []))
+        → All P (map (counted_hit t) (if met then e ∷ [] else []))
     by_met active e emission false met = All-nil P
     by_met active e emission true met =
-        All-cons P (counted_row e) [] (record {
+        All-cons P (counted_hit t e) [] (record {
           later = [];
           request = request;
           before = past;
@@ -110,13 +110,13 @@ pub counted_rows_are_of_emissions : CountedRowsAreOfEmissions
 counted_rows_are_of_emissions instance event t [] = All-nil (IsRowOfEmission instance event t [])
 counted_rows_are_of_emissions instance event t (request ∷ past) = by (counted_rows_are_of_emissions instance event t past) (nat_lt t.number (length past)) refl
   where
-    P : Emission → Type 0
+    P : Hit → Type 0
     P = IsRowOfEmission instance event t (request ∷ past)
 
     Older : Type 0
     Older = All (IsRowOfEmission instance event t past) (hits_of instance event t past)
 
-    new : List Emission
+    new : List Hit
     new = counted_by event t (is_paused instance event t past) (emitted past request)
 
     by_cleared : Older → t.number < length past → (cleared : Bool) → clears instance event t request ≡ cleared
@@ -137,8 +137,8 @@ pub emissions_are_counted_once : EmissionsAreCountedOnce
 emissions_are_counted_once instance event t past request e attached active emission met =
     let unwritten = emitted-unwritten instance event past request e emission in
     let cleared : clears instance event t request ≡ false = rw unwritten refl in
-    let new : counted_by event t (is_paused instance event t past) (emitted past request) ≡ counted_row e ∷ [] = rw (active, emission, met) refl in
-    hits-after instance event t past request attached cleared ∙ ap (λ (rows : List Emission). hits_of instance event t past ++ rows) new
+    let new : counted_by event t (is_paused instance event t past) (emitted past request) ≡ counted_hit t e ∷ [] = rw (active, emission, met) refl in
+    hits-after instance event t past request attached cleared ∙ ap (λ (rows : List Hit). hits_of instance event t past ++ rows) new
 
 pub emissions_are_counted : EmissionsAreCounted
 emissions_are_counted instance event t [] request before e attached kept active emission met =
@@ -150,8 +150,8 @@ emissions_are_counted instance event t (next ∷ later) request before e attache
     let new = counted_by event t (is_paused instance event t past) (emitted past next) in (
       older.0 ++ new,
       hits-after instance event t past next (more-before later before request t.number attached) parts.0
-          ∙ ap (λ (rows : List Emission). rows ++ new) older.1
-          ∙ append_assoc (hits_of instance event t before) (counted_row e ∷ older.0) new,
+          ∙ ap (λ (rows : List Hit). rows ++ new) older.1
+          ∙ append_assoc (hits_of instance event t before) (counted_hit t e ∷ older.0) new,
     )
 
 -- ---- pauses
@@ -176,7 +176,7 @@ pauses_count_nothing instance event t (next ∷ later) past attached paused unas
     let new : counted_by event t (is_paused instance event t (later ++ past)) (emitted (later ++ past) next) ≡ [] = rw older.0 refl in (
       paused-after instance event t (later ++ past) next before ∙ unasked-paused asked (is_paused instance event t (later ++ past)) parts.0 ∙ older.0,
       hits-after instance event t (later ++ past) next before (unasked-kept asked parts.0)
-          ∙ ap (λ (rows : List Emission). hits_of instance event t (later ++ past) ++ rows) new
+          ∙ ap (λ (rows : List Hit). hits_of instance event t (later ++ past) ++ rows) new
           ∙ append-nil (hits_of instance event t (later ++ past)) ∙ older.1,
     )
 
@@ -212,5 +212,5 @@ other_requests_leave_hist_triggers instance event t past request alive unwritten
     hits none kept =
         let new : counted_by event t (is_paused instance event t past) (emitted past request) ≡ [] = rw none (nothing (is_paused instance event t past)) in
         hits-after instance event t past request attached kept
-        ∙ ap (λ (rows : List Emission). hits_of instance event t past ++ rows) new
+        ∙ ap (λ (rows : List Hit). hits_of instance event t past ++ rows) new
         ∙ append-nil (hits_of instance event t past)

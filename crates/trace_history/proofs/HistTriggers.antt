@@ -11,11 +11,11 @@ use Rattle.std.proofs.lemmas.List.Folds.{list_any_at}
 use Rattle.std.proofs.lemmas.List.Kept.{AllPairs-cons, AllPairs-filter}
 use Rattle.std.proofs.lemmas.Slice.Eq.{bytes_eq-Decides}
 use Rattle.trace_format.specs.Definitions.{Definition}
-use Rattle.trace_hist.specs.HistSpecs.{SpecSeen}
-use Rattle.trace_hist.specs.Triggers.{IsSame, is_same as is_same_spec, same_sort_key, same_filter, filter_text}
-use Rattle.trace_hist.specs.declared.spec.Action.{Action}
-use Rattle.trace_hist.specs.declared.spec.Action.TheVariants as action
-use Rattle.trace_hist.specs.declared.spec.SortKey.{SortKey}
+use Rattle.trace_trigger.specs.HistSpecs.{SpecSeen}
+use Rattle.trace_trigger.specs.SameSpecs.{IsSame, is_same as is_same_spec, same_sort_key, same_filter, filter_text}
+use Rattle.trace_trigger.specs.declared.spec.Action.{Action}
+use Rattle.trace_trigger.specs.declared.spec.Action.TheVariants as action
+use Rattle.trace_trigger.specs.declared.spec.SortKey.{SortKey}
 use Rattle.trace_trigger.specs.TriggerTexts.{said_of}
 use Rattle.trace_trigger.specs.declared.fault.TriggerFault.{TriggerFault}
 use Rattle.trace_trigger.specs.declared.trigger.TriggerText.{TriggerText}

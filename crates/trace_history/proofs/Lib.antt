@@ -1,3 +1,4 @@
+pub mod AnsweredTrails
 pub mod EventLists
 pub mod Events
 pub mod Examples
@@ -8,11 +9,15 @@ pub mod HistTriggerExamples
 pub mod HistTriggers
 pub mod KeptEmissions
 pub mod LegalEvents
+pub mod OwnAnswers
 pub mod PipeReads
+pub mod SettingExamples
 pub mod ShownRecords
 pub mod Sides
 pub mod Spares
 pub mod StandingFilters
+pub mod TextFaults
+pub mod TrailExamples
 pub mod Triggered
 pub mod Trailing
 pub mod Unworn

@@ -8,7 +8,7 @@ use Rattle.trace_command.specs.declared.command.Entry.{Entry}
 use Rattle.trace_command.specs.declared.command.Reply.{Reply}
 use Rattle.trace_command.specs.declared.refusal.Refusal.{Refusal}
 
-abbrev Outcome : Type 0
+abbrev pub Outcome : Type 0
 Outcome = Result Reply Refusal
 
 without-append : (by : ℕ) (xs ys : List Entry) → IsWithout by xs → IsWithout by ys → IsWithout by (xs ++ ys)
@@ -96,11 +96,11 @@ trail-refused g by before others command refusal idle refused =
 -- ---- the entries of the caller
 
 -- an entry of the caller comes first
-commands-own : (by : ℕ) (entry : Entry) (later : List Entry) → entry.by ≡ by → commands_of by (entry ∷ later) ≡ entry.command ∷ commands_of by later
+pub commands-own : (by : ℕ) (entry : Entry) (later : List Entry) → entry.by ≡ by → commands_of by (entry ∷ later) ≡ entry.command ∷ commands_of by later
 commands-own by entry later own = grind (arith, own)
 
 -- the entries of others add none
-commands-others : (by : ℕ) (others later : List Entry) → IsWithout by others → commands_of by (others ++ later) ≡ commands_of by later
+pub commands-others : (by : ℕ) (others later : List Entry) → IsWithout by others → commands_of by (others ++ later) ≡ commands_of by later
 commands-others by [] later idle = refl
 commands-others by (entry ∷ others) later idle =
     let P : Entry → Type 0 = λ e. e.by ≢ by in
@@ -108,7 +108,7 @@ commands-others by (entry ∷ others) later idle =
     let rest = commands-others by others later (All-tail P entry others idle) in
     grind (arith, rest, here)
 
-commands-none : (by : ℕ) (others : List Entry) → IsWithout by others → commands_of by others ≡ []
+pub commands-none : (by : ℕ) (others : List Entry) → IsWithout by others → commands_of by others ≡ []
 commands-none by others idle = ap (commands_of by) (sym (append-nil others)) ∙ commands-others by others [] idle
 
 pub trails_hold_done_calls_once : (g : Config) (by : ℕ) (before after : List Entry) (commands : List Command) (replies : List Outcome)

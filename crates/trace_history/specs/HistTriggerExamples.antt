@@ -1,11 +1,11 @@
 -- Scripts of hist triggers with the answers that the definitions give them, worked by hand (histogram.rst, "hist triggers"). The checker computes
 -- them.
-use Rattle.std.specs.Prelude.{ℕ, List, [], ◌∷◌, ◌++◌, Err, codes}
+use Rattle.std.specs.Prelude.{ℕ, pos, List, [], ◌∷◌, ◌++◌, Err, codes}
 use Rattle.trace_command.specs.declared.command.Command.{Command}
-use Rattle.trace_command.specs.declared.command.Command.TheVariants.{Mkdir, Rmdir}
+use Rattle.trace_command.specs.declared.command.Command.TheVariants.{Emit, Mkdir, Rmdir}
 use Rattle.trace_command.specs.declared.refusal.Refusal.TheVariants.{NotWritable, BadValue, NoSuchField, HistSyntax, BadSize, TriggerExists, NoSuchTrigger, TooMany}
-use Rattle.trace_history.specs.Examples.{Turn, ◌gives◌, echo, append, cat, take, tick, done, shows, with_tick, counted}
-use Rattle.trace_history.specs.SnapshotExamples.{trigger_file, in_instance}
+use Rattle.trace_history.specs.Examples.{Turn, ◌gives◌, echo, append, cat, take, pair, tick, done, shows, with_tick, counted}
+use Rattle.trace_history.specs.SnapshotExamples.{freed, trigger_file, in_instance}
 
 -- ---- what is written and shown
 
@@ -197,4 +197,25 @@ four_triggers =
     ∷ anew (codes "hist:keys=common_cpu") gives done
     ∷ cat trigger_file
     gives shows (codes "snapshot:unlimited" ∷ codes "hist:keys=common_cpu:vals=hitcount:sort=hitcount:size=2048 [active]" ∷ [])
+    ∷ [])
+
+-- ---- two events
+
+abbrev pub tock_trigger_file : List ℕ
+tock_trigger_file = codes "events/synthetic/tock/trigger"
+
+-- triggers are of one event, and meet what that event emits; a hist trigger makes no spare
+abbrev pub triggers_of_two_events : List Turn
+triggers_of_two_events =
+    with_tick (append (codes "tock u8 m") (codes "synthetic_events") gives done
+    ∷ more (codes "hist:keys=n") gives done
+    ∷ cat (codes "snapshot") gives shows freed
+    ∷ append (codes "snapshot:1") tock_trigger_file gives done
+    ∷ append (codes "hist:keys=common_pid:pause") tock_trigger_file gives done
+    ∷ cat trigger_file gives shows (active_line ∷ [])
+    ∷ tick 0 (codes "1") gives done
+    ∷ cat tock_trigger_file
+    gives shows (codes "snapshot:count=1" ∷ codes "hist:keys=common_pid:vals=hitcount:sort=hitcount:size=2048 [paused]" ∷ [])
+    ∷ Emit (codes "tock") 0 (pos 7) (pair (codes "m") (codes "1") ∷ []) gives done
+    ∷ cat hist_file gives shows (histogram active_line (codes "{ n:          1 } hitcount:          1" ∷ []) (codes "1") (codes "1"))
     ∷ [])

@@ -5,10 +5,11 @@ use Rattle.std.specs.Str.{bytes_eq}
 use Rattle.trace_filter.specs.Truth.{Emission}
 use Rattle.trace_format.specs.Definitions.{Definition}
 use Rattle.trace_hist.specs.Groups.{Table, grouped}
-use Rattle.trace_hist.specs.HistSpecs.{SpecSeen}
-use Rattle.trace_hist.specs.Triggers.{is_same as is_same_spec}
-use Rattle.trace_hist.specs.declared.spec.Action.{Action}
-use Rattle.trace_hist.specs.declared.spec.Action.TheVariants.{Pause, Continue, Clear}
+use Rattle.trace_trigger.specs.HistSpecs.{SpecSeen}
+use Rattle.trace_hist.specs.Hits.{Hit, hit_of}
+use Rattle.trace_trigger.specs.SameSpecs.{is_same as is_same_spec}
+use Rattle.trace_trigger.specs.declared.spec.Action.{Action}
+use Rattle.trace_trigger.specs.declared.spec.Action.TheVariants.{Pause, Continue, Clear}
 use Rattle.trace_trigger.specs.TriggerTexts.{said_of}
 use Rattle.trace_trigger.specs.declared.fault.TriggerFault.{TriggerFault}
 use Rattle.trace_trigger.specs.declared.trigger.TriggerText.{TriggerText}
@@ -101,10 +102,14 @@ is_paused instance event t (request ∷ past) =
 abbrev pub counted_row : Emitted → Emission
 counted_row e = record { values = e.row.values; cpu = e.cpu; pid = e.pid }
 
+-- and what a trigger reads of it
+abbrev pub counted_hit : HistTrigger → Emitted → Hit
+counted_hit t e = hit_of t.spec (counted_row e)
+
 -- the rows of a request that a trigger counts: of an emission that it meets while it is not paused
-abbrev pub counted_by : Definition → HistTrigger → Bool → Option Emitted → List Emission
+abbrev pub counted_by : Definition → HistTrigger → Bool → Option Emitted → List Hit
 counted_by event t true e = []
-counted_by event t false e = map counted_row (met_by event t.spec.filter e)
+counted_by event t false e = map (counted_hit t) (met_by event t.spec.filter e)
 
 -- whether what is asked for empties the histogram
 abbrev pub empties : Option Action → Bool
@@ -112,7 +117,7 @@ empties (Some Clear) = true
 empties asked = false
 
 -- the rows that a trigger counted since it was attached or last emptied, the newest last
-abbrev pub hits_of : Option (List ℕ) → Definition → HistTrigger → List Request → List Emission
+abbrev pub hits_of : Option (List ℕ) → Definition → HistTrigger → List Request → List Hit
 hits_of instance event t [] = []
 hits_of instance event t (request ∷ past) =
     if nat_lt t.number (length past)

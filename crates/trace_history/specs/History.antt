@@ -6,9 +6,9 @@ use Rattle.trace_buffer.specs.Families.{cpu_stats}
 use Rattle.trace_command.specs.Paths.{File, Trace, CpuTrace, TracePipe, CpuTracePipe, CpuStats, Overwrite, TraceOptions, TracingOn, Snapshot, SyntheticEvents, EventsEnable, EventsFilter, EventEnable, EventFilter, EventTrigger, EventHist, EventFormat}
 use Rattle.trace_filter.specs.declared.fault.FilterFault.{FilterFault}
 use Rattle.trace_filter.specs.Filters.{Parsed, answer_of}
-use Rattle.trace_hist.specs.HistSpecs.{SpecSeen}
-use Rattle.trace_hist.specs.declared.spec.Action.{Action}
-use Rattle.trace_hist.specs.declared.spec.Action.TheVariants.{Attach as AttachIt, Continue, Clear}
+use Rattle.trace_trigger.specs.HistSpecs.{SpecSeen}
+use Rattle.trace_trigger.specs.declared.spec.Action.{Action}
+use Rattle.trace_trigger.specs.declared.spec.Action.TheVariants.{Attach as AttachIt, Continue, Clear}
 use Rattle.trace_lex.specs.Blanks.{trimmed}
 use Rattle.trace_lex.specs.Names.{is_name}
 use Rattle.trace_format.specs.Catalogs.{id_for}

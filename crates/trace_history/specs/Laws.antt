@@ -9,9 +9,10 @@ use Rattle.trace_filter.specs.Filters.{IsFilter, Passes}
 use Rattle.trace_filter.specs.Truth.{Emission}
 use Rattle.trace_format.specs.Cells.{Cells, IsRowOf, payload_of}
 use Rattle.trace_format.specs.Definitions.{Definition}
-use Rattle.trace_hist.specs.HistSpecs.{SpecSeen}
-use Rattle.trace_hist.specs.Triggers.{IsSame}
-use Rattle.trace_hist.specs.declared.spec.Action.TheVariants.{Clear}
+use Rattle.trace_trigger.specs.HistSpecs.{SpecSeen}
+use Rattle.trace_hist.specs.Hits.{Hit}
+use Rattle.trace_trigger.specs.SameSpecs.{IsSame}
+use Rattle.trace_trigger.specs.declared.spec.Action.TheVariants.{Clear}
 use Rattle.trace_text.specs.RecordText.{record_line, row_line}
 use Rattle.trace_trigger.specs.TriggerTexts.{said_of}
 use Rattle.trace_trigger.specs.declared.trigger.TriggerText.TheVariants.{Hist}
@@ -24,7 +25,7 @@ use Rattle.trace_history.specs.Rings.{new_rings, with_emitted, rings, other_ring
 use Rattle.trace_history.specs.Settings.{NumberedEvent, event_named, declared_events, filter_of, is_same, makes}
 use Rattle.trace_history.specs.Snapshots.{exchanges, has_spare}
 use Rattle.trace_history.specs.Triggers.{acts, passes, trigger_of, has_trigger}
-use Rattle.trace_history.specs.HistTriggers.{HistTrigger, hists_of, written_to, asked_by, is_paused, empties, counted_row, hits_of}
+use Rattle.trace_history.specs.HistTriggers.{HistTrigger, hists_of, written_to, asked_by, is_paused, empties, counted_hit, hits_of}
 use Rattle.trace_command.specs.declared.command.Config.{Config}
 use Rattle.trace_command.specs.declared.command.Entry.{Entry}
 
@@ -191,7 +192,7 @@ abbrev pub meets : Definition → HistTrigger → Emitted → Bool
 meets event t e = bytes_eq event.name e.k.event.name && passes t.spec.filter e
 
 -- a row is that of an emission that a trigger met after it was attached and last emptied, and while it was not paused
-pub record IsRowOfEmission (instance : Option (List ℕ)) (event : Definition) (t : HistTrigger) (past : List Request) (row : Emission) : Type 0 where
+pub record IsRowOfEmission (instance : Option (List ℕ)) (event : Definition) (t : HistTrigger) (past : List Request) (row : Hit) : Type 0 where
   pub later : List Request
   pub request : Request
   pub before : List Request
@@ -202,7 +203,7 @@ pub record IsRowOfEmission (instance : Option (List ℕ)) (event : Definition) (
   pub e : Emitted
   pub emission : emitted before request ≡ Some e
   pub met : meets event t e ≡ true
-  pub shown : row ≡ counted_row e
+  pub shown : row ≡ counted_hit t e
 
 -- each row that a trigger counted is that of such an emission
 abbrev pub CountedRowsAreOfEmissions : Type 0
@@ -216,7 +217,7 @@ abbrev pub EmissionsAreCountedOnce : Type 0
 EmissionsAreCountedOnce =
     (instance : Option (List ℕ)) (event : Definition) (t : HistTrigger) (past : List Request) (request : Request) (e : Emitted)
     → t.number < length past → is_paused instance event t past ≡ false → emitted past request ≡ Some e → meets event t e ≡ true
-    → hits_of instance event t (request ∷ past) ≡ hits_of instance event t past ++ counted_row e ∷ []
+    → hits_of instance event t (request ∷ past) ≡ hits_of instance event t past ++ counted_hit t e ∷ []
 
 -- and until the trigger is emptied it stays counted there, whatever else is done
 abbrev pub EmissionsAreCounted : Type 0
@@ -224,7 +225,7 @@ EmissionsAreCounted =
     (instance : Option (List ℕ)) (event : Definition) (t : HistTrigger) (later : List Request) (request : Request) (before : List Request) (e : Emitted)
     → t.number < length before → list_any (clears instance event t) later ≡ false → is_paused instance event t before ≡ false
     → emitted before request ≡ Some e → meets event t e ≡ true
-    → (rest : List Emission) × (hits_of instance event t (later ++ request ∷ before) ≡ hits_of instance event t before ++ counted_row e ∷ rest)
+    → (rest : List Hit) × (hits_of instance event t (later ++ request ∷ before) ≡ hits_of instance event t before ++ counted_hit t e ∷ rest)
 
 -- until something is asked of a trigger that is paused, it stays so and counts nothing, whatever else is done
 abbrev pub PausesCountNothing : Type 0

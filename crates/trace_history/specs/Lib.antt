@@ -13,3 +13,5 @@ pub mod Blocks
 pub mod Examples
 pub mod SnapshotExamples
 pub mod HistTriggerExamples
+pub mod SettingExamples
+pub mod TrailExamples

@@ -3,9 +3,11 @@
 
 ghost use Rattle.trace_history.specs.Examples.{small, IsAnswered, merged_reads, instances, instance_made_again, recording_off, lost_line_after_overrun, precedence_and_kept_filter};
 ghost use Rattle.trace_history.specs.SnapshotExamples.{two_snapshots, counted_trigger, unlimited_trigger, removed_trigger, trigger_of_disabled_event, refused_triggers, sides_of_an_instance};
-ghost use Rattle.trace_history.specs.HistTriggerExamples.{shown_triggers, refused_hist_triggers, paused_and_cleared, counted_unrecorded, histograms_of_an_instance, removed_hist_triggers, hist_triggers_anew, four_triggers};
+ghost use Rattle.trace_history.specs.HistTriggerExamples.{shown_triggers, refused_hist_triggers, paused_and_cleared, counted_unrecorded, histograms_of_an_instance, removed_hist_triggers, hist_triggers_anew, four_triggers, triggers_of_two_events};
+ghost use Rattle.trace_history.specs.SettingExamples.{switched, filters_of_all, options_of_an_instance, recorded_by_its_settings, emptied, refused_in_order, eight_instances, short, full_history};
 ghost use Rattle.trace_history.specs.Laws.{FiltersAreOfTheirEvents, FiltersHoldAsTheirTrees, RecordsShowTheirRows, KeptRecordsShowEmissions, KeptSpareRecordsShowEmissions, SnapshotsSwapTheSides, TriggersSwapTheSides, SnapshotsStay, TriggersHaveTheirSpare, SparesBeginEmpty, PipeReadsConsumeWhatTheyShow, WholePipeReadsConsumeWhatTheyShow, AtMostFourTriggers, HistTriggersDiffer, HistTriggersAreInOrder, CountedRowsAreOfEmissions, EmissionsAreCountedOnce, EmissionsAreCounted, PausesCountNothing, ClearsLeaveNone, OtherRequestsLeaveHistTriggers};
-ghost use Rattle.trace_history.specs.TrailLaws.{TrailsHoldDoneCallsOnce, WornIsNoAnswer};
+ghost use Rattle.trace_history.specs.TrailLaws.{TrailsHoldDoneCallsOnce, EachCallIsAnswered, LoneCallersAreAnswered, WornIsNoAnswer, MemoryIsNoAnswer};
+ghost use Rattle.trace_history.specs.TrailExamples.{FirstMakes, SecondMakes, ExactlyOneMakes};
 
 /// In a legal history the filter that an event has in an instance is one of the event, and it holds of an emission as the trees of its text do.
 pub fn filters_are_of_their_events()
@@ -103,6 +105,19 @@ pub fn hist_examples_are_answered()
     ensures removed { IsAnswered (small 1) removed_hist_triggers }
     ensures anew { IsAnswered (small 1) hist_triggers_anew }
     ensures four { IsAnswered (small 1) four_triggers }
+    ensures events { IsAnswered (small 1) triggers_of_two_events }
+{}
+
+/// Likewise to worked scripts of settings and refusals.
+pub fn setting_examples_are_answered()
+    ensures switches { IsAnswered (small 1) switched }
+    ensures filters { IsAnswered (small 1) filters_of_all }
+    ensures options { IsAnswered (small 1) options_of_an_instance }
+    ensures recorded { IsAnswered (small 1) recorded_by_its_settings }
+    ensures emptied { IsAnswered (small 2) emptied }
+    ensures refused { IsAnswered (small 1) refused_in_order }
+    ensures instances { IsAnswered (small 1) eight_instances }
+    ensures full { IsAnswered short full_history }
 {}
 
 /// Each call of a caller that was done stands once in the history, in the order in which the caller asked: its entries are of just the commands
@@ -111,7 +126,26 @@ pub fn trails_hold_done_calls_once()
     ensures { TrailsHoldDoneCallsOnce }
 {}
 
+/// The replies of a trail are answers. Each call, done or refused, was answered by a history between the caller's done calls; and a caller who is
+/// alone is answered as a script is.
+pub fn trails_hold_answers()
+    ensures each { EachCallIsAnswered }
+    ensures lone { LoneCallersAreAnswered }
+{}
+
+/// Two callers make one instance side by side: it is there already for exactly one of them, whichever.
+pub fn exactly_one_makes_an_instance()
+    ensures first { FirstMakes }
+    ensures second { SecondMakes }
+    ensures no_other { ExactlyOneMakes }
+{}
+
 /// No history answers that all tickets are drawn: where a reply is Worn, it is the lock's own.
 pub fn worn_is_no_answer()
     ensures { WornIsNoAnswer }
+{}
+
+/// And none answers that memory was refused: where a reply is Memory, it is the program's.
+pub fn memory_is_no_answer()
+    ensures { MemoryIsNoAnswer }
 {}

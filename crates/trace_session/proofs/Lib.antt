@@ -1,7 +1,11 @@
 pub mod DeviceLemmas
+pub mod EarlyRefusals
 pub mod Standing
 pub mod Stepping
 pub mod PartSessions
+pub mod Stopping
 pub mod PartExamples
 pub mod PartWriting
 pub mod PartRunning
+pub mod Hearing
+pub mod PartLines

@@ -20,6 +20,7 @@ use Rattle.trace_session.specs.Sessions.{status_of}
 use Rattle.trace_session.specs.declared.part_text.OutcomeAt.{OutcomeAt}
 use Rattle.trace_session.specs.declared.status.Status.{Status}
 use Rattle.trace_session.proofs.PartWriting.{numbered_is, are_outcomes}
+use Rattle.trace_workers.proofs.Blocking.{is_block}
 use Rattle.trace_workers.specs.BlockRuns.{trails_of, IsAfterBlock}
 use Rattle.trace_workers.specs.declared.part.Part.{Part}
 
@@ -83,7 +84,7 @@ pub pass_after : (g : Config) (v w : View Entry) (trails : List Trail) → IsSes
 pass_after g v w trails pass after = record {
   names = after.names;
   base = pass.base ∙ sym after.base;
-  legal = subst (λ (es : List Entry). IsLegal g es) (sym after.seen) (after.block g pass.base pass.legal).legal;
+  legal = subst (λ (es : List Entry). IsLegal g es) (sym after.seen) (after.legal g pass.base pass.legal);
   below = after.ahead pass.below;
 }
 
@@ -101,7 +102,7 @@ of_threads v w threads commands done is same after = (
 pub block_numbered : (g : Config) (v w : View Entry) (threads : List (List Numbered)) (done : List Part) → IsSessionPass g v → length done ≡ length threads
     → IsAfterBlock v w (trails_of (commands_of threads) done) → AreNumbered (numbers_of_lines threads) (replies_in done)
 block_numbered g v w threads done pass same after =
-    are_numbered g v.seen after.after threads done same (after.block g pass.base pass.legal).each
+    are_numbered g v.seen after.after threads done same (after.each g pass.base)
 
 -- the part may give what was written for it
 pub may_give : (g : Config) (v w : View Entry) (threads : List (List Numbered)) (done : List Part) (text : List ℕ) (status : Status) (told : List OutcomeAt)
@@ -121,7 +122,7 @@ may_give g v w threads done text status told pass same after unworn written ende
           trails = trails_of (commands_of threads) done;
           commands = trail_commands (commands_of threads) done same';
           replied = trail_replies (commands_of threads) done same';
-          block = after.block g pass.base pass.legal;
+          block = is_block g v w (trails_of (commands_of threads) done) after pass.base pass.legal;
           unworn = unworn;
         };
         asked = after.front;

@@ -155,24 +155,25 @@ same_session os =
     ap (λ (texts : List (List ℕ)). told texts (flat_map (λ (one : Given). one.outcomes) (given_from 1 os))) (texts_given os 1)
     ∙ ap (λ (xs : List (Option Outcome)). told (texts_from 1 os) xs) (outcomes_given os 1)
 
-module _ (g : Config) (script : List ℕ) (none : HasNoPart script) where
-  items_are : items_of script ≡ singles 1 (lines_of script)
-  unfolding items_of
-  items_are = items_are_singles (lines_of script) 1 none
+items_are : (script : List ℕ) → HasNoPart script → items_of script ≡ singles 1 (lines_of script)
+unfolding items_of
+items_are script none = items_are_singles (lines_of script) 1 none
 
+-- the items of a script without parts
+pub items_are_plain : (script : List ℕ) → HasNoPart script → ArePlain (items_of script)
+items_are_plain script none = subst ArePlain (sym (items_are script none)) (singles_are_plain (lines_of script) 1)
+
+module _ (g : Config) (script : List ℕ) (none : HasNoPart script) where
   session_is : session_with (plain_given g beginning (items_of script)) ≡ session g script
   unfolding session
   session_is =
-      ap (λ (items : List Item). session_with (plain_given g beginning items)) items_are
+      ap (λ (items : List Item). session_with (plain_given g beginning items)) (items_are script none)
       ∙ ap session_with (singles_give g (lines_of script) 1 beginning)
       ∙ same_session (outcomes_of g beginning (lines_of script))
 
-  plain : ArePlain (items_of script)
-  plain = subst ArePlain (sym items_are) (singles_are_plain (lines_of script) 1)
-
 pub one_thread_has_one_session : OneThreadHasOneSession
 one_thread_has_one_session g script one none =
-    let both = plain_sessions g script one (plain g script none) in
+    let both = plain_sessions g script one (items_are_plain script none) in
     (λ is. both.0 is ∙ session_is g script none, λ is. both.1 (is ∙ sym (session_is g script none)))
 
 -- ---- and so far as it came, the first texts of that one
@@ -200,7 +201,7 @@ front_given g (item ∷ items) before (suc count) =
 pub one_thread_begins_one_session : OneThreadBeginsOneSession
 one_thread_begins_one_session g script texts none (count, given, all, is) =
     let given_is : given ≡ take count (plain_given g beginning (items_of script)) =
-    only g (take count (items_of script)) beginning given (take_plain (items_of script) count (plain g script none)) all ∙ front_given g (items_of script) beginning count in (
+    only g (take count (items_of script)) beginning given (take_plain (items_of script) count (items_are_plain script none)) all ∙ front_given g (items_of script) beginning count in (
       count,
       is
           ∙ (ap (map (λ (one : Given). one.text)) given_is

@@ -8,13 +8,13 @@ use Rattle.std.proofs.lemmas.Grind.{flat_map-append}
 use Rattle.std.specs.List.{concat, list_any}
 use Rattle.std.specs.Io.KnownBytes.{Appends}
 use Rattle.trace_command.specs.declared.command.Config.{Config}
-use Rattle.trace_items.specs.Items.{Item, items_from, items_of}
+use Rattle.trace_items.specs.Items.{Item, Single, Threads, Faulty, items_from, items_of}
 use Rattle.trace_items.specs.FewThreads.{HasFewThreads}
 use Rattle.trace_items.specs.ScriptLines.{lines_of, lines_left}
 use Rattle.trace_items.proofs.PartThreads.{parts_have_few_threads}
 use Rattle.trace_script.specs.declared.outcome.Outcome.{Outcome}
 use Rattle.trace_session.specs.Devices.{AppendsFront, Passes}
-use Rattle.trace_session.specs.Fronts.{HasGiven, PassesItem, AppendsItem, AppendsBegun, AppendsBegunFront, AppendsSession, PassesSession, PassesBegun}
+use Rattle.trace_session.specs.Fronts.{HasGiven, IsThreads, IsStopped, PassesItem, AppendsItem, AppendsBegun, AppendsBegunFront, AppendsStopped, AppendsSession, PassesSession, PassesBegun, PassesStopped}
 use Rattle.trace_session.specs.Parts.{Given, MayGive, ends, EndsOr, MayGiveAll, session_with, IsBegun}
 use Rattle.trace_session.specs.Sessions.{Progress, Session, beginning, is_fault, is_refusal, status_of, IsWhole}
 use Rattle.trace_session.specs.declared.status.Status.{Status}
@@ -122,6 +122,23 @@ IsWhole-status_of outcomes = whole_cases (list_any is_fault outcomes) (list_any 
     whole_cases false true = tt
     whole_cases false false = tt
 
+-- ---- a session that was stopped
+
+-- where the item after what was done is a part
+stopped_at : (g : Config) (script : List ℕ) (done rest : List Item) (given : List Given) (after : Progress) (item : Item) → items_of script ≡ done ++ item ∷ rest
+    → HasGiven g beginning done given after → IsThreads item → IsStopped g script (texts_in given)
+stopped_at g script done rest given after (Single number line) items gives is = absurd is
+stopped_at g script done rest given after (Threads threads) items gives is =
+    record { done = done; part = threads; rest = rest; items = items; given = given; after = after; gives = gives; told = refl }
+stopped_at g script done rest given after (Faulty at) items gives is = absurd is
+
+-- what was done is what the first items may give
+stopped_begun : (g : Config) (script : List ℕ) (texts : List (List ℕ)) → IsStopped g script texts → IsBegun g script texts
+stopped_begun g script texts s =
+    let taken : take (length s.done) (items_of script) ≡ s.done =
+    ap (take (length s.done)) s.items ∙ take_at s.done (Threads s.part ∷ s.rest) (length s.done) refl in
+    (length s.done, s.given, subst (λ (xs : List Item). MayGiveAll g beginning xs s.given) (sym taken) (given_front g s.done s.given beginning s.after s.gives), s.told)
+
 -- ---- where a session is
 
 -- these items gave this, none of them a fault, and it was written but for what waits
@@ -219,6 +236,15 @@ module _ (g : Config) (script : List ℕ) (before now : Option (List ℕ)) (wait
               (Passes_front before now new [] waiting (concat (texts_in s.given)) one.text s.written cut),
         )
 
+    -- a part was stopped
+    pub at_part : (new : Option (List ℕ)) (waits : List ℕ) → IsThreads item → Passes now waiting new waits [] → PassesStopped g script before new waits
+    at_part new waits is more = (
+      texts_in s.given,
+      stopped_at g script s.done rest s.given progress item all_items s.gives is,
+      subst (λ (t : List ℕ). Passes before [] new waits t) (append-nil (concat (texts_in s.given)))
+          (Passes_append before now new [] waiting waits (concat (texts_in s.given)) [] s.written more),
+    )
+
   -- the first items, as many as were done
   begun : IsBegun g script (texts_in s.given)
   begun =
@@ -264,11 +290,21 @@ pub begun_flushed : (g : Config) (script : List ℕ) (before now new : Option (L
 begun_flushed g script before now new waiting (texts, is, written) more =
     (texts, is, Passes_flush before now new [] waiting (concat texts) written more)
 
+pub stopped_flushed : (g : Config) (script : List ℕ) (before now new : Option (List ℕ)) (waiting : List ℕ)
+    → PassesStopped g script before now waiting → Appends now new waiting → AppendsStopped g script before new
+stopped_flushed g script before now new waiting (texts, is, written) more =
+    (texts, is, Passes_flush before now new [] waiting (concat texts) written more)
+
 -- and not all of it
 pub begun_cut : (g : Config) (script : List ℕ) (before now new : Option (List ℕ)) (waiting : List ℕ)
     → PassesBegun g script before now waiting → AppendsFront now new waiting → AppendsBegunFront g script before new
 begun_cut g script before now new waiting (texts, is, written) more =
     (texts, is, Passes_cut before now new [] waiting (concat texts) written more)
+
+pub stopped_cut : (g : Config) (script : List ℕ) (before now new : Option (List ℕ)) (waiting : List ℕ)
+    → PassesStopped g script before now waiting → AppendsFront now new waiting → AppendsBegunFront g script before new
+stopped_cut g script before now new waiting (texts, is, written) more =
+    begun_cut g script before now new waiting (texts, stopped_begun g script texts is, written) more
 
 pub session_cut : (g : Config) (script : List ℕ) (status : Status) (before now new : Option (List ℕ)) (waiting : List ℕ)
     → PassesSession g script status before now waiting → AppendsFront now new waiting → AppendsBegunFront g script before new

@@ -1,12 +1,13 @@
 -- Where a session is between two items, and what it has written by then.
-use Rattle.std.specs.Prelude.{◌≡◌, ℕ, false, List, [], ◌∷◌, ◌++◌, Option}
+use Rattle.std.specs.Prelude.{◌≡◌, ℕ, false, List, [], ◌∷◌, ◌++◌, map, Option}
 use Rattle.std.specs.List.{concat}
 use Rattle.std.specs.Io.KnownBytes.{Appends}
 use Rattle.trace_command.specs.declared.command.Config.{Config}
-use Rattle.trace_items.specs.Items.{Item}
+use Rattle.trace_items.specs.Items.{Item, Single, Threads, Faulty, items_of}
+use Rattle.trace_items.specs.declared.part.Numbered.{Numbered}
 use Rattle.trace_session.specs.Devices.{AppendsFront, Passes}
 use Rattle.trace_session.specs.Parts.{Given, MayGive, ends, IsSession, IsBegun}
-use Rattle.trace_session.specs.Sessions.{Progress, Session, status_of}
+use Rattle.trace_session.specs.Sessions.{Progress, Session, beginning, status_of}
 use Rattle.trace_session.specs.declared.status.Status.{Status}
 
 -- items in turn, none of which ends the session, may give this, and may bring the session from one progress to the other
@@ -16,6 +17,23 @@ HasGiven g before [] (given ∷ more) after = ⊥
 HasGiven g before (item ∷ items) [] after = ⊥
 HasGiven g before (item ∷ items) (given ∷ more) after =
     (next : Progress) × MayGive g item before next given × (ends given ≡ false) × HasGiven g next items more after
+
+-- the item is a part without a fault
+abbrev pub IsThreads : Item → Type 0
+IsThreads (Single number line) = ⊥
+IsThreads (Threads threads) = Unit {0}
+IsThreads (Faulty at) = ⊥
+
+-- The session was stopped at a part. Of the script's items those before it were done, none of them a fault, and these are their texts.
+pub record IsStopped (g : Config) (script : List ℕ) (texts : List (List ℕ)) : Type 0 where
+  pub done : List Item
+  pub part : List (List Numbered)
+  pub rest : List Item
+  pub items : items_of script ≡ done ++ Threads part ∷ rest
+  pub given : List Given
+  pub after : Progress
+  pub gives : HasGiven g beginning done given after
+  pub told : texts ≡ map (λ (one : Given). one.text) given
 
 -- the item gave something that it may give, which has this status, and of bytes that waited and this, known bytes grow by a front, and the rest waits
 abbrev pub PassesItem : Config → Item → Progress → Progress → Status → Option (List ℕ) → List ℕ → Option (List ℕ) → List ℕ → Type 0
@@ -36,6 +54,10 @@ AppendsSession g script status old new =
 abbrev pub AppendsBegun : Config → List ℕ → Option (List ℕ) → Option (List ℕ) → Type 0
 AppendsBegun g script old new = (texts : List (List ℕ)) × IsBegun g script texts × Appends old new (concat texts)
 
+-- known bytes grow by what the items before the part gave at which the session was stopped
+abbrev pub AppendsStopped : Config → List ℕ → Option (List ℕ) → Option (List ℕ) → Type 0
+AppendsStopped g script old new = (texts : List (List ℕ)) × IsStopped g script texts × Appends old new (concat texts)
+
 -- known bytes grow by a front of what the first items of the script may write
 abbrev pub AppendsBegunFront : Config → List ℕ → Option (List ℕ) → Option (List ℕ) → Type 0
 AppendsBegunFront g script old new = (texts : List (List ℕ)) × IsBegun g script texts × AppendsFront old new (concat texts)
@@ -48,3 +70,7 @@ PassesSession g script status old new waits =
 -- the same of the first items, but for what waits
 abbrev pub PassesBegun : Config → List ℕ → Option (List ℕ) → Option (List ℕ) → List ℕ → Type 0
 PassesBegun g script old new waits = (texts : List (List ℕ)) × IsBegun g script texts × Passes old [] new waits (concat texts)
+
+-- the same of the items before a part, but for what waits
+abbrev pub PassesStopped : Config → List ℕ → Option (List ℕ) → Option (List ℕ) → List ℕ → Type 0
+PassesStopped g script old new waits = (texts : List (List ℕ)) × IsStopped g script texts × Passes old [] new waits (concat texts)

@@ -3,6 +3,7 @@ pub mod Sessions
 pub mod Parts
 pub mod Passes
 pub mod PartTexts
+pub mod Heard
 pub mod Fronts
 pub mod PartLaws
 pub mod PartExamples

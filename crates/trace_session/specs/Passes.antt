@@ -3,9 +3,11 @@ use Rattle.std.specs.Prelude.{◌≡◌, ◌<◌, All}
 use Rattle.ticket_lock.specs.Views.{HasAllNames}
 use Rattle.ticket_lock.specs.declared.views.View.{View}
 use Rattle.trace_book.specs.Bases.{numbers_of}
+use Rattle.trace_command.specs.Refusals.{IsFoundEarly}
+use Rattle.trace_command.specs.declared.command.Command.{Command}
 use Rattle.trace_command.specs.declared.command.Config.{Config}
 use Rattle.trace_command.specs.declared.command.Entry.{Entry}
-use Rattle.trace_history.specs.History.{IsLegal}
+use Rattle.trace_history.specs.History.{IsLegal, answer_to}
 use Rattle.trace_session.specs.Sessions.{Progress, so_far}
 
 -- how far the session has come. Its lock's tickets count from 0, so as many were drawn as commands were asked
@@ -19,3 +21,7 @@ pub record IsSessionPass (g : Config) (v : View Entry) : Type 0 where
   pub base : numbers_of g ≡ v.base
   pub legal : IsLegal g v.seen
   pub below : All (λ (entry : Entry). entry.ticket < v.front) v.seen
+
+-- the answer to the command is a refusal that is found before any memory is taken
+abbrev pub IsRefusedEarly : Config → View Entry → Command → Type 0
+IsRefusedEarly g v command = IsFoundEarly (answer_to g v.seen command)

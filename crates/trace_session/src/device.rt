@@ -1,10 +1,11 @@
-//! What a session writes to; what it reads from is a `Source` of trace_items. Contracts see the bytes, where a device tells them, and how many
-//! calls failed.
+//! What a session writes to; what it reads from is a `Source` of trace_items. Contracts see the bytes and what was heard, where a device tells
+//! them, and how many calls failed.
 
-ghost use Rattle.std.specs.Prelude.{◌≡◌, ℕ, List, Option, length};
+ghost use Rattle.std.specs.Prelude.{◌≡◌, ℕ, false, List, [], ◌∷◌, Option, None, length};
 ghost use Rattle.std.specs.Io.{WritesAtMost};
 ghost use Rattle.std.specs.Io.KnownBytes.{WriteAppends};
 ghost use Rattle.trace_session.specs.Devices.{failures_after_write};
+ghost use Rattle.trace_session.specs.Heard.{Heard, Hears, heard_of};
 
 use std::io;
 use std::io::Write;
@@ -18,27 +19,31 @@ pub trait Sink {
     /// How many calls failed, or took no byte though some were offered.
     ghost failures: { Self → ℕ };
 
+    /// What it heard, oldest first, where it hears and tells it.
+    ghost heard: { Self → Option (List Heard) };
+
     /// Takes some bytes from the front of `buf`, and gives their number.
     fn write(&mut self, buf: &[u8]) -> io::Result<usize>
         ensures bound { WritesAtMost result buf.now }
         ensures bytes { WriteAppends (contents self.old) (contents self.new) result buf.now }
-        ensures failures { failures self.new ≡ failures_after_write (length buf.now) (failures self.old) result };
+        ensures failures { failures self.new ≡ failures_after_write (length buf.now) (failures self.old) result }
+        ensures heard { heard self.new ≡ heard self.old };
 
     /// Whether it is to hear what becomes of each line.
-    fn hears(&self) -> bool {
-        false
-    }
+    fn hears(&self) -> bool
+        ensures { result ≡ false → heard self.now ≡ None };
 
     /// Hears what became of the line of this number. Of a refusal or a fault it hears once it has taken all that is written up to there. Of a
     /// parallel part it hears of each command, in the order of their lines, once all of them were asked; if one was refused, it has taken all that
     /// the part gives by then. It may tell of it elsewhere; the bytes that it holds stay, and that counts as no failure.
-    fn hear(&mut self, _number: usize, _line: &[u8], _outcome: &Option<Outcome>)
+    fn hear(&mut self, number: usize, line: &[u8], outcome: &Option<Outcome>)
         ensures bytes { contents self.new ≡ contents self.old }
         ensures failures { failures self.new ≡ failures self.old }
-    {}
+        ensures heard { Hears (heard self.old) (heard self.new)
+            (heard_of number line.now outcome.now (contents self.old) ∷ []) };
 }
 
-/// A writer of std, and how many of its calls failed, or took no byte though some were offered.
+/// A writer of std, and how many of its calls failed, or took no byte though some were offered. It hears nothing.
 #[derive(Drop)]
 pub struct Output<W> {
     pub device: W,
@@ -63,6 +68,8 @@ impl<W: Write> Sink for Output<W> {
 
     ghost failures = { λ output. output.failures };
 
+    ghost heard = { λ _. None };
+
     fn write(&mut self, buf: &[u8]) -> io::Result<usize> {
         let result = self.device.write(buf);
         let is_failure = match result {
@@ -74,4 +81,10 @@ impl<W: Write> Sink for Output<W> {
         }
         result
     }
+
+    fn hears(&self) -> bool {
+        false
+    }
+
+    fn hear(&mut self, _number: usize, _line: &[u8], _outcome: &Option<Outcome>) {}
 }

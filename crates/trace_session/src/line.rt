@@ -1,11 +1,11 @@
 //! A line by itself, asked through the lock.
 
 ghost use Rattle.std.specs.Prelude.{◌≡◌, ◌≢◌, ℕ, List, Ok, IfOk, IsErrOf};
-ghost use Rattle.ticket_lock.specs.Calls.{view_of, IsOf};
+ghost use Rattle.ticket_lock.specs.Calls.{view_of, IsOf, IsWorn};
 ghost use Rattle.trace_command.specs.declared.command.Config.{Config};
 ghost use Rattle.trace_history.specs.History.{answer_to};
 ghost use Rattle.trace_script.specs.Lines.{line_of};
-ghost use Rattle.trace_session.specs.Passes.{IsSessionPass, progress_of};
+ghost use Rattle.trace_session.specs.Passes.{IsSessionPass, IsRefusedEarly, progress_of};
 ghost use Rattle.trace_session.specs.Sessions.{Progress, answered, turn_of};
 
 use std::sync::Wait;
@@ -16,7 +16,9 @@ use trace_items::Stop;
 use trace_script::{Line, Outcome, ScriptFault};
 use trace_workers::ask;
 
-/// Asks a command. That all tickets are drawn no script comes to; it stops the session as refused memory does.
+/// Asks a command. That all tickets are drawn no script comes to; it stops the session as refused memory does. A refusal that is found before any
+/// memory is taken is the outcome though memory was refused.
+#[tactic(auto, using(crate::proofs::EarlyRefusals::memory_is_late, crate::proofs::EarlyRefusals::all_drawn))]
 fn ask_command<R: Wait>(
     rt: &R,
     lock: &TicketLock<Book>,
@@ -29,6 +31,8 @@ fn ask_command<R: Wait>(
     ensures turn { IfOk result.1 (λ outcome. (g : Config) → IsSessionPass g (view_of pass)
         → answered (progress_of (view_of pass)) command (answer_to g (view_of pass).seen command)
         ≡ record { outcome = outcome; progress = progress_of (view_of result.0) }) }
+    ensures early { IsErrOf result.1 Stop.Memory → (g : Config) → IsSessionPass g (view_of pass)
+        → IsRefusedEarly g (view_of pass) command → IsWorn (view_of pass) (view_of result.0) }
     ensures device { IsErrOf result.1 Stop.Device → ⊥ }
     ensures stopped { IsErrOf result.1 Stop.Stopped → ⊥ }
 {
@@ -70,6 +74,8 @@ pub(crate) fn ask_line<R: Wait>(
     ensures turn { IfOk result.1 (λ outcome. (g : Config) (text : List ℕ) → IsSessionPass g (view_of pass) → said ≡ line_of text
         → turn_of g (progress_of (view_of pass)) text
         ≡ record { outcome = outcome; progress = progress_of (view_of result.0) }) }
+    ensures early { IsErrOf result.1 Stop.Memory → (g : Config) (command : Command) → IsSessionPass g (view_of pass)
+        → said ≡ Ok (Line.Ask command) → IsRefusedEarly g (view_of pass) command → IsWorn (view_of pass) (view_of result.0) }
     ensures device { IsErrOf result.1 Stop.Device → ⊥ }
     ensures stopped { IsErrOf result.1 Stop.Stopped → ⊥ }
 {

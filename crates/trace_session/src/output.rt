@@ -31,6 +31,7 @@ pub(crate) fn write_outcome<W: Sink>(
     ensures stopped { IsErrOf result Stop.Stopped → ⊥ }
     ensures device { IsErrOf result Stop.Device → HasRisen (W.failures writer.old) (W.failures writer.new)
         × AppendsFront (W.contents writer.old) (W.contents writer.new) (replies.old ++ text_of number outcome.now) }
+    ensures heard { W.heard writer.new ≡ W.heard writer.old }
 {
     match outcome {
         None | Some(Outcome::Replied(Reply::Done)) => Ok(()),

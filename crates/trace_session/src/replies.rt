@@ -23,6 +23,7 @@ fn write_some<W: Sink>(writer: &mut W, text: &[u8]) -> Result<usize, Stop>
     ensures stopped { IsErrOf result Stop.Stopped → ⊥ }
     ensures failed { OnErr result (HasRisen (W.failures writer.old) (W.failures writer.new)
         × Appends (W.contents writer.old) (W.contents writer.new) []) }
+    ensures heard { W.heard writer.new ≡ W.heard writer.old }
 {
     match writer.write(text) {
         Ok(count) if count > 0 => Ok(count),
@@ -39,6 +40,7 @@ fn write_all<W: Sink>(writer: &mut W, text: &[u8]) -> Result<(), Stop>
     ensures stopped { IsErrOf result Stop.Stopped → ⊥ }
     ensures failed { OnErr result (HasRisen (W.failures writer.old) (W.failures writer.new)
         × AppendsFront (W.contents writer.old) (W.contents writer.new) text.now) }
+    ensures heard { W.heard writer.new ≡ W.heard writer.old }
 {
     let mut rest = text;
     while !rest.is_empty() {
@@ -93,6 +95,7 @@ impl Replies {
         ensures stopped { IsErrOf result Stop.Stopped → ⊥ }
         ensures failed { OnErr result (HasRisen (W.failures writer.old) (W.failures writer.new)
             × AppendsFront (W.contents writer.old) (W.contents writer.new) self.old) }
+        ensures heard { W.heard writer.new ≡ W.heard writer.old }
     {
         write_all(writer, &self.waiting)?;
         self.waiting.clear();
@@ -107,6 +110,7 @@ impl Replies {
         ensures stopped { IsErrOf result Stop.Stopped → ⊥ }
         ensures failed { OnErr result (HasRisen (W.failures writer.old) (W.failures writer.new)
             × AppendsFront (W.contents writer.old) (W.contents writer.new) (self.old ++ text.now)) }
+        ensures heard { W.heard writer.new ≡ W.heard writer.old }
     {
         let room = PIECE_BYTES - self.waiting.len();
         if text.len() < room {

@@ -5,8 +5,10 @@ ghost use Rattle.std.specs.Io.KnownBytes.{Appends, IsAtEnd};
 ghost use Rattle.ticket_lock.specs.Calls.{view_of, IsOf};
 ghost use Rattle.trace_command.specs.Configs.{IsInRange};
 ghost use Rattle.trace_command.specs.declared.command.Config.{Config};
+ghost use Rattle.trace_items.specs.Items.{HasNoPart};
 ghost use Rattle.trace_items.specs.Sources.{ConsumesAtMost, HasRisen};
-ghost use Rattle.trace_session.specs.Fronts.{AppendsSession, AppendsBegun, AppendsBegunFront, PassesSession, PassesBegun};
+ghost use Rattle.trace_session.specs.Fronts.{AppendsSession, AppendsBegun, AppendsBegunFront, AppendsStopped};
+ghost use Rattle.trace_session.specs.Fronts.{PassesSession, PassesBegun, PassesStopped};
 ghost use Rattle.trace_session.specs.Passes.{IsSessionPass, progress_of};
 ghost use Rattle.trace_session.specs.Sessions.{beginning, IsWhole, IsRead};
 
@@ -59,7 +61,7 @@ fn do_items<R: Threads + Wait + Sync, W: Sink, G: Gate + Sync>(
         → PassesBegun g script.now (W.contents writer.old) (W.contents writer.new) replies.new }
     ensures unfailed { IsErrOf result Stop.Memory → W.failures writer.new ≡ W.failures writer.old }
     ensures stopped { IsErrOf result Stop.Stopped → (g : Config) → IsSessionPass g (view_of pass)
-        → PassesBegun g script.now (W.contents writer.old) (W.contents writer.new) replies.new }
+        → PassesStopped g script.now (W.contents writer.old) (W.contents writer.new) replies.new }
     ensures unwritten { IsErrOf result Stop.Stopped → W.failures writer.new ≡ W.failures writer.old }
     ensures open { G.is_open gate.now ≡ true → IsErrOf result Stop.Stopped → ⊥ }
     ensures risen { IsErrOf result Stop.Device → HasRisen (W.failures writer.old) (W.failures writer.new) }
@@ -111,7 +113,7 @@ fn do_script<R: Threads + Wait + Sync, W: Sink, G: Gate + Sync>(
         → AppendsBegun g script.now (W.contents writer.old) (W.contents writer.new) }
     ensures unfailed { IsErrOf result Stop.Memory → W.failures writer.new ≡ W.failures writer.old }
     ensures stopped { IsErrOf result Stop.Stopped → (g : Config) → IsSessionPass g (view_of pass)
-        → AppendsBegun g script.now (W.contents writer.old) (W.contents writer.new) }
+        → AppendsStopped g script.now (W.contents writer.old) (W.contents writer.new) }
     ensures unwritten { IsErrOf result Stop.Stopped → W.failures writer.new ≡ W.failures writer.old }
     ensures open { G.is_open gate.now ≡ true → IsErrOf result Stop.Stopped → ⊥ }
     ensures risen { IsErrOf result Stop.Device → HasRisen (W.failures writer.old) (W.failures writer.new) }
@@ -178,7 +180,7 @@ fn attempt<T: Threads + Wait + Sync, R: Source, W: Sink, G: Gate + Sync>(
     ensures consumed { IsErrOf result Stop.Memory
         → ConsumesAtMost MOST_SCRIPT_BYTES (R.remaining reader.old) (R.remaining reader.new) }
     ensures stopped { IsErrOf result Stop.Stopped → IfSome (R.remaining reader.old) (λ script.
-        AppendsBegun config script (W.contents writer.old) (W.contents writer.new)) }
+        AppendsStopped config script (W.contents writer.old) (W.contents writer.new)) }
     ensures open { G.is_open gate.now ≡ true → IsErrOf result Stop.Stopped → ⊥ }
     ensures stopped_end { IsErrOf result Stop.Stopped → IsAtEnd (R.remaining reader.new) }
     ensures stopped_short { IsErrOf result Stop.Stopped → IfSome (R.remaining reader.old) (λ script. length script ≤ MOST_SCRIPT_BYTES) }
@@ -204,8 +206,9 @@ fn attempt<T: Threads + Wait + Sync, R: Source, W: Sink, G: Gate + Sync>(
 ///
 /// At the statuses `Done`, `Refused` and `Fault` the bytes and the status are those of a lawful session of the script (`IsSession`). A script
 /// with no parallel part has only one. At `Memory` no call of a device failed, and what the first items of a session give was written, whole.
-/// At `Stopped` the same was written; it comes only where the gate is not open. At `Device` a read or a write failed or the script has over
-/// 16,777,216 bytes, and a prefix of a session was written: nothing, where a read failed or the script is too long.
+/// At `Stopped` a part was stopped, and what the items before it give was written; it comes only where the gate is not open and the script has a
+/// part. At `Device` a read or a write failed or the script has over 16,777,216 bytes, and a prefix of a session was written: nothing, where a
+/// read failed or the script is too long.
 ///
 /// It waits for its turns and for the threads of parts. That it returns is not promised.
 pub fn run_session<T: Threads + Wait + Sync, R: Source, W: Sink, G: Gate + Sync>(
@@ -226,9 +229,10 @@ pub fn run_session<T: Threads + Wait + Sync, R: Source, W: Sink, G: Gate + Sync>
     ensures failures { IsRead result
         → (R.failures reader.new ≡ R.failures reader.old) × (W.failures writer.new ≡ W.failures writer.old) }
 
-    // Stopped by the gate: what the items before this part give was written.
+    // Stopped by the gate at a part: what the items before it give was written, and nothing of it. A script without parts is never stopped.
     ensures stopped { result ≡ Status.Stopped → IfSome (R.remaining reader.old) (λ script.
-        AppendsBegun config script (W.contents writer.old) (W.contents writer.new)) }
+        AppendsStopped config script (W.contents writer.old) (W.contents writer.new)) }
+    ensures part { result ≡ Status.Stopped → IfSome (R.remaining reader.old) (λ script. HasNoPart script → ⊥) }
     ensures open { G.is_open gate.now ≡ true → result ≢ Status.Stopped }
 
     // Out of memory: no device failed, and the script was not seen to be too long.

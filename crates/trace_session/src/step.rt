@@ -1,18 +1,20 @@
 //! One item of a session: a line by itself or a part is asked, and what it gives is written.
 
-ghost use Rattle.std.specs.Prelude.{◌≡◌, ◌≤◌, List, ℕ, [], true, vec_len, IfOk, OnOk, IsErrOf};
+ghost use Rattle.std.specs.Prelude.{◌≡◌, ◌≤◌, List, ℕ, [], ◌∷◌, true, vec_len, IfOk, OnOk, IsErrOf};
 ghost use Rattle.ticket_lock.specs.Calls.{view_of, IsOf};
 ghost use Rattle.trace_command.specs.declared.command.Config.{Config};
 ghost use Rattle.trace_items.specs.Items.{Single, Threads, Faulty};
 ghost use Rattle.trace_items.specs.NextItems.{item_read, IsSaid};
 ghost use Rattle.trace_items.specs.FewThreads.{HasFewThreads};
 ghost use Rattle.trace_items.specs.PartReads.{commands_in};
+ghost use Rattle.trace_items.specs.ScriptLines.{lines_of};
 ghost use Rattle.trace_items.specs.Sources.{HasRisen};
 ghost use Rattle.trace_script.specs.Lines.{line_of};
 ghost use Rattle.trace_session.specs.Devices.{Passes};
-ghost use Rattle.trace_session.specs.Fronts.{PassesItem, AppendsItem};
+ghost use Rattle.trace_session.specs.Fronts.{PassesItem, AppendsItem, IsThreads};
+ghost use Rattle.trace_session.specs.Heard.{Hears, HearsPart, HearsItem, AreInOrder, HasItsLines, heard_of, numbers_in};
 ghost use Rattle.trace_session.specs.Passes.{IsSessionPass, progress_of};
-ghost use Rattle.trace_session.specs.Sessions.{Progress};
+ghost use Rattle.trace_session.specs.Sessions.{Progress, turn_of};
 
 use crate::device::Sink;
 use crate::line::ask_line;
@@ -60,6 +62,8 @@ fn do_line<R: Wait, W: Sink>(
     ensures device { IsErrOf result.1 Stop.Device → (g : Config) → IsSessionPass g (view_of pass)
         → AppendsItem g (Single number line.now) (progress_of (view_of pass)) (progress_of (view_of result.0))
         (W.contents writer.old) replies.old (W.contents writer.new) }
+    ensures heard { (g : Config) → IsSessionPass g (view_of pass) → OnOk result.1 (Hears (W.heard writer.old) (W.heard writer.new)
+        (heard_of number line.now (turn_of g (progress_of (view_of pass)) line.now).outcome (W.contents writer.new) ∷ [])) }
 {
     let (pass, asked) = ask_line(rt, lock, pass, said);
     match asked {
@@ -85,6 +89,7 @@ fn do_part<R: thread::Threads + Wait + Sync, W: Sink, G: Gate + Sync>(
     requires of { IsOf lock.now pass }
     requires session { (g : Config) × IsSessionPass g (view_of pass) }
     requires few { vec_len threads ≤ 8 }
+    requires lines { AreInOrder number number (lines_of text.now) (numbers_in (commands_in threads.items)) }
     ensures of { IsOf lock.now result.0 }
     ensures session { (g : Config) → IsSessionPass g (view_of pass) → IsSessionPass g (view_of result.0) }
     ensures done { IfOk result.1 (λ status. (g : Config) → IsSessionPass g (view_of pass)
@@ -102,6 +107,8 @@ fn do_part<R: thread::Threads + Wait + Sync, W: Sink, G: Gate + Sync>(
     ensures device { IsErrOf result.1 Stop.Device → (g : Config) → IsSessionPass g (view_of pass)
         → AppendsItem g (Threads (commands_in threads.items)) (progress_of (view_of pass)) (progress_of (view_of result.0))
         (W.contents writer.old) replies.old (W.contents writer.new) }
+    ensures heard { (g : Config) → IsSessionPass g (view_of pass) → OnOk result.1 (HearsPart g number text.now (commands_in threads.items)
+        (progress_of (view_of pass)) (progress_of (view_of result.0)) (W.contents writer.new) (W.heard writer.old) (W.heard writer.new)) }
 {
     let (pass, ran) = run_part(rt, alloc, lock, pass, threads, gate);
     match ran {
@@ -129,6 +136,8 @@ fn do_fault<W: Sink>(
     ensures risen { IsErrOf result Stop.Device → HasRisen (W.failures writer.old) (W.failures writer.new) }
     ensures device { IsErrOf result Stop.Device → (g : Config) (before : Progress)
         → AppendsItem g (Faulty at) before before (W.contents writer.old) replies.old (W.contents writer.new) }
+    ensures heard { OnOk result (Hears (W.heard writer.old) (W.heard writer.new)
+        (heard_of at.number line.now (Some (Outcome.Fault at.fault)) (W.contents writer.new) ∷ [])) }
 {
     let outcome = Some(Outcome::Fault(at.fault));
     give(alloc, at.number, line, &outcome, replies, writer)
@@ -151,6 +160,7 @@ pub(crate) fn do_item<R: thread::Threads + Wait + Sync, W: Sink, G: Gate + Sync>
     requires session { (g : Config) × IsSessionPass g (view_of pass) }
     requires said { IsSaid item }
     requires few { HasFewThreads (item_read number item) }
+    requires lines { HasItsLines number item }
     ensures of { IsOf lock.now result.0 }
     ensures session { (g : Config) → IsSessionPass g (view_of pass) → IsSessionPass g (view_of result.0) }
     ensures done { IfOk result.1 (λ status. (g : Config) → IsSessionPass g (view_of pass)
@@ -162,12 +172,15 @@ pub(crate) fn do_item<R: thread::Threads + Wait + Sync, W: Sink, G: Gate + Sync>
     ensures unfailed { IsErrOf result.1 Stop.Memory → W.failures writer.new ≡ W.failures writer.old }
     ensures stopped { IsErrOf result.1 Stop.Stopped
         → Passes (W.contents writer.old) replies.old (W.contents writer.new) replies.new [] }
+    ensures part { IsErrOf result.1 Stop.Stopped → IsThreads (item_read number item.entry) }
     ensures unwritten { IsErrOf result.1 Stop.Stopped → W.failures writer.new ≡ W.failures writer.old }
     ensures open { G.is_open gate.now ≡ true → IsErrOf result.1 Stop.Stopped → ⊥ }
     ensures risen { IsErrOf result.1 Stop.Device → HasRisen (W.failures writer.old) (W.failures writer.new) }
     ensures device { IsErrOf result.1 Stop.Device → (g : Config) → IsSessionPass g (view_of pass)
         → AppendsItem g (item_read number item.entry) (progress_of (view_of pass)) (progress_of (view_of result.0))
         (W.contents writer.old) replies.old (W.contents writer.new) }
+    ensures heard { (g : Config) → IsSessionPass g (view_of pass) → OnOk result.1 (HearsItem g number item.entry
+        (progress_of (view_of pass)) (progress_of (view_of result.0)) (W.contents writer.new) (W.heard writer.old) (W.heard writer.new)) }
 {
     match item {
         ItemRead::Line { line, said } => {

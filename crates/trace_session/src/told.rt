@@ -1,8 +1,10 @@
 //! What became of a line or of the commands of a part: it is written, and a writer that hears is told.
 
-ghost use Rattle.std.specs.Prelude.{◌≡◌, [], ◌∷◌, ◌++◌, IfOk, OnOk, OnErr, IsErrOf};
+ghost use Rattle.std.specs.Prelude.{◌≡◌, ◌≢◌, ◌≤◌, ◌↔◌, ℕ, List, [], ◌∷◌, ◌++◌, map, IfOk, IsSome, OnOk, OnErr, IsErrOf};
+ghost use Rattle.trace_items.specs.ScriptLines.{lines_of};
 ghost use Rattle.trace_items.specs.Sources.{HasRisen};
 ghost use Rattle.trace_session.specs.Devices.{AppendsFront, Passes};
+ghost use Rattle.trace_session.specs.Heard.{Hears, AreInOrder, IsLeft, heard_of, heard_each, left_at};
 ghost use Rattle.trace_session.specs.Sessions.{text_of, status_of};
 
 use crate::device::Sink;
@@ -25,8 +27,24 @@ fn line_status(outcome: &Option<Outcome>) -> Status
     }
 }
 
-/// Has a writer that is to hear of lines hear what became of the line of this number. What waits is written before it hears of a refusal or a
-/// fault, so what it tells of them comes after their own lines.
+/// Writes what waits, unless all was done that a writer is to hear of: what it tells of a refusal or a fault comes after the lines of that.
+fn write_before<W: Sink>(status: Status, waiting: &mut Replies, writer: &mut W) -> Result<(), Stop>
+    ensures written { OnOk result (Passes (W.contents writer.old) waiting.old (W.contents writer.new) waiting.new []) }
+    ensures all { OnOk result (status ≢ Status.Done → waiting.new ≡ []) }
+    ensures failures { OnOk result (W.failures writer.new ≡ W.failures writer.old) }
+    ensures memory { IsErrOf result Stop.Memory → ⊥ }
+    ensures stopped { IsErrOf result Stop.Stopped → ⊥ }
+    ensures failed { OnErr result (HasRisen (W.failures writer.old) (W.failures writer.new)
+        × AppendsFront (W.contents writer.old) (W.contents writer.new) waiting.old) }
+    ensures heard { W.heard writer.new ≡ W.heard writer.old }
+{
+    match status {
+        Status::Done => Ok(()),
+        _ => waiting.flush(writer),
+    }
+}
+
+/// Has a writer that is to hear of lines hear what became of the line of this number. Before it hears of a refusal or a fault, all is written.
 fn tell<W: Sink>(
     number: usize,
     line: &[u8],
@@ -40,18 +58,21 @@ fn tell<W: Sink>(
     ensures stopped { IsErrOf result Stop.Stopped → ⊥ }
     ensures failed { OnErr result (HasRisen (W.failures writer.old) (W.failures writer.new)
         × AppendsFront (W.contents writer.old) (W.contents writer.new) replies.old) }
+    ensures heard { OnOk result (Hears (W.heard writer.old) (W.heard writer.new)
+        (heard_of number line.now outcome.now (W.contents writer.new) ∷ [])) }
+    ensures all { OnOk result (IsSome (W.heard writer.old) → status_of (outcome.now ∷ []) ≢ Status.Done → replies.new ≡ []) }
+    ensures unheard { OnErr result (W.heard writer.new ≡ W.heard writer.old) }
 {
     if !writer.hears() {
         return Ok(());
     }
-    if line_status(outcome) != Status::Done {
-        replies.flush(writer)?;
-    }
+    write_before(line_status(outcome), replies, writer)?;
     writer.hear(number, line, outcome);
     Ok(())
 }
 
-/// Adds what became of the line of this number to the replies, tells it, and gives the line's own status.
+/// Adds what became of the line of this number to the replies, tells it, and gives the line's own status. A writer that hears has heard of this
+/// line and its outcome, and of a refusal or a fault once all was written.
 pub(crate) fn give<W: Sink>(
     alloc: Global,
     number: usize,
@@ -70,22 +91,43 @@ pub(crate) fn give<W: Sink>(
     ensures stopped { IsErrOf result Stop.Stopped → ⊥ }
     ensures device { IsErrOf result Stop.Device → HasRisen (W.failures writer.old) (W.failures writer.new)
         × AppendsFront (W.contents writer.old) (W.contents writer.new) (replies.old ++ text_of number outcome.now) }
+    ensures heard { OnOk result (Hears (W.heard writer.old) (W.heard writer.new)
+        (heard_of number line.now outcome.now (W.contents writer.new) ∷ [])) }
+    ensures all { OnOk result (IsSome (W.heard writer.old) → status_of (outcome.now ∷ []) ≢ Status.Done → replies.new ≡ []) }
+    ensures unheard { OnErr result (W.heard writer.new ≡ W.heard writer.old) }
 {
     write_outcome(alloc, number, outcome, replies, writer)?;
     tell(number, line, outcome, replies, writer)?;
     Ok(line_status(outcome))
 }
 
-/// Tells a writer what became of each of these commands, with its line.
-fn hear_each<W: Sink>(mut lines: LinesFrom<'_>, outcomes: Vec<OutcomeAt>, writer: &mut W)
+/// Tells a writer what became of the command in the line of this number, which is one of these lines.
+fn hear_line<W: Sink>(lines: &mut LinesFrom<'_>, number: usize, outcome: Outcome, writer: &mut W)
+    requires { (line : List ℕ) × IsLeft lines.old number line }
+    ensures later { (later : ℕ) (line : List ℕ) → number ≤ later
+        → IsLeft lines.old later line ↔ IsLeft lines.new later line }
     ensures bytes { W.contents writer.new ≡ W.contents writer.old }
     ensures failures { W.failures writer.new ≡ W.failures writer.old }
+    ensures heard { Hears (W.heard writer.old) (W.heard writer.new)
+        (heard_of number (left_at lines.old number) (Some outcome) (W.contents writer.old) ∷ []) }
 {
+    let Some(line) = lines.find(number) else {
+        unreachable!()
+    };
+    writer.hear(number, line, &Some(outcome));
+}
+
+/// Tells a writer what became of each of these commands, with its line. The first line of the string has this number.
+fn hear_each<W: Sink>(first: usize, text: &[u8], outcomes: Vec<OutcomeAt>, writer: &mut W)
+    requires { AreInOrder first first (lines_of text.now) (map (λ one. one.number) outcomes.items) }
+    ensures bytes { W.contents writer.new ≡ W.contents writer.old }
+    ensures failures { W.failures writer.new ≡ W.failures writer.old }
+    ensures heard { Hears (W.heard writer.old) (W.heard writer.new)
+        (heard_each first (lines_of text.now) (W.contents writer.old) outcomes.items) }
+{
+    let mut lines = LinesFrom::new(first, text);
     for OutcomeAt { number, outcome } in outcomes {
-        // Each is the number of a line of the part, which is found.
-        if let Some(line) = lines.find(number) {
-            writer.hear(number, line, &Some(outcome));
-        }
+        hear_line(&mut lines, number, outcome, writer);
     }
 }
 
@@ -99,25 +141,28 @@ fn tell_part<W: Sink>(
     waiting: &mut Replies,
     writer: &mut W,
 ) -> Result<(), Stop>
+    requires { AreInOrder number number (lines_of text.now) (map (λ one. one.number) outcomes.items) }
     ensures written { OnOk result (Passes (W.contents writer.old) waiting.old (W.contents writer.new) waiting.new []) }
     ensures failures { OnOk result (W.failures writer.new ≡ W.failures writer.old) }
     ensures memory { IsErrOf result Stop.Memory → ⊥ }
     ensures stopped { IsErrOf result Stop.Stopped → ⊥ }
     ensures failed { OnErr result (HasRisen (W.failures writer.old) (W.failures writer.new)
         × AppendsFront (W.contents writer.old) (W.contents writer.new) waiting.old) }
+    ensures heard { OnOk result (Hears (W.heard writer.old) (W.heard writer.new)
+        (heard_each number (lines_of text.now) (W.contents writer.new) outcomes.items)) }
+    ensures all { OnOk result (IsSome (W.heard writer.old) → status ≢ Status.Done → waiting.new ≡ []) }
+    ensures unheard { OnErr result (W.heard writer.new ≡ W.heard writer.old) }
 {
     if !writer.hears() {
         return Ok(());
     }
-    if status != Status::Done {
-        waiting.flush(writer)?;
-    }
-    hear_each(LinesFrom::new(number, text), outcomes, writer);
+    write_before(status, waiting, writer)?;
+    hear_each(number, text, outcomes, writer);
     Ok(())
 }
 
 /// Adds what a part gives to the replies, tells it, and gives the part's own status. The string begins with the part's first line, which has
-/// this number.
+/// this number. A writer that hears has heard of each command of the part with its line, and once all was written, if one was refused.
 pub(crate) fn give_part<W: Sink>(
     number: usize,
     text: &[u8],
@@ -125,6 +170,7 @@ pub(crate) fn give_part<W: Sink>(
     replies: &mut Replies,
     writer: &mut W,
 ) -> Result<Status, Stop>
+    requires { AreInOrder number number (lines_of text.now) (map (λ one. one.number) given.outcomes.items) }
     ensures status { IfOk result (λ status. status ≡ given.status) }
     ensures written { OnOk result (Passes (W.contents writer.old) replies.old (W.contents writer.new) replies.new given.text.items) }
     ensures failures { OnOk result (W.failures writer.new ≡ W.failures writer.old) }
@@ -132,6 +178,10 @@ pub(crate) fn give_part<W: Sink>(
     ensures stopped { IsErrOf result Stop.Stopped → ⊥ }
     ensures device { IsErrOf result Stop.Device → HasRisen (W.failures writer.old) (W.failures writer.new)
         × AppendsFront (W.contents writer.old) (W.contents writer.new) (replies.old ++ given.text.items) }
+    ensures heard { OnOk result (Hears (W.heard writer.old) (W.heard writer.new)
+        (heard_each number (lines_of text.now) (W.contents writer.new) given.outcomes.items)) }
+    ensures all { OnOk result (IsSome (W.heard writer.old) → given.status ≢ Status.Done → replies.new ≡ []) }
+    ensures unheard { OnErr result (W.heard writer.new ≡ W.heard writer.old) }
 {
     let Written {
         text: written,

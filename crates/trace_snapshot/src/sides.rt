@@ -89,8 +89,8 @@ impl Sides {
         self.spare.as_ref()
     }
 
-    /// Exchanges the two sides, where an empty spare is made first if there is none. The only error is that memory is refused, and then nothing
-    /// is changed.
+    /// Exchanges the two sides, where an empty spare is made first if there is none. The only error is that memory is refused for that spare, and
+    /// then nothing is changed.
     pub fn take_snapshot(&mut self) -> Result<(), AllocError>
         ensures live { OnOk result (IsSpareOf self.old self.old.spare self.new.live) }
         ensures spare { OnOk result (self.new.spare ≡ Some self.old.live) }
@@ -98,13 +98,14 @@ impl Sides {
             → StandsFor self.new (sides.exchanged (sides.with_spare self.old.cpus families))) }
         ensures shape { HasShapeOf self.old self.new }
         ensures refused { OnErr result (self.new ≡ self.old) }
+        ensures memory { OnErr result (self.old.spare ≡ None) }
     {
         self.arm()?;
         self.swap_armed();
         Ok(())
     }
 
-    /// Makes an empty spare, if there is none. The only error is that memory is refused, and then nothing is changed.
+    /// Makes an empty spare, if there is none. The only error is that memory is refused for it, and then nothing is changed.
     pub fn arm(&mut self) -> Result<(), AllocError>
         ensures live { self.new.live ≡ self.old.live }
         ensures armed { OnOk result (is_some self.new.spare ≡ true) }
@@ -113,6 +114,7 @@ impl Sides {
             → StandsFor self.new (sides.with_spare self.old.cpus families)) }
         ensures shape { HasShapeOf self.old self.new }
         ensures refused { OnErr result (self.new ≡ self.old) }
+        ensures memory { OnErr result (self.old.spare ≡ None) }
     {
         if self.spare.is_none() {
             let spare = Buffer::new(self.alloc, self.cpus, self.pages, self.page_bytes)?;

@@ -1,6 +1,6 @@
 -- Triggers as a clause reads them.
 use Rattle.std.specs.Prelude.{option_copied}
-use Rattle.trace_hist.specs.HistSpecs.{SpecSeen}
+use Rattle.trace_trigger.specs.HistSpecs.{SpecSeen}
 use Rattle.trace_hist.specs.Hists.{Seen}
 use Rattle.trace_text.specs.TriggerText.{ShownHist, Trigger, Snapshot, Hist}
 use Rattle.trace_text.specs.declared.trigger.Shown.{Shown}

@@ -4,10 +4,10 @@ use Rattle.std.specs.Prelude.{ℕ, Bool, if◌then◌else◌, List, [], ◌∷�
 use Rattle.std.specs.Fmt.{decimal}
 use Rattle.std.specs.List.{flat_map, join_by}
 use Rattle.trace_hist.specs.Groups.{Table}
-use Rattle.trace_hist.specs.HistSpecs.{SpecSeen}
-use Rattle.trace_hist.specs.Triggers.{filter_text}
-use Rattle.trace_hist.specs.declared.sort.SortRule.{SortRule}
-use Rattle.trace_hist.specs.declared.spec.SortKey.{SortKey}
+use Rattle.trace_trigger.specs.HistSpecs.{SpecSeen}
+use Rattle.trace_trigger.specs.SameSpecs.{filter_text}
+use Rattle.trace_trigger.specs.declared.sort_rule.SortRule.{SortRule}
+use Rattle.trace_trigger.specs.declared.spec.SortKey.{SortKey}
 
 -- a hist trigger as its files show it: what it says and whether it is paused; its entries and totals, and what the entries are printed by
 pub record ShownHist : Type 0 where

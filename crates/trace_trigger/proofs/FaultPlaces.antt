@@ -12,7 +12,7 @@ use Rattle.trace_filter.specs.Grammar.{IsMisplaced, EndsEarly}
 use Rattle.trace_filter.specs.Tokens.{Token, Open, Close, Bang, AndAnd, OrOr, Compare, Name, Value, Illegible, piece_of, is_comparison, Spot, spots_from, spots_of}
 use Rattle.trace_filter.specs.Fields.{is_text_named, takes_at, fits_at, unless, or_later, operator_fault, value_fault, test_fault, fault_of_test, first_misfit}
 use Rattle.trace_filter.specs.Filters.{misfit_of, IsWrong, Misfits, IsTold}
-use Rattle.trace_trigger.specs.TriggerTexts.{IsWithin}
+use Rattle.trace_trigger.specs.Frames.{IsWithin}
 
 -- ---- tokens begin in the text
 

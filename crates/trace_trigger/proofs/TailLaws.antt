@@ -10,8 +10,8 @@ use Rattle.trace_lex.specs.Blanks.{is_blank, AreBlanks, BeginsUnblank}
 use Rattle.trace_lex.proofs.Lists.{BeginsNot, run_ends}
 use Rattle.trace_trigger.specs.declared.fault.TriggerFault.{TriggerFault}
 use Rattle.trace_trigger.specs.declared.fault.TriggerFault.TheVariants.{BadText}
-use Rattle.trace_trigger.specs.TriggerTexts.{after, is_unblank, after_blanks, condition_after, condition_of}
-use Rattle.trace_trigger.specs.TriggerGrammar.{IsConditional, IsTail}
+use Rattle.trace_trigger.specs.TriggerTexts.{after, condition_after, condition_of}
+use Rattle.trace_trigger.specs.Frames.{is_unblank, after_blanks, IsConditional, IsTail}
 use Rattle.trace_trigger.proofs.Cuts.{after_append, after_is, run_dropped, run_passes, run_stops}
 
 -- ---- the first byte of what follows a word is a blank

@@ -10,17 +10,18 @@ use Rattle.trace_filter.specs.declared.fault.FilterFault.{FilterFault}
 use Rattle.trace_filter.specs.declared.fault.FilterFault.TheVariants as filter
 use Rattle.trace_filter.specs.Filters.{Parsed, IsFilter, IsRefused, parsed_of, answer_of}
 use Rattle.trace_filter.proofs.FilterLemmas.{filter_is_answered, refusal_is_answered, filter_or_refused}
-use Rattle.trace_hist.specs.HistSpecs.{SpecSeen}
-use Rattle.trace_hist.specs.HistTexts.{IsHistText, spec_of}
-use Rattle.trace_hist.specs.declared.fault.HistFault.{HistFault}
-use Rattle.trace_hist.specs.declared.fault.HistFault.TheVariants as hist
+use Rattle.trace_trigger.specs.Frames.{is_unblank, IsTail}
+use Rattle.trace_trigger.specs.HistSpecs.{SpecSeen}
+use Rattle.trace_trigger.specs.HistTexts.{IsHistText, spec_of}
+use Rattle.trace_trigger.specs.declared.hist_fault.HistFault.{HistFault}
+use Rattle.trace_trigger.specs.declared.hist_fault.HistFault.TheVariants as hist
 use Rattle.trace_trigger.specs.declared.fault.TriggerFault.{TriggerFault}
 use Rattle.trace_trigger.specs.declared.fault.TriggerFault.TheVariants.{BadText}
 use Rattle.trace_trigger.specs.declared.trigger.SnapshotTrigger.{SnapshotTrigger}
 use Rattle.trace_trigger.specs.declared.trigger.TriggerText.{TriggerText}
 use Rattle.trace_trigger.specs.declared.trigger.TriggerText.TheVariants.{Nothing, Attach, Remove, Hist, RemoveHist}
-use Rattle.trace_trigger.specs.TriggerTexts.{after, is_unblank, word_of, after_word, count_of, condition_of, moved, filter_read, filter_of, ◌>>=◌, trigger_of, said_after, snapshot_said, begins, fault_of_hist, hist_read, hist_of, said_of}
-use Rattle.trace_trigger.specs.TriggerGrammar.{IsWord, IsTail, IsWritten, IsReadAs, Writes}
+use Rattle.trace_trigger.specs.TriggerTexts.{after, word_of, after_word, count_of, condition_of, moved, filter_read, filter_of, ◌>>=◌, trigger_of, said_after, snapshot_said, begins, fault_of_hist, hist_read, hist_of, said_of}
+use Rattle.trace_trigger.specs.TriggerGrammar.{IsWord, IsWritten, IsReadAs, Writes}
 use Rattle.trace_trigger.specs.Laws.{WritesRemoval, IsBad}
 use Rattle.trace_trigger.proofs.Cuts.{after_append, after_is, begins_so, so_begins, run_taken, run_dropped, run_stops}
 use Rattle.trace_trigger.proofs.WordLaws.{word_is, count_is, bad_word, word_unblank}

@@ -5,9 +5,10 @@ use Rattle.std.proofs.lemmas.Bool.{eqb-true, le-leb, leb-true}
 use Rattle.std.proofs.lemmas.Bool.Decides.{nat_tests}
 use Rattle.std.proofs.lemmas.List.Sums.{AllPass-from_list_all}
 use Rattle.trace_lex.specs.Decimals.{is_digit, value_after, decimal_number, up_to}
+use Rattle.trace_trigger.specs.Frames.{is_unblank}
 use Rattle.trace_trigger.specs.declared.fault.TriggerFault.{TriggerFault}
 use Rattle.trace_trigger.specs.declared.fault.TriggerFault.TheVariants.{BadText}
-use Rattle.trace_trigger.specs.TriggerTexts.{after, is_unblank, count_from, count_after, count_of}
+use Rattle.trace_trigger.specs.TriggerTexts.{after, count_from, count_after, count_of}
 use Rattle.trace_trigger.specs.TriggerGrammar.{IsCounted, IsWord}
 use Rattle.trace_trigger.proofs.Cuts.{after_append, after_is}
 

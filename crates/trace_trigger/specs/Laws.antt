@@ -4,9 +4,9 @@ use Rattle.trace_format.specs.Definitions.{Definition}
 use Rattle.trace_lex.specs.Blanks.{AreBlanks}
 use Rattle.trace_filter.specs.declared.fault.FilterFault.{FilterFault}
 use Rattle.trace_filter.specs.Filters.{Parsed, IsRefused}
-use Rattle.trace_hist.specs.HistSpecs.{SpecSeen}
-use Rattle.trace_hist.specs.HistTexts.{IsHistText, spec_of}
-use Rattle.trace_hist.specs.declared.fault.HistFault.{HistFault}
+use Rattle.trace_trigger.specs.HistSpecs.{SpecSeen}
+use Rattle.trace_trigger.specs.HistTexts.{IsHistText, spec_of}
+use Rattle.trace_trigger.specs.declared.hist_fault.HistFault.{HistFault}
 use Rattle.trace_trigger.specs.declared.fault.TriggerFault.TheVariants.{BadText}
 use Rattle.trace_trigger.specs.declared.trigger.SnapshotTrigger.{SnapshotTrigger}
 use Rattle.trace_trigger.specs.declared.trigger.TriggerText.TheVariants.{Nothing, Attach, Remove, Hist, RemoveHist}

@@ -1,10 +1,10 @@
 -- How the text of a snapshot trigger is written: what it is put together of. Nothing in this file goes over the text. That `TriggerTexts` says the same is
 -- stated in `Laws`.
-use Rattle.std.specs.Prelude.{◌≡◌, ℕ, ◌-◌, ◌<◌, ◌≤◌, ◌^◌, Bool, true, false, codes, List, [], ◌++◌, length, Option, None, Some}
+use Rattle.std.specs.Prelude.{◌≡◌, ℕ, ◌-◌, ◌≤◌, ◌^◌, Bool, codes, List, ◌++◌, Option, None, Some}
 use Rattle.trace_format.specs.Definitions.{Definition}
-use Rattle.trace_lex.specs.Blanks.{AreBlanks, BeginsUnblank}
 use Rattle.trace_lex.specs.Decimals.{decimal_number}
 use Rattle.trace_filter.specs.Filters.{Parsed, IsFilter, parsed_of}
+use Rattle.trace_trigger.specs.Frames.{mark, IsTail}
 
 -- `snapshot:` and a decimal number, from 1 to 2^32 - 1
 pub record IsCounted (word : List ℕ) (count : ℕ) : Type 0 where
@@ -18,26 +18,6 @@ pub record IsCounted (word : List ℕ) (count : ℕ) : Type 0 where
 abbrev pub IsWord : List ℕ → Option ℕ → Type 0
 IsWord word None = word ≡ codes "snapshot"
 IsWord word (Some count) = IsCounted word count
-
--- blanks, `if`, blanks, and the text of a filter, which begins with no blank
-pub record IsConditional (tail filter : List ℕ) : Type 0 where
-  pub front : List ℕ
-  pub between : List ℕ
-  pub cut : tail ≡ front ++ (codes "if" ++ (between ++ filter))
-  pub before : AreBlanks front
-  pub some_before : 0 < length front
-  pub after : AreBlanks between
-  pub some_after : 0 < length between
-  pub begins : BeginsUnblank filter
-
--- what follows the word: nothing but blanks, or the text of a filter
-abbrev pub IsTail : List ℕ → Option (List ℕ) → Type 0
-IsTail tail None = AreBlanks tail
-IsTail tail (Some filter) = IsConditional tail filter
-
-abbrev pub mark : Bool → List ℕ
-mark true = codes "!"
-mark false = []
 
 -- a text can be written so: with a `!` or without, with this count, and with the text of this filter, if there is one
 pub record IsWritten (text : List ℕ) (removes : Bool) (count : Option ℕ) (condition : Option (List ℕ)) : Type 0 where

@@ -1,6 +1,6 @@
 -- Trigger texts: what is said by a text that is written to an event's `trigger` file (events.rst, "Event triggers", "snapshot"; ftrace.rst,
--- "Snapshot"): nothing, or an optional `!`, a word, and after it perhaps `if` and a filter. What a text with `hist:` says is defined in trace_hist.
-use Rattle.std.specs.Prelude.{◌≡◌, ℕ, unwrap_or, ◌+◌, ◌-◌, ◌^◌, ◌≤◌, Bool, not, ◌&&◌, ◌||◌, ◌==◌, nat_lt, if◌then◌else◌, bytes_eq, codes, List, [], ◌∷◌, length, take, drop, Option, None, Some, is_some, Result, Ok, Err}
+-- "Snapshot"): nothing, or an optional `!`, a word, and after it perhaps `if` and a filter. What a text with `hist:` says is defined in HistTexts.
+use Rattle.std.specs.Prelude.{◌≡◌, ℕ, unwrap_or, ◌+◌, ◌-◌, ◌^◌, Bool, ◌&&◌, ◌||◌, ◌==◌, nat_lt, if◌then◌else◌, bytes_eq, codes, List, [], ◌∷◌, length, take, drop, Option, None, Some, is_some, Result, Ok, Err}
 use Rattle.std.specs.List.{prefix_len, list_all}
 use Rattle.trace_lex.specs.Blanks.{is_blank}
 use Rattle.trace_lex.specs.Decimals.{decimal_number, up_to}
@@ -8,10 +8,11 @@ use Rattle.trace_format.specs.Definitions.{Definition}
 use Rattle.trace_filter.specs.Filters.{Parsed, answer_of}
 use Rattle.trace_filter.specs.declared.fault.FilterFault.{FilterFault}
 use Rattle.trace_filter.specs.declared.fault.FilterFault.TheVariants as filter
-use Rattle.trace_hist.specs.HistSpecs.{SpecSeen}
-use Rattle.trace_hist.specs.HistTexts.{spec_of}
-use Rattle.trace_hist.specs.declared.fault.HistFault.{HistFault}
-use Rattle.trace_hist.specs.declared.fault.HistFault.TheVariants as hist
+use Rattle.trace_trigger.specs.Frames.{is_unblank, after_blanks}
+use Rattle.trace_trigger.specs.HistSpecs.{SpecSeen}
+use Rattle.trace_trigger.specs.HistTexts.{spec_of}
+use Rattle.trace_trigger.specs.declared.hist_fault.HistFault.{HistFault}
+use Rattle.trace_trigger.specs.declared.hist_fault.HistFault.TheVariants as hist
 use Rattle.trace_trigger.specs.declared.fault.TriggerFault.{TriggerFault}
 use Rattle.trace_trigger.specs.declared.fault.TriggerFault.TheVariants.{BadText, TooMany, FilterSyntax, NoSuchField, WrongOperator, HistSyntax, BadSize, Memory}
 use Rattle.trace_trigger.specs.declared.trigger.SnapshotTrigger.{SnapshotTrigger}
@@ -24,18 +25,12 @@ use Rattle.trace_trigger.specs.declared.trigger.TriggerText.TheVariants.{Nothing
 abbrev pub after : List ℕ → List ℕ → Option (List ℕ)
 after beginning text = if bytes_eq (take (length beginning) text) beginning then Some (drop (length beginning) text) else None
 
-abbrev pub is_unblank : ℕ → Bool
-is_unblank b = not (is_blank b)
-
 -- the first word is all that comes before the first blank
 abbrev pub word_of : List ℕ → List ℕ
 word_of text = take (prefix_len is_unblank text) text
 
 abbrev pub after_word : List ℕ → List ℕ
 after_word text = drop (prefix_len is_unblank text) text
-
-abbrev pub after_blanks : List ℕ → List ℕ
-after_blanks text = drop (prefix_len is_blank text) text
 
 -- ---- the word
 
@@ -171,11 +166,3 @@ HasFilter text = IsFilterWritten (condition_of (after_word (body_of text)))
 -- a text says something of a hist trigger
 abbrev pub is_hist_text : List ℕ → Bool
 is_hist_text text = begins (codes "hist:") text || begins (codes "!hist:") text
-
--- a filter's fault has its place in a text of this length
-abbrev pub IsWithin : ℕ → FilterFault → Type 0
-IsWithin len filter.TooMany = Unit {0}
-IsWithin len (filter.FilterSyntax at) = at ≤ len
-IsWithin len (filter.NoSuchField at) = at ≤ len
-IsWithin len (filter.WrongOperator at) = at ≤ len
-IsWithin len filter.Memory = Unit {0}

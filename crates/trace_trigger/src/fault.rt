@@ -1,11 +1,12 @@
 //! Why a text is no trigger of an event.
 
 ghost use Rattle.std.specs.Prelude.{◌≡◌, ◌+◌, ◌<◌, ◌^◌, ◌-◌};
-ghost use Rattle.trace_trigger.specs.TriggerTexts.{fault_of_hist, moved, IsWithin};
+ghost use Rattle.trace_trigger.specs.Frames.{IsWithin};
+ghost use Rattle.trace_trigger.specs.TriggerTexts.{fault_of_hist, moved};
 
+use crate::hist_fault::HistFault;
 use thiserror::Error;
 use trace_filter::FilterFault;
-use trace_hist::HistFault;
 
 /// Why a text was refused as a trigger. Places count bytes from 0 in the whole text.
 #[derive(Debug, Drop, Error)]

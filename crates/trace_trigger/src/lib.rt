@@ -1,10 +1,28 @@
-//! Texts that are written to an event's `trigger` file.
+//! Texts that are written to an event's `trigger` file: snapshot triggers, and hist triggers with their keys, values and sort keys.
 #![tactic(auto)]
 
+mod attribute;
 mod fault;
+mod hist_fault;
+pub mod hist_laws;
+mod hist_parts;
 pub mod laws;
+mod meaning;
+mod named;
 mod parts;
+mod piece;
+mod place;
+mod read;
+mod size;
+mod sort_rule;
+mod source;
+mod spec;
 mod trigger;
+mod written;
 
 pub use fault::TriggerFault;
+pub use hist_fault::HistFault;
+pub use sort_rule::{SortRule, SortSource};
+pub use source::Source;
+pub use spec::{Action, HistSpec, SortKey};
 pub use trigger::{SnapshotTrigger, TriggerText};

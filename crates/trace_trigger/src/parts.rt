@@ -1,10 +1,11 @@
 //! The parts of a trigger text: its first word, and the text of its filter.
 
-ghost use Rattle.std.specs.Prelude.{◌≡◌, ◌≤◌, ◌-◌, ◌^◌, Option, Some, None, Ok, Err, IfOk, IfErr, IfSome, MatchResult, length};
+ghost use Rattle.std.specs.Prelude.{◌≡◌, ◌≤◌, ◌+◌, ◌-◌, ◌^◌, Option, Some, None, Ok, Err, IfOk, IfErr, IfSome, MatchResult, length};
 ghost use Rattle.std.specs.Option.{option_copied};
 ghost use Rattle.std.specs.List.{prefix_len, list_all};
 ghost use Rattle.trace_lex.specs.Blanks as blanks;
 ghost use Rattle.trace_lex.specs.Decimals as decimals;
+ghost use Rattle.trace_trigger.specs.Frames as frames;
 ghost use Rattle.trace_trigger.specs.TriggerTexts as texts;
 
 use crate::fault::TriggerFault;
@@ -26,7 +27,7 @@ pub(crate) fn begins(beginning: &[u8], text: &[u8]) -> bool
 
 /// How many bytes come before the first blank.
 fn word_len(text: &[u8]) -> usize
-    ensures value { result ≡ prefix_len texts.is_unblank text.now }
+    ensures value { result ≡ prefix_len frames.is_unblank text.now }
     ensures bound { result ≤ length text.now }
 {
     text.iter().take_while(|byte| !is_blank(**byte)).count()
@@ -35,8 +36,9 @@ fn word_len(text: &[u8]) -> usize
 /// The first word, and what follows it.
 pub(crate) fn cut_word(text: &[u8]) -> (&[u8], &[u8])
     ensures word { result.0.now ≡ texts.word_of text.now }
+    ensures len { length result.0.now ≡ prefix_len frames.is_unblank text.now }
     ensures rest { result.1.now ≡ texts.after_word text.now }
-    ensures bound { length result.1.now ≤ length text.now }
+    ensures bound { length result.0.now + length result.1.now ≡ length text.now }
 {
     text.split_at(word_len(text))
 }
@@ -75,8 +77,8 @@ fn count_from(digits: &[u8]) -> Result<Option<u32>, TriggerFault>
 }
 
 /// The text without the blanks at its beginning.
-fn after_blanks(text: &[u8]) -> &[u8]
-    ensures value { result.now ≡ texts.after_blanks text.now }
+pub(crate) fn after_blanks(text: &[u8]) -> &[u8]
+    ensures value { result.now ≡ frames.after_blanks text.now }
     ensures bound { length result.now ≤ length text.now }
 {
     rest_of(text, blanks_len(text))

@@ -6,10 +6,10 @@ ghost use Rattle.trace_trigger.specs.TriggerTexts.{IsAnswered, is_hist_text, IsF
 
 use crate::fault::TriggerFault;
 use crate::parts::{begins, condition_of, count_of, cut_word, is_blank_text};
+use crate::spec::HistSpec;
 use std::alloc::Global;
 use trace_filter::Filter;
 use trace_format::EventDef;
-use trace_hist::HistSpec;
 
 /// A trigger that takes a snapshot for each emission of its event that its filter passes (events.rst, "Event triggers", "snapshot"): at most
 /// `count` times, or without end.

@@ -9,10 +9,12 @@ use Rattle.ticket_lock.specs.Moves.{middle_of}
 use Rattle.ticket_lock.specs.Views.{HasAllNames}
 use Rattle.ticket_lock.specs.declared.views.View.{View}
 use Rattle.trace_history.specs.History.{IsLegal}
-use Rattle.trace_history.specs.Blocks.{Trail, StandsIn, IsUnworn}
+use Rattle.trace_history.specs.Blocks.{Trail, StandsIn, IsBlock, IsUnworn}
+use Rattle.trace_book.specs.Bases.{numbers_of}
 use Rattle.trace_workers.specs.BlockRuns.{trails_of, Begins, IsAfterBlock}
 use Rattle.trace_workers.specs.PartRuns.{HasRun, begun_trail, begun_trails, AreWhole, SeesCallers, told_fault}
 use Rattle.trace_command.specs.declared.command.Command.{Command}
+use Rattle.trace_command.specs.declared.command.Config.{Config}
 use Rattle.trace_command.specs.declared.command.Entry.{Entry}
 use Rattle.trace_workers.specs.declared.fault.BlockFault.{BlockFault}
 use Rattle.trace_workers.specs.declared.fault.BlockFault.TheVariants.{Memory, Stopped, NoThread}
@@ -106,16 +108,37 @@ comes v w trails names callers bounded runs = record {
   ahead = runs.goes_on.ahead;
   after = runs.after;
   seen = runs.seen;
-  block = λ g is legal. record {
-    each = runs.each g is;
-    distinct = runs.distinct;
-    callers = λ k d within.
-        let below : (get_or runs.after k d).by < 65536 = new_callers v.seen runs.after w.seen runs.seen callers k d within in
-        runs.callers g is k d within (omega (arith, names.0), omega (arith, names.1, below));
-    legal = subst (λ (es : List Entry). IsLegal g es) runs.seen (runs.legal g is legal);
-  };
+  each = runs.each;
+  distinct = runs.distinct;
+  callers = λ g is k d within.
+      let below : (get_or runs.after k d).by < 65536 = new_callers v.seen runs.after w.seen runs.seen callers k d within in
+      runs.callers g is k d within (omega (arith, names.0), omega (arith, names.1, below));
+  legal = λ g is legal. subst (λ (es : List Entry). IsLegal g es) runs.seen (runs.legal g is legal);
   unworn = λ left. runs.unworn (omega (arith, bounded, left));
 }
+
+-- what was done after a legal history is a block
+pub is_block : (g : Config) (v w : View Entry) (trails : List Trail) (after : IsAfterBlock v w trails) → numbers_of g ≡ v.base → IsLegal g v.seen
+    → IsBlock g v.seen after.after trails
+is_block g v w trails after is legal = record {
+  each = after.each g is;
+  distinct = after.distinct;
+  callers = after.callers g is;
+  legal = after.legal g is legal;
+}
+
+-- and of a history that was empty before it is all
+pub is_history : (g : Config) (v w : View Entry) (trails : List Trail) (entries : List Entry) → v.seen ≡ [] → v.base ≡ numbers_of g → entries ≡ w.seen
+    → IsAfterBlock v w trails → IsLegal g entries → IsBlock g [] entries trails
+is_history g v w trails entries none base all after legal =
+    let is : entries ≡ after.after = all ∙ after.seen ∙ ap (λ (es : List Entry). es ++ after.after) none in
+    record {
+      each = subst (λ (es : List Entry). All (StandsIn g [] es) trails) (sym is)
+          (subst (λ (es : List Entry). All (StandsIn g es after.after) trails) none (after.each g (sym base)));
+      distinct = after.distinct;
+      callers = subst (λ (es : List Entry). All (λ (entry : Entry). Any (λ (trail : Trail). trail.by ≡ entry.by) trails) es) (sym is) (after.callers g (sym base));
+      legal = legal;
+    }
 
 -- ---- a block that was not begun_trail
 
@@ -156,15 +179,13 @@ not_begun v parts names =
         ahead = λ known. known;
         after = [];
         seen = sym (append-nil v.seen);
-        block = λ g is legal. record {
-          each = nothing_all (StandsIn g v.seen []) (λ n. All-nil (λ (entry : Entry). entry.by ≢ n)) 0 parts;
-          distinct = λ i j d before within same.
-              let first = nothing_by 0 parts i d (omega (arith, before, within)) in
-              let second = nothing_by 0 parts j d within in
-              omega (arith, first, second, same, before);
-          callers = All-nil (λ (entry : Entry). Any (λ (trail : Trail). trail.by ≡ entry.by) trails);
-          legal = subst (λ (es : List Entry). IsLegal g es) (sym (append-nil v.seen)) legal;
-        };
+        each = λ g is. nothing_all (StandsIn g v.seen []) (λ n. All-nil (λ (entry : Entry). entry.by ≢ n)) 0 parts;
+        distinct = λ i j d before within same.
+            let first = nothing_by 0 parts i d (omega (arith, before, within)) in
+            let second = nothing_by 0 parts j d within in
+            omega (arith, first, second, same, before);
+        callers = λ g is. All-nil (λ (entry : Entry). Any (λ (trail : Trail). trail.by ≡ entry.by) trails);
+        legal = λ g is legal. subst (λ (es : List Entry). IsLegal g es) (sym (append-nil v.seen)) legal;
         unworn = λ left. nothing_all (λ (trail : Trail). IsUnworn trail.replies) (λ n. All-nil _) 0 parts;
       },
     )

@@ -1,9 +1,9 @@
 -- What a block of parts comes to, told by what the pass with all names knows: `v` is that before the block, and `w` after it.
-use Rattle.std.specs.Prelude.{◌≡◌, ◌≢◌, ◌≤◌, ◌^◌, List, [], ◌∷◌, ◌++◌, All}
+use Rattle.std.specs.Prelude.{◌≡◌, ◌≢◌, ◌≤◌, ◌^◌, List, [], ◌∷◌, ◌++◌, All, Any, AllPairs}
 use Rattle.ticket_lock.specs.Views.{HasAllNames}
 use Rattle.ticket_lock.specs.declared.views.View.{View}
 use Rattle.trace_history.specs.History.{IsLegal}
-use Rattle.trace_history.specs.Blocks.{Trail, IsBlock, IsUnworn}
+use Rattle.trace_history.specs.Blocks.{Trail, StandsIn, IsUnworn}
 use Rattle.trace_book.specs.Bases.{numbers_of}
 use Rattle.trace_workers.specs.Asks.{IsAhead}
 use Rattle.trace_workers.specs.declared.part.Part.{Part}
@@ -20,7 +20,8 @@ trails_of _ _ = []
 abbrev pub Begins : List Command → Trail → Type 0
 Begins commands trail = (rest : List Command) × (commands ≡ trail.commands ++ rest)
 
--- The pass has all names and its base again. The history went on from what it had seen, by what these callers did and by nothing else.
+-- The pass has all names and its base again. The history went on from what it had seen, by what these callers did and by nothing else: that is a
+-- block (`IsBlock`) where the history before was legal, and all of one but `legal` where it was not.
 pub record IsAfterBlock (v w : View Entry) (trails : List Trail) : Type 0 where
   pub names : HasAllNames w
   pub base : w.base ≡ v.base
@@ -28,6 +29,10 @@ pub record IsAfterBlock (v w : View Entry) (trails : List Trail) : Type 0 where
   pub ahead : IsAhead v → IsAhead w
   pub after : List Entry
   pub seen : w.seen ≡ v.seen ++ after
-  pub block : (g : Config) → numbers_of g ≡ v.base → IsLegal g v.seen → IsBlock g v.seen after trails
+  -- each trail stands in the history, no two have one number, and each new entry is of one of them
+  pub each : (g : Config) → numbers_of g ≡ v.base → All (StandsIn g v.seen after) trails
+  pub distinct : AllPairs (λ (one other : Trail). one.by ≢ other.by) trails
+  pub callers : (g : Config) → numbers_of g ≡ v.base → All (λ (entry : Entry). Any (λ (trail : Trail). trail.by ≡ entry.by) trails) after
+  pub legal : (g : Config) → numbers_of g ≡ v.base → IsLegal g v.seen → IsLegal g (v.seen ++ after)
   -- as long as there are tickets, no reply is Worn
   pub unworn : w.front ≢ 2 ^ 63 → All (λ (trail : Trail). IsUnworn trail.replies) trails

@@ -1,3 +1,4 @@
 pub mod Asks
 pub mod BlockRuns
+pub mod Faults
 pub mod PartRuns

@@ -1,6 +1,6 @@
 //! Why a block has no replies.
 
-ghost use Rattle.std.specs.Prelude.{◌≡◌};
+ghost use Rattle.std.specs.Prelude.{◌≡◌, Some};
 ghost use Rattle.trace_workers.specs.PartRuns.{told_fault};
 
 use std::error::Error;
@@ -19,6 +19,11 @@ pub enum BlockFault {
 }
 
 impl Display for BlockFault {
+    ghost use Rattle.trace_workers.specs.Faults.{shown_fault};
+
+    ghost output = { λ fault. Some (shown_fault fault) };
+
+    #[tactic(auto, unfolding(crate::specs::Faults::shown_fault))]
     fn fmt<W: fmt::Write>(&self, f: &mut Formatter<W>) -> fmt::Result {
         f.write_str(match self {
             BlockFault::Memory => "out of memory",

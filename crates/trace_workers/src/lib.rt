@@ -1,10 +1,11 @@
-//! Callers who ask one book through a lock, each in its turn: one call, and blocks of parts on threads of their own.
+//! Callers who ask one book through a lock, each in its turn: one call, blocks of parts on threads of their own, and whole histories of such blocks.
 #![tactic(auto)]
 
 mod block;
 mod call;
 mod fault;
 mod gate;
+mod history;
 mod part;
 mod thread;
 mod worker;
@@ -13,4 +14,5 @@ pub use block::run_block;
 pub use call::ask;
 pub use fault::BlockFault;
 pub use gate::{Gate, OpenGate, Point};
+pub use history::history_of;
 pub use part::Part;

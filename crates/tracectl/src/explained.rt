@@ -1,6 +1,6 @@
 //! A session's output, with what is wrong with each refused line told beside it.
 
-ghost use Rattle.std.specs.Prelude.{◌≡◌, ◌++◌, OnOk};
+ghost use Rattle.std.specs.Prelude.{◌≡◌, ◌++◌, None, OnOk};
 ghost use Rattle.std.specs.Io.KnownBytes.{Appends};
 ghost use Rattle.trace_explain.specs.Explanations.{declared_by, explanation};
 
@@ -47,6 +47,8 @@ impl<W: Write, E: Write> Sink for Explained<W, E> {
     ghost contents = { λ explained. W.contents explained.output.device };
 
     ghost failures = { λ explained. explained.output.failures };
+
+    ghost heard = { λ _. None };
 
     fn write(&mut self, buf: &[u8]) -> io::Result<usize> {
         self.output.write(buf)

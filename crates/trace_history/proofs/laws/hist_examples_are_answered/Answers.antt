@@ -24,3 +24,6 @@ returns-clause-anew c = examples-are_answered.anew
 
 pub returns-clause-four : goal.returns-clause-four
 returns-clause-four c = examples-are_answered.four
+
+pub returns-clause-events : goal.returns-clause-events
+returns-clause-events c = examples-are_answered.events

@@ -13,4 +13,5 @@ loop-rest-preserved g c =
       Appends_append (contents c.args.writer.now) (contents c.loop-rest.writer) (contents c.write_some.new.writer) front (take n rest) c.loop-rest.invariant.2
           c.in_ok-count.ensures.bytes.2,
       c.in_ok-count.ensures.failures ∙ c.loop-rest.invariant.3,
+      c.write_some.ensures.heard ∙ c.loop-rest.invariant.4,
     )

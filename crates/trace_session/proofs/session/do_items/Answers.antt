@@ -4,7 +4,8 @@ use Rattle.std.specs.Option.{option_copied}
 use Rattle.ticket_lock.specs.Calls.{view_of}
 use Rattle.trace_items.specs.NextItems.{item_read}
 use Rattle.trace_session.specs.Passes.{progress_of}
-use Rattle.trace_session.proofs.Standing.{begins, few, keeps, at_fault, at_device, at_stop, at_stop_here, at_end}
+use Rattle.trace_session.proofs.Standing.{begins, few, keeps, at_fault, at_device, at_part, at_stop, at_stop_here, at_end}
+use Rattle.trace_session.proofs.PartLines.{has_its_lines}
 use Rattle.trace_session.proofs.session.do_items.Goals as goal
 
 pub loop-rest-init : goal.loop-rest-init
@@ -32,6 +33,10 @@ do_item-back-requires-clause-few g c κs within =
     c.loop-rest.number c.loop-rest.status (rw c.in-Some.is at c.loop-rest.invariant.stands config c.requires.session.1)
     (item_read c.loop-rest.number c.in-Ok.next.item) (option_copied c.in-Ok.next.rest) c.in-Ok.next.number c.in-Ok.ensures.read
 
+pub do_item-back-requires-clause-lines : goal.do_item-back-requires-clause-lines
+do_item-back-requires-clause-lines g c κs within =
+    has_its_lines c.loop-rest.number c.in-Some.text.now c.in-Ok.next.item _ c.in-Ok.ensures.read c.in-Ok.ensures.text
+
 pub returns-in_err-item_status-clause-memory : goal.returns-in_err-item_status-clause-memory
 returns-in_err-item_status-clause-memory g c h config seat =
     let contents = g.W.Sink.contents in
@@ -44,9 +49,11 @@ pub returns-in_err-item_status-clause-stopped : goal.returns-in_err-item_status-
 returns-in_err-item_status-clause-stopped g c h config seat =
     let contents = g.W.Sink.contents in
     let p = err_from_is_err_and c.from_residual.result c.from_residual.ensures.1 in
-    at_stop config c.args.script.now (contents c.args.writer.now) (contents c.loop-rest.writer) c.loop-rest.replies (progress_of (view_of c.loop-rest.pass)) c.in-Some.text.now
+    at_part config c.args.script.now (contents c.args.writer.now) (contents c.loop-rest.writer) c.loop-rest.replies (progress_of (view_of c.loop-rest.pass)) c.in-Some.text.now
     c.loop-rest.number c.loop-rest.status (rw c.in-Some.is at c.loop-rest.invariant.stands config seat)
-    (contents c.do_item-back.new.writer) c.do_item-back.new.replies (c.do_item-back.ensures.stopped (cc (h, p.1, p.2, c.in_err-item_status.was)))
+    (item_read c.loop-rest.number c.in-Ok.next.item) (option_copied c.in-Ok.next.rest) c.in-Ok.next.number c.in-Ok.ensures.read
+    (contents c.do_item-back.new.writer) c.do_item-back.new.replies (c.do_item-back.ensures.part (cc (h, p.1, p.2, c.in_err-item_status.was)))
+    (c.do_item-back.ensures.stopped (cc (h, p.1, p.2, c.in_err-item_status.was)))
 
 pub returns-in_err-item_status-clause-device : goal.returns-in_err-item_status-clause-device
 returns-in_err-item_status-clause-device g c h config seat =

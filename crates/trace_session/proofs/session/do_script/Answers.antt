@@ -1,4 +1,4 @@
-use Rattle.trace_session.proofs.Standing.{session_flushed, begun_flushed, begun_cut, session_cut}
+use Rattle.trace_session.proofs.Standing.{session_flushed, begun_flushed, stopped_flushed, begun_cut, stopped_cut, session_cut}
 use Rattle.trace_session.proofs.session.do_script.Goals as goal
 
 pub returns-in_err-flush-in-Ok-clause-device : goal.returns-in_err-flush-in-Ok-clause-device
@@ -16,7 +16,7 @@ returns-in_err-flush-in-Err-Memory-clause-device g c h config seat =
 pub returns-in_err-flush-in-Err-Stopped-clause-device : goal.returns-in_err-flush-in-Err-Stopped-clause-device
 returns-in_err-flush-in-Err-Stopped-clause-device g c h config seat =
     let contents = g.W.Sink.contents in
-    begun_cut config c.args.script.now (contents c.args.writer.now) (contents c.do_items.new.writer) (contents c.flush-in-Err-Stopped.new.writer) c.do_items.new.replies
+    stopped_cut config c.args.script.now (contents c.args.writer.now) (contents c.do_items.new.writer) (contents c.flush-in-Err-Stopped.new.writer) c.do_items.new.replies
     (c.in-Err-Stopped.ensures.stopped (cc) config seat) c.in_err-flush-in-Err-Stopped.ensures.failed.1
 
 pub returns-in-Ok-clause-ok : goal.returns-in-Ok-clause-ok
@@ -34,5 +34,5 @@ returns-in-Err-Memory-clause-memory g c h config seat =
 pub returns-in-Err-Stopped-clause-stopped : goal.returns-in-Err-Stopped-clause-stopped
 returns-in-Err-Stopped-clause-stopped g c h config seat =
     let contents = g.W.Sink.contents in
-    begun_flushed config c.args.script.now (contents c.args.writer.now) (contents c.do_items.new.writer) (contents c.flush-in-Err-Stopped.new.writer) c.do_items.new.replies
+    stopped_flushed config c.args.script.now (contents c.args.writer.now) (contents c.do_items.new.writer) (contents c.flush-in-Err-Stopped.new.writer) c.do_items.new.replies
     (c.in-Err-Stopped.ensures.stopped (cc) config seat) c.in_ok-flush-in-Err-Stopped.ensures.bytes

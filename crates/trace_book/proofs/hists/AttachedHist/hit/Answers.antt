@@ -1,6 +1,6 @@
 use Rattle.std.proofs.Common.{◌≡◌, ℤ, true, subst, sym, to_z, of_z, w32, rules}
 use Rattle.std.proofs.lemmas.Int.{to_z-of_z}
-use Rattle.trace_hist.specs.Triggers.{is_passed}
+use Rattle.trace_trigger.specs.SameSpecs.{is_passed}
 use Rattle.trace_book.specs.KeptHists.{IsHit, kept_of}
 use Rattle.trace_book.proofs.EachHist.{hit_passed}
 use Rattle.trace_book.proofs.hists.AttachedHist.hit.Goals as goal

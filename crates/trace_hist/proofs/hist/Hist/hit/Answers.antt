@@ -1,4 +1,5 @@
 use Rattle.std.proofs.Common.{◌++◌, ◌∷◌, [], sym, ap, ◌∙◌, subst, IsSome, refl}
+use Rattle.trace_hist.specs.Hits.{hit_of}
 use Rattle.trace_hist.specs.Hists.{Seen, StandsFor, IsReserved, counted}
 use Rattle.trace_hist.proofs.Counting.{stands-after_hit, counted-after_hit}
 use Rattle.trace_hist.proofs.hist.Hist.hit.Goals as goal
@@ -10,7 +11,7 @@ count_next-requires-clause-reserved c = subst IsSome (sym c.requires.reserved) r
 pub returns-clause-stands : goal.returns-clause-stands
 unfolding IsReserved
 returns-clause-stands c = λ rows h active.
-    subst (λ s. StandsFor s (rows ++ record { values = c.args.row.now.values; cpu = c.args.cpu; pid = c.args.pid } ∷ []))
+    subst (λ s. StandsFor s (rows ++ hit_of c.args.self.now.spec (record { values = c.args.row.now.values; cpu = c.args.cpu; pid = c.args.pid }) ∷ []))
     (sym (c.count_next.ensures _ c.requires.reserved)) (stands-after_hit _ rows _ h)
 
 pub returns-clause-state : goal.returns-clause-state

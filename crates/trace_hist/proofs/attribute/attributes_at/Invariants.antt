@@ -1,6 +1,0 @@
-use Rattle.std.proofs.Common.{◌≡◌, map, take}
-use Rattle.trace_hist.specs.HistAttributes.{attribute_of}
-use Rattle.trace_hist.proofs.attribute.attributes_at.Given as goal
-
-abbrev pub invariant-loop-piece : goal.invariant-loop-piece
-invariant-loop-piece l = l.found.items ≡ map attribute_of (take l.piece-index l.piece-items)

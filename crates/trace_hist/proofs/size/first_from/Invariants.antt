@@ -1,6 +1,0 @@
-use Rattle.std.proofs.Common.{◌≡◌, drop}
-use Rattle.trace_hist.specs.HistSizes.{first_from}
-use Rattle.trace_hist.proofs.size.first_from.Given as goal
-
-abbrev pub invariant-loop-size : goal.invariant-loop-size
-invariant-loop-size l = first_from (drop l.size-index l.sizes) l.entries ≡ first_from l.sizes l.entries

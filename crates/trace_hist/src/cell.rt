@@ -1,0 +1,78 @@
+//! What a trigger reads of an emission: the values of its keys, and the numbers that it sums.
+
+ghost use Rattle.std.specs.Prelude.{◌≡◌, map, IfOk};
+ghost use Rattle.trace_format.specs.Cells.{datum_of};
+ghost use Rattle.trace_hist.specs.Hits as hits;
+
+use crate::number::Number;
+use std::alloc::{AllocError, Global};
+use trace_format::{Row, Value};
+use trace_trigger::Source;
+
+/// A copy of a value.
+pub(crate) fn copy(alloc: Global, value: &Value) -> Result<Value, AllocError>
+    ensures { IfOk result (λ copied. datum_of copied ≡ datum_of value.now) }
+{
+    match value {
+        Value::Num(number) => Ok(Value::Num(*number)),
+        Value::Text(bytes) => Ok(Value::Text(Vec::from_slice(alloc, bytes)?)),
+    }
+}
+
+/// The value of a field, or 0 where no field has the place.
+fn field_cell(alloc: Global, values: &[Value], place: usize) -> Result<Value, AllocError>
+    ensures { IfOk result (λ cell. datum_of cell ≡ hits.field_cell (map datum_of values.now) place) }
+{
+    match values.get(place) {
+        Some(value) => copy(alloc, value),
+        None => Ok(Value::Num(0)),
+    }
+}
+
+/// The number in a field, or 0 where no number has the place.
+fn field_number(values: &[Value], place: usize) -> i128
+    ensures { result ≡ hits.number_of (hits.field_cell (map datum_of values.now) place) }
+{
+    match values.get(place) {
+        Some(Value::Num(number)) => *number,
+        _ => 0,
+    }
+}
+
+/// The number in a row's field.
+fn row_number(row: &Row, place: usize) -> Number
+    ensures { result ≡ hits.number_of (hits.field_cell row.now.values place) }
+{
+    let values = row.values();
+    Number::new(field_number(values, place))
+}
+
+/// The value of an emission that is meant.
+pub(crate) fn cell_of(
+    alloc: Global,
+    source: Source,
+    values: &[Value],
+    cpu: u32,
+    pid: i32,
+) -> Result<Value, AllocError>
+    ensures { IfOk result (λ cell. datum_of cell
+        ≡ hits.cell_of (record { values = map datum_of values.now; cpu = cpu; pid = pid }) source) }
+{
+    match source {
+        Source::Pid => Ok(Value::Num(i128::from(pid))),
+        Source::Cpu => Ok(Value::Num(i128::from(cpu))),
+        Source::Field(place) => field_cell(alloc, values, place),
+    }
+}
+
+/// The number of an emission that is meant.
+pub(crate) fn number_of(source: Source, row: &Row, cpu: u32, pid: i32) -> Number
+    ensures { result
+        ≡ hits.number_at (record { values = row.now.values; cpu = cpu; pid = pid }) source }
+{
+    match source {
+        Source::Pid => Number::new(i128::from(pid)),
+        Source::Cpu => Number::new(i128::from(cpu)),
+        Source::Field(place) => row_number(row, place),
+    }
+}

@@ -1,0 +1,88 @@
+-- What a writer has heard, one after the other, and the lines of the commands that it is yet to hear of.
+use Rattle.std.proofs.Common.{◌≡◌, ◌↔◌, ℕ, ◌-◌, ◌≤◌, List, [], ◌∷◌, ◌++◌, Option, Some, None, slice_get, unwrap_or, refl, ap, sym, subst, ◌∙◌, append_assoc, arith}
+use Rattle.std.proofs.lemmas.List.{append-nil}
+use Rattle.trace_items.specs.PartReads.{IsLineAt}
+use Rattle.trace_script.specs.declared.outcome.Outcome.{Outcome}
+use Rattle.trace_session.specs.Heard.{Heard, Hears, AreInOrder, heard_of, line_at}
+
+pub Hears_nothing : (a : Option (List Heard)) → Hears a a []
+Hears_nothing None = tt
+Hears_nothing (Some heard) = sym (append-nil heard)
+
+Hears_append : (a b c : Option (List Heard)) (xs ys : List Heard) → Hears a b xs → Hears b c ys → Hears a c (xs ++ ys)
+Hears_append None b c xs ys p q = tt
+Hears_append (Some us) None c xs ys p q = absurd p
+Hears_append (Some us) (Some bs) None xs ys p q = absurd q
+Hears_append (Some us) (Some bs) (Some cs) xs ys p q = q ∙ (ap (λ (front : List Heard). front ++ ys) p ∙ append_assoc us xs ys)
+
+-- a writer that tells nothing
+pub untold : (a b : Option (List Heard)) (xs : List Heard) → a ≡ None → Hears a b xs
+untold a b xs is = subst (λ (o : Option (List Heard)). Hears o b xs) (sym is) tt
+
+-- what was heard, and what is left to be heard, are all
+abbrev pub HearsOn : Option (List Heard) → Option (List Heard) → List Heard → List Heard → Type 0
+HearsOn old now left all = (more : List Heard) × (more ++ left ≡ all) × Hears old now more
+
+pub hears_first : (old : Option (List Heard)) (all : List Heard) → HearsOn old old all all
+hears_first old all = ([], refl, Hears_nothing old)
+
+pub hears_next : (old now new : Option (List Heard)) (number : ℕ) (line line' : List ℕ) (outcome : Option Outcome) (held held' : Option (List ℕ)) (left all : List Heard)
+    → line' ≡ line → held' ≡ held → HearsOn old now (heard_of number line outcome held ∷ left) all → Hears now new (heard_of number line' outcome held' ∷ [])
+    → HearsOn old new left all
+hears_next old now new number line line' outcome held held' left all same_line same_held (more, is, heard) next =
+    let one : Heard = heard_of number line outcome held in
+    let heard_one : Hears now new (one ∷ []) =
+    subst (λ (bytes : Option (List ℕ)). Hears now new (heard_of number line outcome bytes ∷ [])) same_held
+    (subst (λ (text : List ℕ). Hears now new (heard_of number text outcome held' ∷ [])) same_line next) in
+    (more ++ one ∷ [], append_assoc more (one ∷ []) left ∙ is, Hears_append old now new more (one ∷ []) heard heard_one)
+
+pub hears_all : (old now : Option (List Heard)) (all : List Heard) → HearsOn old now [] all → Hears old now all
+hears_all old now all (more, is, heard) = subst (Hears old now) (sym (append-nil more) ∙ is) heard
+
+-- ---- lines
+
+line_is : (first number : ℕ) (lines : List (List ℕ)) (line : List ℕ) → IsLineAt first lines number line → line_at first lines number ≡ line
+line_is first number lines line (place, same, found) =
+    let at : number - first ≡ place = omega (arith, same) in
+    ap (λ (o : Option (List ℕ)). unwrap_or o []) (ap (slice_get lines) at ∙ found)
+
+-- These numbers are of lines in order, of all that are numbered from `first` on. Those that are left, which are numbered from `now` on, have them too.
+pub record LeftInOrder (first : ℕ) (all : List (List ℕ)) (now : ℕ) (left : List (List ℕ)) (numbers : List ℕ) : Type 0 where
+  pub from : ℕ
+  pub order : AreInOrder from first all numbers
+  pub alike : (later : ℕ) (line : List ℕ) → from ≤ later → IsLineAt first all later line ↔ IsLineAt now left later line
+
+pub all_left : (first now : ℕ) (all left : List (List ℕ)) (numbers : List ℕ) → now ≡ first → left ≡ all → AreInOrder first first all numbers
+    → LeftInOrder first all now left numbers
+all_left first now all left numbers same same_lines order = record {
+  from = first;
+  order = order;
+  alike = λ later line behind.
+      subst (λ (n : ℕ). IsLineAt first all later line ↔ IsLineAt n left later line) (sym same)
+      (subst (λ (ls : List (List ℕ)). IsLineAt first all later line ↔ IsLineAt first ls later line) (sym same_lines) (λ h. h, λ h. h));
+}
+
+module _ (first : ℕ) (all : List (List ℕ)) (now : ℕ) (left : List (List ℕ)) (number : ℕ) (numbers : List ℕ) (s : LeftInOrder first all now left (number ∷ numbers)) where
+  -- the next of them is left
+  pub next_is_left : (line : List ℕ) × IsLineAt now left number line
+  next_is_left =
+      let line = s.order.1 in
+      (line.0, (s.alike number line.0 s.order.0).0 line.1)
+
+  -- and has its line
+  pub same_line : line_at now left number ≡ line_at first all number
+  same_line =
+      let line = s.order.1 in
+      line_is now number left line.0 ((s.alike number line.0 s.order.0).0 line.1) ∙ sym (line_is first number all line.0 line.1)
+
+  -- the others are left after it
+  pub left_after : (next : ℕ) (after : List (List ℕ))
+      → ((later : ℕ) (line : List ℕ) → number ≤ later → IsLineAt now left later line ↔ IsLineAt next after later line) → LeftInOrder first all next after numbers
+  left_after next after later = record {
+    from = number;
+    order = s.order.2;
+    alike = λ at line behind.
+        let here = s.alike at line (omega (arith, s.order.0, behind)) in
+        let there = later at line behind in
+        (λ h. there.0 (here.0 h), λ h. here.1 (there.1 h));
+  }

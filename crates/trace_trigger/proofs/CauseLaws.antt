@@ -1,0 +1,294 @@
+-- Each refusal of a text has the cause that the grammar gives.
+use Rattle.std.proofs.Common.{◌≡◌, ◌≢◌, ◌⊎◌, ◌↔◌, inl, inr, refl, ℕ, ◌-◌, ◌<◌, Bool, true, false, ◌||◌, nat_lt, if◌then◌else◌, List, [], ◌∷◌, length, map, Option, Some, None, Result, Ok, Err, ap, sym, ◌∙◌, subst, arith, lt-ltb, ltb-true}
+use Rattle.std.specs.List.{AllZip}
+use Rattle.std.proofs.lemmas.Bool.{or_cases, or_left, or_right, false_from_ne_true}
+use Rattle.std.proofs.lemmas.List.{length-map}
+use Rattle.std.proofs.lemmas.List.Elements.{All-from_recursion, recursion_from_All}
+use Rattle.trace_format.specs.Definitions.{Definition}
+use Rattle.trace_filter.specs.declared.fault.FilterFault.{FilterFault}
+use Rattle.trace_filter.specs.Filters.{Parsed, IsFilter, IsRefused, parsed_of}
+use Rattle.trace_filter.proofs.FilterLemmas.{filter_or_refused}
+use Rattle.trace_trigger.specs.declared.hist_fault.HistFault.{HistFault}
+use Rattle.trace_trigger.specs.declared.hist_fault.HistFault.TheVariants.{HistSyntax, TooMany, BadSize}
+use Rattle.trace_trigger.specs.declared.source.Source.{Source}
+use Rattle.trace_trigger.specs.declared.piece.Piece.{Piece}
+use Rattle.trace_trigger.specs.HistSizes.{rounded_size}
+use Rattle.trace_trigger.specs.HistParts.{attributes_of, tail_of, condition_of}
+use Rattle.trace_trigger.specs.HistLists.{Lists, lists_of, names_of, summed_items, sort_keys, sort_key_of}
+use Rattle.trace_trigger.specs.HistPlaces.{wrong_places}
+use Rattle.trace_trigger.specs.HistMeanings.{◌>>=◌, summed_len, is_too_many, few, each, key_source, value_source, told_size, size_of, sort_rule}
+use Rattle.trace_trigger.specs.HistSpecs.{SpecSeen}
+use Rattle.trace_trigger.specs.HistTexts.{IsHistText, moved, filter_of, spec_from, spec_of}
+use Rattle.trace_trigger.specs.HistGrammar.{Setting, Values, Sort, Size, subject_of, IsSet, summed_names, IsKeyOf, IsValueOf}
+use Rattle.trace_trigger.specs.HistFaultPlaces.{Cut}
+use Rattle.trace_trigger.specs.HistRefusals.{IsOver, CanBeKey, CanBeValue, HaveKeys, HaveValues, IsSized, IsRefusal, ForMany, ForKey, ForValue, ForSize, ForFilter, IsRefusedAs}
+use Rattle.trace_trigger.proofs.WrongLemmas.{from_pairs}
+use Rattle.trace_trigger.proofs.ListLaws.{Once}
+use Rattle.trace_trigger.proofs.SettingLaws.{default_sort, ListsAre, keys_are, values_are}
+use Rattle.trace_trigger.proofs.PartLaws.{parts_of}
+use Rattle.trace_trigger.proofs.MeaningLaws.{keys_found, keys_given, values_found, values_given, summed_are, filter_given, filter_refused}
+use Rattle.trace_trigger.proofs.SpecLaws.{Finds, written_finds, IsSomehowWritten, right_written}
+use Rattle.trace_trigger.proofs.SaysLaws.{are, set_once}
+use Rattle.trace_trigger.proofs.HistTextLaws.{of_right}
+use Rattle.trace_trigger.proofs.SyntaxLaws.{cut_of, syntax_is_leftmost, syntax_or_right}
+use Rattle.trace_trigger.proofs.FirstFaults.{IsPassed, refused, zip_can, can_zip, values_can, can_values}
+use Rattle.trace_trigger.proofs.RefusalLaws.{key_fault, fault_key, value_fault, fault_value}
+
+module _ (definition : Definition) (text : List ℕ) (settings : List Setting) (condition : Option (List ℕ)) (finds : Finds text settings condition) where
+  abbrev lists : Lists
+  lists = lists_of (attributes_of text)
+
+  once : Once settings
+  once = from_pairs (λ one other. subject_of one ≢ subject_of other) settings finds.lawful.once
+
+  lists_here : ListsAre settings (lists_of (attributes_of text))
+  lists_here = are definition text settings condition finds
+
+  -- ---- how many
+
+  many_keys : nat_lt 3 (length lists.keys) ≡ true → IsOver settings
+  many_keys e = inl (names_of lists.keys, lists_here.keys, omega (arith, ltb-true 3 (length lists.keys) e, length-map lists.keys (λ (item : Piece). item.bytes)))
+
+  summed_length : (items : List Piece) → length (summed_items items) ≡ length (summed_names (names_of items))
+  summed_length items = omega (arith, length-map (summed_items items) (λ (item : Piece). item.bytes), ap length (summed_are items))
+
+  many_values : nat_lt 3 (summed_len lists.values) ≡ true → IsOver settings
+  many_values e = by lists_here.values
+    where
+      by : IsSet settings Values [] (names_of (lists_of (attributes_of text)).values) → IsOver settings
+      by (inl set) = inr (inl (names_of lists.values, set, omega (arith, ltb-true 3 (length (summed_items lists.values)) e, summed_length lists.values)))
+      by (inr none) = absurd (omega (arith, ltb-true 3 (length (summed_items lists.values)) e, summed_length lists.values, ap (λ (names : List (List ℕ)). length (summed_names names)) none.1))
+
+  sort_length : (items : List Piece) → 2 < length items → length (sort_keys items) ≡ length items
+  sort_length [] more = absurd (omega (arith, more))
+  sort_length (item ∷ items) more = length-map (item ∷ items) sort_key_of
+
+  length_sort : (items : List Piece) → 2 < length (sort_keys items) → 2 < length items
+  length_sort [] more = absurd (omega (arith, more))
+  length_sort (item ∷ items) more = omega (arith, more, length-map (item ∷ items) sort_key_of)
+
+  many_sorts : nat_lt 2 (length lists.sort) ≡ true → IsOver settings
+  many_sorts e = by lists_here.sort
+    where
+      by : IsSet settings Sort default_sort (sort_keys (lists_of (attributes_of text)).sort) → IsOver settings
+      by (inl set) = inr (inr (sort_keys lists.sort, set, omega (arith, ltb-true 2 (length lists.sort) e, sort_length lists.sort (ltb-true 2 (length lists.sort) e))))
+      by (inr none) = absurd (omega (arith, ltb-true 2 (length lists.sort) e, sort_length lists.sort (ltb-true 2 (length lists.sort) e), ap length none.1))
+
+  over : is_too_many lists ≡ true → IsOver settings
+  over e = by (or_cases (nat_lt 3 (length lists.keys) || nat_lt 3 (summed_len lists.values)) (nat_lt 2 (length lists.sort)) e)
+    where
+      first : (nat_lt 3 (length lists.keys) ≡ true) ⊎ (nat_lt 3 (summed_len lists.values) ≡ true) → IsOver settings
+      first (inl f) = many_keys f
+      first (inr f) = many_values f
+
+      by : ((nat_lt 3 (length lists.keys) || nat_lt 3 (summed_len lists.values)) ≡ true) ⊎ (nat_lt 2 (length lists.sort) ≡ true) → IsOver settings
+      by (inl f) = first (or_cases (nat_lt 3 (length lists.keys)) (nat_lt 3 (summed_len lists.values)) f)
+      by (inr f) = many_sorts f
+
+  too_many : IsOver settings → is_too_many lists ≡ true
+  too_many (inl (keys, set, more)) =
+      let same : names_of lists.keys ≡ keys = keys_are (attributes_of text) settings finds.read once keys set in
+      or_left (nat_lt 3 (length lists.keys) || nat_lt 3 (summed_len lists.values)) (nat_lt 2 (length lists.sort))
+      (or_left (nat_lt 3 (length lists.keys)) (nat_lt 3 (summed_len lists.values)) (lt-ltb 3 (length lists.keys) (omega (arith, more, ap length same, length-map lists.keys (λ (item : Piece). item.bytes)))))
+  too_many (inr (inl (listed, set, more))) =
+      let same : names_of lists.values ≡ listed = values_are (attributes_of text) settings finds.read once listed set in
+      or_left (nat_lt 3 (length lists.keys) || nat_lt 3 (summed_len lists.values)) (nat_lt 2 (length lists.sort))
+      (or_right (nat_lt 3 (length lists.keys)) (nat_lt 3 (summed_len lists.values))
+      (lt-ltb 3 (length (summed_items lists.values)) (omega (arith, more, ap (λ (names : List (List ℕ)). length (summed_names names)) same, summed_length lists.values))))
+  too_many (inr (inr (keys, set, more))) =
+      let same : sort_keys lists.sort ≡ keys = set_once settings Sort default_sort once (λ a b. refl) (λ a b e. cc) (sort_keys lists.sort) keys lists_here.sort (inl set) in
+      or_right (nat_lt 3 (length lists.keys) || nat_lt 3 (summed_len lists.values)) (nat_lt 2 (length lists.sort))
+      (lt-ltb 2 (length lists.sort) (length_sort lists.sort (omega (arith, more, ap length same))))
+
+  few_enough : (IsOver settings → ⊥) → is_too_many lists ≡ false
+  few_enough within = false_from_ne_true (is_too_many lists) (λ many. within (over many))
+
+  -- ---- what is right
+
+  keys_right : (sources : List Source) → each (key_source definition.fields) lists.keys ≡ Ok sources → HaveKeys definition settings
+  keys_right sources e =
+      (names_of lists.keys, lists_here.keys, All-from_recursion (CanBeKey definition) (names_of lists.keys) (zip_can definition (names_of lists.keys) sources (keys_found definition lists.keys sources e)))
+
+  right_keys : HaveKeys definition settings → (sources : List Source) × (each (key_source definition.fields) lists.keys ≡ Ok sources)
+  right_keys is =
+      let same : names_of lists.keys ≡ is.0 = keys_are (attributes_of text) settings finds.read once is.0 is.1 in
+      let zip = can_zip definition is.0 (recursion_from_All (CanBeKey definition) is.0 is.2) in
+      (zip.0, keys_given definition lists.keys zip.0 (subst (λ (names : List (List ℕ)). AllZip (IsKeyOf definition) names zip.0) (sym same) zip.1))
+
+  values_right : (sources : List Source) → each (value_source definition.fields) (summed_items lists.values) ≡ Ok sources → HaveValues definition settings
+  values_right sources e =
+      let found : AllZip (IsValueOf definition) (summed_names (names_of lists.values)) sources =
+      subst (λ (names : List (List ℕ)). AllZip (IsValueOf definition) names sources) (summed_are lists.values) (values_found definition (summed_items lists.values) sources e) in
+      (names_of lists.values, lists_here.values, All-from_recursion (CanBeValue definition) (names_of lists.values) (values_can definition (names_of lists.values) sources found))
+
+  right_values : HaveValues definition settings → (sources : List Source) × (each (value_source definition.fields) (summed_items lists.values) ≡ Ok sources)
+  right_values is =
+      let same : names_of lists.values ≡ is.0 = set_once settings Values [] once (λ a b. refl) (λ a b e. cc) (names_of lists.values) is.0 lists_here.values is.1 in
+      let zip = can_values definition is.0 (recursion_from_All (CanBeValue definition) is.0 is.2) in
+      let names : names_of (summed_items lists.values) ≡ summed_names is.0 = summed_are lists.values ∙ ap summed_names same in
+      (zip.0, values_given definition (summed_items lists.values) zip.0 (subst (λ (ns : List (List ℕ)). AllZip (IsValueOf definition) ns zip.0) (sym names) zip.1))
+
+  sized : (size : Option ℕ) → IsSized settings size → size_of lists.size ≡ told_size size
+  sized size is =
+      let same : lists_here.entries ≡ is.0 = set_once settings Size 2048 once (λ a b. refl) (λ a b e. cc) lists_here.entries is.0 lists_here.entries_set is.1 in
+      lists_here.size ∙ ap (λ n. told_size (rounded_size n)) same ∙ ap told_size is.2
+
+  told_none : (size : Option ℕ) (fault : HistFault) → told_size size ≡ Err fault → (size ≡ None) × (fault ≡ BadSize)
+  told_none None fault e = let same : BadSize ≡ fault = cc in (refl, sym same)
+  told_none (Some n) fault e = absurd (cc)
+
+  told_some : (size : Option ℕ) (n : ℕ) → told_size size ≡ Ok n → size ≡ Some n
+  told_some None n e = absurd (cc)
+  told_some (Some m) n e = let same : m ≡ n = cc in ap Some same
+
+  no_size : (fault : HistFault) → size_of lists.size ≡ Err fault → IsSized settings None × (fault ≡ BadSize)
+  no_size fault e = let is = told_none (rounded_size lists_here.entries) fault (sym lists_here.size ∙ e) in ((lists_here.entries, lists_here.entries_set, is.0), is.1)
+
+  some_size : (size : ℕ) → size_of lists.size ≡ Ok size → IsSized settings (Some size)
+  some_size size e = (lists_here.entries, lists_here.entries_set, told_some (rounded_size lists_here.entries) size (sym lists_here.size ∙ e))
+
+  -- ---- the filter
+
+  record FilterFaultAt (written : Option (List ℕ)) (fault : HistFault) : Type 0 where
+    filter : List ℕ
+    is : written ≡ Some filter
+    told : FilterFault
+    refused_so : IsRefused definition filter told
+    same : fault ≡ moved (length text - length filter) told
+
+  filter_fault : (written : Option (List ℕ)) (fault : HistFault) → filter_of definition text written ≡ Err fault → FilterFaultAt written fault
+  unfolding filter_of
+  filter_fault None fault e = absurd (cc)
+  filter_fault (Some filter) fault e = by (filter_or_refused definition filter)
+    where
+      by : IsFilter definition filter ⊎ ((told : FilterFault) × IsRefused definition filter told) → FilterFaultAt (Some filter) fault
+      by (inl fine) = let found = filter_given definition text (Some filter) (Some (parsed_of definition filter)) (fine, refl) in absurd (cc)
+      by (inr is) =
+          let found = filter_refused definition text filter is.0 is.1 in
+          let same : fault ≡ moved (length text - length filter) is.0 = cc in
+          record { filter = filter; is = refl; told = is.0; refused_so = is.1; same = same }
+
+  -- ---- causes
+
+  abbrev from_lists : Result SpecSeen HistFault
+  from_lists = few lists >>= λ ls. spec_from definition text ls
+
+  abbrev spec_of_lists : List Source → List Source → ℕ → Option Parsed → SpecSeen
+  spec_of_lists keys values size only_if = record {
+    keys = names_of lists.keys;
+    values = names_of (summed_items lists.values);
+    sort = sort_keys lists.sort;
+    size = size;
+    action = lists.action;
+    filter = only_if;
+    key_sources = keys;
+    value_sources = values;
+    sort_sources = map (sort_rule (names_of lists.keys) (names_of (summed_items lists.values))) (sort_keys lists.sort);
+  }
+
+  abbrev after_size : List Source → List Source → ℕ → Result SpecSeen HistFault
+  after_size keys values size = filter_of definition text (condition_of (tail_of text)) >>= λ only_if. Ok (spec_of_lists keys values size only_if)
+
+  abbrev after_values : List Source → List Source → Result SpecSeen HistFault
+  after_values keys values = size_of lists.size >>= λ size. after_size keys values size
+
+  abbrev after_keys : List Source → Result SpecSeen HistFault
+  after_keys keys = each (value_source definition.fields) (summed_items lists.values) >>= λ values. after_values keys values
+
+  few_so : is_too_many lists ≡ false → from_lists ≡ (each (key_source definition.fields) lists.keys >>= λ keys. after_keys keys)
+  unfolding spec_from
+  few_so e = ap (λ (b : Bool). (if b then Err TooMany else Ok lists) >>= λ ls. spec_from definition text ls) e
+
+  abbrev Cause : HistFault → Type 0
+  Cause fault = IsRefusal definition text settings condition fault
+
+  cause_in : (cut : Cut text) (fault : HistFault) → (IsOver settings → ⊥) → (each (key_source definition.fields) lists.keys >>= λ keys. after_keys keys) ≡ Err fault → Cause fault
+  cause_in cut fault within e = at_keys (refused (each (key_source definition.fields) lists.keys) (λ keys. after_keys keys) fault e)
+    where
+      at_filter : (keys values : List Source) (size : ℕ) → HaveKeys definition settings → HaveValues definition settings → IsSized settings (Some size)
+          → (filter_of definition text (condition_of (tail_of text)) ≡ Err fault) ⊎ IsPassed (filter_of definition text (condition_of (tail_of text))) (λ only_if. Ok (spec_of_lists keys values size only_if)) fault → Cause fault
+      at_filter keys values size have right is (inl f) =
+          let it = filter_fault condition fault (sym (ap (filter_of definition text) finds.found) ∙ f) in
+          ForFilter within have right size is it.filter it.is it.told it.refused_so it.same
+      at_filter keys values size have right is (inr passed) = let wrong = passed.after in absurd (cc)
+
+      at_size : (keys values : List Source) → HaveKeys definition settings → HaveValues definition settings → (size_of lists.size ≡ Err fault) ⊎ IsPassed (size_of lists.size) (λ size. after_size keys values size) fault → Cause fault
+      at_size keys values have right (inl f) = let it = no_size fault f in ForSize within have right it.0 it.1
+      at_size keys values have right (inr passed) =
+          at_filter keys values passed.found have right (some_size passed.found passed.is)
+          (refused (filter_of definition text (condition_of (tail_of text))) (λ only_if. Ok (spec_of_lists keys values passed.found only_if)) fault passed.after)
+
+      at_values : (keys : List Source) → HaveKeys definition settings
+          → (each (value_source definition.fields) (summed_items lists.values) ≡ Err fault) ⊎ IsPassed (each (value_source definition.fields) (summed_items lists.values)) (λ values. after_values keys values) fault → Cause fault
+      at_values keys have (inl f) = ForValue within have (value_fault definition text cut fault f)
+      at_values keys have (inr passed) = at_size keys passed.found have (values_right passed.found passed.is) (refused (size_of lists.size) (λ size. after_size keys passed.found size) fault passed.after)
+
+      at_keys : (each (key_source definition.fields) lists.keys ≡ Err fault) ⊎ IsPassed (each (key_source definition.fields) lists.keys) (λ keys. after_keys keys) fault → Cause fault
+      at_keys (inl f) = let it = key_fault definition text cut fault f in ForKey within it.place it.is it.same
+      at_keys (inr passed) =
+          at_values passed.found (keys_right passed.found passed.is)
+          (refused (each (value_source definition.fields) (summed_items lists.values)) (λ values. after_values passed.found values) fault passed.after)
+
+  pub cause_of : (cut : Cut text) (fault : HistFault) → from_lists ≡ Err fault → Cause fault
+  cause_of cut fault e = by (is_too_many lists) refl
+    where
+      by : (b : Bool) → is_too_many lists ≡ b → Cause fault
+      by true f =
+          let many : from_lists ≡ Err TooMany = ap (λ (b : Bool). (if b then Err TooMany else Ok lists) >>= λ ls. spec_from definition text ls) f in
+          let same : fault ≡ TooMany = cc in
+          ForMany (over f) same
+      by false f = cause_in cut fault (λ is. let many = too_many is in cc) (sym (few_so f) ∙ e)
+
+  -- ---- and each cause is told
+
+  with_keys : (fault : HistFault) → (IsOver settings → ⊥) → (have : HaveKeys definition settings) → after_keys (right_keys have).0 ≡ Err fault → from_lists ≡ Err fault
+  with_keys fault within have e = few_so (few_enough within) ∙ ap (λ (r : Result (List Source) HistFault). r >>= λ keys. after_keys keys) (right_keys have).1 ∙ e
+
+  with_values : (fault : HistFault) → (IsOver settings → ⊥) → (have : HaveKeys definition settings) → (right : HaveValues definition settings)
+      → after_values (right_keys have).0 (right_values right).0 ≡ Err fault → from_lists ≡ Err fault
+  with_values fault within have right e =
+      with_keys fault within have (ap (λ (r : Result (List Source) HistFault). r >>= λ values. after_values (right_keys have).0 values) (right_values right).1 ∙ e)
+
+  pub cause_told : (fault : HistFault) → Cause fault → from_lists ≡ Err fault
+  cause_told fault (ForMany many same) =
+      ap (λ (b : Bool). (if b then Err TooMany else Ok lists) >>= λ ls. spec_from definition text ls) (too_many many) ∙ ap (λ (f : HistFault). Err f) (sym same)
+  cause_told fault (ForKey within place is same) =
+      few_so (few_enough within) ∙ ap (λ (r : Result (List Source) HistFault). r >>= λ keys. after_keys keys) (fault_key definition text place is) ∙ ap (λ (f : HistFault). Err f) (sym same)
+  cause_told fault (ForValue within have is) =
+      with_keys fault within have (ap (λ (r : Result (List Source) HistFault). r >>= λ values. after_values (right_keys have).0 values) (fault_value definition text fault is))
+  cause_told fault (ForSize within have right is same) =
+      with_values fault within have right (ap (λ (r : Result ℕ HistFault). r >>= λ size. after_size (right_keys have).0 (right_values right).0 size) (sized None is) ∙ ap (λ (f : HistFault). Err f) (sym same))
+  cause_told fault (ForFilter within have right size is filter at told refused_so same) =
+      with_values fault within have right
+      (ap (λ (r : Result ℕ HistFault). r >>= λ n. after_size (right_keys have).0 (right_values right).0 n) (sized (Some size) is)
+      ∙ ap (λ (r : Result (Option Parsed) HistFault). r >>= λ only_if. Ok (spec_of_lists (right_keys have).0 (right_values right).0 size only_if))
+      (ap (filter_of definition text) (finds.found ∙ at) ∙ filter_refused definition text filter told refused_so)
+      ∙ ap (λ (f : HistFault). Err f) (sym same))
+
+-- ---- the law
+
+pub refusal_is_as_written : (definition : Definition) (text : List ℕ) (fault : HistFault) → IsHistText text → (spec_of definition text ≡ Err fault) ↔ IsRefusedAs definition text fault
+refusal_is_as_written definition text fault hist = (λ e. by e (syntax_or_right definition text), λ is. told is)
+  where
+    wrong : spec_of definition text ≡ Err fault → (at : ℕ) → spec_of definition text ≡ Err (HistSyntax at) → IsRefusedAs definition text fault
+    wrong e at f = let same : fault ≡ HistSyntax at = cc in inl (at, same, (syntax_is_leftmost definition text at hist).0 f)
+
+    written : spec_of definition text ≡ Err fault → wrong_places text ≡ [] → IsSomehowWritten text → IsRefusedAs definition text fault
+    written e none is =
+        let finds = written_finds text is.settings is.condition is.written in
+        inr (record {
+          settings = is.settings;
+          condition = is.condition;
+          written = is.written;
+          refusal = cause_of definition text is.settings is.condition finds (cut_of definition text (parts_of text hist)) fault (sym (of_right definition text none) ∙ e);
+        })
+
+    by : spec_of definition text ≡ Err fault → ((at : ℕ) × (spec_of definition text ≡ Err (HistSyntax at))) ⊎ (wrong_places text ≡ []) → IsRefusedAs definition text fault
+    by e (inl is) = wrong e is.0 is.1
+    by e (inr none) = written e none (right_written text (parts_of text hist) none)
+
+    told : IsRefusedAs definition text fault → spec_of definition text ≡ Err fault
+    told (inl (at, same, is)) = (syntax_is_leftmost definition text at hist).1 is ∙ ap (λ (f : HistFault). Err f) (sym same)
+    told (inr is) =
+        let finds = written_finds text is.settings is.condition is.written in
+        of_right definition text finds.none ∙ cause_told definition text is.settings is.condition finds fault is.refusal

@@ -1,0 +1,191 @@
+-- The first item of a list that is refused, at its place.
+use Rattle.std.proofs.Common.{◌≡◌, ◌⊎◌, inl, inr, refl, ℕ, ◌+◌, Bool, true, false, not, if◌then◌else◌, cond, bytes_eq, codes, List, [], ◌∷◌, ◌++◌, length, filter, Option, Some, None, Result, Ok, Err, ap, sym, ◌∙◌, arith}
+use Rattle.std.specs.List.{AllByRecursion, AllZip}
+use Rattle.std.proofs.lemmas.Slice.Eq.{bytes_eq-Decides}
+use Rattle.trace_format.specs.Definitions.{Definition}
+use Rattle.trace_trigger.specs.declared.hist_fault.HistFault.{HistFault}
+use Rattle.trace_trigger.specs.declared.hist_fault.HistFault.TheVariants.{NoSuchField, WrongOperator}
+use Rattle.trace_trigger.specs.declared.named.Named.{Named}
+use Rattle.trace_trigger.specs.declared.source.Source.{Source}
+use Rattle.trace_trigger.specs.declared.piece.Piece.{Piece}
+use Rattle.trace_trigger.specs.HistNames.{meaning_of}
+use Rattle.trace_trigger.specs.HistMeanings.{◌>>=◌, each, key_named, value_named}
+use Rattle.trace_trigger.specs.HistGrammar.{summed_names, IsKeyOf, IsValueOf}
+use Rattle.trace_trigger.specs.HistRefusals.{CanBeKey, CanBeValue, CannotBeValue}
+use Rattle.trace_trigger.proofs.CutLemmas.{placed}
+use Rattle.trace_trigger.proofs.MeaningLaws.{bound}
+use Rattle.trace_trigger.proofs.PlaceLemmas.{size, size_first}
+
+-- ---- results
+
+pub record IsPassed {A B : Type 0} (first : Result A HistFault) (next : A → Result B HistFault) (fault : HistFault) : Type 0 where
+  pub found : A
+  pub is : first ≡ Ok found
+  pub after : next found ≡ Err fault
+
+pub refused : {A B : Type 0} (first : Result A HistFault) (next : A → Result B HistFault) (fault : HistFault) → (first >>= next) ≡ Err fault → (first ≡ Err fault) ⊎ IsPassed first next fault
+refused (Ok found) next fault e = inr (record { found = found; is = refl; after = e })
+refused (Err other) next fault e = let same : other ≡ fault = cc in inl (ap (λ (f : HistFault). Err f) same)
+
+-- ---- the first of the items that are kept
+
+module _ {B : Type 0} (read : Piece → Result B HistFault) (keep : Piece → Bool) where
+  pub record IsFirstFault (start : ℕ) (items : List (List ℕ)) (fault : HistFault) : Type 0 where
+    pub before : List (List ℕ)
+    pub item : List ℕ
+    pub after : List (List ℕ)
+    pub cut : items ≡ before ++ item ∷ after
+    pub kept : keep (record { at = start + size 44 before; bytes = item }) ≡ true
+    pub fault_there : read (record { at = start + size 44 before; bytes = item }) ≡ Err fault
+    pub values : List B
+    pub first : each read (filter keep (placed start before)) ≡ Ok values
+
+  abbrev those : ℕ → List (List ℕ) → List Piece
+  those start items = filter keep (placed start items)
+
+  none_yet : (start : ℕ) (item : List ℕ) (rest : List (List ℕ)) (fault : HistFault) → keep (record { at = start; bytes = item }) ≡ true → read (record { at = start; bytes = item }) ≡ Err fault → IsFirstFault start (item ∷ rest) fault
+  none_yet start item rest fault e f =
+      let here : start ≡ start + size 44 [] = omega arith in
+      record {
+        before = [];
+        item = item;
+        after = rest;
+        cut = refl;
+        kept = ap (λ n. keep (record { at = n; bytes = item })) (sym here) ∙ e;
+        fault_there = ap (λ n. read (record { at = n; bytes = item })) (sym here) ∙ f;
+        values = [];
+        first = refl;
+      }
+
+  further : (start : ℕ) (item : List ℕ) (rest : List (List ℕ)) (fault : HistFault) (values : List B)
+      → (is : IsFirstFault (start + 1 + length item) rest fault) → each read (filter keep (placed start (item ∷ is.before))) ≡ Ok values → IsFirstFault start (item ∷ rest) fault
+  further start item rest fault values is first =
+      let there : start + 1 + length item + size 44 is.before ≡ start + size 44 (item ∷ is.before) = omega (arith, size_first 44 item is.before) in
+      record {
+        before = item ∷ is.before;
+        item = is.item;
+        after = is.after;
+        cut = ap (λ (items : List (List ℕ)). item ∷ items) is.cut;
+        kept = ap (λ n. keep (record { at = n; bytes = is.item })) (sym there) ∙ is.kept;
+        fault_there = ap (λ n. read (record { at = n; bytes = is.item })) (sym there) ∙ is.fault_there;
+        values = values;
+        first = first;
+      }
+
+  pub first_fault : (start : ℕ) (items : List (List ℕ)) (fault : HistFault) → each read (filter keep (placed start items)) ≡ Err fault → IsFirstFault start items fault
+  first_fault start [] fault e = absurd (cc)
+  first_fault start (item ∷ rest) fault e = by (keep (record { at = start; bytes = item })) refl e (first_fault (start + 1 + length item) rest fault)
+    where
+      kept_first : keep (record { at = start; bytes = item }) ≡ true → (read (record { at = start; bytes = item }) ≡ Err fault) ⊎ IsPassed (read (record { at = start; bytes = item })) (λ y. each read (those (start + 1 + length item) rest) >>= λ ys. Ok (y ∷ ys)) fault
+          → (each read (those (start + 1 + length item) rest) ≡ Err fault → IsFirstFault (start + 1 + length item) rest fault) → IsFirstFault start (item ∷ rest) fault
+      kept_first f (inl g) next = none_yet start item rest fault f g
+      kept_first f (inr passed) next = of (refused (each read (those (start + 1 + length item) rest)) (λ ys. Ok (passed.found ∷ ys)) fault passed.after)
+        where
+          of : (each read (those (start + 1 + length item) rest) ≡ Err fault) ⊎ IsPassed (each read (those (start + 1 + length item) rest)) (λ ys. Ok (passed.found ∷ ys)) fault → IsFirstFault start (item ∷ rest) fault
+          of (inl g) =
+              let is = next g in
+              further start item rest fault (passed.found ∷ is.values) is
+              (ap (λ b. each read (cond b (record { at = start; bytes = item } ∷ those (start + 1 + length item) is.before) (those (start + 1 + length item) is.before))) f
+              ∙ ap (λ (r : Result B HistFault). r >>= λ y. each read (those (start + 1 + length item) is.before) >>= λ ys. Ok (y ∷ ys)) passed.is
+              ∙ ap (λ (r : Result (List B) HistFault). r >>= λ ys. Ok (passed.found ∷ ys)) is.first)
+          of (inr never) = let wrong = never.after in absurd (cc)
+
+      by : (b : Bool) → keep (record { at = start; bytes = item }) ≡ b
+          → each read (cond b (record { at = start; bytes = item } ∷ those (start + 1 + length item) rest) (those (start + 1 + length item) rest)) ≡ Err fault
+          → (each read (those (start + 1 + length item) rest) ≡ Err fault → IsFirstFault (start + 1 + length item) rest fault) → IsFirstFault start (item ∷ rest) fault
+      by true f g next = kept_first f (refused (read (record { at = start; bytes = item })) (λ y. each read (those (start + 1 + length item) rest) >>= λ ys. Ok (y ∷ ys)) fault g) next
+      by false f g next =
+          let is = next g in
+          further start item rest fault is.values is
+          (ap (λ b. each read (cond b (record { at = start; bytes = item } ∷ those (start + 1 + length item) is.before) (those (start + 1 + length item) is.before))) f ∙ is.first)
+
+  -- and there it is told
+  pub fault_first : (start : ℕ) (before : List (List ℕ)) (item : List ℕ) (after : List (List ℕ)) (fault : HistFault) (values : List B)
+      → keep (record { at = start + size 44 before; bytes = item }) ≡ true → read (record { at = start + size 44 before; bytes = item }) ≡ Err fault
+      → each read (filter keep (placed start before)) ≡ Ok values → each read (filter keep (placed start (before ++ item ∷ after))) ≡ Err fault
+  fault_first start [] item after fault values e f first =
+      let here : start + size 44 [] ≡ start = omega arith in
+      let kept : keep (record { at = start; bytes = item }) ≡ true = ap (λ n. keep (record { at = n; bytes = item })) (sym here) ∙ e in
+      let wrong : read (record { at = start; bytes = item }) ≡ Err fault = ap (λ n. read (record { at = n; bytes = item })) (sym here) ∙ f in
+      ap (λ b. each read (cond b (record { at = start; bytes = item } ∷ those (start + 1 + length item) after) (those (start + 1 + length item) after))) kept
+      ∙ ap (λ (r : Result B HistFault). r >>= λ y. each read (those (start + 1 + length item) after) >>= λ ys. Ok (y ∷ ys)) wrong
+  fault_first start (other ∷ before) item after fault values e f first =
+      by (keep (record { at = start; bytes = other })) refl first
+      (λ ys g. fault_first (start + 1 + length other) before item after fault ys (ap (λ n. keep (record { at = n; bytes = item })) there ∙ e) (ap (λ n. read (record { at = n; bytes = item })) there ∙ f) g)
+    where
+      there : start + 1 + length other + size 44 before ≡ start + size 44 (other ∷ before)
+      there = omega (arith, size_first 44 other before)
+
+      by : (b : Bool) → keep (record { at = start; bytes = other }) ≡ b
+          → each read (cond b (record { at = start; bytes = other } ∷ those (start + 1 + length other) before) (those (start + 1 + length other) before)) ≡ Ok values
+          → ((ys : List B) → each read (those (start + 1 + length other) before) ≡ Ok ys → each read (those (start + 1 + length other) (before ++ item ∷ after)) ≡ Err fault)
+          → each read (filter keep (placed start ((other ∷ before) ++ item ∷ after))) ≡ Err fault
+      by true g h next =
+          let head = bound (read (record { at = start; bytes = other })) (λ y. each read (those (start + 1 + length other) before) >>= λ ys. Ok (y ∷ ys)) values h in
+          let tail = bound (each read (those (start + 1 + length other) before)) (λ ys. Ok (head.found ∷ ys)) values head.after in
+          ap (λ b. each read (cond b (record { at = start; bytes = other } ∷ those (start + 1 + length other) (before ++ item ∷ after)) (those (start + 1 + length other) (before ++ item ∷ after)))) g
+          ∙ ap (λ (r : Result B HistFault). r >>= λ y. each read (those (start + 1 + length other) (before ++ item ∷ after)) >>= λ ys. Ok (y ∷ ys)) head.is
+          ∙ ap (λ (r : Result (List B) HistFault). r >>= λ ys. Ok (head.found ∷ ys)) (next tail.found tail.is)
+      by false g h next =
+          ap (λ b. each read (cond b (record { at = start; bytes = other } ∷ those (start + 1 + length other) (before ++ item ∷ after)) (those (start + 1 + length other) (before ++ item ∷ after)))) g
+          ∙ next values h
+
+-- ---- keys
+
+pub filter_all : {X : Type 0} (xs : List X) → filter (λ _. true) xs ≡ xs
+filter_all [] = refl
+filter_all (x ∷ xs) = ap (λ (ys : List _). x ∷ ys) (filter_all xs)
+
+pub key_refused : (at : ℕ) (named : Option Named) (fault : HistFault) → key_named at named ≡ Err fault → (named ≡ None) × (fault ≡ NoSuchField at)
+key_refused at None fault e = let same : NoSuchField at ≡ fault = cc in (refl, sym same)
+key_refused at (Some named) fault e = absurd (cc)
+
+module _ (definition : Definition) where
+  pub zip_can : (names : List (List ℕ)) (sources : List Source) → AllZip (IsKeyOf definition) names sources → AllByRecursion (CanBeKey definition) names
+  zip_can [] [] zip = tt
+  zip_can [] (source ∷ sources) zip = absurd zip
+  zip_can (name ∷ names) [] zip = absurd zip
+  zip_can (name ∷ names) (source ∷ sources) zip = ((source, zip.0), zip_can names sources zip.1)
+
+  pub can_zip : (names : List (List ℕ)) → AllByRecursion (CanBeKey definition) names → (sources : List Source) × AllZip (IsKeyOf definition) names sources
+  can_zip [] all = ([], tt)
+  can_zip (name ∷ names) all = let rest = can_zip names all.1 in (all.0.0 ∷ rest.0, (all.0.1, rest.1))
+
+  -- ---- values
+
+  pub value_refused : (at : ℕ) (name : List ℕ) (fault : HistFault) → value_named at (meaning_of definition.fields name) ≡ Err fault → CannotBeValue definition name at fault
+  value_refused at name fault e = by (meaning_of definition.fields name) refl e
+    where
+      text_or_number : (named : Named) → meaning_of definition.fields name ≡ Some named → (b : Bool) → named.is_text ≡ b → (if b then Err (WrongOperator at) else Ok named.source) ≡ Err fault → CannotBeValue definition name at fault
+      text_or_number named f true g h =
+          let same : WrongOperator at ≡ fault = cc in
+          inr (named.source, f ∙ (λ i. Some (record { source = named.source; is_text = g i })), sym same)
+      text_or_number named f false g h = absurd (cc)
+
+      by : (found : Option Named) → meaning_of definition.fields name ≡ found → value_named at found ≡ Err fault → CannotBeValue definition name at fault
+      by None f g = let same : NoSuchField at ≡ fault = cc in inl (f, sym same)
+      by (Some named) f g = text_or_number named f named.is_text refl g
+
+  pub refused_value : (at : ℕ) (name : List ℕ) (fault : HistFault) → CannotBeValue definition name at fault → value_named at (meaning_of definition.fields name) ≡ Err fault
+  refused_value at name fault (inl is) = ap (value_named at) is.0 ∙ ap (λ (f : HistFault). Err f) (sym is.1)
+  refused_value at name fault (inr is) = ap (value_named at) is.1 ∙ ap (λ (f : HistFault). Err f) (sym is.2)
+
+  pub values_can : (names : List (List ℕ)) (sources : List Source) → AllZip (IsValueOf definition) (summed_names names) sources → AllByRecursion (CanBeValue definition) names
+  values_can [] sources zip = tt
+  values_can (name ∷ names) sources zip = by (bytes_eq name (codes "hitcount")) refl sources zip (values_can names)
+    where
+      by : (b : Bool) → bytes_eq name (codes "hitcount") ≡ b → (sources : List Source) → AllZip (IsValueOf definition) (cond (not b) (name ∷ summed_names names) (summed_names names)) sources
+          → ((rest : List Source) → AllZip (IsValueOf definition) (summed_names names) rest → AllByRecursion (CanBeValue definition) names) → AllByRecursion (CanBeValue definition) (name ∷ names)
+      by true e sources zip next = (inl ((bytes_eq-Decides name (codes "hitcount")).0 e), next sources zip)
+      by false e [] zip next = absurd zip
+      by false e (source ∷ sources) zip next = (inr (source, zip.0), next sources zip.1)
+
+  pub can_values : (names : List (List ℕ)) → AllByRecursion (CanBeValue definition) names → (sources : List Source) × AllZip (IsValueOf definition) (summed_names names) sources
+  can_values [] all = ([], tt)
+  can_values (name ∷ names) all = by (bytes_eq name (codes "hitcount")) refl all.0 (can_values names all.1)
+    where
+      by : (b : Bool) → bytes_eq name (codes "hitcount") ≡ b → CanBeValue definition name → (sources : List Source) × AllZip (IsValueOf definition) (summed_names names) sources
+          → (sources : List Source) × AllZip (IsValueOf definition) (cond (not b) (name ∷ summed_names names) (summed_names names)) sources
+      by true e can rest = rest
+      by false e (inl same) rest = let equal : bytes_eq name (codes "hitcount") ≡ true = (bytes_eq-Decides name (codes "hitcount")).1 same in absurd (cc)
+      by false e (inr is) rest = (is.0 ∷ rest.0, (is.1, rest.1))

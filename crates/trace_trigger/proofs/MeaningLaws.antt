@@ -1,0 +1,260 @@
+-- What names, sizes and filters come to is what the grammar says that they mean.
+use Rattle.std.proofs.Common.{◌≡◌, ◌≢◌, ◌⊎◌, inl, inr, refl, ℕ, suc, zero, ◌+◌, ◌<◌, ◌≤◌, Bool, true, false, not, nat_lt, if◌then◌else◌, cond, bytes_eq, codes, List, [], ◌∷◌, length, slice_get, Option, Some, None, Result, Ok, Err, unwrap_or, ap, sym, ◌∙◌, subst, arith, lt-ltb, le-ltb, ltb-true}
+use Rattle.std.specs.List.{AllByRecursion, AllZip, position, position_or_len}
+use Rattle.std.proofs.lemmas.Bool.{false_from_ne_true}
+use Rattle.std.proofs.lemmas.Slice.Eq.{bytes_eq-Decides}
+use Rattle.trace_format.specs.Definitions.{Definition}
+use Rattle.trace_filter.specs.declared.fault.FilterFault.{FilterFault}
+use Rattle.trace_filter.specs.Filters.{Parsed, IsFilter, IsRefused, parsed_of}
+use Rattle.trace_filter.proofs.FilterLemmas.{filter_is_answered, refusal_is_answered, filter_or_refused}
+use Rattle.trace_trigger.specs.declared.hist_fault.HistFault.{HistFault}
+use Rattle.trace_trigger.specs.declared.hist_fault.HistFault.TheVariants.{WrongOperator}
+use Rattle.trace_trigger.specs.declared.sort_rule.SortSource.{SortSource}
+use Rattle.trace_trigger.specs.declared.sort_rule.SortSource.TheVariants.{Key, Value, Hitcount}
+use Rattle.trace_trigger.specs.declared.source.Source.{Source}
+use Rattle.trace_trigger.specs.declared.named.Named.{Named}
+use Rattle.trace_trigger.specs.declared.piece.Piece.{Piece}
+use Rattle.trace_trigger.specs.HistNames.{meaning_of}
+use Rattle.trace_trigger.specs.HistLists.{names_of, summed_items, is_hitcount}
+use Rattle.trace_trigger.specs.HistParts.{place_in}
+use Rattle.trace_trigger.specs.HistMeanings.{◌>>=◌, each, key_named, key_source, value_named, value_source, told_size, sort_found, sort_source}
+use Rattle.trace_trigger.specs.HistTexts.{moved, filter_read, filter_of}
+use Rattle.trace_trigger.specs.HistGrammar.{summed_names, IsKeyOf, IsValueOf, IsSortedBy, IsReadAs}
+use Rattle.trace_trigger.proofs.WrongLemmas.{Apart}
+use Rattle.trace_trigger.proofs.ListLaws.{Member, member_from, from_member}
+
+-- ---- results
+
+pub record IsBound {A B : Type 0} (first : Result A HistFault) (next : A → Result B HistFault) (value : B) : Type 0 where
+  pub found : A
+  pub is : first ≡ Ok found
+  pub after : next found ≡ Ok value
+
+pub bound : {A B : Type 0} (first : Result A HistFault) (next : A → Result B HistFault) (value : B) → (first >>= next) ≡ Ok value → IsBound first next value
+bound (Ok found) next value e = record { found = found; is = refl; after = e }
+bound (Err fault) next value e = absurd (cc)
+
+-- ---- keys and values
+
+key_found : (at : ℕ) (named : Option Named) (source : Source) → key_named at named ≡ Ok source → (is_text : Bool) × (named ≡ Some (record { source = source; is_text = is_text }))
+key_found at None source e = absurd (cc)
+key_found at (Some named) source e = let same : named.source ≡ source = cc in (named.is_text, λ i. Some (record { source = same i; is_text = named.is_text }))
+
+value_found : (at : ℕ) (named : Option Named) (source : Source) → value_named at named ≡ Ok source → named ≡ Some (record { source = source; is_text = false })
+value_found at None source e = absurd (cc)
+value_found at (Some named) source e = by named.is_text refl e
+  where
+    by : (b : Bool) → named.is_text ≡ b → (if b then Err (WrongOperator at) else Ok named.source) ≡ Ok source → Some named ≡ Some (record { source = source; is_text = false })
+    by true f g = absurd (cc)
+    by false f g = let same : named.source ≡ source = cc in (λ i. Some (record { source = same i; is_text = f i }))
+
+module _ (definition : Definition) where
+  pub keys_found : (items : List Piece) (sources : List Source) → each (key_source definition.fields) items ≡ Ok sources → AllZip (IsKeyOf definition) (names_of items) sources
+  keys_found [] [] e = tt
+  keys_found [] (source ∷ sources) e = absurd (cc)
+  keys_found (item ∷ items) sources e = by sources (bound (key_source definition.fields item) (λ y. each (key_source definition.fields) items >>= λ ys. Ok (y ∷ ys)) sources e) (keys_found items)
+    where
+      by : (sources : List Source) → IsBound (key_source definition.fields item) (λ y. each (key_source definition.fields) items >>= λ ys. Ok (y ∷ ys)) sources
+          → ((rest : List Source) → each (key_source definition.fields) items ≡ Ok rest → AllZip (IsKeyOf definition) (names_of items) rest) → AllZip (IsKeyOf definition) (names_of (item ∷ items)) sources
+      by sources is next =
+          let rest = bound (each (key_source definition.fields) items) (λ ys. Ok (is.found ∷ ys)) sources is.after in
+          let same : is.found ∷ rest.found ≡ sources = let f = rest.after in cc in
+          subst (AllZip (IsKeyOf definition) (names_of (item ∷ items))) same (key_found item.at (meaning_of definition.fields item.bytes) is.found is.is, next rest.found rest.is)
+
+  pub keys_given : (items : List Piece) (sources : List Source) → AllZip (IsKeyOf definition) (names_of items) sources → each (key_source definition.fields) items ≡ Ok sources
+  keys_given [] [] zip = refl
+  keys_given [] (source ∷ sources) zip = absurd zip
+  keys_given (item ∷ items) [] zip = absurd zip
+  keys_given (item ∷ items) (source ∷ sources) zip =
+      ap (λ (n : Option Named). key_named item.at n >>= λ y. each (key_source definition.fields) items >>= λ ys. Ok (y ∷ ys)) zip.0.1
+      ∙ ap (λ (r : Result (List Source) HistFault). r >>= λ ys. Ok (source ∷ ys)) (keys_given items sources zip.1)
+
+  pub values_found : (items : List Piece) (sources : List Source) → each (value_source definition.fields) items ≡ Ok sources → AllZip (IsValueOf definition) (names_of items) sources
+  values_found [] [] e = tt
+  values_found [] (source ∷ sources) e = absurd (cc)
+  values_found (item ∷ items) sources e = by sources (bound (value_source definition.fields item) (λ y. each (value_source definition.fields) items >>= λ ys. Ok (y ∷ ys)) sources e) (values_found items)
+    where
+      by : (sources : List Source) → IsBound (value_source definition.fields item) (λ y. each (value_source definition.fields) items >>= λ ys. Ok (y ∷ ys)) sources
+          → ((rest : List Source) → each (value_source definition.fields) items ≡ Ok rest → AllZip (IsValueOf definition) (names_of items) rest) → AllZip (IsValueOf definition) (names_of (item ∷ items)) sources
+      by sources is next =
+          let rest = bound (each (value_source definition.fields) items) (λ ys. Ok (is.found ∷ ys)) sources is.after in
+          let same : is.found ∷ rest.found ≡ sources = let f = rest.after in cc in
+          subst (AllZip (IsValueOf definition) (names_of (item ∷ items))) same (value_found item.at (meaning_of definition.fields item.bytes) is.found is.is, next rest.found rest.is)
+
+  pub values_given : (items : List Piece) (sources : List Source) → AllZip (IsValueOf definition) (names_of items) sources → each (value_source definition.fields) items ≡ Ok sources
+  values_given [] [] zip = refl
+  values_given [] (source ∷ sources) zip = absurd zip
+  values_given (item ∷ items) [] zip = absurd zip
+  values_given (item ∷ items) (source ∷ sources) zip =
+      ap (λ (n : Option Named). value_named item.at n >>= λ y. each (value_source definition.fields) items >>= λ ys. Ok (y ∷ ys)) zip.0
+      ∙ ap (λ (r : Result (List Source) HistFault). r >>= λ ys. Ok (source ∷ ys)) (values_given items sources zip.1)
+
+-- the values that are summed, by their names
+pub summed_are : (items : List Piece) → names_of (summed_items items) ≡ summed_names (names_of items)
+summed_are [] = refl
+summed_are (item ∷ items) = by (not (is_hitcount item.bytes)) (summed_are items)
+  where
+    by : (b : Bool) → names_of (summed_items items) ≡ summed_names (names_of items)
+        → names_of (cond b (item ∷ summed_items items) (summed_items items)) ≡ cond b (item.bytes ∷ summed_names (names_of items)) (summed_names (names_of items))
+    by true next = ap (λ (names : List (List ℕ)). item.bytes ∷ names) next
+    by false next = next
+
+-- ---- the size
+
+pub told : (size : Option ℕ) (n : ℕ) → told_size size ≡ Ok n → size ≡ Some n
+told None n e = absurd (cc)
+told (Some m) n e = let same : m ≡ n = cc in ap Some same
+
+-- ---- the filter
+
+module _ (definition : Definition) (text : List ℕ) where
+  pub filter_given : (condition : Option (List ℕ)) (read : Option Parsed) → IsReadAs definition condition read → filter_of definition text condition ≡ Ok read
+  unfolding filter_of
+  filter_given None None is = refl
+  filter_given None (Some read) is = absurd is
+  filter_given (Some condition) None is = absurd is
+  filter_given (Some condition) (Some read) is =
+      ap (filter_read (place_in text condition)) ((filter_is_answered definition condition).0 is.0) ∙ ap (λ (f : Parsed). Ok (Some f)) (sym is.1)
+
+  pub filter_refused : (condition : List ℕ) (fault : FilterFault) → IsRefused definition condition fault → filter_of definition text (Some condition) ≡ Err (moved (place_in text condition) fault)
+  unfolding filter_of
+  filter_refused condition fault is = ap (filter_read (place_in text condition)) ((refusal_is_answered definition condition fault).0 is)
+
+  pub filter_found : (condition : Option (List ℕ)) (read : Option Parsed) → filter_of definition text condition ≡ Ok read → IsReadAs definition condition read
+  unfolding filter_of
+  filter_found None None is = tt
+  filter_found None (Some read) is = absurd (cc)
+  filter_found (Some condition) read is = by read is (filter_or_refused definition condition)
+    where
+      by : (read : Option Parsed) → filter_of definition text (Some condition) ≡ Ok read → IsFilter definition condition ⊎ ((fault : FilterFault) × IsRefused definition condition fault) → IsReadAs definition (Some condition) read
+      by None h (inl fine) = let found = filter_given (Some condition) (Some (parsed_of definition condition)) (fine, refl) in absurd (cc)
+      by (Some read) h (inl fine) =
+          let found = filter_given (Some condition) (Some (parsed_of definition condition)) (fine, refl) in
+          let same : read ≡ parsed_of definition condition = cc in
+          (fine, same)
+      by read h (inr refused) = let found = filter_refused condition refused.0 refused.1 in absurd (cc)
+
+-- ---- where a name is in a list
+
+pub record IsPlace (name : List ℕ) (names : List (List ℕ)) (place : ℕ) : Type 0 where
+  pub first : position_or_len (bytes_eq name) names ≡ place
+  pub within : place < length names
+  pub there : slice_get names place ≡ Some name
+
+place_here : (name other : List ℕ) (names : List (List ℕ)) → name ≡ other → IsPlace name (other ∷ names) 0
+place_here name other names same =
+    let equal : bytes_eq name other ≡ true = (bytes_eq-Decides name other).1 same in
+    record { first = ap (λ b. cond (not b) (1 + position_or_len (bytes_eq name) names) 0) equal; within = omega arith; there = ap Some (sym same) }
+
+place_later : (name other : List ℕ) (names : List (List ℕ)) (place : ℕ) → bytes_eq name other ≡ false → IsPlace name names place → IsPlace name (other ∷ names) (suc place)
+place_later name other names place differ is =
+    let up : 1 + position_or_len (bytes_eq name) names ≡ suc place = omega (arith, is.first) in
+    record {
+      first = ap (λ b. cond (not b) (1 + position_or_len (bytes_eq name) names) 0) differ ∙ up;
+      within = omega (arith, is.within);
+      there = is.there;
+    }
+
+-- the place of an element of a list of names of which none is there twice
+none_there : (name other : List ℕ) (names : List (List ℕ)) (place : ℕ) → AllByRecursion (λ later. other ≢ later) names → slice_get names place ≡ Some name → other ≢ name
+none_there name other [] place all e = absurd (cc)
+none_there name other (first ∷ names) zero all e = λ same. let here : first ≡ name = cc in all.0 (same ∙ sym here)
+none_there name other (first ∷ names) (suc place) all e = none_there name other names place all.1 e
+
+pub place_of : (name : List ℕ) (names : List (List ℕ)) (place : ℕ) → Apart (λ one later. one ≢ later) names → slice_get names place ≡ Some name → IsPlace name names place
+place_of name [] place apart e = absurd (cc)
+place_of name (other ∷ names) zero apart e = let same : name ≡ other = cc in place_here name other names same
+place_of name (other ∷ names) (suc place) apart e =
+    let differ : bytes_eq name other ≡ false = false_from_ne_true (bytes_eq name other) (λ equal. none_there name other names place apart.0 e (sym ((bytes_eq-Decides name other).0 equal))) in
+    place_later name other names place differ (place_of name names place apart.1 e)
+
+pub record HasPlace (name : List ℕ) (names : List (List ℕ)) : Type 0 where
+  pub place : ℕ
+  pub is : IsPlace name names place
+
+pub member_place : (name : List ℕ) (names : List (List ℕ)) → Member name names → HasPlace name names
+member_place name [] is = absurd is
+member_place name (other ∷ names) is = by (bytes_eq name other) refl is (member_place name names)
+  where
+    by : (b : Bool) → bytes_eq name other ≡ b → Member name (other ∷ names) → (Member name names → HasPlace name names) → HasPlace name (other ∷ names)
+    by true e is next = record { place = 0; is = place_here name other names ((bytes_eq-Decides name other).0 e) }
+    by false e (inl same) next = let equal : bytes_eq name other ≡ true = (bytes_eq-Decides name other).1 same in absurd (cc)
+    by false e (inr is) next = let rest = next is in record { place = suc rest.place; is = place_later name other names rest.place e rest.is }
+
+pub place_found : (name : List ℕ) (names : List (List ℕ)) (place : ℕ) → IsPlace name names place → position (bytes_eq name) names ≡ Some place
+place_found name names place is =
+    let test : nat_lt (position_or_len (bytes_eq name) names) (length names) ≡ true = lt-ltb (position_or_len (bytes_eq name) names) (length names) (omega (arith, is.first, is.within)) in
+    ap (λ b. cond b (Some (position_or_len (bytes_eq name) names)) None) test ∙ ap Some is.first
+
+place_at : (name : List ℕ) (names : List (List ℕ)) → position_or_len (bytes_eq name) names < length names → slice_get names (position_or_len (bytes_eq name) names) ≡ Some name
+place_at name [] more = absurd (omega (arith, more))
+place_at name (other ∷ names) more = by (bytes_eq name other) refl more (place_at name names)
+  where
+    by : (b : Bool) → bytes_eq name other ≡ b → cond (not b) (1 + position_or_len (bytes_eq name) names) 0 < length (other ∷ names)
+        → (position_or_len (bytes_eq name) names < length names → slice_get names (position_or_len (bytes_eq name) names) ≡ Some name)
+        → slice_get (other ∷ names) (cond (not b) (1 + position_or_len (bytes_eq name) names) 0) ≡ Some name
+    by true e l next = ap Some (sym ((bytes_eq-Decides name other).0 e))
+    by false e l next =
+        let up : 1 + position_or_len (bytes_eq name) names ≡ suc (position_or_len (bytes_eq name) names) = omega arith in
+        ap (slice_get (other ∷ names)) up ∙ next (omega (arith, l))
+
+pub place_there : (name : List ℕ) (names : List (List ℕ)) (place : ℕ) → position (bytes_eq name) names ≡ Some place → slice_get names place ≡ Some name
+place_there name names place e = by (nat_lt (position_or_len (bytes_eq name) names) (length names)) refl e
+  where
+    by : (b : Bool) → nat_lt (position_or_len (bytes_eq name) names) (length names) ≡ b → cond b (Some (position_or_len (bytes_eq name) names)) None ≡ Some place → slice_get names place ≡ Some name
+    by true f g =
+        let same : position_or_len (bytes_eq name) names ≡ place = cc in
+        ap (slice_get names) (sym same) ∙ place_at name names (ltb-true (position_or_len (bytes_eq name) names) (length names) f)
+    by false f g = absurd (cc)
+
+-- and where it is in none
+never_place : (name : List ℕ) (names : List (List ℕ)) → (Member name names → ⊥) → length names ≤ position_or_len (bytes_eq name) names
+never_place name [] none = omega arith
+never_place name (other ∷ names) none =
+    let differ : bytes_eq name other ≡ false = false_from_ne_true (bytes_eq name other) (λ equal. none (inl ((bytes_eq-Decides name other).0 equal))) in
+    let rest = never_place name names (λ is. none (inr is)) in
+    omega (arith, ap (λ b. cond (not b) (1 + position_or_len (bytes_eq name) names) 0) differ, rest)
+
+pub place_missing : (name : List ℕ) (names : List (List ℕ)) → (Member name names → ⊥) → position (bytes_eq name) names ≡ None
+place_missing name names none =
+    ap (λ b. cond b (Some (position_or_len (bytes_eq name) names)) None) (le-ltb (position_or_len (bytes_eq name) names) (length names) (never_place name names none))
+
+-- ---- what is sorted by
+
+module _ (keys values : List (List ℕ)) where
+  source_by : (name : List ℕ) (found : Option ℕ) (is_count : Bool) → position (bytes_eq name) values ≡ found → is_hitcount name ≡ is_count
+      → sort_source keys values name ≡ sort_found found is_count (position (bytes_eq name) keys)
+  source_by name found is_count e f = (λ i. sort_found (e i) (f i) (position (bytes_eq name) keys))
+
+  module _ (keys_apart : Apart (λ one later. one ≢ later) keys) (values_apart : Apart (λ one later. one ≢ later) values) (no_count : Member (codes "hitcount") values → ⊥) where
+    pub by_is : (name : List ℕ) (source : SortSource) → IsSortedBy keys values name source → source ≡ sort_source keys values name
+    by_is name Hitcount is =
+        let none : position (bytes_eq name) values ≡ None = place_missing name values (λ member. no_count (subst (λ (n : List ℕ). Member n values) is member)) in
+        sym (source_by name None true none ((bytes_eq-Decides name (codes "hitcount")).1 is))
+    by_is name (Value place) is =
+        let found : position (bytes_eq name) values ≡ Some place = place_found name values place (place_of name values place values_apart is) in
+        sym (source_by name (Some place) (is_hitcount name) found refl)
+    by_is name (Key place) is =
+        let none : position (bytes_eq name) values ≡ None = place_missing name values (λ member. is.1 (from_member name values member)) in
+        let other : is_hitcount name ≡ false = false_from_ne_true (is_hitcount name) (λ equal. is.0 ((bytes_eq-Decides name (codes "hitcount")).0 equal)) in
+        let place_is : position (bytes_eq name) keys ≡ Some place = place_found name keys place (place_of name keys place keys_apart is.2) in
+        sym (source_by name None false none other ∙ ap (λ (o : Option ℕ). Key (unwrap_or o 0)) place_is)
+
+    pub is_by : (name : List ℕ) → (name ≡ codes "hitcount") ⊎ (Member name keys ⊎ Member name values) → IsSortedBy keys values name (sort_source keys values name)
+    is_by name lent = by (position (bytes_eq name) values) (is_hitcount name) refl refl lent
+      where
+        key_place : (e : position (bytes_eq name) values ≡ None) → is_hitcount name ≡ false → Member name keys → IsSortedBy keys values name (Key (unwrap_or (position (bytes_eq name) keys) 0))
+        key_place e f member =
+            let it = member_place name keys member in (
+              λ same. let equal : is_hitcount name ≡ true = (bytes_eq-Decides name (codes "hitcount")).1 same in let no = f in cc,
+              λ contains. let at = member_place name values (member_from name values contains) in let found = place_found name values at.place at.is in cc,
+              subst (λ (o : Option ℕ). slice_get keys (unwrap_or o 0) ≡ Some name) (sym (place_found name keys it.place it.is)) it.is.there,
+            )
+
+        by : (found : Option ℕ) (is_count : Bool) → position (bytes_eq name) values ≡ found → is_hitcount name ≡ is_count → (name ≡ codes "hitcount") ⊎ (Member name keys ⊎ Member name values)
+            → IsSortedBy keys values name (sort_source keys values name)
+        by (Some place) is_count e f lent = subst (IsSortedBy keys values name) (sym (source_by name (Some place) is_count e f)) (place_there name values place e)
+        by None true e f lent = subst (IsSortedBy keys values name) (sym (source_by name None true e f)) ((bytes_eq-Decides name (codes "hitcount")).0 f)
+        by None false e f (inl same) = let equal : is_hitcount name ≡ true = (bytes_eq-Decides name (codes "hitcount")).1 same in absurd (cc)
+        by None false e f (inr (inl member)) = subst (IsSortedBy keys values name) (sym (source_by name None false e f)) (key_place e f member)
+        by None false e f (inr (inr member)) = let at = member_place name values member in let found = place_found name values at.place at.is in absurd (cc)

@@ -1,0 +1,244 @@
+-- What is read of a text is what its settings say.
+use Rattle.std.proofs.Common.{◌≡◌, ◌≢◌, ◌⊎◌, inl, inr, refl, ℕ, ◌≤◌, Bool, true, false, not, ◌||◌, nat_lt, cond, bytes_eq, codes, List, [], ◌∷◌, length, map, Option, Ok, ap, sym, ◌∙◌, subst, arith, le-ltb}
+use Rattle.std.specs.List.{AllByRecursion, AllPairs, AllZip, Contains}
+use Rattle.std.proofs.lemmas.Bool.{or_parts, or_from, ltb-false}
+use Rattle.std.proofs.lemmas.List.{length-map}
+use Rattle.std.proofs.lemmas.List.Elements.{recursion_from_All}
+use Rattle.std.proofs.lemmas.List.Kept.{AllPairs-filter}
+use Rattle.std.proofs.lemmas.Slice.Eq.{bytes_eq-Decides}
+use Rattle.trace_format.specs.Definitions.{Definition}
+use Rattle.trace_trigger.specs.declared.spec.Action.TheVariants.{Attach}
+use Rattle.trace_trigger.specs.declared.spec.SortKey.{SortKey}
+use Rattle.trace_trigger.specs.declared.sort_rule.SortRule.{SortRule}
+use Rattle.trace_trigger.specs.declared.piece.Piece.{Piece}
+use Rattle.trace_trigger.specs.HistParts.{attributes_of}
+use Rattle.trace_trigger.specs.HistLists.{Lists, lists_of, names_of, summed_items, is_hitcount, sort_keys, sort_key_of}
+use Rattle.trace_trigger.specs.HistMeanings.{is_too_many, few, size_of, told_size, sort_source, sort_rule}
+use Rattle.trace_trigger.specs.HistSizes.{rounded_size}
+use Rattle.trace_trigger.specs.HistSpecs.{SpecSeen}
+use Rattle.trace_trigger.specs.HistTexts.{filter_of}
+use Rattle.trace_trigger.specs.HistGrammar.{Setting, Keys, Values, Sort, Size, Asks, subject_of, IsListed, IsSet, summed_names, AreSettingsOf, IsWithinLimits, IsKeyOf, IsValueOf, IsSortedBy, IsRuleOf, FitsEvent}
+use Rattle.trace_trigger.proofs.WrongLemmas.{Apart, from_pairs, each_weaker}
+use Rattle.trace_trigger.proofs.ListLaws.{Member, member_from, Once, one_setting}
+use Rattle.trace_trigger.proofs.SettingLaws.{default_sort, ListsAre, given, keys_are, values_are, lists_are}
+use Rattle.trace_trigger.proofs.MeaningLaws.{keys_found, keys_given, values_found, values_given, summed_are, told, filter_given, filter_found, by_is, is_by}
+use Rattle.trace_trigger.proofs.SpecLaws.{Finds, IsSaid}
+
+-- ---- one value is set
+
+pub set_once : {A : Type 0} (settings : List Setting) (by : A → Setting) (otherwise : A) → Once settings → ((a b : A) → subject_of (by a) ≡ subject_of (by b)) → ((a b : A) → by a ≡ by b → a ≡ b)
+    → (one other : A) → IsSet settings by otherwise one → IsSet settings by otherwise other → one ≡ other
+set_once settings by otherwise once same inject one other (inl is) (inl set) = inject one other (one_setting (by one) (by other) settings once (member_from (by one) settings is) (member_from (by other) settings set) (same one other))
+set_once settings by otherwise once same inject one other (inl is) (inr none) = absurd (none.0 one is)
+set_once settings by otherwise once same inject one other (inr none) (inl set) = absurd (none.0 other set)
+set_once settings by otherwise once same inject one other (inr none) (inr never) = none.1 ∙ sym never.1
+
+-- ---- names that are summed
+
+kept_member : (name : List ℕ) (names : List (List ℕ)) → name ≢ codes "hitcount" → Member name names → Member name (summed_names names)
+kept_member name [] other is = is
+kept_member name (first ∷ names) other is = by (bytes_eq first (codes "hitcount")) refl is (kept_member name names other)
+  where
+    by : (b : Bool) → bytes_eq first (codes "hitcount") ≡ b → Member name (first ∷ names) → (Member name names → Member name (summed_names names)) → Member name (cond (not b) (first ∷ summed_names names) (summed_names names))
+    by true e (inl same) next = absurd (other (same ∙ (bytes_eq-Decides first (codes "hitcount")).0 e))
+    by true e (inr is) next = next is
+    by false e (inl same) next = inl same
+    by false e (inr is) next = inr (next is)
+
+no_hitcount : (names : List (List ℕ)) → Member (codes "hitcount") (summed_names names) → ⊥
+no_hitcount [] is = is
+no_hitcount (first ∷ names) is = by (bytes_eq first (codes "hitcount")) refl is (no_hitcount names)
+  where
+    by : (b : Bool) → bytes_eq first (codes "hitcount") ≡ b → Member (codes "hitcount") (cond (not b) (first ∷ summed_names names) (summed_names names)) → (Member (codes "hitcount") (summed_names names) → ⊥) → ⊥
+    by true e is next = next is
+    by false e (inl same) next = let equal : bytes_eq first (codes "hitcount") ≡ true = (bytes_eq-Decides first (codes "hitcount")).1 (sym same) in cc
+    by false e (inr is) next = next is
+
+-- ---- the lists of a text
+
+module _ (definition : Definition) (text : List ℕ) (settings : List Setting) (condition : Option (List ℕ)) (finds : Finds text settings condition) where
+  abbrev lists : Lists
+  lists = lists_of (attributes_of text)
+
+  once : Once settings
+  once = from_pairs (λ one other. subject_of one ≢ subject_of other) settings finds.lawful.once
+
+  pub are : ListsAre settings (lists_of (attributes_of text))
+  are = lists_are (attributes_of text) settings finds.read once finds.lawful.keys.0 finds.lawful.keys.1
+
+  keys_apart : Apart (λ one other. one ≢ other) (names_of lists.keys)
+  keys_apart =
+      let it = given (attributes_of text) settings finds.read once (Keys (names_of lists.keys)) (member_from (Keys (names_of lists.keys)) settings are.keys) in
+      from_pairs (λ one other. one ≢ other) (names_of lists.keys) it.read.holds.apart
+
+  listed_apart : AllPairs (λ one other. one ≢ other) (names_of lists.values)
+  listed_apart = by are.values
+    where
+      by : IsSet settings Values [] (names_of (lists_of (attributes_of text)).values) → AllPairs (λ one other. one ≢ other) (names_of (lists_of (attributes_of text)).values)
+      by (inl set) = (given (attributes_of text) settings finds.read once (Values (names_of lists.values)) (member_from (Values (names_of lists.values)) settings set)).read.holds.apart
+      by (inr none) = subst (AllPairs (λ one other. one ≢ other)) (sym none.1) (λ i j d l k. absurd (omega (arith, k)))
+
+  values_apart : Apart (λ one other. one ≢ other) (names_of (summed_items lists.values))
+  values_apart =
+      subst (Apart (λ one other. one ≢ other)) (sym (summed_are lists.values))
+      (from_pairs (λ one other. one ≢ other) (summed_names (names_of lists.values)) (AllPairs-filter (λ one other. one ≢ other) (λ name. not (bytes_eq name (codes "hitcount"))) (names_of lists.values) listed_apart))
+
+  no_count : Member (codes "hitcount") (names_of (summed_items lists.values)) → ⊥
+  no_count is = no_hitcount (names_of lists.values) (subst (Member (codes "hitcount")) (summed_are lists.values) is)
+
+  -- ---- what is sorted by is found
+
+  abbrev Lent : List ℕ → Type 0
+  Lent name = (name ≡ codes "hitcount") ⊎ (Member name (names_of lists.keys) ⊎ Member name (names_of (summed_items lists.values)))
+
+  lent_value : (name : List ℕ) → Member name (names_of lists.values) → Lent name
+  lent_value name is = by (is_hitcount name) refl
+    where
+      by : (b : Bool) → is_hitcount name ≡ b → Lent name
+      by true e = inl ((bytes_eq-Decides name (codes "hitcount")).0 e)
+      by false e =
+          let other : name ≢ codes "hitcount" = λ same. let equal : is_hitcount name ≡ true = (bytes_eq-Decides name (codes "hitcount")).1 same in let no = e in cc in
+          inr (inr (subst (Member name) (sym (summed_are lists.values)) (kept_member name (names_of lists.values) other is)))
+
+  lent : (name : List ℕ) → (name ≡ codes "hitcount") ⊎ IsListed settings name → Lent name
+  lent name (inl same) = inl same
+  lent name (inr is) = by is.set
+    where
+      by : Contains settings (Keys is.names) ⊎ Contains settings (Values is.names) → Lent name
+      by (inl set) = inr (inl (subst (Member name) (sym (keys_are (attributes_of text) settings finds.read once is.names set)) (member_from name is.names is.among)))
+      by (inr set) = lent_value name (subst (Member name) (sym (values_are (attributes_of text) settings finds.read once is.names set)) (member_from name is.names is.among))
+
+  sort_lent : (keys : List SortKey) → IsSet settings Sort default_sort keys → AllByRecursion (λ (key : SortKey). Lent key.name) keys
+  sort_lent keys (inl set) = each_weaker (λ (key : SortKey). (key.name ≡ codes "hitcount") ⊎ IsListed settings key.name) (λ (key : SortKey). Lent key.name) (λ key is. lent key.name is) keys
+      (recursion_from_All (λ (key : SortKey). (key.name ≡ codes "hitcount") ⊎ IsListed settings key.name) keys (finds.lawful.sort keys set))
+  sort_lent keys (inr none) = subst (AllByRecursion (λ (key : SortKey). Lent key.name)) (sym none.1) (inl refl, tt)
+
+  abbrev rule : SortKey → SortRule
+  rule = sort_rule (names_of lists.keys) (names_of (summed_items lists.values))
+
+  source_lent : (name : List ℕ) → Lent name → IsSortedBy (names_of lists.keys) (names_of (summed_items lists.values)) name (sort_source (names_of lists.keys) (names_of (summed_items lists.values)) name)
+  source_lent name lent = is_by (names_of lists.keys) (names_of (summed_items lists.values)) keys_apart values_apart no_count name lent
+
+  sorted_same : (keys values : List (List ℕ)) → names_of lists.keys ≡ keys → names_of (summed_items lists.values) ≡ values → (key : SortKey) → Lent key.name
+      → IsSortedBy keys values key.name (sort_source (names_of lists.keys) (names_of (summed_items lists.values)) key.name)
+  sorted_same keys values e f key lent =
+      subst (λ (ks : List (List ℕ)). IsSortedBy ks values key.name (sort_source (names_of lists.keys) (names_of (summed_items lists.values)) key.name)) e
+      (subst (λ (vs : List (List ℕ)). IsSortedBy (names_of lists.keys) vs key.name (sort_source (names_of lists.keys) (names_of (summed_items lists.values)) key.name)) f (source_lent key.name lent))
+
+  rules_found : (spec : SpecSeen) → names_of lists.keys ≡ spec.keys → names_of (summed_items lists.values) ≡ spec.values → (keys : List SortKey) → AllByRecursion (λ (key : SortKey). Lent key.name) keys
+      → AllZip (IsRuleOf spec) keys (map rule keys)
+  rules_found spec e f [] all = tt
+  rules_found spec e f (key ∷ keys) all = ((sorted_same spec.keys spec.values e f key all.0, refl), rules_found spec e f keys all.1)
+
+  rules_given : (spec : SpecSeen) → names_of lists.keys ≡ spec.keys → names_of (summed_items lists.values) ≡ spec.values → (keys : List SortKey) (rules : List SortRule)
+      → AllZip (IsRuleOf spec) keys rules → map rule keys ≡ rules
+  rules_given spec e f [] [] zip = refl
+  rules_given spec e f [] (it ∷ rules) zip = absurd zip
+  rules_given spec e f (key ∷ keys) [] zip = absurd zip
+  rules_given spec e f (key ∷ keys) (it ∷ rules) zip =
+      let sorted : IsSortedBy (names_of lists.keys) (names_of (summed_items lists.values)) key.name it.source =
+      subst (λ (ks : List (List ℕ)). IsSortedBy ks (names_of (summed_items lists.values)) key.name it.source) (sym e)
+      (subst (λ (vs : List (List ℕ)). IsSortedBy spec.keys vs key.name it.source) (sym f) zip.0.0) in
+      let source : it.source ≡ sort_source (names_of lists.keys) (names_of (summed_items lists.values)) key.name =
+      by_is (names_of lists.keys) (names_of (summed_items lists.values)) keys_apart values_apart no_count key.name it.source sorted in
+      (λ i. record { source = sym source i; descending = sym zip.0.1 i } ∷ rules_given spec e f keys rules zip.1 i)
+
+  -- ---- how many
+
+  few_keys : (items : List Piece) (names : List (List ℕ)) → names_of items ≡ names → nat_lt 3 (length items) ≡ false → length names ≤ 3
+  few_keys items names e f = omega (arith, ltb-false 3 (length items) f, length-map items (λ (item : Piece). item.bytes), ap length e)
+
+  keys_few : (items : List Piece) (names : List (List ℕ)) → names_of items ≡ names → length names ≤ 3 → nat_lt 3 (length items) ≡ false
+  keys_few items names e f = le-ltb 3 (length items) (omega (arith, f, length-map items (λ (item : Piece). item.bytes), ap length e))
+
+  few_sorts : (items : List Piece) (keys : List SortKey) → sort_keys items ≡ keys → nat_lt 2 (length items) ≡ false → length keys ≤ 2
+  few_sorts [] keys e f = omega (arith, ap length e)
+  few_sorts (item ∷ items) keys e f = omega (arith, ltb-false 2 (length (item ∷ items)) f, length-map (item ∷ items) sort_key_of, ap length e)
+
+  sorts_few : (items : List Piece) (keys : List SortKey) → sort_keys items ≡ keys → length keys ≤ 2 → nat_lt 2 (length items) ≡ false
+  sorts_few [] keys e f = refl
+  sorts_few (item ∷ items) keys e f = le-ltb 2 (length (item ∷ items)) (omega (arith, f, length-map (item ∷ items) sort_key_of, ap length e))
+
+  within : (spec : SpecSeen) → names_of lists.keys ≡ spec.keys → names_of (summed_items lists.values) ≡ spec.values → sort_keys lists.sort ≡ spec.sort → is_too_many lists ≡ false → IsWithinLimits spec
+  within spec keys values sort few =
+      let first = or_parts (nat_lt 3 (length lists.keys) || nat_lt 3 (length (summed_items lists.values))) (nat_lt 2 (length lists.sort)) few in
+      let second = or_parts (nat_lt 3 (length lists.keys)) (nat_lt 3 (length (summed_items lists.values))) first.0 in
+      record {
+        keys = few_keys lists.keys spec.keys keys second.0;
+        values = few_keys (summed_items lists.values) spec.values values second.1;
+        sort = few_sorts lists.sort spec.sort sort first.1;
+      }
+
+  fewer : (spec : SpecSeen) → names_of lists.keys ≡ spec.keys → names_of (summed_items lists.values) ≡ spec.values → sort_keys lists.sort ≡ spec.sort → IsWithinLimits spec → is_too_many lists ≡ false
+  fewer spec keys values sort limits =
+      or_from (nat_lt 3 (length lists.keys) || nat_lt 3 (length (summed_items lists.values))) (nat_lt 2 (length lists.sort))
+      (or_from (nat_lt 3 (length lists.keys)) (nat_lt 3 (length (summed_items lists.values))) (keys_few lists.keys spec.keys keys limits.keys) (keys_few (summed_items lists.values) spec.values values limits.values))
+      (sorts_few lists.sort spec.sort sort limits.sort)
+
+  -- ---- what is said is what the settings say
+
+  pub said_settings : (spec : SpecSeen) → IsSaid definition text lists spec → AreSettingsOf settings spec
+  said_settings spec is = record {
+    keys = subst (λ (names : List (List ℕ)). Contains settings (Keys names)) is.keys are.keys;
+    listed = names_of lists.values;
+    listed_set = are.values;
+    values = sym is.values ∙ summed_are lists.values;
+    sort = subst (IsSet settings Sort default_sort) is.sort are.sort;
+    entries = are.entries;
+    entries_set = are.entries_set;
+    size = told (rounded_size are.entries) spec.size (sym are.size ∙ is.size);
+    action = subst (IsSet settings Asks Attach) is.action are.action;
+  }
+
+  pub said_limits : (spec : SpecSeen) → IsSaid definition text lists spec → IsWithinLimits spec
+  said_limits spec is = within spec is.keys is.values is.sort is.few
+
+  pub said_fits : (spec : SpecSeen) → IsSaid definition text lists spec → FitsEvent definition condition spec
+  said_fits spec is = record {
+    keys = subst (λ (names : List (List ℕ)). AllZip (IsKeyOf definition) names spec.key_sources) is.keys (keys_found definition lists.keys spec.key_sources is.key_sources);
+    values = subst (λ (names : List (List ℕ)). AllZip (IsValueOf definition) names spec.value_sources) is.values (values_found definition (summed_items lists.values) spec.value_sources is.value_sources);
+    sort =
+        subst (λ (keys : List SortKey). AllZip (IsRuleOf spec) keys spec.sort_sources) is.sort
+        (subst (λ (rules : List SortRule). AllZip (IsRuleOf spec) (sort_keys lists.sort) rules) is.sort_sources
+        (rules_found spec is.keys is.values (sort_keys lists.sort) (sort_lent (sort_keys lists.sort) are.sort)));
+    filter = filter_found definition text condition spec.filter (sym (ap (filter_of definition text) finds.found) ∙ is.filter);
+  }
+
+  -- ---- and what they say is said
+
+  keys_same : (spec : SpecSeen) → AreSettingsOf settings spec → names_of lists.keys ≡ spec.keys
+  keys_same spec set = keys_are (attributes_of text) settings finds.read once spec.keys set.keys
+
+  values_same : (spec : SpecSeen) → AreSettingsOf settings spec → names_of (summed_items lists.values) ≡ spec.values
+  values_same spec set =
+      let same : names_of lists.values ≡ set.listed = set_once settings Values [] once (λ a b. refl) (λ a b e. cc) (names_of lists.values) set.listed are.values set.listed_set in
+      summed_are lists.values ∙ ap summed_names same ∙ sym set.values
+
+  sort_same : (spec : SpecSeen) → AreSettingsOf settings spec → sort_keys lists.sort ≡ spec.sort
+  sort_same spec set = set_once settings Sort default_sort once (λ a b. refl) (λ a b e. cc) (sort_keys lists.sort) spec.sort are.sort set.sort
+
+  size_same : (spec : SpecSeen) → AreSettingsOf settings spec → size_of lists.size ≡ Ok spec.size
+  size_same spec set =
+      let same : are.entries ≡ set.entries = set_once settings Size 2048 once (λ a b. refl) (λ a b e. cc) are.entries set.entries are.entries_set set.entries_set in
+      are.size ∙ ap (λ n. told_size (rounded_size n)) same ∙ ap told_size set.size
+
+  action_same : (spec : SpecSeen) → AreSettingsOf settings spec → lists.action ≡ spec.action
+  action_same spec set = set_once settings Asks Attach once (λ a b. refl) (λ a b e. cc) lists.action spec.action are.action set.action
+
+  pub settings_said : (spec : SpecSeen) → AreSettingsOf settings spec → IsWithinLimits spec → FitsEvent definition condition spec → IsSaid definition text lists spec
+  settings_said spec set limits fits =
+      let keys = keys_same spec set in
+      let values = values_same spec set in
+      let sort = sort_same spec set in
+      record {
+        few = fewer spec keys values sort limits;
+        key_sources = keys_given definition lists.keys spec.key_sources (subst (λ (names : List (List ℕ)). AllZip (IsKeyOf definition) names spec.key_sources) (sym keys) fits.keys);
+        value_sources = values_given definition (summed_items lists.values) spec.value_sources (subst (λ (names : List (List ℕ)). AllZip (IsValueOf definition) names spec.value_sources) (sym values) fits.values);
+        size = size_same spec set;
+        filter = ap (filter_of definition text) finds.found ∙ filter_given definition text condition spec.filter fits.filter;
+        keys = keys;
+        values = values;
+        sort = sort;
+        action = action_same spec set;
+        sort_sources = ap (map rule) sort ∙ rules_given spec keys values spec.sort spec.sort_sources fits.sort;
+      }

@@ -1,0 +1,222 @@
+-- A text says of a trigger what the grammar says that it does.
+use Rattle.std.proofs.Common.{◌≡◌, refl, ℕ, Bool, true, false, if◌then◌else◌, List, [], ◌∷◌, ◌++◌, map, Option, Some, None, Result, Ok, Err, ap, sym, ◌∙◌, subst, min}
+use Rattle.std.specs.List.{AllZip, AllPass}
+use Rattle.trace_format.specs.Definitions.{Definition}
+use Rattle.trace_filter.specs.Filters.{Parsed}
+use Rattle.trace_lex.proofs.Lists.{BeginsNot}
+use Rattle.trace_trigger.specs.Frames.{is_unblank, after_blanks}
+use Rattle.trace_trigger.specs.declared.hist_fault.HistFault.{HistFault}
+use Rattle.trace_trigger.specs.declared.hist_fault.HistFault.TheVariants.{HistSyntax, TooMany}
+use Rattle.trace_trigger.specs.declared.source.Source.{Source}
+use Rattle.trace_trigger.specs.declared.attribute.Attribute.{Attribute}
+use Rattle.trace_trigger.specs.HistAttributes.{attributes_at}
+use Rattle.trace_trigger.specs.HistPieces.{pieces_of}
+use Rattle.trace_trigger.specs.HistParts.{attributes_of, end_of, tail_of, condition_of}
+use Rattle.trace_trigger.specs.HistLists.{Lists, lists_of, names_of, summed_items, sort_keys}
+use Rattle.trace_trigger.specs.HistPlaces.{attribute_places, item_places, sort_places, list_places, keyless_places, tail_places, wrong_places, earlier, least}
+use Rattle.trace_trigger.specs.HistMeanings.{◌>>=◌, is_too_many, few, each, key_source, value_source, size_of, sort_rule}
+use Rattle.trace_trigger.specs.HistSpecs.{SpecSeen}
+use Rattle.trace_trigger.specs.HistTexts.{unless_wrong, read_of, filter_of, spec_from}
+use Rattle.trace_trigger.specs.HistGrammar.{Setting, AreLawful, IsWritten}
+use Rattle.trace_trigger.proofs.CutLemmas.{found_is_cut}
+use Rattle.trace_trigger.proofs.AttributeLaws.{IsRead}
+use Rattle.trace_trigger.proofs.RightLaws.{AreAllRight, all_right}
+use Rattle.trace_trigger.proofs.LawfulLaws.{setting_of, all_read, settings_lawful}
+use Rattle.trace_trigger.proofs.PartLaws.{text_of, start_for, attributes_are, tail_is, HasParts, tail_stops, tail_found, tail_written, written_passes, attributes_read, attributes_written}
+use Rattle.trace_trigger.proofs.MeaningLaws.{bound}
+
+-- ---- what is found in a text that is written so
+
+pub record Finds (text : List ℕ) (settings : List Setting) (condition : Option (List ℕ)) : Type 0 where
+  pub read : AllZip IsRead (attributes_of text) settings
+  pub lawful : AreLawful settings
+  pub found : condition_of (tail_of text) ≡ condition
+  pub none : wrong_places text ≡ []
+
+none_wrong : (text : List ℕ) → AreAllRight (attributes_of text) (end_of text) → tail_places text (tail_of text) ≡ [] → wrong_places text ≡ []
+unfolding wrong_places
+none_wrong text right tail = (λ i. right.attributes i ++ (right.keys i ++ right.values i ++ right.sort i) ++ right.keyed i ++ tail i)
+
+pub written_finds : (text : List ℕ) (settings : List Setting) (condition : Option (List ℕ)) → IsWritten text settings condition → Finds text settings condition
+written_finds text settings condition is = subst (λ (t : List ℕ). Finds t settings condition) (sym is.cut) found
+  where
+    passes : AllPass is_unblank is.word
+    passes = written_passes is.word is.attributes settings is.parts is.each
+
+    stops : BeginsNot is_unblank is.tail
+    stops = tail_stops is.tail condition is.conditional
+
+    read : AllZip IsRead (attributes_of (text_of is.removes is.word is.tail)) settings
+    read = subst (λ (attributes : List Attribute). AllZip IsRead attributes settings) (sym (attributes_are is.removes is.word is.tail passes stops)) (attributes_read (start_for is.removes) is.word is.attributes settings is.parts is.each)
+
+    found : Finds (text_of is.removes is.word is.tail) settings condition
+    found =
+        let tail = tail_found is.tail condition is.conditional in
+        let tail_same = tail_is is.removes is.word is.tail passes stops in
+        record {
+          read = read;
+          lawful = is.lawful;
+          found = ap condition_of tail_same ∙ tail.found;
+          none = none_wrong (text_of is.removes is.word is.tail)
+              (all_right (attributes_of (text_of is.removes is.word is.tail)) settings read is.lawful (end_of (text_of is.removes is.word is.tail)))
+              (ap (tail_places (text_of is.removes is.word is.tail)) tail_same ∙ tail.right (text_of is.removes is.word is.tail));
+        }
+
+-- ---- a text with nothing wrong is written so
+
+both_nil : {X : Type 0} (xs ys : List X) → xs ++ ys ≡ [] → (xs ≡ []) × (ys ≡ [])
+both_nil [] ys e = (refl, e)
+both_nil (x ∷ xs) ys e = absurd (cc)
+
+pub record IsRight (text : List ℕ) : Type 0 where
+  pub attributes : AreAllRight (attributes_of text) (end_of text)
+  pub tail : tail_places text (tail_of text) ≡ []
+
+pub right_parts : (text : List ℕ) → wrong_places text ≡ [] → IsRight text
+unfolding wrong_places
+right_parts text none =
+    let lists : Lists = lists_of (attributes_of text) in
+    let end : List ℕ = keyless_places (end_of text) lists.keys in
+    let first = both_nil (attribute_places (attributes_of text) ++ list_places lists ++ end) (tail_places text (tail_of text)) none in
+    let second = both_nil (attribute_places (attributes_of text) ++ list_places lists) end first.0 in
+    let third = both_nil (attribute_places (attributes_of text)) (list_places lists) second.0 in
+    let items = both_nil (item_places lists.keys ++ item_places lists.values) (sort_places lists) third.1 in
+    let more = both_nil (item_places lists.keys) (item_places lists.values) items.0 in
+    record { attributes = record { attributes = third.0; keys = more.0; values = more.1; sort = items.1; keyed = second.1 }; tail = first.1 }
+
+pub record IsSomehowWritten (text : List ℕ) : Type 0 where
+  pub settings : List Setting
+  pub condition : Option (List ℕ)
+  pub written : IsWritten text settings condition
+
+pub right_written : (text : List ℕ) → HasParts text → wrong_places text ≡ [] → IsSomehowWritten text
+right_written text parts none = subst IsSomehowWritten (sym parts.cut) (whole (right_parts (text_of parts.removes parts.word parts.tail) (sym (ap wrong_places parts.cut) ∙ none)))
+  where
+    whole : IsRight (text_of parts.removes parts.word parts.tail) → IsSomehowWritten (text_of parts.removes parts.word parts.tail)
+    whole right =
+        let text : List ℕ = text_of parts.removes parts.word parts.tail in
+        let start : ℕ = start_for parts.removes in
+        let same = attributes_are parts.removes parts.word parts.tail parts.passes parts.stops in
+        let tail_same = tail_is parts.removes parts.word parts.tail parts.passes parts.stops in
+        let settings : List Setting = map setting_of (attributes_of text) in
+        let read : AllZip IsRead (attributes_of text) settings = all_read (attributes_of text) (end_of text) right.attributes in
+        let there : AllZip IsRead (attributes_at start parts.word) settings = subst (λ (attributes : List Attribute). AllZip IsRead attributes settings) same read in
+        record {
+          settings = settings;
+          condition = condition_of (after_blanks parts.tail);
+          written = record {
+            removes = parts.removes;
+            word = parts.word;
+            tail = parts.tail;
+            attributes = names_of (pieces_of 58 start parts.word);
+            cut = refl;
+            parts = found_is_cut 58 start parts.word;
+            each = attributes_written start parts.word settings there;
+            lawful = settings_lawful (attributes_of text) (end_of text) right.attributes;
+            conditional = tail_written text parts.tail parts.stops (sym (ap (tail_places text) tail_same) ∙ right.tail);
+          };
+        }
+
+-- ---- what is read
+
+pub read_right : (text : List ℕ) → wrong_places text ≡ [] → read_of text ≡ Ok (lists_of (attributes_of text))
+unfolding read_of
+read_right text none = ap (λ (places : List ℕ). unless_wrong (least places) (lists_of (attributes_of text))) none
+
+-- the first place that is found is one
+some_least : (place : ℕ) (rest : Option ℕ) → (at : ℕ) × (earlier (Some place) rest ≡ Some at)
+some_least place None = (place, refl)
+some_least place (Some other) = (min place other, refl)
+
+pub read_wrong : (text : List ℕ) (lists : Lists) → read_of text ≡ Ok lists → wrong_places text ≡ []
+unfolding read_of
+read_wrong text lists e = by (wrong_places text) refl e
+  where
+    by : (places : List ℕ) → wrong_places text ≡ places → unless_wrong (least places) (lists_of (attributes_of text)) ≡ Ok lists → wrong_places text ≡ []
+    by [] f g = f
+    by (place ∷ places) f g =
+        let at = some_least place (least places) in
+        let bad : unless_wrong (least (place ∷ places)) (lists_of (attributes_of text)) ≡ Err (HistSyntax at.0) = ap (λ (o : Option ℕ). unless_wrong o (lists_of (attributes_of text))) at.1 in
+        absurd (cc)
+
+-- ---- what a text says, step by step
+
+pub record IsSaid (definition : Definition) (text : List ℕ) (lists : Lists) (spec : SpecSeen) : Type 0 where
+  pub few : is_too_many lists ≡ false
+  pub key_sources : each (key_source definition.fields) lists.keys ≡ Ok spec.key_sources
+  pub value_sources : each (value_source definition.fields) (summed_items lists.values) ≡ Ok spec.value_sources
+  pub size : size_of lists.size ≡ Ok spec.size
+  pub filter : filter_of definition text (condition_of (tail_of text)) ≡ Ok spec.filter
+  pub keys : names_of lists.keys ≡ spec.keys
+  pub values : names_of (summed_items lists.values) ≡ spec.values
+  pub sort : sort_keys lists.sort ≡ spec.sort
+  pub action : lists.action ≡ spec.action
+  pub sort_sources : map (sort_rule (names_of lists.keys) (names_of (summed_items lists.values))) (sort_keys lists.sort) ≡ spec.sort_sources
+
+module _ (definition : Definition) (text : List ℕ) (lists : Lists) where
+  abbrev spec_of_lists : List Source → List Source → ℕ → Option Parsed → SpecSeen
+  spec_of_lists keys values size only_if = record {
+    keys = names_of lists.keys;
+    values = names_of (summed_items lists.values);
+    sort = sort_keys lists.sort;
+    size = size;
+    action = lists.action;
+    filter = only_if;
+    key_sources = keys;
+    value_sources = values;
+    sort_sources = map (sort_rule (names_of lists.keys) (names_of (summed_items lists.values))) (sort_keys lists.sort);
+  }
+
+  few_lists : (spec : SpecSeen) → (few lists >>= λ ls. spec_from definition text ls) ≡ Ok spec → (is_too_many lists ≡ false) × (spec_from definition text lists ≡ Ok spec)
+  few_lists spec e = by (is_too_many lists) refl e
+    where
+      by : (b : Bool) → is_too_many lists ≡ b → ((if b then Err TooMany else Ok lists) >>= λ ls. spec_from definition text ls) ≡ Ok spec → (is_too_many lists ≡ false) × (spec_from definition text lists ≡ Ok spec)
+      by true f g = absurd (cc)
+      by false f g = (f, g)
+
+  pub said : (spec : SpecSeen) → (few lists >>= λ ls. spec_from definition text ls) ≡ Ok spec → IsSaid definition text lists spec
+  unfolding spec_from
+  said spec e =
+      let fewer = few_lists spec e in
+      let keys = bound (each (key_source definition.fields) lists.keys)
+      (λ keys. each (value_source definition.fields) (summed_items lists.values) >>= λ values. size_of lists.size >>= λ size.
+      filter_of definition text (condition_of (tail_of text)) >>= λ only_if. Ok (spec_of_lists keys values size only_if)) spec fewer.1 in
+      let values = bound (each (value_source definition.fields) (summed_items lists.values))
+      (λ values. size_of lists.size >>= λ size. filter_of definition text (condition_of (tail_of text)) >>= λ only_if. Ok (spec_of_lists keys.found values size only_if)) spec keys.after in
+      let size = bound (size_of lists.size) (λ size. filter_of definition text (condition_of (tail_of text)) >>= λ only_if. Ok (spec_of_lists keys.found values.found size only_if)) spec values.after in
+      let only_if = bound (filter_of definition text (condition_of (tail_of text))) (λ only_if. Ok (spec_of_lists keys.found values.found size.found only_if)) spec size.after in
+      let it : spec_of_lists keys.found values.found size.found only_if.found ≡ spec = let f = only_if.after in cc in
+      subst (IsSaid definition text lists) it (record {
+        few = fewer.0;
+        key_sources = keys.is;
+        value_sources = values.is;
+        size = size.is;
+        filter = only_if.is;
+        keys = refl;
+        values = refl;
+        sort = refl;
+        action = refl;
+        sort_sources = refl;
+      })
+
+  pub saying : (spec : SpecSeen) → IsSaid definition text lists spec → (few lists >>= λ ls. spec_from definition text ls) ≡ Ok spec
+  unfolding spec_from
+  saying spec is =
+      ap (λ (b : Bool). (if b then Err TooMany else Ok lists) >>= λ ls. spec_from definition text ls) is.few
+      ∙ ap (λ (r : Result (List Source) HistFault). r >>= λ keys. each (value_source definition.fields) (summed_items lists.values) >>= λ values. size_of lists.size >>= λ size.
+      filter_of definition text (condition_of (tail_of text)) >>= λ only_if. Ok (spec_of_lists keys values size only_if)) is.key_sources
+      ∙ ap (λ (r : Result (List Source) HistFault). r >>= λ values. size_of lists.size >>= λ size.
+      filter_of definition text (condition_of (tail_of text)) >>= λ only_if. Ok (spec_of_lists spec.key_sources values size only_if)) is.value_sources
+      ∙ ap (λ (r : Result ℕ HistFault). r >>= λ size. filter_of definition text (condition_of (tail_of text)) >>= λ only_if. Ok (spec_of_lists spec.key_sources spec.value_sources size only_if)) is.size
+      ∙ ap (λ (r : Result (Option Parsed) HistFault). r >>= λ only_if. Ok (spec_of_lists spec.key_sources spec.value_sources spec.size only_if)) is.filter
+      ∙ (λ i. Ok (record {
+        keys = is.keys i;
+        values = is.values i;
+        sort = is.sort i;
+        size = spec.size;
+        action = is.action i;
+        filter = spec.filter;
+        key_sources = spec.key_sources;
+        value_sources = spec.value_sources;
+        sort_sources = is.sort_sources i;
+      }))

@@ -1,0 +1,42 @@
+-- What the texts of both kinds of triggers have in common: a `!` before them, a first word, and after it perhaps blanks, `if`, blanks and a filter
+-- (events.rst, "Event triggers"; histogram.rst, "hist triggers").
+use Rattle.std.specs.Prelude.{◌≡◌, ◌<◌, ◌≤◌, ℕ, Bool, true, false, not, codes, List, [], ◌++◌, length, drop, Option, None, Some}
+use Rattle.std.specs.List.{prefix_len}
+use Rattle.trace_lex.specs.Blanks.{is_blank, AreBlanks, BeginsUnblank}
+use Rattle.trace_filter.specs.declared.fault.FilterFault.{FilterFault}
+use Rattle.trace_filter.specs.declared.fault.FilterFault.TheVariants as filter
+
+abbrev pub mark : Bool → List ℕ
+mark true = codes "!"
+mark false = []
+
+-- the first word has all that comes before the first such byte
+abbrev pub is_unblank : ℕ → Bool
+is_unblank b = not (is_blank b)
+
+abbrev pub after_blanks : List ℕ → List ℕ
+after_blanks text = drop (prefix_len is_blank text) text
+
+-- blanks, `if`, blanks, and the text of a filter, which begins with no blank
+pub record IsConditional (tail filter : List ℕ) : Type 0 where
+  pub front : List ℕ
+  pub between : List ℕ
+  pub cut : tail ≡ front ++ (codes "if" ++ (between ++ filter))
+  pub before : AreBlanks front
+  pub some_before : 0 < length front
+  pub after : AreBlanks between
+  pub some_after : 0 < length between
+  pub begins : BeginsUnblank filter
+
+-- what follows the first word: nothing but blanks, or the text of a filter
+abbrev pub IsTail : List ℕ → Option (List ℕ) → Type 0
+IsTail tail None = AreBlanks tail
+IsTail tail (Some filter) = IsConditional tail filter
+
+-- a filter's fault has its place in a text of this length
+abbrev pub IsWithin : ℕ → FilterFault → Type 0
+IsWithin len filter.TooMany = Unit {0}
+IsWithin len (filter.FilterSyntax at) = at ≤ len
+IsWithin len (filter.NoSuchField at) = at ≤ len
+IsWithin len (filter.WrongOperator at) = at ≤ len
+IsWithin len filter.Memory = Unit {0}

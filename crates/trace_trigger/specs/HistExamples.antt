@@ -1,0 +1,175 @@
+-- Strings written to an event's `trigger` file, with what each says of a hist trigger or why it is refused, worked by hand (histogram.rst, "hist
+-- triggers"). The checker computes them.
+use Rattle.std.specs.Prelude.{◌≡◌, ℕ, Bool, true, false, List, [], ◌∷◌, map, None, Some, Result, Ok, Err, codes}
+use Rattle.trace_format.specs.declared.kind.Kind.TheVariants.{Number, Char}
+use Rattle.trace_format.specs.declared.kind.NumberType.TheVariants.{U64, S64}
+use Rattle.trace_format.specs.Definitions.{Definition}
+use Rattle.trace_filter.specs.declared.test.Subject.TheVariants.{NumberField}
+use Rattle.trace_trigger.specs.declared.hist_fault.HistFault.{HistFault}
+use Rattle.trace_trigger.specs.declared.hist_fault.HistFault.TheVariants.{HistSyntax, TooMany, NoSuchField, WrongOperator, BadSize, FilterSyntax}
+use Rattle.trace_trigger.specs.declared.spec.Action.TheVariants.{Attach, Pause, Continue, Clear}
+use Rattle.trace_trigger.specs.declared.spec.SortKey.{SortKey}
+use Rattle.trace_trigger.specs.declared.sort_rule.SortRule.{SortRule}
+use Rattle.trace_trigger.specs.declared.sort_rule.SortSource.{SortSource}
+use Rattle.trace_trigger.specs.declared.sort_rule.SortSource.TheVariants.{Key, Value, Hitcount}
+use Rattle.trace_trigger.specs.declared.source.Source.TheVariants.{Pid, Cpu, Field}
+use Rattle.trace_trigger.specs.HistSpecs.{SpecSeen}
+use Rattle.trace_trigger.specs.HistTexts.{spec_of}
+
+-- ---- events
+
+-- `tick u64 n`
+abbrev pub tick : Definition
+tick = record { name = codes "tick"; fields = record { name = codes "n"; kind = Number U64 } ∷ [] }
+
+-- `move char who[8]; s64 d`
+abbrev pub move : Definition
+move = record {
+  name = codes "move";
+  fields = record { name = codes "who"; kind = Char 8 } ∷ record { name = codes "d"; kind = Number S64 } ∷ [];
+}
+
+-- ---- strings and what they say
+
+pub record Case : Type 0 where
+  pub text : List ℕ
+  pub answer : Result SpecSeen HistFault
+
+infix 90 ◌gives◌
+abbrev pub ◌gives◌ : List ℕ → Result SpecSeen HistFault → Case
+text gives answer = record { text = text; answer = answer }
+
+-- the strings say of the event what is beside them
+abbrev pub AreRead : Definition → List Case → Type 0
+AreRead definition cases = map (λ (x : Case). spec_of definition x.text) cases ≡ map (λ (x : Case). x.answer) cases
+
+-- a name to sort by, and where it is found
+abbrev pub upwards : List ℕ → SortKey
+upwards name = record { name = name; descending = false }
+
+abbrev pub downwards : List ℕ → SortKey
+downwards name = record { name = name; descending = true }
+
+abbrev pub by : SortSource → Bool → SortRule
+by source descending = record { source = source; descending = descending }
+
+-- ---- what is accepted
+
+-- a key alone: 2,048 entries, sorted by `hitcount`
+abbrev pub by_n : SpecSeen
+by_n = record {
+  keys = codes "n" ∷ [];
+  values = [];
+  sort = upwards (codes "hitcount") ∷ [];
+  size = 2048;
+  action = Attach;
+  filter = None;
+  key_sources = Field 0 ∷ [];
+  value_sources = [];
+  sort_sources = by Hitcount false ∷ [];
+}
+
+-- `hitcount` is there whether it is written or not, and a size is rounded up to a power of two
+abbrev pub accepted : List Case
+accepted =
+    codes "hist:keys=n" gives Ok by_n
+    ∷ codes "!hist:vals=hitcount:key=n:sort=hitcount.ascending \t " gives Ok by_n
+    ∷ codes "hist:size=0065:keys=n:clear" gives Ok (record by_n { size = 128; action = Clear })
+    ∷ codes "hist:keys=n:size=131072:cont" gives Ok (record by_n { size = 131072; action = Continue })
+    ∷ []
+
+-- all that a string can say: lists in the order written, the field of a sum and of a filter
+abbrev pub by_who : SpecSeen
+by_who = record {
+  keys = codes "who" ∷ codes "common_pid" ∷ [];
+  values = codes "d" ∷ [];
+  sort = downwards (codes "d") ∷ upwards (codes "who") ∷ [];
+  size = 256;
+  action = Pause;
+  filter = Some (record { text = codes "d > 5"; subjects = NumberField 1 ∷ [] });
+  key_sources = Field 0 ∷ Pid ∷ [];
+  value_sources = Field 1 ∷ [];
+  sort_sources = by (Value 0) true ∷ by (Key 0) false ∷ [];
+}
+
+-- a name that is a key and a value too is sorted by as a value
+abbrev pub by_both : SpecSeen
+by_both = record {
+  keys = codes "common_cpu" ∷ codes "d" ∷ [];
+  values = codes "common_pid" ∷ codes "d" ∷ [];
+  sort = upwards (codes "d") ∷ upwards (codes "common_cpu") ∷ [];
+  size = 2048;
+  action = Continue;
+  filter = None;
+  key_sources = Cpu ∷ Field 1 ∷ [];
+  value_sources = Pid ∷ Field 1 ∷ [];
+  sort_sources = by (Value 1) false ∷ by (Key 0) false ∷ [];
+}
+
+abbrev pub accepted_of_move : List Case
+accepted_of_move =
+    codes "hist:sort=d.descending,who:vals=hitcount,d:size=129:keys=who,common_pid:pause if d > 5 " gives Ok by_who
+    ∷ codes "hist:keys=common_cpu,d:values=common_pid,hitcount,d:sort=d,common_cpu:continue" gives Ok by_both
+    ∷ []
+
+-- ---- what is refused
+
+-- a string is refused at the leftmost place where it breaks the grammar, the first word's end among them if there are no keys
+abbrev pub wrong_attributes : List Case
+wrong_attributes =
+    codes "hist:" gives Err (HistSyntax 5)
+    ∷ codes "hist::keys=n" gives Err (HistSyntax 5)
+    ∷ codes "hist:keys=n:" gives Err (HistSyntax 12)
+    ∷ codes "hist:foo=1:keys=n" gives Err (HistSyntax 5)
+    ∷ codes "hist:keys=n:pause=1" gives Err (HistSyntax 12)
+    ∷ codes "hist:keys" gives Err (HistSyntax 5)
+    ∷ codes "hist:keys=n:size=x" gives Err (HistSyntax 12)
+    ∷ codes "hist:keys=n:key=n" gives Err (HistSyntax 12)
+    ∷ codes "hist:keys=n:pause:clear" gives Err (HistSyntax 18)
+    ∷ codes "hist:vals=n" gives Err (HistSyntax 11)
+    ∷ codes "hist:vals=n x" gives Err (HistSyntax 11)
+    ∷ codes "hist:keys=n x" gives Err (HistSyntax 12)
+    ∷ codes "!hist:keys=n  if " gives Err (HistSyntax 14)
+    ∷ []
+
+abbrev pub wrong_items : List Case
+wrong_items =
+    codes "hist:keys=" gives Err (HistSyntax 10)
+    ∷ codes "!hist:keys=n,9x" gives Err (HistSyntax 13)
+    ∷ codes "hist:keys=n.hex" gives Err (HistSyntax 10)
+    ∷ codes "hist:keys=n,n" gives Err (HistSyntax 12)
+    ∷ codes "hist:keys=n:vals=,n" gives Err (HistSyntax 17)
+    ∷ codes "hist:sort=n" gives Err (HistSyntax 10)
+    ∷ codes "hist:sort=m:keys=n:keys=m" gives Err (HistSyntax 10)
+    ∷ codes "hist:keys=n:sort=n,n.descending" gives Err (HistSyntax 19)
+    ∷ codes "hist:keys=n:sort=n.upwards" gives Err (HistSyntax 17)
+    ∷ []
+
+-- too much of something comes before the names that the event does not have
+abbrev pub too_many : List Case
+too_many =
+    codes "hist:keys=n,common_pid,common_cpu,x" gives Err TooMany
+    ∷ codes "hist:keys=n:vals=a,b,hitcount,c,d" gives Err TooMany
+    ∷ codes "hist:keys=n,common_pid:sort=n,common_pid,hitcount" gives Err TooMany
+    ∷ []
+
+-- the leftmost wrong key comes before the leftmost wrong value, then the size, then the filter
+abbrev pub wrong_names : List Case
+wrong_names =
+    codes "hist:vals=x:keys=n,y:size=1" gives Err (NoSuchField 19)
+    ∷ codes "hist:keys=hitcount" gives Err (NoSuchField 10)
+    ∷ codes "hist:keys=n:vals=hitcount,x,y:size=1 if z" gives Err (NoSuchField 26)
+    ∷ codes "hist:keys=n:size=64 if z == 1" gives Err BadSize
+    ∷ codes "hist:keys=n:size=131073" gives Err BadSize
+    ∷ codes "hist:keys=n:size=18446744073709551616" gives Err BadSize
+    ∷ codes "hist:keys=n if n == " gives Err (FilterSyntax 20)
+    ∷ codes "hist:keys=n if z == 1" gives Err (NoSuchField 15)
+    ∷ codes "!hist:keys=n  if\tn ~ 1" gives Err (WrongOperator 19)
+    ∷ []
+
+-- a string cannot be summed
+abbrev pub wrong_values_of_move : List Case
+wrong_values_of_move =
+    codes "hist:keys=who:vals=d,who,x" gives Err (WrongOperator 21)
+    ∷ codes "hist:keys=who:vals=x,who" gives Err (NoSuchField 19)
+    ∷ []

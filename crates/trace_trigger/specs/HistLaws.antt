@@ -1,0 +1,32 @@
+-- What `HistTexts` says of trigger strings, as theorems that speak of no program.
+use Rattle.std.specs.Prelude.{◌≡◌, ◌↔◌, ℕ, List, Option, Ok, Err}
+use Rattle.trace_format.specs.Definitions.{Definition}
+use Rattle.trace_trigger.specs.declared.hist_fault.HistFault.{HistFault}
+use Rattle.trace_trigger.specs.declared.hist_fault.HistFault.TheVariants.{HistSyntax}
+use Rattle.trace_trigger.specs.HistSpecs.{SpecSeen}
+use Rattle.trace_trigger.specs.HistTexts.{IsHistText, spec_of}
+use Rattle.trace_trigger.specs.HistGrammar.{Setting, IsWritten, Says}
+use Rattle.trace_trigger.specs.HistFaultPlaces.{IsLeftmostWrong}
+use Rattle.trace_trigger.specs.HistRefusals.{IsRefusedAs}
+
+-- a string that begins as that of a hist trigger says this of one exactly if it is written so: lawful settings that come to this, within the
+-- limits, with names of the event and a filter of it
+abbrev pub OkIsWritten : Type 0
+OkIsWritten = (definition : Definition) → (text : List ℕ) → (spec : SpecSeen) → IsHistText text → (spec_of definition text ≡ Ok spec) ↔ Says definition text spec
+
+-- it is refused for its syntax at a place exactly if that is the leftmost place where it is wrong, whatever the event
+abbrev pub SyntaxIsLeftmost : Type 0
+SyntaxIsLeftmost = (definition : Definition) → (text : List ℕ) → (at : ℕ) → IsHistText text → (spec_of definition text ≡ Err (HistSyntax at)) ↔ IsLeftmostWrong text at
+
+-- no lawful settings, with or without a filter's text, can be written so
+abbrev pub IsUnwritten : List ℕ → Type 0
+IsUnwritten text = (settings : List Setting) → (condition : Option (List ℕ)) → IsWritten text settings condition → ⊥
+
+-- it is refused for its syntax, at some place, exactly if it cannot be written
+abbrev pub SyntaxIsUnwritten : Type 0
+SyntaxIsUnwritten = (definition : Definition) → (text : List ℕ) → IsHistText text → ((at : ℕ) × (spec_of definition text ≡ Err (HistSyntax at))) ↔ IsUnwritten text
+
+-- and it is refused for a fault, of whatever kind, exactly if the fault is this one: of the syntax, at the leftmost place; or else, of a string that
+-- is written so, the first that there is cause for
+abbrev pub RefusalIsAsWritten : Type 0
+RefusalIsAsWritten = (definition : Definition) → (text : List ℕ) → (fault : HistFault) → IsHistText text → (spec_of definition text ≡ Err fault) ↔ IsRefusedAs definition text fault

@@ -1,0 +1,91 @@
+-- The places at which a trigger string breaks the grammar (histogram.rst, "hist triggers"). The least of them is told.
+use Rattle.std.specs.Prelude.{ℕ, Bool, true, false, not, ◌&&◌, ◌||◌, nat_lt, if◌then◌else◌, List, [], ◌∷◌, ◌++◌, bytes_eq, length, map, min, Option, None, Some}
+use Rattle.std.specs.Option.{is_none}
+use Rattle.std.specs.List.{list_any}
+use Rattle.trace_lex.specs.Names.{is_name}
+use Rattle.trace_lex.specs.Decimals.{decimal_number}
+use Rattle.trace_trigger.specs.declared.attribute.Topic.{Topic}
+use Rattle.trace_trigger.specs.declared.attribute.Topic.TheVariants.{Size, Unknown}
+use Rattle.trace_trigger.specs.declared.attribute.Attribute.{Attribute}
+use Rattle.trace_trigger.specs.declared.piece.Piece.{Piece}
+use Rattle.trace_trigger.specs.HistParts.{attributes_of, end_of, tail_of, is_condition, place_in}
+use Rattle.trace_trigger.specs.HistLists.{Lists, lists_of, is_same_topic, is_listed, is_sortable, sort_name, sort_suffix, is_direction}
+
+-- the elements of a list that are wrong, each judged by those before it and by itself
+abbrev pub wrong_after : {X : Type 0} → (List X → X → Bool) → List X → List X → List X
+wrong_after is_wrong before [] = []
+wrong_after is_wrong before (x ∷ xs) = if is_wrong before x
+    then x ∷ wrong_after is_wrong (before ++ x ∷ []) xs
+    else wrong_after is_wrong (before ++ x ∷ []) xs
+
+-- ---- attributes
+
+abbrev pub is_unknown : Topic → Bool
+is_unknown Unknown = true
+is_unknown topic = false
+
+-- a topic that an attribute before it has
+abbrev pub is_repeated : List Attribute → Attribute → Bool
+is_repeated before attribute = list_any (λ (other : Attribute). is_same_topic other.topic attribute.topic) before
+
+-- a size is written in decimal digits, one at least
+abbrev pub is_bad_size : Attribute → Bool
+is_bad_size attribute = is_same_topic Size attribute.topic && is_none (decimal_number attribute.value)
+
+abbrev pub is_wrong_attribute : List Attribute → Attribute → Bool
+is_wrong_attribute before attribute = (is_unknown attribute.topic || is_repeated before attribute) || is_bad_size attribute
+
+unfoldable pub attribute_places : List Attribute → List ℕ
+attribute_places attributes = map (λ (attribute : Attribute). attribute.at) (wrong_after is_wrong_attribute [] attributes)
+
+-- ---- items
+
+-- among keys and values: what is no name, and a name that stands in the list before
+abbrev pub is_wrong_item : List Piece → Piece → Bool
+is_wrong_item before item = not (is_name item.bytes) || is_listed before item.bytes
+
+unfoldable pub item_places : List Piece → List ℕ
+item_places items = map (λ (item : Piece). item.at) (wrong_after is_wrong_item [] items)
+
+-- whether a sort key has this name
+abbrev pub is_sorted_by : List Piece → List ℕ → Bool
+is_sorted_by items name = list_any (λ (item : Piece). bytes_eq name (sort_name item.bytes)) items
+
+-- among sort keys: what cannot be sorted by, another suffix, and a name that stands in the list before, in whatever direction
+abbrev pub is_wrong_sort : Lists → List Piece → Piece → Bool
+is_wrong_sort lists before item = (not (is_sortable lists (sort_name item.bytes)) || not (is_direction (sort_suffix item.bytes)))
+    || is_sorted_by before (sort_name item.bytes)
+
+unfoldable pub sort_places : Lists → List ℕ
+sort_places lists = map (λ (item : Piece). item.at) (wrong_after (is_wrong_sort lists) [] lists.sort)
+
+-- ---- the whole string
+
+-- without keys the string goes wrong where its first word ends
+abbrev pub keyless_places : ℕ → List Piece → List ℕ
+keyless_places end [] = end ∷ []
+keyless_places end (key ∷ keys) = []
+
+-- after the word: what is no condition, at its first byte
+abbrev pub tail_places : List ℕ → List ℕ → List ℕ
+tail_places text tail = if nat_lt 0 (length tail) && not (is_condition tail) then place_in text tail ∷ [] else []
+
+abbrev pub list_places : Lists → List ℕ
+list_places lists = item_places lists.keys ++ item_places lists.values ++ sort_places lists
+
+unfoldable pub wrong_places : List ℕ → List ℕ
+wrong_places text = attribute_places (attributes_of text)
+    ++ list_places (lists_of (attributes_of text))
+    ++ keyless_places (end_of text) (lists_of (attributes_of text)).keys
+    ++ tail_places text (tail_of text)
+
+-- ---- the least place
+
+abbrev pub earlier : Option ℕ → Option ℕ → Option ℕ
+earlier None right = right
+earlier (Some left) None = Some left
+earlier (Some left) (Some right) = Some (min left right)
+
+abbrev pub least : List ℕ → Option ℕ
+least [] = None
+least (place ∷ places) = earlier (Some place) (least places)

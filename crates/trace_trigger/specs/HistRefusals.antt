@@ -1,0 +1,101 @@
+-- Why a trigger string is refused for an event (histogram.rst, "hist triggers"), in the order in which the refusals are looked for. Nothing in this
+-- file goes over the string. That `HistTexts` says the same is stated in `HistLaws`.
+use Rattle.std.specs.Prelude.{◌≡◌, ◌≢◌, ◌⊎◌, ℕ, ◌-◌, ◌<◌, true, codes, List, [], length, Option, None, Some}
+use Rattle.std.specs.List.{All, Contains}
+use Rattle.trace_format.specs.Definitions.{Definition}
+use Rattle.trace_filter.specs.declared.fault.FilterFault.{FilterFault}
+use Rattle.trace_filter.specs.Filters.{IsRefused}
+use Rattle.trace_trigger.specs.declared.hist_fault.HistFault.{HistFault}
+use Rattle.trace_trigger.specs.declared.hist_fault.HistFault.TheVariants.{HistSyntax, TooMany, NoSuchField, WrongOperator, BadSize}
+use Rattle.trace_trigger.specs.declared.spec.SortKey.{SortKey}
+use Rattle.trace_trigger.specs.declared.source.Source.{Source}
+use Rattle.trace_trigger.specs.HistNames.{meaning_of}
+use Rattle.trace_trigger.specs.HistSizes.{rounded_size}
+use Rattle.trace_trigger.specs.HistTexts.{moved}
+use Rattle.trace_trigger.specs.HistGrammar.{Setting, Keys, Values, Sort, Size, Subject, OfKeys, OfValues, IsWritten, IsSet, summed_names, IsKeyOf, IsValueOf}
+use Rattle.trace_trigger.specs.HistFaultPlaces.{Cut, IsAt, IsList, items_place, IsLeftmostWrong}
+
+-- ---- over the limits
+
+-- over three keys, over three values besides `hitcount`, or over two names to sort by
+abbrev pub IsOver : List Setting → Type 0
+IsOver settings = ((keys : List (List ℕ)) × Contains settings (Keys keys) × (3 < length keys))
+    ⊎ (((listed : List (List ℕ)) × Contains settings (Values listed) × (3 < length (summed_names listed)))
+    ⊎ ((keys : List SortKey) × Contains settings (Sort keys) × (2 < length keys)))
+
+-- ---- names that the event does not have
+
+-- an item of the first attribute about this, at a place, after these items
+pub record IsItemAt {text : List ℕ} (cut : Cut text) (subject : Subject) (before : List (List ℕ)) (item : List ℕ) (place : ℕ) : Type 0 where
+  pub attributes_before : List (List ℕ)
+  pub attribute : List ℕ
+  pub head : List ℕ
+  pub items : List (List ℕ)
+  pub list : IsList subject cut.attributes attributes_before attribute head items
+  pub is_at : IsAt 44 (items_place cut attributes_before head) items before item place
+
+-- a name means something as a key, and one in a list of values as a value
+abbrev pub CanBeKey : Definition → List ℕ → Type 0
+CanBeKey definition name = (source : Source) × IsKeyOf definition name source
+
+abbrev pub CanBeValue : Definition → List ℕ → Type 0
+CanBeValue definition name = (name ≡ codes "hitcount") ⊎ ((source : Source) × IsValueOf definition name source)
+
+-- the first key that means nothing is at this place
+pub record IsUnknownKey (definition : Definition) (text : List ℕ) (place : ℕ) : Type 0 where
+  pub cut : Cut text
+  pub before : List (List ℕ)
+  pub name : List ℕ
+  pub is_at : IsItemAt cut OfKeys before name place
+  pub unknown : meaning_of definition.fields name ≡ None
+  pub first : All (CanBeKey definition) before
+
+-- a value means nothing, or it is a string
+abbrev pub CannotBeValue : Definition → List ℕ → ℕ → HistFault → Type 0
+CannotBeValue definition name place fault = ((meaning_of definition.fields name ≡ None) × (fault ≡ NoSuchField place))
+    ⊎ ((source : Source) × (meaning_of definition.fields name ≡ Some (record { source = source; is_text = true })) × (fault ≡ WrongOperator place))
+
+-- the first value that cannot be one has this fault
+pub record IsWrongValue (definition : Definition) (text : List ℕ) (fault : HistFault) : Type 0 where
+  pub cut : Cut text
+  pub before : List (List ℕ)
+  pub name : List ℕ
+  pub place : ℕ
+  pub is_at : IsItemAt cut OfValues before name place
+  pub summed : name ≢ codes "hitcount"
+  pub wrong : CannotBeValue definition name place fault
+  pub first : All (CanBeValue definition) before
+
+-- ---- what is right
+
+abbrev pub HaveKeys : Definition → List Setting → Type 0
+HaveKeys definition settings = (keys : List (List ℕ)) × Contains settings (Keys keys) × All (CanBeKey definition) keys
+
+abbrev pub HaveValues : Definition → List Setting → Type 0
+HaveValues definition settings = (listed : List (List ℕ)) × IsSet settings Values [] listed × All (CanBeValue definition) listed
+
+-- the size that is asked for comes to this, if to something
+abbrev pub IsSized : List Setting → Option ℕ → Type 0
+IsSized settings size = (entries : ℕ) × IsSet settings Size 2048 entries × (rounded_size entries ≡ size)
+
+-- ---- refusals of a string that is written so
+
+pub data IsRefusal (definition : Definition) (text : List ℕ) (settings : List Setting) (condition : Option (List ℕ)) (fault : HistFault) : Type 0 where
+  ForMany : IsOver settings → fault ≡ TooMany → IsRefusal definition text settings condition fault
+  ForKey : (IsOver settings → ⊥) → (place : ℕ) → IsUnknownKey definition text place → fault ≡ NoSuchField place → IsRefusal definition text settings condition fault
+  ForValue : (IsOver settings → ⊥) → HaveKeys definition settings → IsWrongValue definition text fault → IsRefusal definition text settings condition fault
+  ForSize : (IsOver settings → ⊥) → HaveKeys definition settings → HaveValues definition settings → IsSized settings None → fault ≡ BadSize
+      → IsRefusal definition text settings condition fault
+  ForFilter : (IsOver settings → ⊥) → HaveKeys definition settings → HaveValues definition settings → (size : ℕ) → IsSized settings (Some size) → (filter : List ℕ) → condition ≡ Some filter
+      → (told : FilterFault) → IsRefused definition filter told → fault ≡ moved (length text - length filter) told → IsRefusal definition text settings condition fault
+
+pub record IsWrittenAndRefused (definition : Definition) (text : List ℕ) (fault : HistFault) : Type 0 where
+  pub settings : List Setting
+  pub condition : Option (List ℕ)
+  pub written : IsWritten text settings condition
+  pub refusal : IsRefusal definition text settings condition fault
+
+-- ---- all refusals
+
+abbrev pub IsRefusedAs : Definition → List ℕ → HistFault → Type 0
+IsRefusedAs definition text fault = ((at : ℕ) × (fault ≡ HistSyntax at) × IsLeftmostWrong text at) ⊎ IsWrittenAndRefused definition text fault

@@ -1,0 +1,36 @@
+-- When two hist triggers are the same, and which emissions a trigger counts (histogram.rst, "hist triggers").
+use Rattle.std.specs.Prelude.{◌≡◌, ℕ, Bool, true, false, ◌&&◌, bytes_eq, List, Option, None, Some, option_map}
+use Rattle.std.specs.Bool.{beq}
+use Rattle.std.specs.Cmp.Lexicographic.{pointwise}
+use Rattle.trace_filter.specs.Truth.{Emission}
+use Rattle.trace_filter.specs.Filters.{Parsed}
+use Rattle.trace_filter.specs.Values.{holds_of}
+use Rattle.trace_trigger.specs.HistSpecs.{SpecSeen}
+use Rattle.trace_trigger.specs.declared.spec.SortKey.{SortKey}
+
+abbrev pub filter_text : Option Parsed → Option (List ℕ)
+filter_text filter = option_map (λ (f : Parsed). f.text) filter
+
+pub record IsSame (left right : SpecSeen) : Type 0 where
+  pub keys : left.keys ≡ right.keys
+  pub values : left.values ≡ right.values
+  pub sort : left.sort ≡ right.sort
+  pub filter : filter_text left.filter ≡ filter_text right.filter
+
+-- the same, as one function
+abbrev pub same_sort_key : SortKey → SortKey → Bool
+same_sort_key left right = bytes_eq left.name right.name && beq left.descending right.descending
+
+abbrev pub same_filter : Option (List ℕ) → Option (List ℕ) → Bool
+same_filter None None = true
+same_filter None (Some right) = false
+same_filter (Some left) None = false
+same_filter (Some left) (Some right) = bytes_eq left right
+
+unfoldable pub is_same : SpecSeen → SpecSeen → Bool
+is_same left right = pointwise bytes_eq left.keys right.keys && (pointwise bytes_eq left.values right.values
+    && (pointwise same_sort_key left.sort right.sort && same_filter (filter_text left.filter) (filter_text right.filter)))
+
+abbrev pub is_passed : Option Parsed → Emission → Bool
+is_passed None emission = true
+is_passed (Some filter) emission = holds_of filter emission

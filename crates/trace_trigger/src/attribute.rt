@@ -1,0 +1,111 @@
+//! The attributes of a hist trigger: what stands between the `:` of its first word.
+
+ghost use Rattle.std.specs.Prelude.{◌≡◌, ◌≤◌, ◌<◌, ◌+◌, ◌^◌, IfOk, length};
+ghost use Rattle.std.specs.List.{All};
+ghost use Rattle.trace_trigger.specs.HistAttributes as attributes;
+
+use crate::piece::{Piece, cut_at};
+use crate::spec::Action;
+use std::alloc::{AllocError, Global};
+use trace_format::Text;
+use trace_lex::{len_before, rest_of};
+
+/// What an attribute is about.
+#[derive(Clone, Copy, PartialEq, Eq)]
+pub(crate) enum Topic {
+    Keys,
+    Values,
+    Sort,
+    Size,
+    /// What is asked for.
+    Asked(Action),
+    /// No attribute begins so.
+    Unknown,
+}
+
+/// An attribute: its place, what it is about, how many bytes come before its value, and the value.
+#[derive(Drop)]
+pub(crate) struct Attribute {
+    pub(crate) at: usize,
+    pub(crate) topic: Topic,
+    pub(crate) skip: usize,
+    pub(crate) value: Text,
+}
+
+/// How many bytes there are up to the first `=`, that one too; all, if there is none.
+fn head_len(written: &[u8]) -> usize
+    ensures value { result ≡ attributes.head_len written.now }
+    ensures bound { result ≤ length written.now }
+{
+    let len = len_before(b'=', written);
+    if len < written.len() { len + 1 } else { len }
+}
+
+/// What is asked for by an attribute that has no value.
+fn asked_by(head: &[u8]) -> Topic
+    ensures { result ≡ attributes.asked_by head.now }
+{
+    if head == b"pause".as_slice() {
+        Topic::Asked(Action::Pause)
+    } else if head == b"continue".as_slice() || head == b"cont".as_slice() {
+        Topic::Asked(Action::Continue)
+    } else if head == b"clear".as_slice() {
+        Topic::Asked(Action::Clear)
+    } else {
+        Topic::Unknown
+    }
+}
+
+fn is_values(head: &[u8]) -> bool
+    ensures { result ≡ attributes.is_values head.now }
+{
+    head == b"values=".as_slice() || head == b"vals=".as_slice() || head == b"val=".as_slice()
+}
+
+/// What an attribute with this head is about.
+fn topic_of(head: &[u8]) -> Topic
+    ensures { result ≡ attributes.topic_of head.now }
+{
+    if head == b"keys=".as_slice() || head == b"key=".as_slice() {
+        Topic::Keys
+    } else if is_values(head) {
+        Topic::Values
+    } else if head == b"sort=".as_slice() {
+        Topic::Sort
+    } else if head == b"size=".as_slice() {
+        Topic::Size
+    } else {
+        asked_by(head)
+    }
+}
+
+fn attribute_of(alloc: Global, piece: &Piece) -> Result<Attribute, AllocError>
+    ensures { IfOk result (λ attribute. attribute ≡ attributes.attribute_of piece.now) }
+{
+    let written = piece.bytes.as_bytes();
+    let skip = head_len(written);
+    Ok(Attribute {
+        at: piece.at,
+        topic: topic_of(&written[..skip]),
+        skip,
+        value: Text::from_slice(alloc, rest_of(written, skip))?,
+    })
+}
+
+/// The attributes of a string that begins at a place.
+pub(crate) fn attributes_at(
+    alloc: Global,
+    at: usize,
+    text: &[u8],
+) -> Result<Vec<Attribute>, AllocError>
+    requires { at + length text.now < 2 ^ 64 }
+    ensures value { IfOk result (λ found. found.items ≡ attributes.attributes_at at text.now) }
+    ensures placed { IfOk result (λ found. All attributes.IsPlaced found.items) }
+{
+    let pieces = cut_at(alloc, b':', at, text)?;
+    let mut found = Vec::with_capacity(alloc, pieces.len())?;
+    for piece in &pieces {
+        found.push(attribute_of(alloc, piece)?)?;
+    }
+    Ok(found)
+}

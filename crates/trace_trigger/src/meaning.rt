@@ -1,0 +1,213 @@
+//! What the names of a trigger come to in an event.
+
+ghost use Rattle.std.specs.Prelude.{◌≡◌, Ok, MatchResult, IfOk, map};
+ghost use Rattle.trace_trigger.specs.HistMeanings as meanings;
+ghost use Rattle.trace_trigger.specs.HistLists as lists;
+ghost use Rattle.trace_trigger.specs.HistTexts.{IsTold};
+
+use crate::hist_fault::HistFault;
+use crate::named::meaning_of;
+use crate::piece::Piece;
+use crate::size::rounded_size;
+use crate::sort_rule::{SortRule, SortSource};
+use crate::source::Source;
+use crate::spec::SortKey;
+use crate::written::{Written, is_descending, is_hitcount, sort_name, sort_suffix};
+use std::alloc::{AllocError, Global};
+use trace_format::{Field, Text};
+use trace_lex::decimal_number;
+
+/// There are at most so many keys, and values besides `hitcount`.
+const MOST_NAMES: usize = 3;
+
+/// There are at most so many sort keys.
+const MOST_SORT_KEYS: usize = 2;
+
+/// How many entries there may be where nothing is said.
+const DEFAULT_SIZE: u32 = 2048;
+
+/// How many of the values are summed: all but `hitcount`.
+fn summed_len(values: &[Piece]) -> usize
+    ensures { result ≡ meanings.summed_len values.now }
+{
+    values
+        .iter()
+        .filter(|value| !is_hitcount(value.bytes.as_bytes()))
+        .count()
+}
+
+/// The values that are summed: all but `hitcount`.
+pub(crate) fn summed(mut values: Vec<Piece>) -> Vec<Piece>
+    ensures { result.items ≡ lists.summed_items values.items }
+{
+    values.retain(|value| !is_hitcount(value.bytes.as_bytes()));
+    values
+}
+
+/// Whether there are too many keys, values or sort keys.
+pub(crate) fn is_too_many(written: &Written) -> bool
+    ensures { result ≡ meanings.is_too_many written.now }
+{
+    written.keys.len() > MOST_NAMES
+        || summed_len(&written.values) > MOST_NAMES
+        || written.sort.len() > MOST_SORT_KEYS
+}
+
+/// Where a key is found. It may be a number or a string.
+fn key_source(fields: &[Field], key: &Piece) -> Result<Source, HistFault>
+    ensures { result ≡ meanings.key_source fields.now key.now }
+{
+    match meaning_of(fields, key.bytes.as_bytes()) {
+        Some(named) => Ok(named.source),
+        None => Err(HistFault::NoSuchField { at: key.at }),
+    }
+}
+
+/// Where each key is found; or the fault of the first that means nothing.
+#[tactic(auto, using(crate::proofs::EachLemmas::each_more, crate::proofs::EachLemmas::each_refused, crate::proofs::EachLemmas::each_end, crate::proofs::EachLemmas::told_is))]
+pub(crate) fn key_sources(
+    alloc: Global,
+    fields: &[Field],
+    keys: &[Piece],
+) -> Result<Vec<Source>, HistFault>
+    ensures { MatchResult result
+        (λ sources. meanings.each (meanings.key_source fields.now) keys.now ≡ Ok sources.items)
+        (λ fault. IsTold fault (meanings.each (meanings.key_source fields.now) keys.now)) }
+{
+    let mut sources = Vec::with_capacity(alloc, keys.len())?;
+    for key in keys {
+        sources.push(key_source(fields, key)?)?;
+    }
+    Ok(sources)
+}
+
+/// Where a value is found. It is a number.
+fn value_source(fields: &[Field], value: &Piece) -> Result<Source, HistFault>
+    ensures { result ≡ meanings.value_source fields.now value.now }
+{
+    match meaning_of(fields, value.bytes.as_bytes()) {
+        Some(named) if named.is_text => Err(HistFault::WrongOperator { at: value.at }),
+        Some(named) => Ok(named.source),
+        None => Err(HistFault::NoSuchField { at: value.at }),
+    }
+}
+
+/// Where each value is found; or the fault of the first that means nothing or is a string.
+#[tactic(auto, using(crate::proofs::EachLemmas::each_more, crate::proofs::EachLemmas::each_refused, crate::proofs::EachLemmas::each_end, crate::proofs::EachLemmas::told_is))]
+pub(crate) fn value_sources(
+    alloc: Global,
+    fields: &[Field],
+    values: &[Piece],
+) -> Result<Vec<Source>, HistFault>
+    ensures { MatchResult result
+        (λ sources. meanings.each (meanings.value_source fields.now) values.now ≡ Ok sources.items)
+        (λ fault. IsTold fault (meanings.each (meanings.value_source fields.now) values.now)) }
+{
+    let mut sources = Vec::with_capacity(alloc, values.len())?;
+    for value in values {
+        sources.push(value_source(fields, value)?)?;
+    }
+    Ok(sources)
+}
+
+/// The number of entries that digits ask for, rounded, if there may be so many.
+#[tactic(auto, using(crate::proofs::SizeLemmas::size_past, crate::proofs::SizeLemmas::size_read))]
+fn size_written(digits: &[u8]) -> Option<u32>
+    ensures { result ≡ meanings.size_written digits.now }
+{
+    rounded_size(decimal_number(digits, u64::MAX)?)
+}
+
+/// How many entries there may be.
+pub(crate) fn size_of(size: &Option<Text>) -> Result<u32, HistFault>
+    ensures { result ≡ meanings.size_of size.now }
+{
+    match size {
+        Some(digits) => size_written(digits.as_bytes()).ok_or(HistFault::BadSize),
+        None => Ok(DEFAULT_SIZE),
+    }
+}
+
+/// The names of items.
+pub(crate) fn names_of(alloc: Global, items: &[Piece]) -> Result<Vec<Text>, AllocError>
+    ensures { IfOk result (λ names. names.items ≡ lists.names_of items.now) }
+{
+    let mut names = Vec::with_capacity(alloc, items.len())?;
+    for item in items {
+        names.push(item.bytes.clone()?)?;
+    }
+    Ok(names)
+}
+
+fn sort_key_of(alloc: Global, item: &Piece) -> Result<SortKey, AllocError>
+    ensures { IfOk result (λ key. key ≡ lists.sort_key_of item.now) }
+{
+    let written = item.bytes.as_bytes();
+    Ok(SortKey {
+        name: Text::from_slice(alloc, sort_name(written))?,
+        descending: is_descending(sort_suffix(written)),
+    })
+}
+
+/// The sort keys; by `hitcount`, where none are written.
+#[tactic(auto, using(crate::proofs::SortKeyLemmas::sort_keys_some, crate::proofs::SortKeyLemmas::sort_keys_none))]
+pub(crate) fn sort_keys(alloc: Global, items: &[Piece]) -> Result<Vec<SortKey>, AllocError>
+    ensures { IfOk result (λ keys. keys.items ≡ lists.sort_keys items.now) }
+{
+    let mut keys = Vec::with_capacity(alloc, items.len())?;
+    for item in items {
+        keys.push(sort_key_of(alloc, item)?)?;
+    }
+    if keys.is_empty() {
+        keys.push(SortKey {
+            name: Text::from_slice(alloc, b"hitcount")?,
+            descending: false,
+        })?;
+    }
+    Ok(keys)
+}
+
+/// The place of a name among others, if it is one of them.
+fn place_of(names: &[Text], name: &[u8]) -> Option<usize>
+    ensures { result ≡ meanings.place_of names.now name.now }
+{
+    names.iter().position(|other| name == other.as_bytes())
+}
+
+/// What a name means that entries are sorted by: a value, if it is one, and otherwise `hitcount` or a key.
+fn sort_source(keys: &[Text], values: &[Text], name: &[u8]) -> SortSource
+    ensures { result ≡ meanings.sort_source keys.now values.now name.now }
+{
+    if let Some(place) = place_of(values, name) {
+        SortSource::Value(place)
+    } else if is_hitcount(name) {
+        SortSource::Hitcount
+    } else {
+        SortSource::Key(place_of(keys, name).unwrap_or(0))
+    }
+}
+
+fn sort_rule(keys: &[Text], values: &[Text], key: &SortKey) -> SortRule
+    ensures { result ≡ meanings.sort_rule keys.now values.now key.now }
+{
+    SortRule {
+        source: sort_source(keys, values, key.name.as_bytes()),
+        descending: key.descending,
+    }
+}
+
+/// What each sort key means.
+pub(crate) fn sort_rules(
+    alloc: Global,
+    keys: &[Text],
+    values: &[Text],
+    sort: &[SortKey],
+) -> Result<Vec<SortRule>, AllocError>
+    ensures { IfOk result (λ rules. rules.items ≡ map (meanings.sort_rule keys.now values.now) sort.now) }
+{
+    let mut rules = Vec::with_capacity(alloc, sort.len())?;
+    for key in sort {
+        rules.push(sort_rule(keys, values, key))?;
+    }
+    Ok(rules)
+}

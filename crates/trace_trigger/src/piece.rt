@@ -1,0 +1,42 @@
+//! Strings that are cut at a byte, with the place of each part.
+
+ghost use Rattle.std.specs.Prelude.{◌≡◌, ◌<◌, ◌+◌, ◌^◌, IfOk, length};
+ghost use Rattle.trace_trigger.specs.HistPieces.{pieces_of};
+
+use std::alloc::{AllocError, Global};
+use trace_format::Text;
+use trace_lex::{len_before, rest_of};
+
+/// A part of a string, and the place of its first byte in the whole text.
+#[derive(Drop)]
+pub(crate) struct Piece {
+    pub(crate) at: usize,
+    pub(crate) bytes: Text,
+}
+
+/// The parts of a string that begins at a place, between the bytes that separate them. There is one part more than separators.
+pub(crate) fn cut_at(
+    alloc: Global,
+    separator: u8,
+    at: usize,
+    text: &[u8],
+) -> Result<Vec<Piece>, AllocError>
+    requires { at + length text.now < 2 ^ 64 }
+    ensures { IfOk result (λ pieces. pieces.items ≡ pieces_of separator at text.now) }
+{
+    let mut pieces = Vec::new(alloc);
+    let mut from = 0;
+    loop {
+        let rest = rest_of(text, from);
+        let len = len_before(separator, rest);
+        let bytes = Text::from_slice(alloc, &rest[..len])?;
+        pieces.push(Piece {
+            at: at + from,
+            bytes,
+        })?;
+        if len == rest.len() {
+            return Ok(pieces);
+        }
+        from += len + 1;
+    }
+}

@@ -1,0 +1,204 @@
+//! What a hist trigger says (histogram.rst, "hist triggers").
+
+ghost use Rattle.std.specs.Prelude.{◌≡◌, ◌↔◌, Option, Some, None, IsTrue, option_copied, bytes_eq};
+ghost use Rattle.trace_trigger.specs.HistTexts.{IsHistText, IsAnswered, spec_of};
+ghost use Rattle.trace_trigger.specs.SameSpecs.{IsSame, is_same, same_filter, same_sort_key, is_passed, filter_text};
+ghost use Rattle.std.specs.Cmp.Lexicographic.{pointwise};
+
+use crate::hist_fault::HistFault;
+use crate::hist_parts::{condition_of, cut};
+use crate::meaning::is_too_many;
+use crate::read::{read_written, spec_from};
+use crate::sort_rule::SortRule;
+use crate::source::Source;
+use std::alloc::Global;
+use std::marker::Model;
+use trace_filter::Filter;
+use trace_format::{EventDef, Row, Text};
+
+/// A key that entries are printed by.
+#[derive(PartialEq, Eq, Drop)]
+pub struct SortKey {
+    /// `hitcount`, or one of the trigger's keys or values. A name that is both means the value.
+    pub name: Text,
+    /// Whether greater ones come first.
+    pub descending: bool,
+}
+
+/// What a written trigger asks for.
+#[derive(Clone, Copy, PartialEq, Eq)]
+pub enum Action {
+    /// To be attached, active.
+    Attach,
+    /// To be paused, or to be attached paused.
+    Pause,
+    /// To go on.
+    Continue,
+    /// To be emptied.
+    Clear,
+}
+
+/// What a hist trigger says.
+#[derive(Drop)]
+pub struct HistSpec {
+    pub(crate) keys: Vec<Text>,
+    pub(crate) values: Vec<Text>,
+    pub(crate) sort: Vec<SortKey>,
+    pub(crate) size: u32,
+    pub(crate) action: Action,
+    pub(crate) filter: Option<Filter>,
+    // What the keys' names mean, in order, and the values'.
+    pub(crate) key_sources: Vec<Source>,
+    pub(crate) value_sources: Vec<Source>,
+    // What the sort keys mean, in order.
+    pub(crate) sort_sources: Vec<SortRule>,
+}
+
+impl Model for HistSpec {
+    ghost use Rattle.trace_trigger.specs.HistSpecs.{SpecSeen};
+
+    ghost Value = { SpecSeen };
+
+    ghost view = { λ s. record {
+      keys = s.keys.items;
+      values = s.values.items;
+      sort = s.sort.items;
+      size = s.size;
+      action = s.action;
+      filter = s.filter;
+      key_sources = s.key_sources.items;
+      value_sources = s.value_sources.items;
+      sort_sources = s.sort_sources.items;
+    } };
+}
+
+impl HistSpec {
+    /// What a string says of a hist trigger of an event: `hist:` or `!hist:`, attributes joined by `:`, and after them perhaps `if` and a filter.
+    /// One that breaks the grammar is refused for that, at the leftmost place where it does. Then come too many names, the first wrong key, the
+    /// first wrong value, the size, and last the filter.
+    #[tactic(auto, unfolding(crate::specs::HistTexts::spec_of))]
+    pub fn parse(alloc: Global, text: &[u8], event: &EventDef) -> Result<HistSpec, HistFault>
+        requires { IsHistText text.now }
+        ensures { IsAnswered result (spec_of event.now text.now) }
+    {
+        let (word, tail) = cut(text);
+        let written = read_written(alloc, text, word, tail)?;
+        if is_too_many(&written) {
+            return Err(HistFault::TooMany);
+        }
+        spec_from(alloc, text, written, condition_of(tail), event)
+    }
+
+    /// The names of its keys, as written.
+    pub fn keys(&self) -> &[Text]
+        ensures { result.now ≡ self.now.keys }
+    {
+        &self.keys
+    }
+
+    /// The names of the values that are summed, as written, without `hitcount`.
+    pub fn values(&self) -> &[Text]
+        ensures { result.now ≡ self.now.values }
+    {
+        &self.values
+    }
+
+    /// What entries are printed by, the first key first.
+    pub fn sort(&self) -> &[SortKey]
+        ensures { result.now ≡ self.now.sort }
+    {
+        &self.sort
+    }
+
+    /// How many entries there may be.
+    pub fn size(&self) -> u32
+        ensures { result ≡ self.now.size }
+    {
+        self.size
+    }
+
+    /// What is asked for.
+    pub fn action(&self) -> Action
+        ensures { result ≡ self.now.action }
+    {
+        self.action
+    }
+
+    /// Which emissions are counted; with none, all.
+    pub fn filter(&self) -> Option<&Filter>
+        ensures { option_copied result ≡ self.now.filter }
+    {
+        self.filter.as_ref()
+    }
+
+    /// Where its keys are found in an emission, in their order.
+    pub fn key_sources(&self) -> &[Source]
+        ensures { result.now ≡ self.now.key_sources }
+    {
+        &self.key_sources
+    }
+
+    /// Where its values are found in an emission, in their order.
+    pub fn value_sources(&self) -> &[Source]
+        ensures { result.now ≡ self.now.value_sources }
+    {
+        &self.value_sources
+    }
+
+    /// What its sort keys mean, in their order.
+    pub fn sort_sources(&self) -> &[SortRule]
+        ensures { result.now ≡ self.now.sort_sources }
+    {
+        &self.sort_sources
+    }
+
+    /// Whether two triggers of one event are the same: they have the same keys, values, sort keys and filter. Their sizes and what they ask
+    /// for don't matter.
+    #[tactic(auto, unfolding(crate::specs::SameSpecs::is_same))]
+    pub fn same(&self, other: &HistSpec) -> bool
+        ensures same { IsTrue result ↔ IsSame self.now other.now }
+        ensures value { result ≡ is_same self.now other.now }
+    {
+        is_same_names(&self.keys, &other.keys)
+            && is_same_names(&self.values, &other.values)
+            && is_same_sort(&self.sort, &other.sort)
+            && is_same_filter(&self.filter, &other.filter)
+    }
+
+    /// Whether the trigger counts a row of its event that is emitted on a CPU by a process. It takes no memory.
+    pub fn passes(&self, row: &Row, cpu: u32, pid: i32) -> bool
+        ensures { result ≡ is_passed self.now.filter
+            (record { values = row.now.values; cpu = cpu; pid = pid }) }
+    {
+        match &self.filter {
+            Some(filter) => filter.passes(row, cpu, pid),
+            None => true,
+        }
+    }
+}
+
+fn is_same_names(left: &[Text], right: &[Text]) -> bool
+    ensures value { result ≡ pointwise bytes_eq left.now right.now }
+    ensures same { IsTrue result ↔ (left.now ≡ right.now) }
+{
+    left == right
+}
+
+fn is_same_sort(left: &[SortKey], right: &[SortKey]) -> bool
+    ensures value { result ≡ pointwise same_sort_key left.now right.now }
+    ensures same { IsTrue result ↔ (left.now ≡ right.now) }
+{
+    left == right
+}
+
+/// Whether there are two filters of one text, or none.
+fn is_same_filter(left: &Option<Filter>, right: &Option<Filter>) -> bool
+    ensures value { result ≡ same_filter (filter_text left.now) (filter_text right.now) }
+    ensures same { IsTrue result ↔ (filter_text left.now ≡ filter_text right.now) }
+{
+    match (left, right) {
+        (Some(left), Some(right)) => left.text() == right.text(),
+        (None, None) => true,
+        _ => false,
+    }
+}

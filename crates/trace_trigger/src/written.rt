@@ -1,0 +1,169 @@
+//! What the attributes of a trigger say.
+
+ghost use Rattle.std.specs.Prelude.{◌≡◌, IfOk, IfSome};
+ghost use Rattle.std.specs.List.{All};
+ghost use Rattle.std.specs.Option.{option_copied};
+ghost use Rattle.trace_trigger.specs.HistAttributes.{IsPlaced};
+ghost use Rattle.trace_trigger.specs.HistLists as lists;
+
+use crate::attribute::{Attribute, Topic};
+use crate::piece::{Piece, cut_at};
+use crate::spec::Action;
+use std::alloc::{AllocError, Global};
+use std::marker::Model;
+use trace_format::Text;
+use trace_lex::{is_name, len_before, rest_of};
+
+/// The lists of names, cut into items, and the rest of what the attributes say. Of several attributes on one topic the first counts.
+#[derive(Drop)]
+pub(crate) struct Written {
+    pub(crate) keys: Vec<Piece>,
+    pub(crate) values: Vec<Piece>,
+    pub(crate) sort: Vec<Piece>,
+    pub(crate) size: Option<Text>,
+    pub(crate) action: Action,
+}
+
+impl Model for Written {
+    ghost use Rattle.trace_trigger.specs.HistLists.{Lists};
+
+    ghost Value = { Lists };
+
+    ghost view = { λ w. record {
+      keys = w.keys.items;
+      values = w.values.items;
+      sort = w.sort.items;
+      size = w.size;
+      action = w.action;
+    } };
+}
+
+impl Written {
+    /// What attributes say.
+    #[tactic(auto, unfolding(crate::specs::HistLists::lists_of))]
+    pub(crate) fn of(alloc: Global, attributes: &[Attribute]) -> Result<Written, AllocError>
+        requires { All IsPlaced attributes.now }
+        ensures { IfOk result (λ written. written ≡ lists.lists_of attributes.now) }
+    {
+        Ok(Written {
+            keys: items_about(alloc, Topic::Keys, attributes)?,
+            values: items_about(alloc, Topic::Values, attributes)?,
+            sort: items_about(alloc, Topic::Sort, attributes)?,
+            size: size_in(first_about(Topic::Size, attributes))?,
+            action: action_in(first_about(Topic::Asked(Action::Attach), attributes)),
+        })
+    }
+
+    /// Whether entries may be sorted by a name: by `hitcount`, and by the names among the keys and the values.
+    pub(crate) fn is_sortable(&self, name: &[u8]) -> bool
+        ensures { result ≡ lists.is_sortable self.now name.now }
+    {
+        is_hitcount(name)
+            || is_name(name) && (is_listed(&self.keys, name) || is_listed(&self.values, name))
+    }
+}
+
+/// Whether two attributes are on one topic; `pause`, `continue` and `clear` are one.
+pub(crate) fn is_same_topic(left: Topic, right: Topic) -> bool
+    ensures { result ≡ lists.is_same_topic left right }
+{
+    match (left, right) {
+        (Topic::Keys, Topic::Keys) => true,
+        (Topic::Values, Topic::Values) => true,
+        (Topic::Sort, Topic::Sort) => true,
+        (Topic::Size, Topic::Size) => true,
+        (Topic::Asked(_), Topic::Asked(_)) => true,
+        _ => false,
+    }
+}
+
+/// The first attribute on a topic.
+fn first_about(topic: Topic, attributes: &[Attribute]) -> Option<&Attribute>
+    ensures value { option_copied result ≡ lists.first_about topic attributes.now }
+    ensures placed { All IsPlaced attributes.now → IfSome result (λ attribute. IsPlaced attribute.now) }
+{
+    attributes
+        .iter()
+        .find(|attribute| is_same_topic(topic, attribute.topic))
+}
+
+/// The items of the first list on a topic; none, if there is no such list.
+fn items_about(
+    alloc: Global,
+    topic: Topic,
+    attributes: &[Attribute],
+) -> Result<Vec<Piece>, AllocError>
+    requires { All IsPlaced attributes.now }
+    ensures { IfOk result (λ items. items.items ≡ lists.items_in (lists.first_about topic attributes.now)) }
+{
+    match first_about(topic, attributes) {
+        Some(attribute) => {
+            let at = attribute.at + attribute.skip;
+            cut_at(alloc, b',', at, attribute.value.as_bytes())
+        }
+        None => Ok(Vec::new(alloc)),
+    }
+}
+
+/// A copy of the value of an attribute.
+fn size_in(attribute: Option<&Attribute>) -> Result<Option<Text>, AllocError>
+    ensures { IfOk result (λ size. size ≡ lists.size_in (option_copied attribute.entry)) }
+{
+    match attribute {
+        Some(attribute) => Ok(Some(attribute.value.clone()?)),
+        None => Ok(None),
+    }
+}
+
+/// What an attribute asks for.
+fn action_in(attribute: Option<&Attribute>) -> Action
+    ensures { result ≡ lists.action_in (option_copied attribute.entry) }
+{
+    match attribute {
+        Some(attribute) => match attribute.topic {
+            Topic::Asked(action) => action,
+            _ => Action::Attach,
+        },
+        None => Action::Attach,
+    }
+}
+
+/// Whether an item of a list is this name.
+pub(crate) fn is_listed(items: &[Piece], name: &[u8]) -> bool
+    ensures { result ≡ lists.is_listed items.now name.now }
+{
+    items.iter().any(|item| name == item.bytes.as_bytes())
+}
+
+pub(crate) fn is_hitcount(name: &[u8]) -> bool
+    ensures { result ≡ lists.is_hitcount name.now }
+{
+    name == b"hitcount".as_slice()
+}
+
+/// The name of a sort key: what comes before the first `.`.
+pub(crate) fn sort_name(written: &[u8]) -> &[u8]
+    ensures { result.now ≡ lists.sort_name written.now }
+{
+    &written[..len_before(b'.', written)]
+}
+
+/// The direction of a sort key: its first `.` and what follows, or nothing.
+pub(crate) fn sort_suffix(written: &[u8]) -> &[u8]
+    ensures { result.now ≡ lists.sort_suffix written.now }
+{
+    rest_of(written, len_before(b'.', written))
+}
+
+pub(crate) fn is_descending(suffix: &[u8]) -> bool
+    ensures { result ≡ lists.is_descending suffix.now }
+{
+    suffix == b".descending".as_slice()
+}
+
+/// Whether a suffix says in which direction to sort, or nothing.
+pub(crate) fn is_direction(suffix: &[u8]) -> bool
+    ensures { result ≡ lists.is_direction suffix.now }
+{
+    suffix == b"".as_slice() || suffix == b".ascending".as_slice() || is_descending(suffix)
+}

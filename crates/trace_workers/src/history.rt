@@ -1,0 +1,75 @@
+//! A run of many threads, from a new book to its history at the close.
+
+ghost use Rattle.std.specs.Prelude.{◌≡◌, ◌≢◌, ◌<◌, ◌≤◌, [], map, vec_len, true, IfOk, IfErr, All, AllPairs};
+ghost use Rattle.trace_command.specs.Configs.{IsInRange};
+ghost use Rattle.trace_command.specs.declared.command.Entry.{Entry};
+ghost use Rattle.trace_history.specs.Blocks.{IsBlock, IsUnworn};
+ghost use Rattle.trace_workers.specs.BlockRuns.{trails_of};
+ghost use Rattle.trace_workers.specs.declared.fault.BlockFault.TheVariants.{Stopped};
+
+use crate::block::run_block;
+use crate::fault::BlockFault;
+use crate::gate::Gate;
+use crate::part::Part;
+use std::alloc::Global;
+use std::sync::Wait;
+use std::thread::Threads;
+use ticket_lock::TicketLock;
+use trace_book::Book;
+use trace_command::{Command, Config, Refusal, Reply};
+
+// Whether each of these is an answer, and none tells that no ticket was left.
+fn is_unworn(replies: &[Result<Reply, Refusal>]) -> bool
+    ensures { result ≡ true → IsUnworn replies.now }
+{
+    replies
+        .iter()
+        .all(|reply| !matches!(reply, Err(Refusal::Worn)))
+}
+
+// The same of each part.
+fn are_unworn(done: &[Part]) -> bool
+    ensures { result ≡ true → All (λ part. IsUnworn part.replies.items) done.now }
+{
+    done.iter().all(|part| is_unworn(&part.replies))
+}
+
+/// Asks parts side by side over a new book, each on a thread of its own, and gives the book, whose history holds all that they did and nothing else,
+/// with their replies in the order of the parts. `Config::is_in_range` tells whether a book can be made with a configuration.
+///
+/// It fails as `run_block` does. `Memory` is told, too, where no book or lock could be made, or where a command got no turn since all tickets are drawn,
+/// to which no block comes. After a fault nothing is given: the book is let go with what was done.
+///
+/// It waits for its turns and for its threads, and so that it returns is not promised, nor in which order turns fall.
+pub fn history_of<R: Threads + Wait + Sync, G: Gate + Sync>(
+    rt: &R,
+    alloc: Global,
+    config: Config,
+    parts: Vec<Vec<Command>>,
+    gate: &G,
+) -> Result<(Book, Vec<Part>), BlockFault>
+    requires range { IsInRange config }
+    requires few { vec_len parts ≤ 8 }
+    ensures count { IfOk result (λ r. vec_len r.1 ≡ vec_len parts) }
+    ensures config { IfOk result (λ r. r.0.config ≡ config) }
+    ensures rising { IfOk result (λ r. AllPairs (λ (one other : Entry). one.ticket < other.ticket) r.0.entries) }
+    // The history is one block of the parts, from nothing on: each part's replies are the trail of its commands in it, and each entry is one of them.
+    ensures history { IfOk result (λ r.
+        IsBlock config [] r.0.entries (trails_of (map (λ part. part.items) parts.items) r.1.items)) }
+    ensures unworn { IfOk result (λ r. All (λ part. IsUnworn part.replies.items) r.1.items) }
+    ensures open { G.is_open gate.now ≡ true → IfErr result (λ fault. fault ≢ Stopped) }
+{
+    let Ok(book) = Book::new(alloc, config) else {
+        return Err(BlockFault::Memory);
+    };
+    let Ok((lock, root)) = TicketLock::starting_at(alloc, 0, book) else {
+        return Err(BlockFault::Memory);
+    };
+    let (root, done) = run_block(rt, alloc, &lock, root, parts, gate);
+    let book = lock.close(root);
+    let done = done?;
+    if !are_unworn(&done) {
+        return Err(BlockFault::Memory);
+    }
+    Ok((book, done))
+}
