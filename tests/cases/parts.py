@@ -1,7 +1,8 @@
-"""Parts whose threads may come in any order."""
+"""Parts whose threads may come in any order, and parts of which a thread can't be started."""
+import resource
 
-from cases.emitting import SETUP, STATS, stats, stats_text
-from cases.running import SMALL, TOP, Case, Outcome, case_of, quoted, run
+from cases.emitting import SETUP, STATS, stats_text
+from cases.running import OUT_OF_MEMORY, SMALL, TOP, Case, Outcome, case_of, quoted, run
 
 
 def stats_of_two_threads(program):
@@ -31,5 +32,47 @@ def eight_threads():
     return case_of("eight threads", want, ["-"], script=b"".join(lines))
 
 
+STACK = 1 << 30  # the address space for a thread's stack, where its limit says so
+
+
+def room_for(threads):
+    """Leaves address space for the stacks of so many threads, and half of one more for all else, of which a short script takes 16 MiB."""
+
+    def limit():
+        space = threads * STACK + STACK // 2
+        resource.setrlimit(resource.RLIMIT_STACK, (STACK, resource.getrlimit(resource.RLIMIT_STACK)[1]))
+        resource.setrlimit(resource.RLIMIT_AS, (space, space))
+
+    return limit
+
+
+TWO_THREADS = b"""\
+cat options/overwrite
+parallel
+thread
+cat tracing_on
+cat nothing
+thread
+echo 0 > options/overwrite
+end
+cat options/overwrite
+"""
+
+
+def refused_threads():
+    """Where the system refuses a thread of a part, the session ends and nothing of the part is written; where it gives all of them, there is memory for
+    everything else, too."""
+    done = Outcome(1, b"1\n-- thread 0\n1\n! 5: N1 NoSuchFile\n-- thread 1\n0\n", b"")
+    refused = Outcome(3, b"1\n", OUT_OF_MEMORY)
+    alone = TWO_THREADS.replace(b"parallel\n", b"").replace(b"thread\n", b"").replace(b"end\n", b"")
+    return [
+        case_of("the same lines by themselves, with room for no stack", Outcome(1, b"1\n1\n! 3: N1 NoSuchFile\n0\n", b""), script=alone, before=room_for(0)),
+        case_of("two threads, with room for the stacks of both", done, script=TWO_THREADS, before=room_for(2)),
+        case_of("two threads, with room for the stack of one", refused, script=TWO_THREADS, before=room_for(1)),
+        case_of("two threads, with room for no stack", refused, script=TWO_THREADS, before=room_for(0)),
+        case_of("two threads, with room for no stack, explained", refused, ["--explain", "-"], script=TWO_THREADS, before=room_for(0)),
+    ]
+
+
 def part_cases():
-    return [Case("two threads on two CPUs, and their stats", stats_of_two_threads), eight_threads()]
+    return [Case("two threads on two CPUs, and their stats", stats_of_two_threads), eight_threads()] + refused_threads()
