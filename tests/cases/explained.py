@@ -60,9 +60,15 @@ BEFORE_PART = [("echo 'tick u64 n' > synthetic_events", "", "")]
 AFTER_PART = [("cat tracing_on", "1", ""), ("cat nothing", "! 13: N1 NoSuchFile", "no file has this path")]
 EXPLAINED_PART = BEFORE_PART + PART + AFTER_PART
 
-# What both streams give where they are one: each explanation stands right after its own reply, and a part's after all of its replies.
-MINGLED = text_of(text for line, reply, words in EXPLAINED for text in [reply] + told(line, words))
-MINGLED_PART = replies_of(PART) + explanations_of(PART) + text_of(text for line, reply, words in AFTER_PART for text in [reply] + told(line, words))
+
+def mingled_of(lines):
+    """What lines by themselves give where both streams are one: each explanation stands right after its own reply."""
+    return text_of(text for line, reply, words in lines for text in [reply] + told(line, words))
+
+
+def mingled_part(before, part, after):
+    """Likewise of a part between two lists of lines: its explanations stand after all of its replies."""
+    return mingled_of(before) + replies_of(part) + explanations_of(part) + mingled_of(after)
 
 
 # What a part declares is known behind it: a `Sink` hears of the commands that are done, too.
@@ -73,6 +79,40 @@ DECLARING_PART = [
     ("end", "", ""),
     ("emit 0 7 tock n=1 m=3", "! 5: N21 BadRow m", "m: the event has no field of this name"),
 ]
+
+# Scripts of 1,200 lines, with refused ones where the numbers of lines become longer, and elsewhere. Each refused line is another one.
+REFUSED_AT = {2, 9, 10, 11, 99, 100, 101, 102, 256, 257, 999, 1000, 1001, 1024, 1199, 1200}
+PART_FROM, NEXT_THREAD, PART_END = 98, 560, 1100
+
+
+def line_at(number):
+    """The line of this number, with what it gives and what is told of it."""
+    if number == 1:
+        return BEFORE_PART[0]
+    if number in REFUSED_AT or number % 67 == 0:
+        unknown = "n%d" % number
+        return [
+            ("cat %s" % unknown, "! %d: N1 NoSuchFile" % number, "no file has this path"),
+            ("emit 0 7 tick n=1 %s=1" % unknown, "! %d: N21 BadRow %s" % (number, unknown), "%s: the event has no field of this name" % unknown),
+        ][number % 2]
+    return [("emit 0 7 tick n=%d" % number, "", ""), ("# a comment", "", ""), ("", "", ""), ("cat tracing_on", "1", "")][number % 4]
+
+
+def lines_at(first, end):
+    return [line_at(number) for number in range(first, end)]
+
+
+MANY = lines_at(1, 1201)
+BEFORE_LONG_PART = lines_at(1, PART_FROM)
+LONG_PART = (
+    [("parallel", "", ""), ("thread", "-- thread 0", "")]
+    + lines_at(PART_FROM + 2, NEXT_THREAD)
+    + [("thread", "-- thread 1", "")]
+    + lines_at(NEXT_THREAD + 1, PART_END)
+    + [("end", "", "")]
+)
+AFTER_LONG_PART = lines_at(PART_END + 1, 1201)
+MANY_AND_PART = BEFORE_LONG_PART + LONG_PART + AFTER_LONG_PART
 
 
 def both_in_one(name, script, want):
@@ -108,6 +148,8 @@ def explained_cases():
     explained = Outcome(2, replies_of(EXPLAINED), explanations_of(EXPLAINED))
     part = Outcome(1, replies_of(EXPLAINED_PART), explanations_of(EXPLAINED_PART))
     declaring = Outcome(1, replies_of(DECLARING_PART), explanations_of(DECLARING_PART))
+    long_part = Outcome(1, replies_of(MANY_AND_PART), explanations_of(MANY_AND_PART))
+    mingled_long = mingled_part(BEFORE_LONG_PART, LONG_PART, AFTER_LONG_PART)
     unheard = explained._replace(stderr=b"")
     scripts = scripts_of(TOP / "examples") + scripts_of(TOP / "tests" / "rows")
     return [
@@ -115,11 +157,15 @@ def explained_cases():
         case_of("nothing is explained without --explain", unheard, ["-"], script=script),
         case_of("--explain, and standard error is closed", unheard, ["--explain", "-"], script=script, before=lambda: os.close(2)),
         case_of("--explain, and standard output is a full device", FAILED, ["--explain", "-"], script=REFUSED, stdout=os.open("/dev/full", os.O_WRONLY)),
-        both_in_one("--explain, and both go one way", script, Outcome(2, MINGLED, b"")),
+        both_in_one("--explain, and both go one way", script, Outcome(2, mingled_of(EXPLAINED), b"")),
         case_of("--explain, and a part", part, ["--explain", "-"], script=script_of(EXPLAINED_PART)),
-        both_in_one("--explain and a part, and both go one way", script_of(EXPLAINED_PART), Outcome(1, MINGLED_PART, b"")),
+        both_in_one("--explain and a part, and both go one way", script_of(EXPLAINED_PART), Outcome(1, mingled_part(BEFORE_PART, PART, AFTER_PART), b"")),
         case_of("--explain, a part, and standard output is a full device", FAILED, ["--explain", "-"], script=script_of(EXPLAINED_PART), stdout=os.open("/dev/full", os.O_WRONLY)),
         case_of("--explain, and what a part declares", declaring, ["--explain", "-"], script=script_of(DECLARING_PART)),
+        case_of("--explain, and 1,200 lines", Outcome(1, replies_of(MANY), explanations_of(MANY)), ["--explain", "-"], script=script_of(MANY)),
+        both_in_one("--explain and 1,200 lines, and both go one way", script_of(MANY), Outcome(1, mingled_of(MANY), b"")),
+        case_of("--explain, and a part of 1,000 lines", long_part, ["--explain", "-"], script=script_of(MANY_AND_PART)),
+        both_in_one("--explain and a part of 1,000 lines, and both go one way", script_of(MANY_AND_PART), Outcome(1, mingled_long, b"")),
     ] + [explained_script(script) for script in scripts]
 
 
