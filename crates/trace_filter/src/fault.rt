@@ -1,29 +1,45 @@
 //! Why a text is no filter of an event.
 
-ghost use Rattle.std.specs.Prelude.{◌≡◌};
+ghost use Rattle.std.specs.Prelude.{◌≡◌, Some};
 ghost use Rattle.trace_filter.specs.declared.fault.FilterFault.TheVariants as faults;
 
 use std::alloc::{AllocError, AllocFailed};
-use thiserror::Error;
+use std::error::Error;
+use std::fmt;
+use std::fmt::{Display, Formatter};
 
 /// Why a text was refused as a filter. Places count bytes from 0 in the text as written.
-#[derive(Debug, Drop, Error)]
+#[derive(Debug, Drop)]
 pub enum FilterFault {
     /// The text has over 1,024 bytes without the blanks at both ends, or over 16 `!` and `(` are open at one place.
-    #[error("the filter is too long or nested too deep")]
     TooMany,
     /// The first token with which no filter goes on, the end of a text where more was to come, or a value that is no number.
-    #[error("syntax error at byte {at}")]
     FilterSyntax { at: usize },
     /// The event has no field of this name.
-    #[error("no such field at byte {at}")]
     NoSuchField { at: usize },
     /// The field can't be compared so.
-    #[error("wrong operator at byte {at}")]
     WrongOperator { at: usize },
-    #[error("out of memory")]
     Memory,
 }
+
+impl Display for FilterFault {
+    ghost use Rattle.trace_filter.specs.FaultTexts.{shown_filter_fault};
+
+    ghost output = { λ fault. Some (shown_filter_fault fault) };
+
+    #[tactic(auto, unfolding(crate::specs::FaultTexts::shown_filter_fault))]
+    fn fmt<W: fmt::Write>(&self, f: &mut Formatter<W>) -> fmt::Result {
+        match self {
+            FilterFault::TooMany => f.write_str("the filter is too long or nested too deep"),
+            FilterFault::FilterSyntax { at } => write!(f, "syntax error at byte {at}"),
+            FilterFault::NoSuchField { at } => write!(f, "no such field at byte {at}"),
+            FilterFault::WrongOperator { at } => write!(f, "wrong operator at byte {at}"),
+            FilterFault::Memory => f.write_str("out of memory"),
+        }
+    }
+}
+
+impl Error for FilterFault {}
 
 impl From<AllocError> for FilterFault {
     ghost from_gives = { λ _ fault. fault ≡ faults.Memory };

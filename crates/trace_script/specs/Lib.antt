@@ -8,3 +8,4 @@ pub mod Rendering
 pub mod Words
 pub mod TokensLeft
 pub mod TokensIn
+pub mod FaultTexts

@@ -1,50 +1,80 @@
 //! What is wrong with a line of a script.
 
-ghost use Rattle.std.specs.Prelude.{◌≡◌};
+ghost use Rattle.std.specs.Prelude.{◌≡◌, Some};
 ghost use Rattle.trace_script.specs.declared.fault.LineError.TheVariants.{Memory, Fault};
 
 use std::alloc::{AllocError, AllocFailed};
-use thiserror::Error;
+use std::error::Error;
+use std::fmt;
+use std::fmt::{Display, Formatter};
 
 /// What is wrong with a line of a script, in the order in which it is looked for. A fault ends the session.
-#[derive(Clone, Copy, Debug, PartialEq, Eq, Error)]
+#[derive(Clone, Copy, Debug, PartialEq, Eq, Drop)]
 pub enum ScriptFault {
     /// The line has over 4,096 bytes.
-    #[error("line too long")]
     LineTooLong,
     /// A byte of the line is neither a tab nor one from 0x20 to 0x7e.
-    #[error("bad byte")]
     BadByte,
     /// A quote is not closed.
-    #[error("unclosed quote")]
     UnclosedQuote,
     /// The first word is no command.
-    #[error("unknown command")]
     UnknownCommand,
     /// The command does not take this number or kind of words.
-    #[error("wrong words")]
     WrongWords,
     /// A word is not the number that is wanted there.
-    #[error("bad number")]
     BadNumber,
     /// A line of a parallel part stands where it can't stand.
-    #[error("block out of place")]
     BlockOutOfPlace,
     /// A parallel part has more than eight threads.
-    #[error("too many threads")]
     TooManyThreads,
 }
 
+impl Display for ScriptFault {
+    ghost use Rattle.trace_script.specs.FaultTexts.{shown_script_fault};
+
+    ghost output = { λ fault. Some (shown_script_fault fault) };
+
+    #[tactic(auto, unfolding(crate::specs::FaultTexts::shown_script_fault))]
+    fn fmt<W: fmt::Write>(&self, f: &mut Formatter<W>) -> fmt::Result {
+        f.write_str(match self {
+            ScriptFault::LineTooLong => "line too long",
+            ScriptFault::BadByte => "bad byte",
+            ScriptFault::UnclosedQuote => "unclosed quote",
+            ScriptFault::UnknownCommand => "unknown command",
+            ScriptFault::WrongWords => "wrong words",
+            ScriptFault::BadNumber => "bad number",
+            ScriptFault::BlockOutOfPlace => "block out of place",
+            ScriptFault::TooManyThreads => "too many threads",
+        })
+    }
+}
+
+impl Error for ScriptFault {}
+
 /// Why a line was not read.
-#[derive(Clone, Copy, Debug, PartialEq, Eq, Error)]
+#[derive(Clone, Copy, Debug, PartialEq, Eq, Drop)]
 pub enum LineError {
     /// The line has this fault, the first that is looked for.
-    #[error("{0}")]
     Fault(ScriptFault),
     /// Memory was refused.
-    #[error("out of memory")]
     Memory,
 }
+
+impl Display for LineError {
+    ghost use Rattle.trace_script.specs.FaultTexts.{shown_line_error};
+
+    ghost output = { λ fault. Some (shown_line_error fault) };
+
+    #[tactic(auto, unfolding(crate::specs::FaultTexts::shown_line_error))]
+    fn fmt<W: fmt::Write>(&self, f: &mut Formatter<W>) -> fmt::Result {
+        match self {
+            LineError::Fault(fault) => write!(f, "{fault}"),
+            LineError::Memory => f.write_str("out of memory"),
+        }
+    }
+}
+
+impl Error for LineError {}
 
 impl From<AllocError> for LineError {
     ghost from_gives = { λ _ error. error ≡ Memory };

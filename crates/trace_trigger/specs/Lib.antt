@@ -18,3 +18,4 @@ pub mod HistSizes
 pub mod HistSpecs
 pub mod HistTexts
 pub mod SameSpecs
+pub mod FaultTexts

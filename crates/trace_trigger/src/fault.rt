@@ -1,41 +1,57 @@
 //! Why a text is no trigger of an event.
 
-ghost use Rattle.std.specs.Prelude.{◌≡◌, ◌+◌, ◌<◌, ◌^◌, ◌-◌};
+ghost use Rattle.std.specs.Prelude.{◌≡◌, ◌+◌, ◌<◌, ◌^◌, ◌-◌, Some};
 ghost use Rattle.trace_trigger.specs.Frames.{IsWithin};
 ghost use Rattle.trace_trigger.specs.TriggerTexts.{fault_of_hist, moved};
 
 use crate::hist_fault::HistFault;
-use thiserror::Error;
+use std::error::Error;
+use std::fmt;
+use std::fmt::{Display, Formatter};
 use trace_filter::FilterFault;
 
 /// Why a text was refused as a trigger. Places count bytes from 0 in the whole text.
-#[derive(Debug, Drop, Error)]
+#[derive(Debug, Drop)]
 pub enum TriggerFault {
     /// No trigger is written so.
-    #[error("no trigger is written so")]
     BadText,
     /// The filter has over 1,024 bytes without the blanks at both ends, or over 16 `!` and `(` are open at one place; or a hist trigger has over
     /// three keys, three values or two sort keys.
-    #[error("too many keys, values or sort keys, or a filter too long or nested too deep")]
     TooMany,
     /// The first token with which no filter goes on, the end of a text where more was to come, or a value that is no number.
-    #[error("syntax error at byte {at}")]
     FilterSyntax { at: usize },
     /// The event has no field of this name.
-    #[error("no such field at byte {at}")]
     NoSuchField { at: usize },
     /// The field can't be compared so, or is a string that is to be summed.
-    #[error("wrong operator at byte {at}")]
     WrongOperator { at: usize },
     /// The first place with which no hist trigger goes on.
-    #[error("syntax error of the hist trigger at byte {at}")]
     HistSyntax { at: usize },
     /// A histogram may have 128 to 131,072 entries.
-    #[error("there may be 128 to 131072 entries")]
     BadSize,
-    #[error("out of memory")]
     Memory,
 }
+
+impl Display for TriggerFault {
+    ghost use Rattle.trace_trigger.specs.FaultTexts.{shown_trigger_fault};
+
+    ghost output = { λ fault. Some (shown_trigger_fault fault) };
+
+    #[tactic(auto, unfolding(crate::specs::FaultTexts::shown_trigger_fault))]
+    fn fmt<W: fmt::Write>(&self, f: &mut Formatter<W>) -> fmt::Result {
+        match self {
+            TriggerFault::BadText => f.write_str("no trigger is written so"),
+            TriggerFault::TooMany => f.write_str("too many keys, values or sort keys, or a filter too long or nested too deep"),
+            TriggerFault::FilterSyntax { at } => write!(f, "syntax error at byte {at}"),
+            TriggerFault::NoSuchField { at } => write!(f, "no such field at byte {at}"),
+            TriggerFault::WrongOperator { at } => write!(f, "wrong operator at byte {at}"),
+            TriggerFault::HistSyntax { at } => write!(f, "syntax error of the hist trigger at byte {at}"),
+            TriggerFault::BadSize => f.write_str("there may be 128 to 131072 entries"),
+            TriggerFault::Memory => f.write_str("out of memory"),
+        }
+    }
+}
+
+impl Error for TriggerFault {}
 
 impl From<HistFault> for TriggerFault {
     ghost from_gives = { λ fault result. result ≡ fault_of_hist fault };

@@ -1,0 +1,12 @@
+-- What is shown of each fault.
+use Rattle.std.specs.Prelude.{ℕ, List, ◌++◌, codes}
+use Rattle.std.specs.Fmt.{decimal}
+use Rattle.trace_filter.specs.declared.fault.FilterFault.{FilterFault}
+use Rattle.trace_filter.specs.declared.fault.FilterFault.TheVariants.{TooMany, FilterSyntax, NoSuchField, WrongOperator, Memory}
+
+unfoldable pub shown_filter_fault : FilterFault → List ℕ
+shown_filter_fault TooMany = codes "the filter is too long or nested too deep"
+shown_filter_fault (FilterSyntax at) = codes "syntax error at byte " ++ decimal at
+shown_filter_fault (NoSuchField at) = codes "no such field at byte " ++ decimal at
+shown_filter_fault (WrongOperator at) = codes "wrong operator at byte " ++ decimal at
+shown_filter_fault Memory = codes "out of memory"
