@@ -17,4 +17,4 @@ pub mod Steps
 pub mod Filters
 pub mod Values
 pub mod Laws
-pub mod FaultTexts
+pub mod FilterFaultTexts

@@ -23,11 +23,11 @@ pub enum FilterFault {
 }
 
 impl Display for FilterFault {
-    ghost use Rattle.trace_filter.specs.FaultTexts.{shown_filter_fault};
+    ghost use Rattle.trace_filter.specs.FilterFaultTexts.{shown_filter_fault};
 
     ghost output = { λ fault. Some (shown_filter_fault fault) };
 
-    #[tactic(auto, unfolding(crate::specs::FaultTexts::shown_filter_fault))]
+    #[tactic(auto, unfolding(crate::specs::FilterFaultTexts::shown_filter_fault))]
     fn fmt<W: fmt::Write>(&self, f: &mut Formatter<W>) -> fmt::Result {
         match self {
             FilterFault::TooMany => f.write_str("the filter is too long or nested too deep"),

@@ -8,4 +8,4 @@ pub mod Rendering
 pub mod Words
 pub mod TokensLeft
 pub mod TokensIn
-pub mod FaultTexts
+pub mod ScriptFaultTexts

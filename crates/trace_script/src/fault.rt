@@ -30,11 +30,11 @@ pub enum ScriptFault {
 }
 
 impl Display for ScriptFault {
-    ghost use Rattle.trace_script.specs.FaultTexts.{shown_script_fault};
+    ghost use Rattle.trace_script.specs.ScriptFaultTexts.{shown_script_fault};
 
     ghost output = { λ fault. Some (shown_script_fault fault) };
 
-    #[tactic(auto, unfolding(crate::specs::FaultTexts::shown_script_fault))]
+    #[tactic(auto, unfolding(crate::specs::ScriptFaultTexts::shown_script_fault))]
     fn fmt<W: fmt::Write>(&self, f: &mut Formatter<W>) -> fmt::Result {
         f.write_str(match self {
             ScriptFault::LineTooLong => "line too long",
@@ -61,11 +61,11 @@ pub enum LineError {
 }
 
 impl Display for LineError {
-    ghost use Rattle.trace_script.specs.FaultTexts.{shown_line_error};
+    ghost use Rattle.trace_script.specs.ScriptFaultTexts.{shown_line_error};
 
     ghost output = { λ fault. Some (shown_line_error fault) };
 
-    #[tactic(auto, unfolding(crate::specs::FaultTexts::shown_line_error))]
+    #[tactic(auto, unfolding(crate::specs::ScriptFaultTexts::shown_line_error))]
     fn fmt<W: fmt::Write>(&self, f: &mut Formatter<W>) -> fmt::Result {
         match self {
             LineError::Fault(fault) => write!(f, "{fault}"),

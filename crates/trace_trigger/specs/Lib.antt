@@ -18,4 +18,4 @@ pub mod HistSizes
 pub mod HistSpecs
 pub mod HistTexts
 pub mod SameSpecs
-pub mod FaultTexts
+pub mod TriggerFaultTexts

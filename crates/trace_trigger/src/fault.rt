@@ -32,11 +32,11 @@ pub enum TriggerFault {
 }
 
 impl Display for TriggerFault {
-    ghost use Rattle.trace_trigger.specs.FaultTexts.{shown_trigger_fault};
+    ghost use Rattle.trace_trigger.specs.TriggerFaultTexts.{shown_trigger_fault};
 
     ghost output = { λ fault. Some (shown_trigger_fault fault) };
 
-    #[tactic(auto, unfolding(crate::specs::FaultTexts::shown_trigger_fault))]
+    #[tactic(auto, unfolding(crate::specs::TriggerFaultTexts::shown_trigger_fault))]
     fn fmt<W: fmt::Write>(&self, f: &mut Formatter<W>) -> fmt::Result {
         match self {
             TriggerFault::BadText => f.write_str("no trigger is written so"),

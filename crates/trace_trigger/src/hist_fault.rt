@@ -31,11 +31,11 @@ pub enum HistFault {
 }
 
 impl Display for HistFault {
-    ghost use Rattle.trace_trigger.specs.FaultTexts.{shown_hist_fault};
+    ghost use Rattle.trace_trigger.specs.TriggerFaultTexts.{shown_hist_fault};
 
     ghost output = { λ fault. Some (shown_hist_fault fault) };
 
-    #[tactic(auto, unfolding(crate::specs::FaultTexts::shown_hist_fault))]
+    #[tactic(auto, unfolding(crate::specs::TriggerFaultTexts::shown_hist_fault))]
     fn fmt<W: fmt::Write>(&self, f: &mut Formatter<W>) -> fmt::Result {
         match self {
             HistFault::HistSyntax { at } => write!(f, "syntax error of the hist trigger at byte {at}"),

@@ -1,13 +1,13 @@
-//! The bytes of rows.
+//! The bytes of rows, and the texts of faults.
 
 ghost use Rattle.std.specs.Prelude.{◌≤◌, length};
 ghost use Rattle.trace_format.specs.Cells.{IsRowOf};
 
 use std::alloc::Global;
-use std::fmt::Write;
+use std::fmt::{Display, Write};
 use std::process::Abort;
 use std::test::Fail;
-use trace_format::{EventDef, Pair, Row, Text, payload_size};
+use trace_format::{CatalogFault, DefinitionFault, EventDef, Pair, Row, RowFault, Text, payload_size};
 
 /// Declarations and pairs, each with the row's payload in hexadecimal.
 const ROWS: &str = "\
@@ -102,5 +102,30 @@ fn bytes_of_no_row(rt: HostRuntime) -> Result<(), Fail> {
     ] {
         assert!(rt; Row::decode(rt.alloc(), &def, bytes)?.is_none());
     }
+    Ok(())
+}
+
+/// What is written of a fault.
+fn shown<T: Display>(alloc: Global, fault: &T) -> Result<String, Fail> {
+    let mut text = String::new(alloc);
+    write!(text, "{fault}")?;
+    Ok(text)
+}
+
+#[test]
+fn texts_of_faults(rt: HostRuntime) -> Result<(), Fail> {
+    let alloc = rt.alloc();
+    let definition = shown(alloc, &DefinitionFault::BadDefinition { at: 12 })?;
+    assert_eq!(rt; definition.as_str(), "bad definition at byte 12");
+    assert_eq!(rt; shown(alloc, &DefinitionFault::Memory)?.as_str(), "out of memory");
+    assert_eq!(rt; shown(alloc, &CatalogFault::EventExists)?.as_str(), "the event exists");
+    assert_eq!(rt; shown(alloc, &CatalogFault::TooMany)?.as_str(), "too many fields or events");
+    let large = shown(alloc, &CatalogFault::TooBig)?;
+    assert_eq!(rt; large.as_str(), "the record is larger than a page");
+    assert_eq!(rt; shown(alloc, &CatalogFault::Memory)?.as_str(), "out of memory");
+    let field = Text::from_slice(alloc, b"n")?;
+    let row = shown(alloc, &RowFault::BadRow { field })?;
+    assert_eq!(rt; row.as_str(), "a field is wrong, repeated or missing");
+    assert_eq!(rt; shown(alloc, &RowFault::Memory)?.as_str(), "out of memory");
     Ok(())
 }
