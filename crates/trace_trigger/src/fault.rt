@@ -40,11 +40,16 @@ impl Display for TriggerFault {
     fn fmt<W: fmt::Write>(&self, f: &mut Formatter<W>) -> fmt::Result {
         match self {
             TriggerFault::BadText => f.write_str("no trigger is written so"),
-            TriggerFault::TooMany => f.write_str("too many keys, values or sort keys, or a filter too long or nested too deep"),
+            TriggerFault::TooMany => f.write_str(
+                "too many keys, values or sort keys, or a filter too long or nested too deep",
+            ),
             TriggerFault::FilterSyntax { at } => write!(f, "syntax error at byte {at}"),
             TriggerFault::NoSuchField { at } => write!(f, "no such field at byte {at}"),
             TriggerFault::WrongOperator { at } => write!(f, "wrong operator at byte {at}"),
-            TriggerFault::HistSyntax { at } => write!(f, "syntax error of the hist trigger at byte {at}"),
+            TriggerFault::HistSyntax { at } => write!(
+                f,
+                "syntax error of the hist trigger at byte {at}"
+            ),
             TriggerFault::BadSize => f.write_str("there may be 128 to 131072 entries"),
             TriggerFault::Memory => f.write_str("out of memory"),
         }

@@ -38,8 +38,13 @@ impl Display for HistFault {
     #[tactic(auto, unfolding(crate::specs::TriggerFaultTexts::shown_hist_fault))]
     fn fmt<W: fmt::Write>(&self, f: &mut Formatter<W>) -> fmt::Result {
         match self {
-            HistFault::HistSyntax { at } => write!(f, "syntax error of the hist trigger at byte {at}"),
-            HistFault::TooMany => f.write_str("too many keys, values or sort keys, or a filter too long or nested too deep"),
+            HistFault::HistSyntax { at } => write!(
+                f,
+                "syntax error of the hist trigger at byte {at}"
+            ),
+            HistFault::TooMany => f.write_str(
+                "too many keys, values or sort keys, or a filter too long or nested too deep",
+            ),
             HistFault::NoSuchField { at } => write!(f, "no such field at byte {at}"),
             HistFault::WrongOperator { at } => write!(f, "wrong operator at byte {at}"),
             HistFault::BadSize => f.write_str("there may be 128 to 131072 entries"),
