@@ -21,6 +21,7 @@ use Rattle.trace_text.specs.SnapshotText.{freed_line, snapshot_text}
 use Rattle.trace_text.specs.StatsText.{stats_line, stats_text}
 use Rattle.trace_text.specs.TraceText.{lost_line, trace_title, trace_head}
 use Rattle.trace_text.specs.TriggerText.{trigger_line, available_triggers, trigger_text}
+use Rattle.trace_trigger.specs.Frames.{filter_of}
 use Rattle.trace_trigger.specs.TriggerTexts.{count_of, condition_of, snapshot_said, said_of}
 use Rattle.trace_trigger.specs.TriggerTexts.{trigger_of as said_trigger}
 use Rattle.trace_command.specs.Paths.{top_file, option_file, events_file, system_file, cpu_file, event_file, mount_point, below_mount_point, address_of, instance_of}
@@ -55,7 +56,7 @@ unfolding head_bytes head_of timestamp account readings_of stats_of cut merged s
     emission_answer declaration_answer switch_answer filter_answer filter_of_all_answer option_answer tracing_answer flag_text
     cpu_stats_text shown_trace shown_pipe shown_cpu_pipe option_text declarations_text mixture_text filter_text named_answer answer
     record_bytes filter_holds written_flag clears_filter can_take written_option written_tracing digits
-    snapshot_answer trigger_answer shown_snapshot written_snapshot freed_line snapshot_text trigger_line available_triggers trigger_text count_of condition_of said_trigger snapshot_said said_of
+    snapshot_answer trigger_answer shown_snapshot written_snapshot freed_line snapshot_text trigger_line available_triggers trigger_text count_of condition_of filter_of said_trigger snapshot_said said_of
 examples-are_answered = record {
   merged = refl;
   instances = refl;

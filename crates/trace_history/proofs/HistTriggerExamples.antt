@@ -16,7 +16,8 @@ use Rattle.trace_trigger.specs.HistLists.{lists_of}
 use Rattle.trace_trigger.specs.HistNames.{meaning_of}
 use Rattle.trace_trigger.specs.HistParts.{attributes_of, tail_of}
 use Rattle.trace_trigger.specs.HistPlaces.{attribute_places, item_places, sort_places, wrong_places}
-use Rattle.trace_trigger.specs.HistTexts.{read_of, filter_of, spec_from, spec_of}
+use Rattle.trace_trigger.specs.Frames.{filter_of}
+use Rattle.trace_trigger.specs.HistTexts.{read_of, spec_from, spec_of}
 use Rattle.trace_hist.specs.PrintOrder.{printed}
 use Rattle.trace_trigger.specs.SameSpecs.{is_same}
 use Rattle.trace_text.specs.EntryText.{entry_line}
@@ -24,7 +25,7 @@ use Rattle.trace_text.specs.HistText.{hist_head, total_line, totals_text, one_hi
 use Rattle.trace_text.specs.SnapshotText.{freed_line, snapshot_text}
 use Rattle.trace_text.specs.StatsText.{stats_line, stats_text}
 use Rattle.trace_text.specs.TriggerText.{hist_line, trigger_line, available_triggers, trigger_text}
-use Rattle.trace_trigger.specs.TriggerTexts.{count_of, condition_of, snapshot_said, hist_of, said_of}
+use Rattle.trace_trigger.specs.TriggerTexts.{count_of, condition_of, snapshot_said, said_of}
 use Rattle.trace_trigger.specs.TriggerTexts.{trigger_of as said_trigger}
 use Rattle.trace_command.specs.Paths.{top_file, option_file, events_file, system_file, cpu_file, event_file, mount_point, below_mount_point, address_of, instance_of}
 use Rattle.trace_history.specs.History.{emission_answer, declaration_answer, switch_answer, filter_answer, tracing_answer, snapshot_answer, trigger_answer, flag_text, cpu_stats_text, shown_snapshot, named_answer, answer}
@@ -49,7 +50,7 @@ pub examples-are_answered : AreAnswered
 unfolding head_bytes head_of timestamp account readings_of stats_of cut step definition_of value_of row_of answer_of subject_named filter_step
     piece_of holds_of grouped lists_of meaning_of attributes_of tail_of attribute_places item_places sort_places wrong_places read_of filter_of spec_from
     spec_of printed is_same entry_line hist_head total_line totals_text one_hist hist_text stats_line stats_text hist_line trigger_line available_triggers
-    trigger_text count_of condition_of snapshot_said hist_of said_of said_trigger top_file option_file events_file system_file cpu_file event_file mount_point
+    trigger_text count_of condition_of snapshot_said said_of said_trigger top_file option_file events_file system_file cpu_file event_file mount_point
     below_mount_point address_of instance_of emission_answer declaration_answer switch_answer filter_answer tracing_answer snapshot_answer trigger_answer
     flag_text cpu_stats_text named_answer answer record_bytes filter_holds written_flag clears_filter can_take written_option written_tracing
     written_snapshot digits shown_snapshot freed_line snapshot_text

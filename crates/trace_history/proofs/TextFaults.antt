@@ -12,16 +12,14 @@ use Rattle.trace_format.specs.Definitions.{Definition}
 use Rattle.trace_format.specs.declared.fault.CatalogFault.TheVariants as catalogs
 use Rattle.trace_lex.specs.Blanks.{is_blank}
 use Rattle.trace_lex.specs.Decimals.{decimal_number, up_to}
-use Rattle.trace_trigger.specs.HistSpecs.{SpecSeen}
-use Rattle.trace_trigger.specs.HistTexts.{IsHistText, spec_of, moved}
+use Rattle.trace_trigger.specs.HistTexts.{IsHistText, spec_of}
 use Rattle.trace_trigger.specs.HistGrammar.{Setting}
 use Rattle.trace_trigger.specs.HistRefusals.{IsRefusedAs, IsRefusal, ForMany, ForKey, ForValue, ForSize, ForFilter, CannotBeValue}
-use Rattle.trace_trigger.specs.declared.hist_fault.HistFault.{HistFault}
-use Rattle.trace_trigger.specs.declared.hist_fault.HistFault.TheVariants as hists
 use Rattle.trace_trigger.proofs.CauseLaws.{refusal_is_as_written}
 use Rattle.trace_trigger.proofs.Cuts.{so_begins}
-use Rattle.trace_trigger.specs.Frames.{after_blanks}
-use Rattle.trace_trigger.specs.TriggerTexts.{said_of, after, word_of, after_word, count_from, count_after, count_of, condition_after, condition_of, filter_read, filter_of, ◌>>=◌, trigger_of, said_after, snapshot_said, begins, hist_read, hist_of}
+use Rattle.trace_trigger.specs.Frames.{after_blanks, moved, filter_read, filter_of}
+use Rattle.trace_trigger.specs.TriggerAnswers.{◌>>=◌}
+use Rattle.trace_trigger.specs.TriggerTexts.{said_of, after, word_of, after_word, count_from, count_after, count_of, condition_after, condition_of, trigger_of, said_after, snapshot_said, begins}
 use Rattle.trace_trigger.specs.declared.fault.TriggerFault.{TriggerFault}
 use Rattle.trace_trigger.specs.declared.fault.TriggerFault.TheVariants as faults
 use Rattle.trace_trigger.specs.declared.trigger.TriggerText.TheVariants as texts
@@ -49,41 +47,30 @@ filter_takes_none event text e = (refusal_is_answered event text filters.Memory)
 
 -- ---- hist triggers
 
-hist_refused : (definition : Definition) (text : List ℕ) → IsRefusedAs definition text hists.Memory → ⊥
+hist_refused : (definition : Definition) (text : List ℕ) → IsRefusedAs definition text faults.Memory → ⊥
 hist_refused definition text (inl (at, same, is)) = cc
 hist_refused definition text (inr is) = by is.refusal
   where
-    value : (name : List ℕ) (place : ℕ) → CannotBeValue definition name place hists.Memory → ⊥
-    value name place (inl h) = let same : hists.Memory ≡ hists.NoSuchField place = h.1 in cc
-    value name place (inr h) = let same : hists.Memory ≡ hists.WrongOperator place = h.2 in cc
+    value : (name : List ℕ) (place : ℕ) → CannotBeValue definition name place faults.Memory → ⊥
+    value name place (inl h) = let same : faults.Memory ≡ faults.NoSuchField place = h.1 in cc
+    value name place (inr h) = let same : faults.Memory ≡ faults.WrongOperator place = h.2 in cc
 
-    condition : (filter : List ℕ) (before : ℕ) (told : FilterFault) → IsRefused definition filter told → hists.Memory ≡ moved before told → ⊥
+    condition : (filter : List ℕ) (before : ℕ) (told : FilterFault) → IsRefused definition filter told → faults.Memory ≡ moved before told → ⊥
     condition filter before filters.TooMany is same = cc
     condition filter before (filters.FilterSyntax at) is same = cc
     condition filter before (filters.NoSuchField at) is same = cc
     condition filter before (filters.WrongOperator at) is same = cc
     condition filter before filters.Memory is same = is
 
-    by : {settings : List Setting} {only_if : Option (List ℕ)} → IsRefusal definition text settings only_if hists.Memory → ⊥
+    by : {settings : List Setting} {only_if : Option (List ℕ)} → IsRefusal definition text settings only_if faults.Memory → ⊥
     by (ForMany over same) = cc
     by (ForKey within place is same) = cc
     by (ForValue within keys is) = value is.name is.place is.wrong
     by (ForSize within keys values size same) = cc
     by (ForFilter within keys values size sized filter at told refused same) = condition filter _ told refused same
 
-hist_takes_none : (definition : Definition) (text : List ℕ) → IsHistText text → hist_of definition text ≡ Err faults.Memory → ⊥
-unfolding hist_of
-hist_takes_none definition text is e = by (spec_of definition text) (λ h. hist_refused definition text ((refusal_is_as_written definition text hists.Memory is).0 h)) e
-  where
-    by : (r : Result SpecSeen HistFault) → (r ≡ Err hists.Memory → ⊥) → hist_read r ≡ Err faults.Memory → ⊥
-    by (Ok spec) never h = cc
-    by (Err (hists.HistSyntax at)) never h = cc
-    by (Err hists.TooMany) never h = cc
-    by (Err (hists.NoSuchField at)) never h = cc
-    by (Err (hists.WrongOperator at)) never h = cc
-    by (Err hists.BadSize) never h = cc
-    by (Err (hists.FilterSyntax at)) never h = cc
-    by (Err hists.Memory) never h = never refl
+hist_takes_none : (definition : Definition) (text : List ℕ) → IsHistText text → spec_of definition text ≡ Err faults.Memory → ⊥
+hist_takes_none definition text is e = hist_refused definition text ((refusal_is_as_written definition text faults.Memory is).0 e)
 
 -- ---- triggers for snapshots
 
@@ -119,6 +106,7 @@ condition_takes_none tail e = either_none (list_all is_blank tail) _ _ (λ k. cc
     by (Some text) h = either_none (nat_lt 0 (prefix_len is_blank text) && nat_lt 0 (length (after_blanks text))) _ _ (λ k. cc) (λ k. cc) h
 
 only_if_takes_none : (definition : Definition) (text : List ℕ) (condition : Option (List ℕ)) → filter_of definition text condition ≡ Err faults.Memory → ⊥
+unfolding filter_of
 only_if_takes_none definition text None e = cc
 only_if_takes_none definition text (Some condition) e = by (answer_of definition condition) (filter_takes_none definition condition) e
   where
@@ -153,7 +141,7 @@ trigger_text_takes_none definition text e =
     either_none (list_all is_blank text) _ _ (λ k. cc) (by (begins (codes "hist:") text) refl (begins (codes "!hist:") text) refl) e
   where
     by : (one : Bool) → begins (codes "hist:") text ≡ one → (two : Bool) → begins (codes "!hist:") text ≡ two
-        → (if one then (hist_of definition text >>= λ spec. Ok (texts.Hist spec)) else if two then (hist_of definition text >>= λ spec. Ok (texts.RemoveHist spec)) else snapshot_said definition text) ≡ Err faults.Memory → ⊥
-    by true is two h k = then_none (hist_of definition text) _ (hist_takes_none definition text (inl (so_begins (codes "hist:") text is))) (λ s m. cc) k
-    by false not_one true is k = then_none (hist_of definition text) _ (hist_takes_none definition text (inr (so_begins (codes "!hist:") text is))) (λ s m. cc) k
+        → (if one then (spec_of definition text >>= λ spec. Ok (texts.Hist spec)) else if two then (spec_of definition text >>= λ spec. Ok (texts.RemoveHist spec)) else snapshot_said definition text) ≡ Err faults.Memory → ⊥
+    by true is two h k = then_none (spec_of definition text) _ (hist_takes_none definition text (inl (so_begins (codes "hist:") text is))) (λ s m. cc) k
+    by false not_one true is k = then_none (spec_of definition text) _ (hist_takes_none definition text (inr (so_begins (codes "!hist:") text is))) (λ s m. cc) k
     by false not_one false not_two k = snapshot_takes_none definition text k

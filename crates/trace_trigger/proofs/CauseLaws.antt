@@ -8,17 +8,19 @@ use Rattle.trace_format.specs.Definitions.{Definition}
 use Rattle.trace_filter.specs.declared.fault.FilterFault.{FilterFault}
 use Rattle.trace_filter.specs.Filters.{Parsed, IsFilter, IsRefused, parsed_of}
 use Rattle.trace_filter.proofs.FilterLemmas.{filter_or_refused}
-use Rattle.trace_trigger.specs.declared.hist_fault.HistFault.{HistFault}
-use Rattle.trace_trigger.specs.declared.hist_fault.HistFault.TheVariants.{HistSyntax, TooMany, BadSize}
+use Rattle.trace_trigger.specs.declared.fault.TriggerFault.{TriggerFault}
+use Rattle.trace_trigger.specs.declared.fault.TriggerFault.TheVariants.{HistSyntax, TooMany, BadSize}
 use Rattle.trace_trigger.specs.declared.source.Source.{Source}
 use Rattle.trace_trigger.specs.declared.piece.Piece.{Piece}
 use Rattle.trace_trigger.specs.HistSizes.{rounded_size}
 use Rattle.trace_trigger.specs.HistParts.{attributes_of, tail_of, condition_of}
 use Rattle.trace_trigger.specs.HistLists.{Lists, lists_of, names_of, summed_items, sort_keys, sort_key_of}
 use Rattle.trace_trigger.specs.HistPlaces.{wrong_places}
-use Rattle.trace_trigger.specs.HistMeanings.{◌>>=◌, summed_len, is_too_many, few, each, key_source, value_source, told_size, size_of, sort_rule}
+use Rattle.trace_trigger.specs.TriggerAnswers.{◌>>=◌}
+use Rattle.trace_trigger.specs.HistMeanings.{summed_len, is_too_many, few, each, key_source, value_source, told_size, size_of, sort_rule}
 use Rattle.trace_trigger.specs.HistSpecs.{SpecSeen}
-use Rattle.trace_trigger.specs.HistTexts.{IsHistText, moved, filter_of, spec_from, spec_of}
+use Rattle.trace_trigger.specs.Frames.{moved, filter_of}
+use Rattle.trace_trigger.specs.HistTexts.{IsHistText, spec_from, spec_of}
 use Rattle.trace_trigger.specs.HistGrammar.{Setting, Values, Sort, Size, subject_of, IsSet, summed_names, IsKeyOf, IsValueOf}
 use Rattle.trace_trigger.specs.HistFaultPlaces.{Cut}
 use Rattle.trace_trigger.specs.HistRefusals.{IsOver, CanBeKey, CanBeValue, HaveKeys, HaveValues, IsSized, IsRefusal, ForMany, ForKey, ForValue, ForSize, ForFilter, IsRefusedAs}
@@ -26,7 +28,8 @@ use Rattle.trace_trigger.proofs.WrongLemmas.{from_pairs}
 use Rattle.trace_trigger.proofs.ListLaws.{Once}
 use Rattle.trace_trigger.proofs.SettingLaws.{default_sort, ListsAre, keys_are, values_are}
 use Rattle.trace_trigger.proofs.PartLaws.{parts_of}
-use Rattle.trace_trigger.proofs.MeaningLaws.{keys_found, keys_given, values_found, values_given, summed_are, filter_given, filter_refused}
+use Rattle.trace_trigger.proofs.FilterLaws.{filter_given, filter_refused}
+use Rattle.trace_trigger.proofs.MeaningLaws.{keys_found, keys_given, values_found, values_given, summed_are}
 use Rattle.trace_trigger.proofs.SpecLaws.{Finds, written_finds, IsSomehowWritten, right_written}
 use Rattle.trace_trigger.proofs.SaysLaws.{are, set_once}
 use Rattle.trace_trigger.proofs.HistTextLaws.{of_right}
@@ -133,7 +136,7 @@ module _ (definition : Definition) (text : List ℕ) (settings : List Setting) (
       let same : lists_here.entries ≡ is.0 = set_once settings Size 2048 once (λ a b. refl) (λ a b e. cc) lists_here.entries is.0 lists_here.entries_set is.1 in
       lists_here.size ∙ ap (λ n. told_size (rounded_size n)) same ∙ ap told_size is.2
 
-  told_none : (size : Option ℕ) (fault : HistFault) → told_size size ≡ Err fault → (size ≡ None) × (fault ≡ BadSize)
+  told_none : (size : Option ℕ) (fault : TriggerFault) → told_size size ≡ Err fault → (size ≡ None) × (fault ≡ BadSize)
   told_none None fault e = let same : BadSize ≡ fault = cc in (refl, sym same)
   told_none (Some n) fault e = absurd (cc)
 
@@ -141,7 +144,7 @@ module _ (definition : Definition) (text : List ℕ) (settings : List Setting) (
   told_some None n e = absurd (cc)
   told_some (Some m) n e = let same : m ≡ n = cc in ap Some same
 
-  no_size : (fault : HistFault) → size_of lists.size ≡ Err fault → IsSized settings None × (fault ≡ BadSize)
+  no_size : (fault : TriggerFault) → size_of lists.size ≡ Err fault → IsSized settings None × (fault ≡ BadSize)
   no_size fault e = let is = told_none (rounded_size lists_here.entries) fault (sym lists_here.size ∙ e) in ((lists_here.entries, lists_here.entries_set, is.0), is.1)
 
   some_size : (size : ℕ) → size_of lists.size ≡ Ok size → IsSized settings (Some size)
@@ -149,14 +152,14 @@ module _ (definition : Definition) (text : List ℕ) (settings : List Setting) (
 
   -- ---- the filter
 
-  record FilterFaultAt (written : Option (List ℕ)) (fault : HistFault) : Type 0 where
+  record FilterFaultAt (written : Option (List ℕ)) (fault : TriggerFault) : Type 0 where
     filter : List ℕ
     is : written ≡ Some filter
     told : FilterFault
     refused_so : IsRefused definition filter told
     same : fault ≡ moved (length text - length filter) told
 
-  filter_fault : (written : Option (List ℕ)) (fault : HistFault) → filter_of definition text written ≡ Err fault → FilterFaultAt written fault
+  filter_fault : (written : Option (List ℕ)) (fault : TriggerFault) → filter_of definition text written ≡ Err fault → FilterFaultAt written fault
   unfolding filter_of
   filter_fault None fault e = absurd (cc)
   filter_fault (Some filter) fault e = by (filter_or_refused definition filter)
@@ -170,7 +173,7 @@ module _ (definition : Definition) (text : List ℕ) (settings : List Setting) (
 
   -- ---- causes
 
-  abbrev from_lists : Result SpecSeen HistFault
+  abbrev from_lists : Result SpecSeen TriggerFault
   from_lists = few lists >>= λ ls. spec_from definition text ls
 
   abbrev spec_of_lists : List Source → List Source → ℕ → Option Parsed → SpecSeen
@@ -186,23 +189,23 @@ module _ (definition : Definition) (text : List ℕ) (settings : List Setting) (
     sort_sources = map (sort_rule (names_of lists.keys) (names_of (summed_items lists.values))) (sort_keys lists.sort);
   }
 
-  abbrev after_size : List Source → List Source → ℕ → Result SpecSeen HistFault
+  abbrev after_size : List Source → List Source → ℕ → Result SpecSeen TriggerFault
   after_size keys values size = filter_of definition text (condition_of (tail_of text)) >>= λ only_if. Ok (spec_of_lists keys values size only_if)
 
-  abbrev after_values : List Source → List Source → Result SpecSeen HistFault
+  abbrev after_values : List Source → List Source → Result SpecSeen TriggerFault
   after_values keys values = size_of lists.size >>= λ size. after_size keys values size
 
-  abbrev after_keys : List Source → Result SpecSeen HistFault
+  abbrev after_keys : List Source → Result SpecSeen TriggerFault
   after_keys keys = each (value_source definition.fields) (summed_items lists.values) >>= λ values. after_values keys values
 
   few_so : is_too_many lists ≡ false → from_lists ≡ (each (key_source definition.fields) lists.keys >>= λ keys. after_keys keys)
   unfolding spec_from
   few_so e = ap (λ (b : Bool). (if b then Err TooMany else Ok lists) >>= λ ls. spec_from definition text ls) e
 
-  abbrev Cause : HistFault → Type 0
+  abbrev Cause : TriggerFault → Type 0
   Cause fault = IsRefusal definition text settings condition fault
 
-  cause_in : (cut : Cut text) (fault : HistFault) → (IsOver settings → ⊥) → (each (key_source definition.fields) lists.keys >>= λ keys. after_keys keys) ≡ Err fault → Cause fault
+  cause_in : (cut : Cut text) (fault : TriggerFault) → (IsOver settings → ⊥) → (each (key_source definition.fields) lists.keys >>= λ keys. after_keys keys) ≡ Err fault → Cause fault
   cause_in cut fault within e = at_keys (refused (each (key_source definition.fields) lists.keys) (λ keys. after_keys keys) fault e)
     where
       at_filter : (keys values : List Source) (size : ℕ) → HaveKeys definition settings → HaveValues definition settings → IsSized settings (Some size)
@@ -229,7 +232,7 @@ module _ (definition : Definition) (text : List ℕ) (settings : List Setting) (
           at_values passed.found (keys_right passed.found passed.is)
           (refused (each (value_source definition.fields) (summed_items lists.values)) (λ values. after_values passed.found values) fault passed.after)
 
-  pub cause_of : (cut : Cut text) (fault : HistFault) → from_lists ≡ Err fault → Cause fault
+  pub cause_of : (cut : Cut text) (fault : TriggerFault) → from_lists ≡ Err fault → Cause fault
   cause_of cut fault e = by (is_too_many lists) refl
     where
       by : (b : Bool) → is_too_many lists ≡ b → Cause fault
@@ -241,33 +244,33 @@ module _ (definition : Definition) (text : List ℕ) (settings : List Setting) (
 
   -- ---- and each cause is told
 
-  with_keys : (fault : HistFault) → (IsOver settings → ⊥) → (have : HaveKeys definition settings) → after_keys (right_keys have).0 ≡ Err fault → from_lists ≡ Err fault
-  with_keys fault within have e = few_so (few_enough within) ∙ ap (λ (r : Result (List Source) HistFault). r >>= λ keys. after_keys keys) (right_keys have).1 ∙ e
+  with_keys : (fault : TriggerFault) → (IsOver settings → ⊥) → (have : HaveKeys definition settings) → after_keys (right_keys have).0 ≡ Err fault → from_lists ≡ Err fault
+  with_keys fault within have e = few_so (few_enough within) ∙ ap (λ (r : Result (List Source) TriggerFault). r >>= λ keys. after_keys keys) (right_keys have).1 ∙ e
 
-  with_values : (fault : HistFault) → (IsOver settings → ⊥) → (have : HaveKeys definition settings) → (right : HaveValues definition settings)
+  with_values : (fault : TriggerFault) → (IsOver settings → ⊥) → (have : HaveKeys definition settings) → (right : HaveValues definition settings)
       → after_values (right_keys have).0 (right_values right).0 ≡ Err fault → from_lists ≡ Err fault
   with_values fault within have right e =
-      with_keys fault within have (ap (λ (r : Result (List Source) HistFault). r >>= λ values. after_values (right_keys have).0 values) (right_values right).1 ∙ e)
+      with_keys fault within have (ap (λ (r : Result (List Source) TriggerFault). r >>= λ values. after_values (right_keys have).0 values) (right_values right).1 ∙ e)
 
-  pub cause_told : (fault : HistFault) → Cause fault → from_lists ≡ Err fault
+  pub cause_told : (fault : TriggerFault) → Cause fault → from_lists ≡ Err fault
   cause_told fault (ForMany many same) =
-      ap (λ (b : Bool). (if b then Err TooMany else Ok lists) >>= λ ls. spec_from definition text ls) (too_many many) ∙ ap (λ (f : HistFault). Err f) (sym same)
+      ap (λ (b : Bool). (if b then Err TooMany else Ok lists) >>= λ ls. spec_from definition text ls) (too_many many) ∙ ap (λ (f : TriggerFault). Err f) (sym same)
   cause_told fault (ForKey within place is same) =
-      few_so (few_enough within) ∙ ap (λ (r : Result (List Source) HistFault). r >>= λ keys. after_keys keys) (fault_key definition text place is) ∙ ap (λ (f : HistFault). Err f) (sym same)
+      few_so (few_enough within) ∙ ap (λ (r : Result (List Source) TriggerFault). r >>= λ keys. after_keys keys) (fault_key definition text place is) ∙ ap (λ (f : TriggerFault). Err f) (sym same)
   cause_told fault (ForValue within have is) =
-      with_keys fault within have (ap (λ (r : Result (List Source) HistFault). r >>= λ values. after_values (right_keys have).0 values) (fault_value definition text fault is))
+      with_keys fault within have (ap (λ (r : Result (List Source) TriggerFault). r >>= λ values. after_values (right_keys have).0 values) (fault_value definition text fault is))
   cause_told fault (ForSize within have right is same) =
-      with_values fault within have right (ap (λ (r : Result ℕ HistFault). r >>= λ size. after_size (right_keys have).0 (right_values right).0 size) (sized None is) ∙ ap (λ (f : HistFault). Err f) (sym same))
+      with_values fault within have right (ap (λ (r : Result ℕ TriggerFault). r >>= λ size. after_size (right_keys have).0 (right_values right).0 size) (sized None is) ∙ ap (λ (f : TriggerFault). Err f) (sym same))
   cause_told fault (ForFilter within have right size is filter at told refused_so same) =
       with_values fault within have right
-      (ap (λ (r : Result ℕ HistFault). r >>= λ n. after_size (right_keys have).0 (right_values right).0 n) (sized (Some size) is)
-      ∙ ap (λ (r : Result (Option Parsed) HistFault). r >>= λ only_if. Ok (spec_of_lists (right_keys have).0 (right_values right).0 size only_if))
+      (ap (λ (r : Result ℕ TriggerFault). r >>= λ n. after_size (right_keys have).0 (right_values right).0 n) (sized (Some size) is)
+      ∙ ap (λ (r : Result (Option Parsed) TriggerFault). r >>= λ only_if. Ok (spec_of_lists (right_keys have).0 (right_values right).0 size only_if))
       (ap (filter_of definition text) (finds.found ∙ at) ∙ filter_refused definition text filter told refused_so)
-      ∙ ap (λ (f : HistFault). Err f) (sym same))
+      ∙ ap (λ (f : TriggerFault). Err f) (sym same))
 
 -- ---- the law
 
-pub refusal_is_as_written : (definition : Definition) (text : List ℕ) (fault : HistFault) → IsHistText text → (spec_of definition text ≡ Err fault) ↔ IsRefusedAs definition text fault
+pub refusal_is_as_written : (definition : Definition) (text : List ℕ) (fault : TriggerFault) → IsHistText text → (spec_of definition text ≡ Err fault) ↔ IsRefusedAs definition text fault
 refusal_is_as_written definition text fault hist = (λ e. by e (syntax_or_right definition text), λ is. told is)
   where
     wrong : spec_of definition text ≡ Err fault → (at : ℕ) → spec_of definition text ≡ Err (HistSyntax at) → IsRefusedAs definition text fault
@@ -288,7 +291,7 @@ refusal_is_as_written definition text fault hist = (λ e. by e (syntax_or_right 
     by e (inr none) = written e none (right_written text (parts_of text hist) none)
 
     told : IsRefusedAs definition text fault → spec_of definition text ≡ Err fault
-    told (inl (at, same, is)) = (syntax_is_leftmost definition text at hist).1 is ∙ ap (λ (f : HistFault). Err f) (sym same)
+    told (inl (at, same, is)) = (syntax_is_leftmost definition text at hist).1 is ∙ ap (λ (f : TriggerFault). Err f) (sym same)
     told (inr is) =
         let finds = written_finds text is.settings is.condition is.written in
         of_right definition text finds.none ∙ cause_told definition text is.settings is.condition finds fault is.refusal

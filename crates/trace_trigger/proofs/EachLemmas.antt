@@ -2,31 +2,31 @@
 use Rattle.std.proofs.Common.{◌≡◌, ℕ, ◌+◌, ◌<◌, ◌≤◌, List, [], ◌∷◌, ◌++◌, length, drop, get_or, refl, sym, ap, ◌∙◌}
 use Rattle.std.proofs.lemmas.List.{at_drop_more, drop_all, append_assoc, append-nil}
 use Rattle.std.specs.Prelude.{Result, Ok, Err}
-use Rattle.trace_trigger.specs.declared.hist_fault.HistFault.{HistFault}
-use Rattle.trace_trigger.specs.declared.hist_fault.HistFault.TheVariants.{HistSyntax, TooMany, NoSuchField, WrongOperator, BadSize, FilterSyntax, Memory}
-use Rattle.trace_trigger.specs.HistMeanings.{◌>>=◌, each}
-use Rattle.trace_trigger.specs.HistTexts.{IsTold}
+use Rattle.trace_trigger.specs.declared.fault.TriggerFault.{TriggerFault}
+use Rattle.trace_trigger.specs.declared.fault.TriggerFault.TheVariants.{BadText, TooMany, FilterSyntax, NoSuchField, WrongOperator, HistSyntax, BadSize, Memory}
+use Rattle.trace_trigger.specs.TriggerAnswers.{◌>>=◌, IsTold}
+use Rattle.trace_trigger.specs.HistMeanings.{each}
 
-module _ {A B : Type 0} (read : A → Result B HistFault) where
+module _ {A B : Type 0} (read : A → Result B TriggerFault) where
   -- what is found up to an element, and what the rest comes to
-  abbrev pub each_from : List A → ℕ → List B → Result (List B) HistFault
+  abbrev pub each_from : List A → ℕ → List B → Result (List B) TriggerFault
   each_from xs i found = each read (drop i xs) >>= λ ys. Ok (found ++ ys)
 
-  abbrev read_all : List B → Result (List B) HistFault
+  abbrev read_all : List B → Result (List B) TriggerFault
   read_all ys = Ok ys
 
   step : (xs : List A) (i : ℕ) (x : A) → i < length xs → x ≡ get_or xs i x → drop i xs ≡ x ∷ drop (i + 1) xs
   step xs i x within is = at_drop_more (λ r. r) xs i x within ∙ ap (λ y. y ∷ drop (i + 1) xs) (sym is)
 
-  with_read : Result B HistFault → List A → List B → Result (List B) HistFault
+  with_read : Result B TriggerFault → List A → List B → Result (List B) TriggerFault
   with_read one xs found = (one >>= λ y. each read xs >>= λ ys. Ok (y ∷ ys)) >>= λ ys. Ok (found ++ ys)
 
-  found_more : (rest : Result (List B) HistFault) (y : B) (found : List B)
+  found_more : (rest : Result (List B) TriggerFault) (y : B) (found : List B)
       → ((rest >>= λ ys. Ok (y ∷ ys)) >>= λ ys. Ok (found ++ ys)) ≡ (rest >>= λ ys. Ok (found ++ y ∷ [] ++ ys))
   found_more (Ok ys) y found = ap read_all (sym (append_assoc found (y ∷ []) ys))
   found_more (Err fault) y found = refl
 
-  pub each_more : (xs : List A) (i : ℕ) (x : A) (y : B) (found more : List B) (whole : Result (List B) HistFault) → i < length xs → x ≡ get_or xs i x
+  pub each_more : (xs : List A) (i : ℕ) (x : A) (y : B) (found more : List B) (whole : Result (List B) TriggerFault) → i < length xs → x ≡ get_or xs i x
       → read x ≡ Ok y → more ≡ found ++ y ∷ [] → whole ≡ each_from xs i found → whole ≡ each_from xs (i + 1) more
   unfolding with_read
   each_more xs i x y found more whole within is gives grown so_far =
@@ -36,7 +36,7 @@ module _ {A B : Type 0} (read : A → Result B HistFault) where
       ∙ found_more (each read (drop (i + 1) xs)) y found
       ∙ ap (λ f. each read (drop (i + 1) xs) >>= λ ys. Ok (f ++ ys)) (sym grown)
 
-  pub each_refused : (xs : List A) (i : ℕ) (x : A) (fault : HistFault) (found : List B) (whole : Result (List B) HistFault) → i < length xs → x ≡ get_or xs i x
+  pub each_refused : (xs : List A) (i : ℕ) (x : A) (fault : TriggerFault) (found : List B) (whole : Result (List B) TriggerFault) → i < length xs → x ≡ get_or xs i x
       → read x ≡ Err fault → whole ≡ each_from xs i found → whole ≡ Err fault
   unfolding with_read
   each_refused xs i x fault found whole within is refused so_far =
@@ -44,14 +44,15 @@ module _ {A B : Type 0} (read : A → Result B HistFault) where
       ∙ ap (λ r. each read r >>= λ ys. Ok (found ++ ys)) (step xs i x within is)
       ∙ ap (λ one. with_read one (drop (i + 1) xs) found) refused
 
-  pub each_end : (xs : List A) (i : ℕ) (found : List B) (whole : Result (List B) HistFault) → length xs ≤ i → whole ≡ each_from xs i found → whole ≡ Ok found
+  pub each_end : (xs : List A) (i : ℕ) (found : List B) (whole : Result (List B) TriggerFault) → length xs ≤ i → whole ≡ each_from xs i found → whole ≡ Ok found
   each_end xs i found whole past so_far =
       so_far
       ∙ ap (λ r. each read r >>= λ ys. Ok (found ++ ys)) (drop_all i xs past)
       ∙ ap read_all (append-nil found)
 
 -- a fault that the definition gives may be told
-pub told_is : {A : Type 0} (fault : HistFault) (answer : Result A HistFault) → answer ≡ Err fault → IsTold fault answer
+pub told_is : {A : Type 0} (fault : TriggerFault) (answer : Result A TriggerFault) → answer ≡ Err fault → IsTold fault answer
+told_is BadText answer e = e
 told_is (HistSyntax at) answer e = e
 told_is TooMany answer e = e
 told_is (NoSuchField at) answer e = e

@@ -8,7 +8,8 @@ use Rattle.trace_trigger.specs.HistParts.{attributes_of, tail_of}
 use Rattle.trace_trigger.specs.HistLists.{lists_of}
 use Rattle.trace_trigger.specs.HistPlaces.{attribute_places, item_places, sort_places, wrong_places}
 use Rattle.trace_trigger.specs.HistNames.{meaning_of}
-use Rattle.trace_trigger.specs.HistTexts.{read_of, filter_of, spec_from, spec_of}
+use Rattle.trace_trigger.specs.Frames.{filter_of}
+use Rattle.trace_trigger.specs.HistTexts.{read_of, spec_from, spec_of}
 use Rattle.trace_trigger.specs.HistExamples.{tick, move, AreRead, accepted, accepted_of_move, wrong_attributes, wrong_items, too_many, wrong_names, wrong_values_of_move}
 
 pub record AreAllRead : Type 0 where

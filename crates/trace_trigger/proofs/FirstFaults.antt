@@ -3,13 +3,14 @@ use Rattle.std.proofs.Common.{◌≡◌, ◌⊎◌, inl, inr, refl, ℕ, ◌+◌
 use Rattle.std.specs.List.{AllByRecursion, AllZip}
 use Rattle.std.proofs.lemmas.Slice.Eq.{bytes_eq-Decides}
 use Rattle.trace_format.specs.Definitions.{Definition}
-use Rattle.trace_trigger.specs.declared.hist_fault.HistFault.{HistFault}
-use Rattle.trace_trigger.specs.declared.hist_fault.HistFault.TheVariants.{NoSuchField, WrongOperator}
+use Rattle.trace_trigger.specs.declared.fault.TriggerFault.{TriggerFault}
+use Rattle.trace_trigger.specs.declared.fault.TriggerFault.TheVariants.{NoSuchField, WrongOperator}
 use Rattle.trace_trigger.specs.declared.named.Named.{Named}
 use Rattle.trace_trigger.specs.declared.source.Source.{Source}
 use Rattle.trace_trigger.specs.declared.piece.Piece.{Piece}
 use Rattle.trace_trigger.specs.HistNames.{meaning_of}
-use Rattle.trace_trigger.specs.HistMeanings.{◌>>=◌, each, key_named, value_named}
+use Rattle.trace_trigger.specs.TriggerAnswers.{◌>>=◌}
+use Rattle.trace_trigger.specs.HistMeanings.{each, key_named, value_named}
 use Rattle.trace_trigger.specs.HistGrammar.{summed_names, IsKeyOf, IsValueOf}
 use Rattle.trace_trigger.specs.HistRefusals.{CanBeKey, CanBeValue, CannotBeValue}
 use Rattle.trace_trigger.proofs.CutLemmas.{placed}
@@ -18,19 +19,19 @@ use Rattle.trace_trigger.proofs.PlaceLemmas.{size, size_first}
 
 -- ---- results
 
-pub record IsPassed {A B : Type 0} (first : Result A HistFault) (next : A → Result B HistFault) (fault : HistFault) : Type 0 where
+pub record IsPassed {A B : Type 0} (first : Result A TriggerFault) (next : A → Result B TriggerFault) (fault : TriggerFault) : Type 0 where
   pub found : A
   pub is : first ≡ Ok found
   pub after : next found ≡ Err fault
 
-pub refused : {A B : Type 0} (first : Result A HistFault) (next : A → Result B HistFault) (fault : HistFault) → (first >>= next) ≡ Err fault → (first ≡ Err fault) ⊎ IsPassed first next fault
+pub refused : {A B : Type 0} (first : Result A TriggerFault) (next : A → Result B TriggerFault) (fault : TriggerFault) → (first >>= next) ≡ Err fault → (first ≡ Err fault) ⊎ IsPassed first next fault
 refused (Ok found) next fault e = inr (record { found = found; is = refl; after = e })
-refused (Err other) next fault e = let same : other ≡ fault = cc in inl (ap (λ (f : HistFault). Err f) same)
+refused (Err other) next fault e = let same : other ≡ fault = cc in inl (ap (λ (f : TriggerFault). Err f) same)
 
 -- ---- the first of the items that are kept
 
-module _ {B : Type 0} (read : Piece → Result B HistFault) (keep : Piece → Bool) where
-  pub record IsFirstFault (start : ℕ) (items : List (List ℕ)) (fault : HistFault) : Type 0 where
+module _ {B : Type 0} (read : Piece → Result B TriggerFault) (keep : Piece → Bool) where
+  pub record IsFirstFault (start : ℕ) (items : List (List ℕ)) (fault : TriggerFault) : Type 0 where
     pub before : List (List ℕ)
     pub item : List ℕ
     pub after : List (List ℕ)
@@ -43,7 +44,7 @@ module _ {B : Type 0} (read : Piece → Result B HistFault) (keep : Piece → Bo
   abbrev those : ℕ → List (List ℕ) → List Piece
   those start items = filter keep (placed start items)
 
-  none_yet : (start : ℕ) (item : List ℕ) (rest : List (List ℕ)) (fault : HistFault) → keep (record { at = start; bytes = item }) ≡ true → read (record { at = start; bytes = item }) ≡ Err fault → IsFirstFault start (item ∷ rest) fault
+  none_yet : (start : ℕ) (item : List ℕ) (rest : List (List ℕ)) (fault : TriggerFault) → keep (record { at = start; bytes = item }) ≡ true → read (record { at = start; bytes = item }) ≡ Err fault → IsFirstFault start (item ∷ rest) fault
   none_yet start item rest fault e f =
       let here : start ≡ start + size 44 [] = omega arith in
       record {
@@ -57,7 +58,7 @@ module _ {B : Type 0} (read : Piece → Result B HistFault) (keep : Piece → Bo
         first = refl;
       }
 
-  further : (start : ℕ) (item : List ℕ) (rest : List (List ℕ)) (fault : HistFault) (values : List B)
+  further : (start : ℕ) (item : List ℕ) (rest : List (List ℕ)) (fault : TriggerFault) (values : List B)
       → (is : IsFirstFault (start + 1 + length item) rest fault) → each read (filter keep (placed start (item ∷ is.before))) ≡ Ok values → IsFirstFault start (item ∷ rest) fault
   further start item rest fault values is first =
       let there : start + 1 + length item + size 44 is.before ≡ start + size 44 (item ∷ is.before) = omega (arith, size_first 44 item is.before) in
@@ -72,7 +73,7 @@ module _ {B : Type 0} (read : Piece → Result B HistFault) (keep : Piece → Bo
         first = first;
       }
 
-  pub first_fault : (start : ℕ) (items : List (List ℕ)) (fault : HistFault) → each read (filter keep (placed start items)) ≡ Err fault → IsFirstFault start items fault
+  pub first_fault : (start : ℕ) (items : List (List ℕ)) (fault : TriggerFault) → each read (filter keep (placed start items)) ≡ Err fault → IsFirstFault start items fault
   first_fault start [] fault e = absurd (cc)
   first_fault start (item ∷ rest) fault e = by (keep (record { at = start; bytes = item })) refl e (first_fault (start + 1 + length item) rest fault)
     where
@@ -86,8 +87,8 @@ module _ {B : Type 0} (read : Piece → Result B HistFault) (keep : Piece → Bo
               let is = next g in
               further start item rest fault (passed.found ∷ is.values) is
               (ap (λ b. each read (cond b (record { at = start; bytes = item } ∷ those (start + 1 + length item) is.before) (those (start + 1 + length item) is.before))) f
-              ∙ ap (λ (r : Result B HistFault). r >>= λ y. each read (those (start + 1 + length item) is.before) >>= λ ys. Ok (y ∷ ys)) passed.is
-              ∙ ap (λ (r : Result (List B) HistFault). r >>= λ ys. Ok (passed.found ∷ ys)) is.first)
+              ∙ ap (λ (r : Result B TriggerFault). r >>= λ y. each read (those (start + 1 + length item) is.before) >>= λ ys. Ok (y ∷ ys)) passed.is
+              ∙ ap (λ (r : Result (List B) TriggerFault). r >>= λ ys. Ok (passed.found ∷ ys)) is.first)
           of (inr never) = let wrong = never.after in absurd (cc)
 
       by : (b : Bool) → keep (record { at = start; bytes = item }) ≡ b
@@ -100,7 +101,7 @@ module _ {B : Type 0} (read : Piece → Result B HistFault) (keep : Piece → Bo
           (ap (λ b. each read (cond b (record { at = start; bytes = item } ∷ those (start + 1 + length item) is.before) (those (start + 1 + length item) is.before))) f ∙ is.first)
 
   -- and there it is told
-  pub fault_first : (start : ℕ) (before : List (List ℕ)) (item : List ℕ) (after : List (List ℕ)) (fault : HistFault) (values : List B)
+  pub fault_first : (start : ℕ) (before : List (List ℕ)) (item : List ℕ) (after : List (List ℕ)) (fault : TriggerFault) (values : List B)
       → keep (record { at = start + size 44 before; bytes = item }) ≡ true → read (record { at = start + size 44 before; bytes = item }) ≡ Err fault
       → each read (filter keep (placed start before)) ≡ Ok values → each read (filter keep (placed start (before ++ item ∷ after))) ≡ Err fault
   fault_first start [] item after fault values e f first =
@@ -108,7 +109,7 @@ module _ {B : Type 0} (read : Piece → Result B HistFault) (keep : Piece → Bo
       let kept : keep (record { at = start; bytes = item }) ≡ true = ap (λ n. keep (record { at = n; bytes = item })) (sym here) ∙ e in
       let wrong : read (record { at = start; bytes = item }) ≡ Err fault = ap (λ n. read (record { at = n; bytes = item })) (sym here) ∙ f in
       ap (λ b. each read (cond b (record { at = start; bytes = item } ∷ those (start + 1 + length item) after) (those (start + 1 + length item) after))) kept
-      ∙ ap (λ (r : Result B HistFault). r >>= λ y. each read (those (start + 1 + length item) after) >>= λ ys. Ok (y ∷ ys)) wrong
+      ∙ ap (λ (r : Result B TriggerFault). r >>= λ y. each read (those (start + 1 + length item) after) >>= λ ys. Ok (y ∷ ys)) wrong
   fault_first start (other ∷ before) item after fault values e f first =
       by (keep (record { at = start; bytes = other })) refl first
       (λ ys g. fault_first (start + 1 + length other) before item after fault ys (ap (λ n. keep (record { at = n; bytes = item })) there ∙ e) (ap (λ n. read (record { at = n; bytes = item })) there ∙ f) g)
@@ -124,8 +125,8 @@ module _ {B : Type 0} (read : Piece → Result B HistFault) (keep : Piece → Bo
           let head = bound (read (record { at = start; bytes = other })) (λ y. each read (those (start + 1 + length other) before) >>= λ ys. Ok (y ∷ ys)) values h in
           let tail = bound (each read (those (start + 1 + length other) before)) (λ ys. Ok (head.found ∷ ys)) values head.after in
           ap (λ b. each read (cond b (record { at = start; bytes = other } ∷ those (start + 1 + length other) (before ++ item ∷ after)) (those (start + 1 + length other) (before ++ item ∷ after)))) g
-          ∙ ap (λ (r : Result B HistFault). r >>= λ y. each read (those (start + 1 + length other) (before ++ item ∷ after)) >>= λ ys. Ok (y ∷ ys)) head.is
-          ∙ ap (λ (r : Result (List B) HistFault). r >>= λ ys. Ok (head.found ∷ ys)) (next tail.found tail.is)
+          ∙ ap (λ (r : Result B TriggerFault). r >>= λ y. each read (those (start + 1 + length other) (before ++ item ∷ after)) >>= λ ys. Ok (y ∷ ys)) head.is
+          ∙ ap (λ (r : Result (List B) TriggerFault). r >>= λ ys. Ok (head.found ∷ ys)) (next tail.found tail.is)
       by false g h next =
           ap (λ b. each read (cond b (record { at = start; bytes = other } ∷ those (start + 1 + length other) (before ++ item ∷ after)) (those (start + 1 + length other) (before ++ item ∷ after)))) g
           ∙ next values h
@@ -136,7 +137,7 @@ pub filter_all : {X : Type 0} (xs : List X) → filter (λ _. true) xs ≡ xs
 filter_all [] = refl
 filter_all (x ∷ xs) = ap (λ (ys : List _). x ∷ ys) (filter_all xs)
 
-pub key_refused : (at : ℕ) (named : Option Named) (fault : HistFault) → key_named at named ≡ Err fault → (named ≡ None) × (fault ≡ NoSuchField at)
+pub key_refused : (at : ℕ) (named : Option Named) (fault : TriggerFault) → key_named at named ≡ Err fault → (named ≡ None) × (fault ≡ NoSuchField at)
 key_refused at None fault e = let same : NoSuchField at ≡ fault = cc in (refl, sym same)
 key_refused at (Some named) fault e = absurd (cc)
 
@@ -153,7 +154,7 @@ module _ (definition : Definition) where
 
   -- ---- values
 
-  pub value_refused : (at : ℕ) (name : List ℕ) (fault : HistFault) → value_named at (meaning_of definition.fields name) ≡ Err fault → CannotBeValue definition name at fault
+  pub value_refused : (at : ℕ) (name : List ℕ) (fault : TriggerFault) → value_named at (meaning_of definition.fields name) ≡ Err fault → CannotBeValue definition name at fault
   value_refused at name fault e = by (meaning_of definition.fields name) refl e
     where
       text_or_number : (named : Named) → meaning_of definition.fields name ≡ Some named → (b : Bool) → named.is_text ≡ b → (if b then Err (WrongOperator at) else Ok named.source) ≡ Err fault → CannotBeValue definition name at fault
@@ -166,9 +167,9 @@ module _ (definition : Definition) where
       by None f g = let same : NoSuchField at ≡ fault = cc in inl (f, sym same)
       by (Some named) f g = text_or_number named f named.is_text refl g
 
-  pub refused_value : (at : ℕ) (name : List ℕ) (fault : HistFault) → CannotBeValue definition name at fault → value_named at (meaning_of definition.fields name) ≡ Err fault
-  refused_value at name fault (inl is) = ap (value_named at) is.0 ∙ ap (λ (f : HistFault). Err f) (sym is.1)
-  refused_value at name fault (inr is) = ap (value_named at) is.1 ∙ ap (λ (f : HistFault). Err f) (sym is.2)
+  pub refused_value : (at : ℕ) (name : List ℕ) (fault : TriggerFault) → CannotBeValue definition name at fault → value_named at (meaning_of definition.fields name) ≡ Err fault
+  refused_value at name fault (inl is) = ap (value_named at) is.0 ∙ ap (λ (f : TriggerFault). Err f) (sym is.1)
+  refused_value at name fault (inr is) = ap (value_named at) is.1 ∙ ap (λ (f : TriggerFault). Err f) (sym is.2)
 
   pub values_can : (names : List (List ℕ)) (sources : List Source) → AllZip (IsValueOf definition) (summed_names names) sources → AllByRecursion (CanBeValue definition) names
   values_can [] sources zip = tt

@@ -1,11 +1,12 @@
 -- A text says just what can be written so.
 use Rattle.std.proofs.Common.{◌≡◌, ◌↔◌, ℕ, List, [], Result, Ok, ap, sym, ◌∙◌}
 use Rattle.trace_format.specs.Definitions.{Definition}
-use Rattle.trace_trigger.specs.declared.hist_fault.HistFault.{HistFault}
+use Rattle.trace_trigger.specs.declared.fault.TriggerFault.{TriggerFault}
 use Rattle.trace_trigger.specs.HistParts.{attributes_of}
 use Rattle.trace_trigger.specs.HistLists.{Lists, lists_of}
 use Rattle.trace_trigger.specs.HistPlaces.{wrong_places}
-use Rattle.trace_trigger.specs.HistMeanings.{◌>>=◌, few}
+use Rattle.trace_trigger.specs.TriggerAnswers.{◌>>=◌}
+use Rattle.trace_trigger.specs.HistMeanings.{few}
 use Rattle.trace_trigger.specs.HistSpecs.{SpecSeen}
 use Rattle.trace_trigger.specs.HistTexts.{IsHistText, read_of, spec_from, spec_of}
 use Rattle.trace_trigger.specs.HistGrammar.{Says}
@@ -18,7 +19,7 @@ module _ (definition : Definition) (text : List ℕ) where
   -- once the text is read
   pub of_right : wrong_places text ≡ [] → spec_of definition text ≡ (few (lists_of (attributes_of text)) >>= λ lists. spec_from definition text lists)
   unfolding spec_of
-  of_right none = ap (λ (r : Result Lists HistFault). r >>= λ lists. few lists >>= λ lists. spec_from definition text lists) (read_right text none)
+  of_right none = ap (λ (r : Result Lists TriggerFault). r >>= λ lists. few lists >>= λ lists. spec_from definition text lists) (read_right text none)
 
   right_of : (spec : SpecSeen) → spec_of definition text ≡ Ok spec → wrong_places text ≡ []
   unfolding spec_of

@@ -9,9 +9,11 @@ pub mod CutLemmas
 pub mod EachLemmas
 pub mod Examples
 pub mod FaultLaws
+pub mod FilterLaws
 pub mod FirstFaults
 pub mod HeadLemmas
 pub mod ItemLaws
+pub mod LaterFaults
 pub mod LawfulLaws
 pub mod ListLaws
 pub mod MeaningLaws

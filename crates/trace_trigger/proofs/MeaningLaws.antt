@@ -1,14 +1,11 @@
--- What names, sizes and filters come to is what the grammar says that they mean.
+-- What names and sizes come to is what the grammar says that they mean.
 use Rattle.std.proofs.Common.{◌≡◌, ◌≢◌, ◌⊎◌, inl, inr, refl, ℕ, suc, zero, ◌+◌, ◌<◌, ◌≤◌, Bool, true, false, not, nat_lt, if◌then◌else◌, cond, bytes_eq, codes, List, [], ◌∷◌, length, slice_get, Option, Some, None, Result, Ok, Err, unwrap_or, ap, sym, ◌∙◌, subst, arith, lt-ltb, le-ltb, ltb-true}
 use Rattle.std.specs.List.{AllByRecursion, AllZip, position, position_or_len}
 use Rattle.std.proofs.lemmas.Bool.{false_from_ne_true}
 use Rattle.std.proofs.lemmas.Slice.Eq.{bytes_eq-Decides}
 use Rattle.trace_format.specs.Definitions.{Definition}
-use Rattle.trace_filter.specs.declared.fault.FilterFault.{FilterFault}
-use Rattle.trace_filter.specs.Filters.{Parsed, IsFilter, IsRefused, parsed_of}
-use Rattle.trace_filter.proofs.FilterLemmas.{filter_is_answered, refusal_is_answered, filter_or_refused}
-use Rattle.trace_trigger.specs.declared.hist_fault.HistFault.{HistFault}
-use Rattle.trace_trigger.specs.declared.hist_fault.HistFault.TheVariants.{WrongOperator}
+use Rattle.trace_trigger.specs.declared.fault.TriggerFault.{TriggerFault}
+use Rattle.trace_trigger.specs.declared.fault.TriggerFault.TheVariants.{WrongOperator}
 use Rattle.trace_trigger.specs.declared.sort_rule.SortSource.{SortSource}
 use Rattle.trace_trigger.specs.declared.sort_rule.SortSource.TheVariants.{Key, Value, Hitcount}
 use Rattle.trace_trigger.specs.declared.source.Source.{Source}
@@ -16,21 +13,20 @@ use Rattle.trace_trigger.specs.declared.named.Named.{Named}
 use Rattle.trace_trigger.specs.declared.piece.Piece.{Piece}
 use Rattle.trace_trigger.specs.HistNames.{meaning_of}
 use Rattle.trace_trigger.specs.HistLists.{names_of, summed_items, is_hitcount}
-use Rattle.trace_trigger.specs.HistParts.{place_in}
-use Rattle.trace_trigger.specs.HistMeanings.{◌>>=◌, each, key_named, key_source, value_named, value_source, told_size, sort_found, sort_source}
-use Rattle.trace_trigger.specs.HistTexts.{moved, filter_read, filter_of}
-use Rattle.trace_trigger.specs.HistGrammar.{summed_names, IsKeyOf, IsValueOf, IsSortedBy, IsReadAs}
+use Rattle.trace_trigger.specs.TriggerAnswers.{◌>>=◌}
+use Rattle.trace_trigger.specs.HistMeanings.{each, key_named, key_source, value_named, value_source, told_size, sort_found, sort_source}
+use Rattle.trace_trigger.specs.HistGrammar.{summed_names, IsKeyOf, IsValueOf, IsSortedBy}
 use Rattle.trace_trigger.proofs.WrongLemmas.{Apart}
 use Rattle.trace_trigger.proofs.ListLaws.{Member, member_from, from_member}
 
 -- ---- results
 
-pub record IsBound {A B : Type 0} (first : Result A HistFault) (next : A → Result B HistFault) (value : B) : Type 0 where
+pub record IsBound {A B : Type 0} (first : Result A TriggerFault) (next : A → Result B TriggerFault) (value : B) : Type 0 where
   pub found : A
   pub is : first ≡ Ok found
   pub after : next found ≡ Ok value
 
-pub bound : {A B : Type 0} (first : Result A HistFault) (next : A → Result B HistFault) (value : B) → (first >>= next) ≡ Ok value → IsBound first next value
+pub bound : {A B : Type 0} (first : Result A TriggerFault) (next : A → Result B TriggerFault) (value : B) → (first >>= next) ≡ Ok value → IsBound first next value
 bound (Ok found) next value e = record { found = found; is = refl; after = e }
 bound (Err fault) next value e = absurd (cc)
 
@@ -67,7 +63,7 @@ module _ (definition : Definition) where
   keys_given (item ∷ items) [] zip = absurd zip
   keys_given (item ∷ items) (source ∷ sources) zip =
       ap (λ (n : Option Named). key_named item.at n >>= λ y. each (key_source definition.fields) items >>= λ ys. Ok (y ∷ ys)) zip.0.1
-      ∙ ap (λ (r : Result (List Source) HistFault). r >>= λ ys. Ok (source ∷ ys)) (keys_given items sources zip.1)
+      ∙ ap (λ (r : Result (List Source) TriggerFault). r >>= λ ys. Ok (source ∷ ys)) (keys_given items sources zip.1)
 
   pub values_found : (items : List Piece) (sources : List Source) → each (value_source definition.fields) items ≡ Ok sources → AllZip (IsValueOf definition) (names_of items) sources
   values_found [] [] e = tt
@@ -87,7 +83,7 @@ module _ (definition : Definition) where
   values_given (item ∷ items) [] zip = absurd zip
   values_given (item ∷ items) (source ∷ sources) zip =
       ap (λ (n : Option Named). value_named item.at n >>= λ y. each (value_source definition.fields) items >>= λ ys. Ok (y ∷ ys)) zip.0
-      ∙ ap (λ (r : Result (List Source) HistFault). r >>= λ ys. Ok (source ∷ ys)) (values_given items sources zip.1)
+      ∙ ap (λ (r : Result (List Source) TriggerFault). r >>= λ ys. Ok (source ∷ ys)) (values_given items sources zip.1)
 
 -- the values that are summed, by their names
 pub summed_are : (items : List Piece) → names_of (summed_items items) ≡ summed_names (names_of items)
@@ -104,35 +100,6 @@ summed_are (item ∷ items) = by (not (is_hitcount item.bytes)) (summed_are item
 pub told : (size : Option ℕ) (n : ℕ) → told_size size ≡ Ok n → size ≡ Some n
 told None n e = absurd (cc)
 told (Some m) n e = let same : m ≡ n = cc in ap Some same
-
--- ---- the filter
-
-module _ (definition : Definition) (text : List ℕ) where
-  pub filter_given : (condition : Option (List ℕ)) (read : Option Parsed) → IsReadAs definition condition read → filter_of definition text condition ≡ Ok read
-  unfolding filter_of
-  filter_given None None is = refl
-  filter_given None (Some read) is = absurd is
-  filter_given (Some condition) None is = absurd is
-  filter_given (Some condition) (Some read) is =
-      ap (filter_read (place_in text condition)) ((filter_is_answered definition condition).0 is.0) ∙ ap (λ (f : Parsed). Ok (Some f)) (sym is.1)
-
-  pub filter_refused : (condition : List ℕ) (fault : FilterFault) → IsRefused definition condition fault → filter_of definition text (Some condition) ≡ Err (moved (place_in text condition) fault)
-  unfolding filter_of
-  filter_refused condition fault is = ap (filter_read (place_in text condition)) ((refusal_is_answered definition condition fault).0 is)
-
-  pub filter_found : (condition : Option (List ℕ)) (read : Option Parsed) → filter_of definition text condition ≡ Ok read → IsReadAs definition condition read
-  unfolding filter_of
-  filter_found None None is = tt
-  filter_found None (Some read) is = absurd (cc)
-  filter_found (Some condition) read is = by read is (filter_or_refused definition condition)
-    where
-      by : (read : Option Parsed) → filter_of definition text (Some condition) ≡ Ok read → IsFilter definition condition ⊎ ((fault : FilterFault) × IsRefused definition condition fault) → IsReadAs definition (Some condition) read
-      by None h (inl fine) = let found = filter_given (Some condition) (Some (parsed_of definition condition)) (fine, refl) in absurd (cc)
-      by (Some read) h (inl fine) =
-          let found = filter_given (Some condition) (Some (parsed_of definition condition)) (fine, refl) in
-          let same : read ≡ parsed_of definition condition = cc in
-          (fine, same)
-      by read h (inr refused) = let found = filter_refused condition refused.0 refused.1 in absurd (cc)
 
 -- ---- where a name is in a list
 

@@ -5,8 +5,8 @@ use Rattle.std.proofs.lemmas.Bool.{false_from_ne_true, not_from_false}
 use Rattle.std.proofs.lemmas.List.Elements.{All-from_recursion, recursion_from_All}
 use Rattle.std.proofs.lemmas.Slice.Eq.{bytes_eq-Decides}
 use Rattle.trace_format.specs.Definitions.{Definition}
-use Rattle.trace_trigger.specs.declared.hist_fault.HistFault.{HistFault}
-use Rattle.trace_trigger.specs.declared.hist_fault.HistFault.TheVariants.{NoSuchField}
+use Rattle.trace_trigger.specs.declared.fault.TriggerFault.{TriggerFault}
+use Rattle.trace_trigger.specs.declared.fault.TriggerFault.TheVariants.{NoSuchField}
 use Rattle.trace_trigger.specs.declared.source.Source.{Source}
 use Rattle.trace_trigger.specs.declared.attribute.Attribute.{Attribute}
 use Rattle.trace_trigger.specs.declared.piece.Piece.{Piece}
@@ -104,7 +104,7 @@ module _ (definition : Definition) (text : List ℕ) where
       All-from_recursion (CanBeKey definition) before
       (zip_can definition before sources (subst (λ (names : List (List ℕ)). AllZip (IsKeyOf definition) names sources) (names_of-placed 44 start before) found))
 
-  record SomeOk (pieces : List Piece) (read : Piece → Result Source HistFault) : Type 0 where
+  record SomeOk (pieces : List Piece) (read : Piece → Result Source TriggerFault) : Type 0 where
     sources : List Source
     is : each read pieces ≡ Ok sources
 
@@ -120,12 +120,12 @@ module _ (definition : Definition) (text : List ℕ) where
   abbrev lists : Lists
   lists = lists_of (attributes_of text)
 
-  pub record KeyFault (fault : HistFault) : Type 0 where
+  pub record KeyFault (fault : TriggerFault) : Type 0 where
     pub place : ℕ
     pub is : IsUnknownKey definition text place
     pub same : fault ≡ NoSuchField place
 
-  pub key_fault : Cut text → (fault : HistFault) → each (key_source definition.fields) lists.keys ≡ Err fault → KeyFault fault
+  pub key_fault : Cut text → (fault : TriggerFault) → each (key_source definition.fields) lists.keys ≡ Err fault → KeyFault fault
   key_fault cut fault e = by (keys_at text cut)
     where
       at : ListAt cut OfKeys (lists_of (attributes_of text)).keys → KeyFault fault
@@ -184,7 +184,7 @@ module _ (definition : Definition) (text : List ℕ) where
       let names : names_of (summed_items (placed start before)) ≡ summed_names before = summed_are (placed start before) ∙ ap summed_names (names_of-placed 44 start before) in
       record { sources = zip.0; is = values_given definition (summed_items (placed start before)) zip.0 (subst (λ (ns : List (List ℕ)). AllZip (IsValueOf definition) ns zip.0) (sym names) zip.1) }
 
-  pub value_fault : Cut text → (fault : HistFault) → each (value_source definition.fields) (summed_items lists.values) ≡ Err fault → IsWrongValue definition text fault
+  pub value_fault : Cut text → (fault : TriggerFault) → each (value_source definition.fields) (summed_items lists.values) ≡ Err fault → IsWrongValue definition text fault
   value_fault cut fault e = by (values_at text cut)
     where
       at : ListAt cut OfValues (lists_of (attributes_of text)).values → IsWrongValue definition text fault
@@ -214,7 +214,7 @@ module _ (definition : Definition) (text : List ℕ) where
       by (inl none) = let fine : each (value_source definition.fields) (summed_items (lists_of (attributes_of text)).values) ≡ Ok [] = ap (λ (pieces : List Piece). each (value_source definition.fields) (summed_items pieces)) none in absurd (cc)
       by (inr list) = at list
 
-  pub fault_value : (fault : HistFault) → IsWrongValue definition text fault → each (value_source definition.fields) (summed_items lists.values) ≡ Err fault
+  pub fault_value : (fault : TriggerFault) → IsWrongValue definition text fault → each (value_source definition.fields) (summed_items lists.values) ≡ Err fault
   fault_value fault is =
       let at = is.is_at in
       let begin : ℕ = items_place is.cut at.attributes_before at.head in

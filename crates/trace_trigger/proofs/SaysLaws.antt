@@ -16,12 +16,13 @@ use Rattle.trace_trigger.specs.HistLists.{Lists, lists_of, names_of, summed_item
 use Rattle.trace_trigger.specs.HistMeanings.{is_too_many, few, size_of, told_size, sort_source, sort_rule}
 use Rattle.trace_trigger.specs.HistSizes.{rounded_size}
 use Rattle.trace_trigger.specs.HistSpecs.{SpecSeen}
-use Rattle.trace_trigger.specs.HistTexts.{filter_of}
+use Rattle.trace_trigger.specs.Frames.{filter_of}
 use Rattle.trace_trigger.specs.HistGrammar.{Setting, Keys, Values, Sort, Size, Asks, subject_of, IsListed, IsSet, summed_names, AreSettingsOf, IsWithinLimits, IsKeyOf, IsValueOf, IsSortedBy, IsRuleOf, FitsEvent}
 use Rattle.trace_trigger.proofs.WrongLemmas.{Apart, from_pairs, each_weaker}
 use Rattle.trace_trigger.proofs.ListLaws.{Member, member_from, Once, one_setting}
 use Rattle.trace_trigger.proofs.SettingLaws.{default_sort, ListsAre, given, keys_are, values_are, lists_are}
-use Rattle.trace_trigger.proofs.MeaningLaws.{keys_found, keys_given, values_found, values_given, summed_are, told, filter_given, filter_found, by_is, is_by}
+use Rattle.trace_trigger.proofs.MeaningLaws.{keys_found, keys_given, values_found, values_given, summed_are, told, by_is, is_by}
+use Rattle.trace_trigger.proofs.FilterLaws.{filter_given, filter_found}
 use Rattle.trace_trigger.proofs.SpecLaws.{Finds, IsSaid}
 
 -- ---- one value is set

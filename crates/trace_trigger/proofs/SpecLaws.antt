@@ -5,8 +5,8 @@ use Rattle.trace_format.specs.Definitions.{Definition}
 use Rattle.trace_filter.specs.Filters.{Parsed}
 use Rattle.trace_lex.proofs.Lists.{BeginsNot}
 use Rattle.trace_trigger.specs.Frames.{is_unblank, after_blanks}
-use Rattle.trace_trigger.specs.declared.hist_fault.HistFault.{HistFault}
-use Rattle.trace_trigger.specs.declared.hist_fault.HistFault.TheVariants.{HistSyntax, TooMany}
+use Rattle.trace_trigger.specs.declared.fault.TriggerFault.{TriggerFault}
+use Rattle.trace_trigger.specs.declared.fault.TriggerFault.TheVariants.{HistSyntax, TooMany}
 use Rattle.trace_trigger.specs.declared.source.Source.{Source}
 use Rattle.trace_trigger.specs.declared.attribute.Attribute.{Attribute}
 use Rattle.trace_trigger.specs.HistAttributes.{attributes_at}
@@ -14,9 +14,11 @@ use Rattle.trace_trigger.specs.HistPieces.{pieces_of}
 use Rattle.trace_trigger.specs.HistParts.{attributes_of, end_of, tail_of, condition_of}
 use Rattle.trace_trigger.specs.HistLists.{Lists, lists_of, names_of, summed_items, sort_keys}
 use Rattle.trace_trigger.specs.HistPlaces.{attribute_places, item_places, sort_places, list_places, keyless_places, tail_places, wrong_places, earlier, least}
-use Rattle.trace_trigger.specs.HistMeanings.{◌>>=◌, is_too_many, few, each, key_source, value_source, size_of, sort_rule}
+use Rattle.trace_trigger.specs.TriggerAnswers.{◌>>=◌}
+use Rattle.trace_trigger.specs.HistMeanings.{is_too_many, few, each, key_source, value_source, size_of, sort_rule}
 use Rattle.trace_trigger.specs.HistSpecs.{SpecSeen}
-use Rattle.trace_trigger.specs.HistTexts.{unless_wrong, read_of, filter_of, spec_from}
+use Rattle.trace_trigger.specs.Frames.{filter_of}
+use Rattle.trace_trigger.specs.HistTexts.{unless_wrong, read_of, spec_from}
 use Rattle.trace_trigger.specs.HistGrammar.{Setting, AreLawful, IsWritten}
 use Rattle.trace_trigger.proofs.CutLemmas.{found_is_cut}
 use Rattle.trace_trigger.proofs.AttributeLaws.{IsRead}
@@ -203,12 +205,12 @@ module _ (definition : Definition) (text : List ℕ) (lists : Lists) where
   unfolding spec_from
   saying spec is =
       ap (λ (b : Bool). (if b then Err TooMany else Ok lists) >>= λ ls. spec_from definition text ls) is.few
-      ∙ ap (λ (r : Result (List Source) HistFault). r >>= λ keys. each (value_source definition.fields) (summed_items lists.values) >>= λ values. size_of lists.size >>= λ size.
+      ∙ ap (λ (r : Result (List Source) TriggerFault). r >>= λ keys. each (value_source definition.fields) (summed_items lists.values) >>= λ values. size_of lists.size >>= λ size.
       filter_of definition text (condition_of (tail_of text)) >>= λ only_if. Ok (spec_of_lists keys values size only_if)) is.key_sources
-      ∙ ap (λ (r : Result (List Source) HistFault). r >>= λ values. size_of lists.size >>= λ size.
+      ∙ ap (λ (r : Result (List Source) TriggerFault). r >>= λ values. size_of lists.size >>= λ size.
       filter_of definition text (condition_of (tail_of text)) >>= λ only_if. Ok (spec_of_lists spec.key_sources values size only_if)) is.value_sources
-      ∙ ap (λ (r : Result ℕ HistFault). r >>= λ size. filter_of definition text (condition_of (tail_of text)) >>= λ only_if. Ok (spec_of_lists spec.key_sources spec.value_sources size only_if)) is.size
-      ∙ ap (λ (r : Result (Option Parsed) HistFault). r >>= λ only_if. Ok (spec_of_lists spec.key_sources spec.value_sources spec.size only_if)) is.filter
+      ∙ ap (λ (r : Result ℕ TriggerFault). r >>= λ size. filter_of definition text (condition_of (tail_of text)) >>= λ only_if. Ok (spec_of_lists spec.key_sources spec.value_sources size only_if)) is.size
+      ∙ ap (λ (r : Result (Option Parsed) TriggerFault). r >>= λ only_if. Ok (spec_of_lists spec.key_sources spec.value_sources spec.size only_if)) is.filter
       ∙ (λ i. Ok (record {
         keys = is.keys i;
         values = is.values i;

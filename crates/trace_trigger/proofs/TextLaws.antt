@@ -7,22 +7,21 @@ use Rattle.std.proofs.lemmas.List.Sums.{AllPass-from_list_all, list_all-from_All
 use Rattle.trace_format.specs.Definitions.{Definition}
 use Rattle.trace_lex.specs.Blanks.{is_blank, AreBlanks}
 use Rattle.trace_filter.specs.declared.fault.FilterFault.{FilterFault}
-use Rattle.trace_filter.specs.declared.fault.FilterFault.TheVariants as filter
-use Rattle.trace_filter.specs.Filters.{Parsed, IsFilter, IsRefused, parsed_of, answer_of}
-use Rattle.trace_filter.proofs.FilterLemmas.{filter_is_answered, refusal_is_answered, filter_or_refused}
-use Rattle.trace_trigger.specs.Frames.{is_unblank, IsTail}
+use Rattle.trace_filter.specs.Filters.{Parsed, IsRefused}
+use Rattle.trace_trigger.specs.Frames.{is_unblank, IsTail, moved, filter_of}
+use Rattle.trace_trigger.specs.TriggerAnswers.{◌>>=◌}
 use Rattle.trace_trigger.specs.HistSpecs.{SpecSeen}
 use Rattle.trace_trigger.specs.HistTexts.{IsHistText, spec_of}
-use Rattle.trace_trigger.specs.declared.hist_fault.HistFault.{HistFault}
-use Rattle.trace_trigger.specs.declared.hist_fault.HistFault.TheVariants as hist
 use Rattle.trace_trigger.specs.declared.fault.TriggerFault.{TriggerFault}
 use Rattle.trace_trigger.specs.declared.fault.TriggerFault.TheVariants.{BadText}
 use Rattle.trace_trigger.specs.declared.trigger.SnapshotTrigger.{SnapshotTrigger}
 use Rattle.trace_trigger.specs.declared.trigger.TriggerText.{TriggerText}
 use Rattle.trace_trigger.specs.declared.trigger.TriggerText.TheVariants.{Nothing, Attach, Remove, Hist, RemoveHist}
-use Rattle.trace_trigger.specs.TriggerTexts.{after, word_of, after_word, count_of, condition_of, moved, filter_read, filter_of, ◌>>=◌, trigger_of, said_after, snapshot_said, begins, fault_of_hist, hist_read, hist_of, said_of}
-use Rattle.trace_trigger.specs.TriggerGrammar.{IsWord, IsWritten, IsReadAs, Writes}
+use Rattle.trace_trigger.specs.TriggerTexts.{after, word_of, after_word, count_of, condition_of, trigger_of, said_after, snapshot_said, begins, said_of}
+use Rattle.trace_trigger.specs.TriggerGrammar.{IsWord, IsWritten, Writes}
 use Rattle.trace_trigger.specs.Laws.{WritesRemoval, IsBad}
+use Rattle.trace_trigger.proofs.FilterLaws.{filter_given, filter_refused, filter_found}
+use Rattle.trace_trigger.proofs.LaterFaults.{IsAnyLater, filter_later, never_bad}
 use Rattle.trace_trigger.proofs.Cuts.{after_append, after_is, begins_so, so_begins, run_taken, run_dropped, run_stops}
 use Rattle.trace_trigger.proofs.WordLaws.{word_is, count_is, bad_word, word_unblank}
 use Rattle.trace_trigger.proofs.TailLaws.{tail_begins, tail_is, condition_is, bad_tail}
@@ -68,43 +67,8 @@ word_begins word (Some n) is = record { rest = codes "napshot:" ++ is.digits; cu
 -- ---- the filter
 
 module _ (definition : Definition) (text : List ℕ) where
-  filter_given : (condition : Option (List ℕ)) (read : Option Parsed) → IsReadAs definition condition read → filter_of definition text condition ≡ Ok read
-  filter_given None None is = refl
-  filter_given None (Some read) is = absurd is
-  filter_given (Some condition) None is = absurd is
-  filter_given (Some condition) (Some read) is =
-      ap (filter_read (length text - length condition)) ((filter_is_answered definition condition).0 is.0) ∙ ap (λ (f : Parsed). Ok (Some f)) (sym is.1)
-
-  filter_refused : (condition : List ℕ) (fault : FilterFault) → IsRefused definition condition fault → filter_of definition text (Some condition) ≡ Err (moved (length text - length condition) fault)
-  filter_refused condition fault is = ap (filter_read (length text - length condition)) ((refusal_is_answered definition condition fault).0 is)
-
-  filter_found : (condition : Option (List ℕ)) (read : Option Parsed) → filter_of definition text condition ≡ Ok read → IsReadAs definition condition read
-  filter_found None None is = tt
-  filter_found None (Some read) is = absurd (cc)
-  filter_found (Some condition) read is = by read is (filter_or_refused definition condition)
-    where
-      by : (read : Option Parsed) → filter_of definition text (Some condition) ≡ Ok read → IsFilter definition condition ⊎ ((fault : FilterFault) × IsRefused definition condition fault) → IsReadAs definition (Some condition) read
-      by None h (inl fine) = let found = filter_given (Some condition) (Some (parsed_of definition condition)) (fine, refl) in absurd (cc)
-      by (Some read) h (inl fine) =
-          let found = filter_given (Some condition) (Some (parsed_of definition condition)) (fine, refl) in
-          let same : read ≡ parsed_of definition condition = cc in
-          (fine, same)
-      by read h (inr refused) = let found = filter_refused condition refused.0 refused.1 in absurd (cc)
-
-  moved_not_bad : (before : ℕ) (fault : FilterFault) → moved before fault ≡ BadText → ⊥
-  moved_not_bad before filter.TooMany is = cc
-  moved_not_bad before (filter.FilterSyntax at) is = cc
-  moved_not_bad before (filter.NoSuchField at) is = cc
-  moved_not_bad before (filter.WrongOperator at) is = cc
-  moved_not_bad before filter.Memory is = cc
-
   filter_not_bad : (condition : Option (List ℕ)) → filter_of definition text condition ≡ Err BadText → ⊥
-  filter_not_bad None is = cc
-  filter_not_bad (Some condition) is = by (answer_of definition condition) is
-    where
-      by : (answered : Result Parsed FilterFault) → filter_read (length text - length condition) answered ≡ Err BadText → ⊥
-      by (Ok read) h = cc
-      by (Err fault) h = let same : moved (length text - length condition) fault ≡ BadText = cc in moved_not_bad (length text - length condition) fault same
+  filter_not_bad condition e = let P : Result (Option Parsed) TriggerFault → Type 0 = λ answer. IsAnyLater answer in subst P e (filter_later definition text condition)
 
   -- ---- what a written text says, once its filter is read
 
@@ -172,8 +136,8 @@ module _ (definition : Definition) (text : List ℕ) where
   abbrev chosen : Bool → Bool → Bool → Result TriggerText TriggerFault
   chosen blank attaches removes =
       if blank then Ok Nothing
-      else if attaches then (hist_of definition text >>= λ spec. Ok (Hist spec))
-      else if removes then (hist_of definition text >>= λ spec. Ok (RemoveHist spec))
+      else if attaches then (spec_of definition text >>= λ spec. Ok (Hist spec))
+      else if removes then (spec_of definition text >>= λ spec. Ok (RemoveHist spec))
       else snapshot_said definition text
 
   said_if : (blank attaches removes : Bool) → list_all is_blank text ≡ blank → begins (codes "hist:") text ≡ attaches → begins (codes "!hist:") text ≡ removes
@@ -209,15 +173,14 @@ module _ (definition : Definition) (text : List ℕ) where
   hist_text_as false spec = Hist spec
   hist_text_as true spec = RemoveHist spec
 
-  abbrev hist_as : Bool → Result SpecSeen HistFault → Result TriggerText TriggerFault
-  hist_as removes read = hist_read read >>= λ spec. Ok (hist_text_as removes spec)
+  abbrev hist_as : Bool → Result SpecSeen TriggerFault → Result TriggerText TriggerFault
+  hist_as removes read = read >>= λ spec. Ok (hist_text_as removes spec)
 
   abbrev BeginsHist : Bool → Type 0
   BeginsHist false = take 5 text ≡ codes "hist:"
   BeginsHist true = take 6 text ≡ codes "!hist:"
 
   hist_is : (removes : Bool) → BeginsHist removes → said_of definition text ≡ hist_as removes (spec_of definition text)
-  unfolding hist_of
   hist_is false is =
       let cut : text ≡ codes "hist:" ++ drop 5 text = sym (take-append-drop 5 text) ∙ ap (λ (b : List ℕ). b ++ drop 5 text) is in
       said_if false true (begins (codes "!hist:") text) (ap (list_all is_blank) cut) (begins_so (codes "hist:") text is) refl
@@ -236,15 +199,6 @@ module _ (definition : Definition) (text : List ℕ) where
   of_hist_text : IsHistText text → HistSaid
   of_hist_text (inl is) = hist_said false is
   of_hist_text (inr is) = hist_said true is
-
-  hist_not_bad : (fault : HistFault) → fault_of_hist fault ≡ BadText → ⊥
-  hist_not_bad (hist.HistSyntax at) is = cc
-  hist_not_bad hist.TooMany is = cc
-  hist_not_bad (hist.NoSuchField at) is = cc
-  hist_not_bad (hist.WrongOperator at) is = cc
-  hist_not_bad hist.BadSize is = cc
-  hist_not_bad (hist.FilterSyntax at) is = cc
-  hist_not_bad hist.Memory is = cc
 
   -- ---- a body is read so, or badly written
 
@@ -341,7 +295,7 @@ module _ (definition : Definition) (text : List ℕ) where
   written_says said true count (Ok read) is = let same : Remove ≡ said = cc in subst OfSnapshot same tt
   written_says said false count (Ok read) is = let same : Attach (trigger_as count read) ≡ said = cc in subst OfSnapshot same tt
 
-  hist_says : (said : TriggerText) (removes : Bool) (read : Result SpecSeen HistFault) → hist_as removes read ≡ Ok said → OfHist said
+  hist_says : (said : TriggerText) (removes : Bool) (read : Result SpecSeen TriggerFault) → hist_as removes read ≡ Ok said → OfHist said
   hist_says said removes (Err fault) is = absurd (cc)
   hist_says said true (Ok spec) is = let same : RemoveHist spec ≡ said = cc in subst OfHist same tt
   hist_says said false (Ok spec) is = let same : Hist spec ≡ said = cc in subst OfHist same tt
@@ -365,9 +319,9 @@ module _ (definition : Definition) (text : List ℕ) where
   written_never_bad removes count (Err fault) fine is = let same : fault ≡ BadText = cc in fine (ap (λ (f : TriggerFault). Err f) same)
   written_never_bad removes count (Ok read) fine is = cc
 
-  hist_never_bad : (removes : Bool) (read : Result SpecSeen HistFault) → hist_as removes read ≡ Err BadText → ⊥
-  hist_never_bad removes (Err fault) is = let same : fault_of_hist fault ≡ BadText = cc in hist_not_bad fault same
-  hist_never_bad removes (Ok spec) is = cc
+  hist_never_bad : (removes : Bool) (read : Result SpecSeen TriggerFault) → (read ≡ Err BadText → ⊥) → hist_as removes read ≡ Err BadText → ⊥
+  hist_never_bad removes (Err fault) fine is = let same : fault ≡ BadText = cc in fine (ap (λ (f : TriggerFault). Err f) same)
+  hist_never_bad removes (Ok spec) fine is = cc
 
   -- ---- the laws
 
@@ -384,7 +338,7 @@ module _ (definition : Definition) (text : List ℕ) where
   bad_is_unwritten = (
     λ is. record {
       unblank = λ blanks. let nothing = blanks_say_nothing blanks in cc;
-      no_hist = λ begins. let it = of_hist_text begins in hist_never_bad it.removes (spec_of definition text) (sym it.is ∙ is);
+      no_hist = λ begins. let it = of_hist_text begins in hist_never_bad it.removes (spec_of definition text) (never_bad definition text) (sym it.is ∙ is);
       unwritten = λ removes count condition written. written_never_bad removes count (filter_of definition text condition) (filter_not_bad condition) (sym (written_is removes count condition written) ∙ is);
     },
     λ un. by un kind,
@@ -407,19 +361,19 @@ module _ (definition : Definition) (text : List ℕ) where
   attached trigger true count condition (Ok read) written found is = absurd (cc)
   attached trigger false count condition (Ok read) written found is =
       let same : trigger_as count read ≡ trigger = cc in
-      let writes : Writes definition text false count read = record { condition = condition; written = written; filtered = filter_found condition read found } in
+      let writes : Writes definition text false count read = record { condition = condition; written = written; filtered = filter_found definition text condition read found } in
       subst (λ (t : SnapshotTrigger). Writes definition text false t.count t.filter) same writes
 
   removed : (removes : Bool) (count : Option ℕ) (condition : Option (List ℕ)) (read : Result (Option Parsed) TriggerFault) → IsWritten text removes count condition → filter_of definition text condition ≡ read
       → said_as removes count read ≡ Ok Remove → WritesRemoval definition text
   removed removes count condition (Err fault) written found is = absurd (cc)
   removed false count condition (Ok read) written found is = absurd (cc)
-  removed true count condition (Ok read) written found is = record { count = count; filter = read; writes = record { condition = condition; written = written; filtered = filter_found condition read found } }
+  removed true count condition (Ok read) written found is = record { count = count; filter = read; writes = record { condition = condition; written = written; filtered = filter_found definition text condition read found } }
 
   pub attach_is_written : (trigger : SnapshotTrigger) → (said_of definition text ≡ Ok (Attach trigger)) ↔ Writes definition text false trigger.count trigger.filter
   attach_is_written trigger = (
     λ is. by is kind,
-    λ writes. written_is false trigger.count writes.condition writes.written ∙ ap (said_as false trigger.count) (filter_given writes.condition trigger.filter writes.filtered),
+    λ writes. written_is false trigger.count writes.condition writes.written ∙ ap (said_as false trigger.count) (filter_given definition text writes.condition trigger.filter writes.filtered),
   )
     where
       by : said_of definition text ≡ Ok (Attach trigger) → Kind → Writes definition text false trigger.count trigger.filter
@@ -431,7 +385,7 @@ module _ (definition : Definition) (text : List ℕ) where
   pub remove_is_written : (said_of definition text ≡ Ok Remove) ↔ WritesRemoval definition text
   remove_is_written = (
     λ is. by is kind,
-    λ is. written_is true is.count is.writes.condition is.writes.written ∙ ap (said_as true is.count) (filter_given is.writes.condition is.filter is.writes.filtered),
+    λ is. written_is true is.count is.writes.condition is.writes.written ∙ ap (said_as true is.count) (filter_given definition text is.writes.condition is.filter is.writes.filtered),
   )
     where
       by : said_of definition text ≡ Ok Remove → Kind → WritesRemoval definition text
@@ -441,12 +395,12 @@ module _ (definition : Definition) (text : List ℕ) where
       by is (is_bad it) = absurd (bad_never Remove it is)
 
   -- which trigger a text of a hist trigger names
-  hist_named : (spec : SpecSeen) (removes : Bool) (read : Result SpecSeen HistFault) → BeginsHist removes → hist_as removes read ≡ Ok (Hist spec) → (take 5 text ≡ codes "hist:") × (read ≡ Ok spec)
+  hist_named : (spec : SpecSeen) (removes : Bool) (read : Result SpecSeen TriggerFault) → BeginsHist removes → hist_as removes read ≡ Ok (Hist spec) → (take 5 text ≡ codes "hist:") × (read ≡ Ok spec)
   hist_named spec removes (Err fault) begins is = absurd (cc)
   hist_named spec true (Ok read) begins is = absurd (cc)
   hist_named spec false (Ok read) begins is = let same : read ≡ spec = cc in (begins, ap (λ (s : SpecSeen). Ok s) same)
 
-  removal_named : (spec : SpecSeen) (removes : Bool) (read : Result SpecSeen HistFault) → BeginsHist removes → hist_as removes read ≡ Ok (RemoveHist spec) → (take 6 text ≡ codes "!hist:") × (read ≡ Ok spec)
+  removal_named : (spec : SpecSeen) (removes : Bool) (read : Result SpecSeen TriggerFault) → BeginsHist removes → hist_as removes read ≡ Ok (RemoveHist spec) → (take 6 text ≡ codes "!hist:") × (read ≡ Ok spec)
   removal_named spec removes (Err fault) begins is = absurd (cc)
   removal_named spec false (Ok read) begins is = absurd (cc)
   removal_named spec true (Ok read) begins is = let same : read ≡ spec = cc in (begins, ap (λ (s : SpecSeen). Ok s) same)
@@ -469,10 +423,10 @@ module _ (definition : Definition) (text : List ℕ) where
       by is (is_written it) = absurd (of_written (RemoveHist spec) it is)
       by is (is_bad it) = absurd (bad_never (RemoveHist spec) it is)
 
-  pub hist_fault_is_told : (fault : HistFault) → IsHistText text → spec_of definition text ≡ Err fault → said_of definition text ≡ Err (fault_of_hist fault)
+  pub hist_fault_is_told : (fault : TriggerFault) → IsHistText text → spec_of definition text ≡ Err fault → said_of definition text ≡ Err fault
   hist_fault_is_told fault begins refused = let it = of_hist_text begins in it.is ∙ ap (hist_as it.removes) refused
 
   pub filter_fault_is_moved : (removes : Bool) (count : Option ℕ) (condition : List ℕ) (fault : FilterFault) → IsWritten text removes count (Some condition) → IsRefused definition condition fault
       → said_of definition text ≡ Err (moved (length text - length condition) fault)
   filter_fault_is_moved removes count condition fault written refused =
-      written_is removes count (Some condition) written ∙ ap (said_as removes count) (filter_refused condition fault refused)
+      written_is removes count (Some condition) written ∙ ap (said_as removes count) (filter_refused definition text condition fault refused)

@@ -5,8 +5,8 @@ use Rattle.trace_format.specs.declared.kind.Kind.TheVariants.{Number, Char}
 use Rattle.trace_format.specs.declared.kind.NumberType.TheVariants.{U64, S64}
 use Rattle.trace_format.specs.Definitions.{Definition}
 use Rattle.trace_filter.specs.declared.test.Subject.TheVariants.{NumberField}
-use Rattle.trace_trigger.specs.declared.hist_fault.HistFault.{HistFault}
-use Rattle.trace_trigger.specs.declared.hist_fault.HistFault.TheVariants.{HistSyntax, TooMany, NoSuchField, WrongOperator, BadSize, FilterSyntax}
+use Rattle.trace_trigger.specs.declared.fault.TriggerFault.{TriggerFault}
+use Rattle.trace_trigger.specs.declared.fault.TriggerFault.TheVariants.{HistSyntax, TooMany, NoSuchField, WrongOperator, BadSize, FilterSyntax}
 use Rattle.trace_trigger.specs.declared.spec.Action.TheVariants.{Attach, Pause, Continue, Clear}
 use Rattle.trace_trigger.specs.declared.spec.SortKey.{SortKey}
 use Rattle.trace_trigger.specs.declared.sort_rule.SortRule.{SortRule}
@@ -33,10 +33,10 @@ move = record {
 
 pub record Case : Type 0 where
   pub text : List ℕ
-  pub answer : Result SpecSeen HistFault
+  pub answer : Result SpecSeen TriggerFault
 
 infix 90 ◌gives◌
-abbrev pub ◌gives◌ : List ℕ → Result SpecSeen HistFault → Case
+abbrev pub ◌gives◌ : List ℕ → Result SpecSeen TriggerFault → Case
 text gives answer = record { text = text; answer = answer }
 
 -- the strings say of the event what is beside them

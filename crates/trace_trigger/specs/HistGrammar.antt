@@ -5,8 +5,7 @@ use Rattle.std.specs.List.{All, AllPairs, AllZip, Contains, join_with_byte}
 use Rattle.trace_lex.specs.Decimals.{decimal_number}
 use Rattle.trace_lex.specs.Names.{is_name}
 use Rattle.trace_format.specs.Definitions.{Definition}
-use Rattle.trace_filter.specs.Filters.{Parsed, IsFilter, parsed_of}
-use Rattle.trace_trigger.specs.Frames.{mark, IsTail}
+use Rattle.trace_trigger.specs.Frames.{mark, IsTail, IsReadAs}
 use Rattle.trace_trigger.specs.declared.spec.Action.{Action}
 use Rattle.trace_trigger.specs.declared.spec.Action.TheVariants.{Attach, Pause, Continue, Clear}
 use Rattle.trace_trigger.specs.declared.spec.SortKey.{SortKey}
@@ -180,13 +179,6 @@ IsSortedBy keys values name (Key place) = (name ≢ codes "hitcount") × (Contai
 
 abbrev pub IsRuleOf : SpecSeen → SortKey → SortRule → Type 0
 IsRuleOf spec key rule = IsSortedBy spec.keys spec.values key.name rule.source × (rule.descending ≡ key.descending)
-
--- the filter, if there is one, is that of its text for the event
-abbrev pub IsReadAs : Definition → Option (List ℕ) → Option Parsed → Type 0
-IsReadAs definition None None = Unit {0}
-IsReadAs definition None (Some filter) = ⊥
-IsReadAs definition (Some condition) None = ⊥
-IsReadAs definition (Some condition) (Some filter) = IsFilter definition condition × (filter ≡ parsed_of definition condition)
 
 -- what the names of a trigger, and its filter, mean in its event
 pub record FitsEvent (definition : Definition) (condition : Option (List ℕ)) (spec : SpecSeen) : Type 0 where

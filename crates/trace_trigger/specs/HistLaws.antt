@@ -1,8 +1,8 @@
 -- What `HistTexts` says of trigger strings, as theorems that speak of no program.
 use Rattle.std.specs.Prelude.{◌≡◌, ◌↔◌, ℕ, List, Option, Ok, Err}
 use Rattle.trace_format.specs.Definitions.{Definition}
-use Rattle.trace_trigger.specs.declared.hist_fault.HistFault.{HistFault}
-use Rattle.trace_trigger.specs.declared.hist_fault.HistFault.TheVariants.{HistSyntax}
+use Rattle.trace_trigger.specs.declared.fault.TriggerFault.{TriggerFault}
+use Rattle.trace_trigger.specs.declared.fault.TriggerFault.TheVariants.{HistSyntax}
 use Rattle.trace_trigger.specs.HistSpecs.{SpecSeen}
 use Rattle.trace_trigger.specs.HistTexts.{IsHistText, spec_of}
 use Rattle.trace_trigger.specs.HistGrammar.{Setting, IsWritten, Says}
@@ -29,4 +29,4 @@ SyntaxIsUnwritten = (definition : Definition) → (text : List ℕ) → IsHistTe
 -- and it is refused for a fault, of whatever kind, exactly if the fault is this one: of the syntax, at the leftmost place; or else, of a string that
 -- is written so, the first that there is cause for
 abbrev pub RefusalIsAsWritten : Type 0
-RefusalIsAsWritten = (definition : Definition) → (text : List ℕ) → (fault : HistFault) → IsHistText text → (spec_of definition text ≡ Err fault) ↔ IsRefusedAs definition text fault
+RefusalIsAsWritten = (definition : Definition) → (text : List ℕ) → (fault : TriggerFault) → IsHistText text → (spec_of definition text ≡ Err fault) ↔ IsRefusedAs definition text fault

@@ -3,8 +3,8 @@ use Rattle.std.specs.Prelude.{ℕ, Bool, ◌||◌, nat_lt, if◌then◌else◌, 
 use Rattle.std.specs.List.{position}
 use Rattle.trace_lex.specs.Decimals.{decimal_number}
 use Rattle.trace_format.specs.declared.event.Field.{Field}
-use Rattle.trace_trigger.specs.declared.hist_fault.HistFault.{HistFault}
-use Rattle.trace_trigger.specs.declared.hist_fault.HistFault.TheVariants.{TooMany, NoSuchField, WrongOperator, BadSize}
+use Rattle.trace_trigger.specs.declared.fault.TriggerFault.{TriggerFault}
+use Rattle.trace_trigger.specs.declared.fault.TriggerFault.TheVariants.{TooMany, NoSuchField, WrongOperator, BadSize}
 use Rattle.trace_trigger.specs.declared.spec.SortKey.{SortKey}
 use Rattle.trace_trigger.specs.declared.sort_rule.SortRule.{SortRule}
 use Rattle.trace_trigger.specs.declared.sort_rule.SortSource.{SortSource}
@@ -12,15 +12,10 @@ use Rattle.trace_trigger.specs.declared.sort_rule.SortSource.TheVariants.{Key, V
 use Rattle.trace_trigger.specs.declared.source.Source.{Source}
 use Rattle.trace_trigger.specs.declared.named.Named.{Named}
 use Rattle.trace_trigger.specs.declared.piece.Piece.{Piece}
+use Rattle.trace_trigger.specs.TriggerAnswers.{◌>>=◌}
 use Rattle.trace_trigger.specs.HistNames.{meaning_of}
 use Rattle.trace_trigger.specs.HistSizes.{rounded_size}
 use Rattle.trace_trigger.specs.HistLists.{Lists, summed_items, is_hitcount}
-
-infixl 10 ◌>>=◌
--- what is read, and then what follows from it; the first fault is told
-abbrev pub ◌>>=◌ : {A B : Type 0} → Result A HistFault → (A → Result B HistFault) → Result B HistFault
-(Ok value) >>= next = next value
-(Err fault) >>= next = Err fault
 
 -- ---- how many
 
@@ -31,35 +26,35 @@ summed_len values = length (summed_items values)
 abbrev pub is_too_many : Lists → Bool
 is_too_many lists = (nat_lt 3 (length lists.keys) || nat_lt 3 (summed_len lists.values)) || nat_lt 2 (length lists.sort)
 
-abbrev pub few : Lists → Result Lists HistFault
+abbrev pub few : Lists → Result Lists TriggerFault
 few lists = if is_too_many lists then Err TooMany else Ok lists
 
 -- ---- keys and values
 
 -- what each element of a list comes to; or the fault of the first that is refused
-abbrev pub each : {A B : Type 0} → (A → Result B HistFault) → List A → Result (List B) HistFault
+abbrev pub each : {A B : Type 0} → (A → Result B TriggerFault) → List A → Result (List B) TriggerFault
 each read [] = Ok []
 each read (x ∷ xs) = read x >>= λ y. each read xs >>= λ ys. Ok (y ∷ ys)
 
 -- a key may be a number or a string
-abbrev pub key_named : ℕ → Option Named → Result Source HistFault
+abbrev pub key_named : ℕ → Option Named → Result Source TriggerFault
 key_named at None = Err (NoSuchField at)
 key_named at (Some named) = Ok named.source
 
-abbrev pub key_source : List Field → Piece → Result Source HistFault
+abbrev pub key_source : List Field → Piece → Result Source TriggerFault
 key_source fields item = key_named item.at (meaning_of fields item.bytes)
 
 -- a value is a number
-abbrev pub value_named : ℕ → Option Named → Result Source HistFault
+abbrev pub value_named : ℕ → Option Named → Result Source TriggerFault
 value_named at None = Err (NoSuchField at)
 value_named at (Some named) = if named.is_text then Err (WrongOperator at) else Ok named.source
 
-abbrev pub value_source : List Field → Piece → Result Source HistFault
+abbrev pub value_source : List Field → Piece → Result Source TriggerFault
 value_source fields item = value_named item.at (meaning_of fields item.bytes)
 
 -- ---- size
 
-abbrev pub told_size : Option ℕ → Result ℕ HistFault
+abbrev pub told_size : Option ℕ → Result ℕ TriggerFault
 told_size None = Err BadSize
 told_size (Some size) = Ok size
 
@@ -67,7 +62,7 @@ abbrev pub size_written : List ℕ → Option ℕ
 size_written digits = option_and_then rounded_size (decimal_number digits)
 
 -- 2048 where nothing is said
-abbrev pub size_of : Option (List ℕ) → Result ℕ HistFault
+abbrev pub size_of : Option (List ℕ) → Result ℕ TriggerFault
 size_of None = Ok 2048
 size_of (Some digits) = told_size (size_written digits)
 

@@ -5,13 +5,13 @@ use Rattle.std.specs.List.{All, Contains}
 use Rattle.trace_format.specs.Definitions.{Definition}
 use Rattle.trace_filter.specs.declared.fault.FilterFault.{FilterFault}
 use Rattle.trace_filter.specs.Filters.{IsRefused}
-use Rattle.trace_trigger.specs.declared.hist_fault.HistFault.{HistFault}
-use Rattle.trace_trigger.specs.declared.hist_fault.HistFault.TheVariants.{HistSyntax, TooMany, NoSuchField, WrongOperator, BadSize}
+use Rattle.trace_trigger.specs.declared.fault.TriggerFault.{TriggerFault}
+use Rattle.trace_trigger.specs.declared.fault.TriggerFault.TheVariants.{HistSyntax, TooMany, NoSuchField, WrongOperator, BadSize}
 use Rattle.trace_trigger.specs.declared.spec.SortKey.{SortKey}
 use Rattle.trace_trigger.specs.declared.source.Source.{Source}
 use Rattle.trace_trigger.specs.HistNames.{meaning_of}
 use Rattle.trace_trigger.specs.HistSizes.{rounded_size}
-use Rattle.trace_trigger.specs.HistTexts.{moved}
+use Rattle.trace_trigger.specs.Frames.{moved}
 use Rattle.trace_trigger.specs.HistGrammar.{Setting, Keys, Values, Sort, Size, Subject, OfKeys, OfValues, IsWritten, IsSet, summed_names, IsKeyOf, IsValueOf}
 use Rattle.trace_trigger.specs.HistFaultPlaces.{Cut, IsAt, IsList, items_place, IsLeftmostWrong}
 
@@ -51,12 +51,12 @@ pub record IsUnknownKey (definition : Definition) (text : List ℕ) (place : ℕ
   pub first : All (CanBeKey definition) before
 
 -- a value means nothing, or it is a string
-abbrev pub CannotBeValue : Definition → List ℕ → ℕ → HistFault → Type 0
+abbrev pub CannotBeValue : Definition → List ℕ → ℕ → TriggerFault → Type 0
 CannotBeValue definition name place fault = ((meaning_of definition.fields name ≡ None) × (fault ≡ NoSuchField place))
     ⊎ ((source : Source) × (meaning_of definition.fields name ≡ Some (record { source = source; is_text = true })) × (fault ≡ WrongOperator place))
 
 -- the first value that cannot be one has this fault
-pub record IsWrongValue (definition : Definition) (text : List ℕ) (fault : HistFault) : Type 0 where
+pub record IsWrongValue (definition : Definition) (text : List ℕ) (fault : TriggerFault) : Type 0 where
   pub cut : Cut text
   pub before : List (List ℕ)
   pub name : List ℕ
@@ -80,7 +80,7 @@ IsSized settings size = (entries : ℕ) × IsSet settings Size 2048 entries × (
 
 -- ---- refusals of a string that is written so
 
-pub data IsRefusal (definition : Definition) (text : List ℕ) (settings : List Setting) (condition : Option (List ℕ)) (fault : HistFault) : Type 0 where
+pub data IsRefusal (definition : Definition) (text : List ℕ) (settings : List Setting) (condition : Option (List ℕ)) (fault : TriggerFault) : Type 0 where
   ForMany : IsOver settings → fault ≡ TooMany → IsRefusal definition text settings condition fault
   ForKey : (IsOver settings → ⊥) → (place : ℕ) → IsUnknownKey definition text place → fault ≡ NoSuchField place → IsRefusal definition text settings condition fault
   ForValue : (IsOver settings → ⊥) → HaveKeys definition settings → IsWrongValue definition text fault → IsRefusal definition text settings condition fault
@@ -89,7 +89,7 @@ pub data IsRefusal (definition : Definition) (text : List ℕ) (settings : List 
   ForFilter : (IsOver settings → ⊥) → HaveKeys definition settings → HaveValues definition settings → (size : ℕ) → IsSized settings (Some size) → (filter : List ℕ) → condition ≡ Some filter
       → (told : FilterFault) → IsRefused definition filter told → fault ≡ moved (length text - length filter) told → IsRefusal definition text settings condition fault
 
-pub record IsWrittenAndRefused (definition : Definition) (text : List ℕ) (fault : HistFault) : Type 0 where
+pub record IsWrittenAndRefused (definition : Definition) (text : List ℕ) (fault : TriggerFault) : Type 0 where
   pub settings : List Setting
   pub condition : Option (List ℕ)
   pub written : IsWritten text settings condition
@@ -97,5 +97,5 @@ pub record IsWrittenAndRefused (definition : Definition) (text : List ℕ) (faul
 
 -- ---- all refusals
 
-abbrev pub IsRefusedAs : Definition → List ℕ → HistFault → Type 0
+abbrev pub IsRefusedAs : Definition → List ℕ → TriggerFault → Type 0
 IsRefusedAs definition text fault = ((at : ℕ) × (fault ≡ HistSyntax at) × IsLeftmostWrong text at) ⊎ IsWrittenAndRefused definition text fault

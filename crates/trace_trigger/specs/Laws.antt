@@ -6,11 +6,12 @@ use Rattle.trace_filter.specs.declared.fault.FilterFault.{FilterFault}
 use Rattle.trace_filter.specs.Filters.{Parsed, IsRefused}
 use Rattle.trace_trigger.specs.HistSpecs.{SpecSeen}
 use Rattle.trace_trigger.specs.HistTexts.{IsHistText, spec_of}
-use Rattle.trace_trigger.specs.declared.hist_fault.HistFault.{HistFault}
+use Rattle.trace_trigger.specs.declared.fault.TriggerFault.{TriggerFault}
 use Rattle.trace_trigger.specs.declared.fault.TriggerFault.TheVariants.{BadText}
 use Rattle.trace_trigger.specs.declared.trigger.SnapshotTrigger.{SnapshotTrigger}
 use Rattle.trace_trigger.specs.declared.trigger.TriggerText.TheVariants.{Nothing, Attach, Remove, Hist, RemoveHist}
-use Rattle.trace_trigger.specs.TriggerTexts.{fault_of_hist, moved, said_of}
+use Rattle.trace_trigger.specs.Frames.{moved}
+use Rattle.trace_trigger.specs.TriggerTexts.{said_of}
 use Rattle.trace_trigger.specs.TriggerGrammar.{IsWritten, Writes}
 
 -- a text says nothing exactly where it is blanks
@@ -44,8 +45,8 @@ RemoveHistIsRead = (definition : Definition) → (text : List ℕ) → (spec : S
 
 -- a text of a hist trigger is refused as the trigger is, at the same byte
 abbrev pub HistFaultIsTold : Type 0
-HistFaultIsTold = (definition : Definition) → (text : List ℕ) → (fault : HistFault) → IsHistText text → spec_of definition text ≡ Err fault
-    → said_of definition text ≡ Err (fault_of_hist fault)
+HistFaultIsTold = (definition : Definition) → (text : List ℕ) → (fault : TriggerFault) → IsHistText text → spec_of definition text ≡ Err fault
+    → said_of definition text ≡ Err fault
 
 -- no text that is written as one of a snapshot trigger
 abbrev pub IsUnwritten : List ℕ → Type 0

@@ -1,4 +1,5 @@
 pub mod Frames
+pub mod TriggerAnswers
 pub mod TriggerTexts
 pub mod TriggerGrammar
 pub mod Laws

@@ -3,8 +3,8 @@
 use Rattle.std.specs.Prelude.{◌≡◌, ℕ, ◌-◌, ◌≤◌, ◌^◌, Bool, codes, List, ◌++◌, Option, None, Some}
 use Rattle.trace_format.specs.Definitions.{Definition}
 use Rattle.trace_lex.specs.Decimals.{decimal_number}
-use Rattle.trace_filter.specs.Filters.{Parsed, IsFilter, parsed_of}
-use Rattle.trace_trigger.specs.Frames.{mark, IsTail}
+use Rattle.trace_filter.specs.Filters.{Parsed}
+use Rattle.trace_trigger.specs.Frames.{mark, IsTail, IsReadAs}
 
 -- `snapshot:` and a decimal number, from 1 to 2^32 - 1
 pub record IsCounted (word : List ℕ) (count : ℕ) : Type 0 where
@@ -26,13 +26,6 @@ pub record IsWritten (text : List ℕ) (removes : Bool) (count : Option ℕ) (co
   pub cut : text ≡ mark removes ++ word ++ tail
   pub counted : IsWord word count
   pub conditional : IsTail tail condition
-
--- the filter, if there is one, is that of its text for the event
-abbrev pub IsReadAs : Definition → Option (List ℕ) → Option Parsed → Type 0
-IsReadAs definition None None = Unit {0}
-IsReadAs definition None (Some filter) = ⊥
-IsReadAs definition (Some condition) None = ⊥
-IsReadAs definition (Some condition) (Some filter) = IsFilter definition condition × (filter ≡ parsed_of definition condition)
 
 -- a text is written so, and its filter is one of the event
 pub record Writes (definition : Definition) (text : List ℕ) (removes : Bool) (count : Option ℕ) (filter : Option Parsed) : Type 0 where

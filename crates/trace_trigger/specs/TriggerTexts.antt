@@ -1,20 +1,15 @@
 -- Trigger texts: what is said by a text that is written to an event's `trigger` file (events.rst, "Event triggers", "snapshot"; ftrace.rst,
 -- "Snapshot"): nothing, or an optional `!`, a word, and after it perhaps `if` and a filter. What a text with `hist:` says is defined in HistTexts.
-use Rattle.std.specs.Prelude.{◌≡◌, ℕ, unwrap_or, ◌+◌, ◌-◌, ◌^◌, Bool, ◌&&◌, ◌||◌, ◌==◌, nat_lt, if◌then◌else◌, bytes_eq, codes, List, [], ◌∷◌, length, take, drop, Option, None, Some, is_some, Result, Ok, Err}
+use Rattle.std.specs.Prelude.{ℕ, unwrap_or, ◌-◌, ◌^◌, Bool, ◌&&◌, ◌||◌, ◌==◌, nat_lt, if◌then◌else◌, bytes_eq, codes, List, [], ◌∷◌, length, take, drop, Option, None, Some, is_some, Result, Ok, Err}
 use Rattle.std.specs.List.{prefix_len, list_all}
 use Rattle.trace_lex.specs.Blanks.{is_blank}
 use Rattle.trace_lex.specs.Decimals.{decimal_number, up_to}
 use Rattle.trace_format.specs.Definitions.{Definition}
-use Rattle.trace_filter.specs.Filters.{Parsed, answer_of}
-use Rattle.trace_filter.specs.declared.fault.FilterFault.{FilterFault}
-use Rattle.trace_filter.specs.declared.fault.FilterFault.TheVariants as filter
-use Rattle.trace_trigger.specs.Frames.{is_unblank, after_blanks}
-use Rattle.trace_trigger.specs.HistSpecs.{SpecSeen}
+use Rattle.trace_trigger.specs.Frames.{is_unblank, after_blanks, filter_of}
+use Rattle.trace_trigger.specs.TriggerAnswers.{◌>>=◌}
 use Rattle.trace_trigger.specs.HistTexts.{spec_of}
-use Rattle.trace_trigger.specs.declared.hist_fault.HistFault.{HistFault}
-use Rattle.trace_trigger.specs.declared.hist_fault.HistFault.TheVariants as hist
 use Rattle.trace_trigger.specs.declared.fault.TriggerFault.{TriggerFault}
-use Rattle.trace_trigger.specs.declared.fault.TriggerFault.TheVariants.{BadText, TooMany, FilterSyntax, NoSuchField, WrongOperator, HistSyntax, BadSize, Memory}
+use Rattle.trace_trigger.specs.declared.fault.TriggerFault.TheVariants.{BadText}
 use Rattle.trace_trigger.specs.declared.trigger.SnapshotTrigger.{SnapshotTrigger}
 use Rattle.trace_trigger.specs.declared.trigger.TriggerText.{TriggerText}
 use Rattle.trace_trigger.specs.declared.trigger.TriggerText.TheVariants.{Nothing, Attach, Remove, Hist, RemoveHist}
@@ -24,6 +19,9 @@ use Rattle.trace_trigger.specs.declared.trigger.TriggerText.TheVariants.{Nothing
 -- what follows a beginning, if the text begins so
 abbrev pub after : List ℕ → List ℕ → Option (List ℕ)
 after beginning text = if bytes_eq (take (length beginning) text) beginning then Some (drop (length beginning) text) else None
+
+abbrev pub begins : List ℕ → List ℕ → Bool
+begins beginning text = is_some (after beginning text)
 
 -- the first word is all that comes before the first blank
 abbrev pub word_of : List ℕ → List ℕ
@@ -60,32 +58,7 @@ condition_after (Some text) = if nat_lt 0 (prefix_len is_blank text) && nat_lt 0
 unfoldable pub condition_of : List ℕ → Result (Option (List ℕ)) TriggerFault
 condition_of text = if list_all is_blank text then Ok None else condition_after (after (codes "if") (after_blanks text))
 
--- ---- the filter
-
--- a filter's fault, at places that count from so many bytes before the filter
-abbrev pub moved : ℕ → FilterFault → TriggerFault
-moved before filter.TooMany = TooMany
-moved before (filter.FilterSyntax at) = FilterSyntax (before + at)
-moved before (filter.NoSuchField at) = NoSuchField (before + at)
-moved before (filter.WrongOperator at) = WrongOperator (before + at)
-moved before filter.Memory = Memory
-
-abbrev pub filter_read : ℕ → Result Parsed FilterFault → Result (Option Parsed) TriggerFault
-filter_read before (Ok read) = Ok (Some read)
-filter_read before (Err fault) = Err (moved before fault)
-
--- the filter of a text that ends with the filter's text
-abbrev pub filter_of : Definition → List ℕ → Option (List ℕ) → Result (Option Parsed) TriggerFault
-filter_of definition text None = Ok None
-filter_of definition text (Some condition) = filter_read (length text - length condition) (answer_of definition condition)
-
 -- ---- the whole text
-
-infixl 10 ◌>>=◌
--- what is read, and then what follows from it; the first fault is told
-abbrev pub ◌>>=◌ : {A B : Type 0} → Result A TriggerFault → (A → Result B TriggerFault) → Result B TriggerFault
-(Ok value) >>= next = next value
-(Err fault) >>= next = Err fault
 
 -- a trigger, of a text that ends with the bytes after a `!`, or that has no `!`
 unfoldable pub trigger_of : Definition → List ℕ → List ℕ → Result SnapshotTrigger TriggerFault
@@ -102,52 +75,17 @@ said_after definition text (Some body) = trigger_of definition text body >>= λ 
 unfoldable pub snapshot_said : Definition → List ℕ → Result TriggerText TriggerFault
 snapshot_said definition text = said_after definition text (after (codes "!") text)
 
--- ---- hist triggers
-
-abbrev pub begins : List ℕ → List ℕ → Bool
-begins beginning text = is_some (after beginning text)
-
--- a hist trigger's fault as one of a text
-abbrev pub fault_of_hist : HistFault → TriggerFault
-fault_of_hist (hist.HistSyntax at) = HistSyntax at
-fault_of_hist hist.TooMany = TooMany
-fault_of_hist (hist.NoSuchField at) = NoSuchField at
-fault_of_hist (hist.WrongOperator at) = WrongOperator at
-fault_of_hist hist.BadSize = BadSize
-fault_of_hist (hist.FilterSyntax at) = FilterSyntax at
-fault_of_hist hist.Memory = Memory
-
-abbrev pub hist_read : Result SpecSeen HistFault → Result SpecSeen TriggerFault
-hist_read (Ok spec) = Ok spec
-hist_read (Err fault) = Err (fault_of_hist fault)
-
--- the hist trigger of a text
-unfoldable pub hist_of : Definition → List ℕ → Result SpecSeen TriggerFault
-hist_of definition text = hist_read (spec_of definition text)
-
 -- ---- what is said
 
 -- what a text says of an event's triggers, or why it is refused
 unfoldable pub said_of : Definition → List ℕ → Result TriggerText TriggerFault
 said_of definition text =
     if list_all is_blank text then Ok Nothing
-    else if begins (codes "hist:") text then (hist_of definition text >>= λ spec. Ok (Hist spec))
-    else if begins (codes "!hist:") text then (hist_of definition text >>= λ spec. Ok (RemoveHist spec))
+    else if begins (codes "hist:") text then (spec_of definition text >>= λ spec. Ok (Hist spec))
+    else if begins (codes "!hist:") text then (spec_of definition text >>= λ spec. Ok (RemoveHist spec))
     else snapshot_said definition text
 
--- ---- what the calls answer
-
--- what a call answers is this, unless memory was refused
-abbrev pub IsAnswered : {A : Type 0} → Result A TriggerFault → Result A TriggerFault → Type 0
-IsAnswered (Ok value) answer = answer ≡ Ok value
-IsAnswered (Err BadText) answer = answer ≡ Err BadText
-IsAnswered (Err TooMany) answer = answer ≡ Err TooMany
-IsAnswered (Err (FilterSyntax at)) answer = answer ≡ Err (FilterSyntax at)
-IsAnswered (Err (NoSuchField at)) answer = answer ≡ Err (NoSuchField at)
-IsAnswered (Err (WrongOperator at)) answer = answer ≡ Err (WrongOperator at)
-IsAnswered (Err (HistSyntax at)) answer = answer ≡ Err (HistSyntax at)
-IsAnswered (Err BadSize) answer = answer ≡ Err BadSize
-IsAnswered (Err Memory) answer = Unit {0}
+-- ---- what takes memory
 
 -- the text without a `!` at its beginning
 abbrev pub body_of : List ℕ → List ℕ

@@ -1,10 +1,10 @@
 //! Why a text is no trigger of an event.
 
 ghost use Rattle.std.specs.Prelude.{◌≡◌, ◌+◌, ◌<◌, ◌^◌, ◌-◌, Some};
-ghost use Rattle.trace_trigger.specs.Frames.{IsWithin};
-ghost use Rattle.trace_trigger.specs.TriggerTexts.{fault_of_hist, moved};
+ghost use Rattle.trace_trigger.specs.declared.fault.TriggerFault.TheVariants as faults;
+ghost use Rattle.trace_trigger.specs.Frames.{IsWithin, moved};
 
-use crate::hist_fault::HistFault;
+use std::alloc::{AllocError, AllocFailed};
 use std::error::Error;
 use std::fmt;
 use std::fmt::{Display, Formatter};
@@ -20,13 +20,14 @@ pub enum TriggerFault {
     TooMany,
     /// The first token with which no filter goes on, the end of a text where more was to come, or a value that is no number.
     FilterSyntax { at: usize },
-    /// The event has no field of this name.
+    /// The event has no field of this name, which is in the filter, or is a key or a value of a hist trigger.
     NoSuchField { at: usize },
-    /// The field can't be compared so, or is a string that is to be summed.
+    /// The filter compares a field as it can't be, or a hist trigger's value is a string, which can't be summed.
     WrongOperator { at: usize },
-    /// The first place with which no hist trigger goes on.
+    /// The leftmost place at which a hist trigger's text breaks the grammar: an attribute, an item of a list, the end of the first word if there
+    /// are no keys, or what follows that word and is no condition.
     HistSyntax { at: usize },
-    /// A histogram may have 128 to 131,072 entries.
+    /// A histogram may have 128 to 131,072 entries; other sizes are rounded up to a power of two first.
     BadSize,
     Memory,
 }
@@ -58,19 +59,19 @@ impl Display for TriggerFault {
 
 impl Error for TriggerFault {}
 
-impl From<HistFault> for TriggerFault {
-    ghost from_gives = { λ fault result. result ≡ fault_of_hist fault };
+impl From<AllocError> for TriggerFault {
+    ghost from_gives = { λ _ fault. fault ≡ faults.Memory };
 
-    fn from(fault: HistFault) -> TriggerFault {
-        match fault {
-            HistFault::HistSyntax { at } => TriggerFault::HistSyntax { at },
-            HistFault::TooMany => TriggerFault::TooMany,
-            HistFault::NoSuchField { at } => TriggerFault::NoSuchField { at },
-            HistFault::WrongOperator { at } => TriggerFault::WrongOperator { at },
-            HistFault::BadSize => TriggerFault::BadSize,
-            HistFault::FilterSyntax { at } => TriggerFault::FilterSyntax { at },
-            HistFault::Memory => TriggerFault::Memory,
-        }
+    fn from(_error: AllocError) -> TriggerFault {
+        TriggerFault::Memory
+    }
+}
+
+impl<T: Drop> From<AllocFailed<T>> for TriggerFault {
+    ghost from_gives = { λ _ fault. fault ≡ faults.Memory };
+
+    fn from(_error: AllocFailed<T>) -> TriggerFault {
+        TriggerFault::Memory
     }
 }
 

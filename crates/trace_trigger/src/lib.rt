@@ -2,8 +2,8 @@
 #![tactic(auto)]
 
 mod attribute;
+mod condition;
 mod fault;
-mod hist_fault;
 pub mod hist_laws;
 mod hist_parts;
 pub mod laws;
@@ -21,7 +21,6 @@ mod trigger;
 mod written;
 
 pub use fault::TriggerFault;
-pub use hist_fault::HistFault;
 pub use sort_rule::{SortRule, SortSource};
 pub use source::Source;
 pub use spec::{Action, HistSpec, SortKey};

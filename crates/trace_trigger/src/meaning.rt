@@ -3,9 +3,9 @@
 ghost use Rattle.std.specs.Prelude.{◌≡◌, Ok, MatchResult, IfOk, map};
 ghost use Rattle.trace_trigger.specs.HistMeanings as meanings;
 ghost use Rattle.trace_trigger.specs.HistLists as lists;
-ghost use Rattle.trace_trigger.specs.HistTexts.{IsTold};
+ghost use Rattle.trace_trigger.specs.TriggerAnswers.{IsTold};
 
-use crate::hist_fault::HistFault;
+use crate::fault::TriggerFault;
 use crate::named::meaning_of;
 use crate::piece::Piece;
 use crate::size::rounded_size;
@@ -54,12 +54,12 @@ pub(crate) fn is_too_many(written: &Written) -> bool
 }
 
 /// Where a key is found. It may be a number or a string.
-fn key_source(fields: &[Field], key: &Piece) -> Result<Source, HistFault>
+fn key_source(fields: &[Field], key: &Piece) -> Result<Source, TriggerFault>
     ensures { result ≡ meanings.key_source fields.now key.now }
 {
     match meaning_of(fields, key.bytes.as_bytes()) {
         Some(named) => Ok(named.source),
-        None => Err(HistFault::NoSuchField { at: key.at }),
+        None => Err(TriggerFault::NoSuchField { at: key.at }),
     }
 }
 
@@ -69,7 +69,7 @@ pub(crate) fn key_sources(
     alloc: Global,
     fields: &[Field],
     keys: &[Piece],
-) -> Result<Vec<Source>, HistFault>
+) -> Result<Vec<Source>, TriggerFault>
     ensures { MatchResult result
         (λ sources. meanings.each (meanings.key_source fields.now) keys.now ≡ Ok sources.items)
         (λ fault. IsTold fault (meanings.each (meanings.key_source fields.now) keys.now)) }
@@ -82,13 +82,13 @@ pub(crate) fn key_sources(
 }
 
 /// Where a value is found. It is a number.
-fn value_source(fields: &[Field], value: &Piece) -> Result<Source, HistFault>
+fn value_source(fields: &[Field], value: &Piece) -> Result<Source, TriggerFault>
     ensures { result ≡ meanings.value_source fields.now value.now }
 {
     match meaning_of(fields, value.bytes.as_bytes()) {
-        Some(named) if named.is_text => Err(HistFault::WrongOperator { at: value.at }),
+        Some(named) if named.is_text => Err(TriggerFault::WrongOperator { at: value.at }),
         Some(named) => Ok(named.source),
-        None => Err(HistFault::NoSuchField { at: value.at }),
+        None => Err(TriggerFault::NoSuchField { at: value.at }),
     }
 }
 
@@ -98,7 +98,7 @@ pub(crate) fn value_sources(
     alloc: Global,
     fields: &[Field],
     values: &[Piece],
-) -> Result<Vec<Source>, HistFault>
+) -> Result<Vec<Source>, TriggerFault>
     ensures { MatchResult result
         (λ sources. meanings.each (meanings.value_source fields.now) values.now ≡ Ok sources.items)
         (λ fault. IsTold fault (meanings.each (meanings.value_source fields.now) values.now)) }
@@ -119,11 +119,11 @@ fn size_written(digits: &[u8]) -> Option<u32>
 }
 
 /// How many entries there may be.
-pub(crate) fn size_of(size: &Option<Text>) -> Result<u32, HistFault>
+pub(crate) fn size_of(size: &Option<Text>) -> Result<u32, TriggerFault>
     ensures { result ≡ meanings.size_of size.now }
 {
     match size {
-        Some(digits) => size_written(digits.as_bytes()).ok_or(HistFault::BadSize),
+        Some(digits) => size_written(digits.as_bytes()).ok_or(TriggerFault::BadSize),
         None => Ok(DEFAULT_SIZE),
     }
 }

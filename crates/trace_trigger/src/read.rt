@@ -2,12 +2,14 @@
 
 ghost use Rattle.std.specs.Prelude.{◌≡◌, ◌≤◌, ◌+◌, IfSome, length};
 ghost use Rattle.std.specs.Option.{option_copied};
+ghost use Rattle.trace_trigger.specs.TriggerAnswers.{IsAnswered};
 ghost use Rattle.trace_trigger.specs.HistTexts as texts;
-ghost use Rattle.trace_trigger.specs.HistTexts.{IsHistText, IsAnswered, read_of, filter_of};
+ghost use Rattle.trace_trigger.specs.HistTexts.{IsHistText, read_of};
 ghost use Rattle.trace_trigger.specs.HistParts as parts;
 
 use crate::attribute::attributes_at;
-use crate::hist_fault::HistFault;
+use crate::condition::read_filter;
+use crate::fault::TriggerFault;
 use crate::hist_parts::start_of;
 use crate::meaning::{
     key_sources, names_of, size_of, sort_keys, sort_rules, summed, value_sources,
@@ -16,7 +18,6 @@ use crate::place::wrong_place;
 use crate::spec::HistSpec;
 use crate::written::Written;
 use std::alloc::Global;
-use trace_filter::Filter;
 use trace_format::EventDef;
 
 /// What the attributes of a string say, unless the string breaks the grammar. They are cut out already, and so is the tail, which is what follows
@@ -27,7 +28,7 @@ pub(crate) fn read_written(
     text: &[u8],
     word: &[u8],
     tail: &[u8],
-) -> Result<Written, HistFault>
+) -> Result<Written, TriggerFault>
     requires hist { IsHistText text.now }
     requires word { word.now ≡ parts.word_of text.now }
     requires len { length word.now ≡ parts.word_len (parts.body_of text.now) }
@@ -40,28 +41,8 @@ pub(crate) fn read_written(
     let attributes = attributes_at(alloc, start, word)?;
     let written = Written::of(alloc, &attributes)?;
     match wrong_place(text, start + word.len(), tail, &attributes, &written) {
-        Some(at) => Err(HistFault::HistSyntax { at }),
+        Some(at) => Err(TriggerFault::HistSyntax { at }),
         None => Ok(written),
-    }
-}
-
-/// The filter, whose text is the end of the whole string.
-#[tactic(auto, unfolding(crate::specs::HistTexts::filter_of))]
-pub(crate) fn read_filter(
-    alloc: Global,
-    text: &[u8],
-    condition: Option<&[u8]>,
-    event: &EventDef,
-) -> Result<Option<Filter>, HistFault>
-    requires { IfSome condition (λ filter. length filter.now ≤ length text.now) }
-    ensures { IsAnswered result (filter_of event.now text.now (option_copied condition.entry)) }
-{
-    let Some(condition) = condition else {
-        return Ok(None);
-    };
-    match Filter::parse(alloc, condition, event) {
-        Ok(filter) => Ok(Some(filter)),
-        Err(fault) => Err(HistFault::of_filter(text.len() - condition.len(), fault)),
     }
 }
 
@@ -73,7 +54,7 @@ pub(crate) fn spec_from(
     written: Written,
     condition: Option<&[u8]>,
     event: &EventDef,
-) -> Result<HistSpec, HistFault>
+) -> Result<HistSpec, TriggerFault>
     requires condition { option_copied condition ≡ parts.condition_of (parts.tail_of text.now) }
     requires bound { IfSome condition (λ filter. length filter.now ≤ length text.now) }
     ensures { IsAnswered result (texts.spec_from event.now text.now written) }

@@ -1,11 +1,12 @@
 //! What a hist trigger says (histogram.rst, "hist triggers").
 
-ghost use Rattle.std.specs.Prelude.{◌≡◌, ◌↔◌, Option, Some, None, IsTrue, option_copied, bytes_eq};
-ghost use Rattle.trace_trigger.specs.HistTexts.{IsHistText, IsAnswered, spec_of};
+ghost use Rattle.std.specs.Prelude.{◌≡◌, ◌≢◌, ◌↔◌, Option, Some, None, Err, IsTrue, option_copied, bytes_eq};
+ghost use Rattle.trace_trigger.specs.TriggerAnswers.{IsAnswered};
+ghost use Rattle.trace_trigger.specs.HistTexts.{IsHistText, spec_of};
 ghost use Rattle.trace_trigger.specs.SameSpecs.{IsSame, is_same, same_filter, same_sort_key, is_passed, filter_text};
 ghost use Rattle.std.specs.Cmp.Lexicographic.{pointwise};
 
-use crate::hist_fault::HistFault;
+use crate::fault::TriggerFault;
 use crate::hist_parts::{condition_of, cut};
 use crate::meaning::is_too_many;
 use crate::read::{read_written, spec_from};
@@ -77,14 +78,17 @@ impl HistSpec {
     /// One that breaks the grammar is refused for that, at the leftmost place where it does. Then come too many names, the first wrong key, the
     /// first wrong value, the size, and last the filter.
     #[tactic(auto, unfolding(crate::specs::HistTexts::spec_of))]
-    pub fn parse(alloc: Global, text: &[u8], event: &EventDef) -> Result<HistSpec, HistFault>
+    pub fn parse(alloc: Global, text: &[u8], event: &EventDef) -> Result<HistSpec, TriggerFault>
         requires { IsHistText text.now }
-        ensures { IsAnswered result (spec_of event.now text.now) }
+        // It is what the definition gives, unless memory is refused.
+        ensures exact { IsAnswered result (spec_of event.now text.now) }
+        // A hist trigger's text is never refused as `BadText`.
+        ensures known { spec_of event.now text.now ≢ Err TriggerFault.BadText }
     {
         let (word, tail) = cut(text);
         let written = read_written(alloc, text, word, tail)?;
         if is_too_many(&written) {
-            return Err(HistFault::TooMany);
+            return Err(TriggerFault::TooMany);
         }
         spec_from(alloc, text, written, condition_of(tail), event)
     }

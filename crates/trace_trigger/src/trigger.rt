@@ -1,9 +1,10 @@
 //! Triggers of an event, as texts write them.
 
-ghost use Rattle.std.specs.Prelude.{◌≡◌, ◌≢◌, ◌⊎◌, true, ◌≤◌, Ok, Err, IfSome, IsSome, length};
-ghost use Rattle.std.specs.Option.{option_copied};
-ghost use Rattle.trace_trigger.specs.TriggerTexts.{IsAnswered, is_hist_text, IsFilterWritten, HasFilter, after_word, condition_of, filter_of, trigger_of, snapshot_said, hist_of, said_of};
+ghost use Rattle.std.specs.Prelude.{◌≡◌, ◌⊎◌, true, ◌≤◌, Err, length};
+ghost use Rattle.trace_trigger.specs.TriggerAnswers.{IsAnswered};
+ghost use Rattle.trace_trigger.specs.TriggerTexts.{is_hist_text, IsFilterWritten, HasFilter, after_word, condition_of, trigger_of, snapshot_said, said_of};
 
+use crate::condition::read_filter;
 use crate::fault::TriggerFault;
 use crate::parts::{begins, condition_of, count_of, cut_word, is_blank_text};
 use crate::spec::HistSpec;
@@ -51,23 +52,13 @@ impl TriggerText {
             return Ok(TriggerText::Nothing);
         }
         if begins(b"hist:", text) {
-            return Ok(TriggerText::Hist(read_hist(alloc, text, event)?));
+            return Ok(TriggerText::Hist(HistSpec::parse(alloc, text, event)?));
         }
         if begins(b"!hist:", text) {
-            return Ok(TriggerText::RemoveHist(read_hist(alloc, text, event)?));
+            return Ok(TriggerText::RemoveHist(HistSpec::parse(alloc, text, event)?));
         }
         read_snapshot(alloc, text, event)
     }
-}
-
-/// The hist trigger of a text that begins with `hist:` or `!hist:`.
-#[tactic(auto, unfolding(crate::specs::TriggerTexts::hist_of))]
-fn read_hist(alloc: Global, text: &[u8], event: &EventDef) -> Result<HistSpec, TriggerFault>
-    requires { is_hist_text text.now ≡ true }
-    ensures exact { IsAnswered result (hist_of event.now text.now) }
-    ensures early { hist_of event.now text.now ≡ Err TriggerFault.BadText → result ≡ Err TriggerFault.BadText }
-{
-    Ok(HistSpec::parse(alloc, text, event)?)
 }
 
 /// What a text says of the event's snapshot trigger.
@@ -87,7 +78,7 @@ fn read_snapshot(alloc: Global, text: &[u8], event: &EventDef) -> Result<Trigger
 }
 
 /// The trigger of a text, of which `body` is all, or what follows a `!`.
-#[tactic(auto, unfolding(crate::specs::TriggerTexts::trigger_of))]
+#[tactic(auto, unfolding(crate::specs::TriggerTexts::trigger_of, crate::specs::Frames::filter_of))]
 fn read_trigger(
     alloc: Global,
     text: &[u8],
@@ -104,25 +95,4 @@ fn read_trigger(
     let condition = condition_of(rest)?;
     let filter = read_filter(alloc, text, condition, event)?;
     Ok(SnapshotTrigger { count, filter })
-}
-
-/// The filter, whose text is the end of the whole text.
-fn read_filter(
-    alloc: Global,
-    text: &[u8],
-    condition: Option<&[u8]>,
-    event: &EventDef,
-) -> Result<Option<Filter>, TriggerFault>
-    requires { IfSome condition (λ filter. length filter.now ≤ length text.now) }
-    ensures exact { IsAnswered result (filter_of event.now text.now (option_copied condition.entry)) }
-    ensures later { result ≢ Err TriggerFault.BadText }
-    ensures memory { result ≡ Err TriggerFault.Memory → IsSome condition.entry }
-{
-    let Some(condition) = condition else {
-        return Ok(None);
-    };
-    match Filter::parse(alloc, condition, event) {
-        Ok(filter) => Ok(Some(filter)),
-        Err(fault) => Err(TriggerFault::of_filter(text.len() - condition.len(), fault)),
-    }
 }

@@ -1,6 +1,6 @@
 use Rattle.std.proofs.Common.{◌≤◌, ◌-◌, length, arith}
 use Rattle.trace_trigger.proofs.FaultPlaces.{told_within, within_longer}
-use Rattle.trace_trigger.proofs.trigger.read_filter.Goals as goal
+use Rattle.trace_trigger.proofs.condition.read_filter.Goals as goal
 
 pub of_filter-requires : goal.of_filter-requires
 of_filter-requires c =
