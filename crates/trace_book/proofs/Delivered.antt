@@ -25,7 +25,7 @@ use Rattle.trace_history.specs.Triggers.{is_left, met_by, passes, times_left, tr
 use Rattle.trace_history.proofs.EventLists.{map-agrees, map-set, one_place}
 use Rattle.trace_history.proofs.Sides.{rings-exchanged, rings-stay}
 use Rattle.trace_history.proofs.Triggered.{number-before, times_left-less, times_left-same}
-use Rattle.trace_filter.specs.Truth.{Emission as Row}
+use Rattle.trace_format.specs.Operands.{Emission as Row}
 use Rattle.trace_history.specs.HistTriggers.{counted_row}
 use Rattle.trace_book.specs.Instances.{InstanceSeen, InstanceStandsFor, IsSpared, WereOffered, hists_kept, kept_as, kept_trigger, side_families}
 use Rattle.trace_book.specs.States.{CanFire, IsDelivered, WereOfferedRow, counted_down, recorded_in, row_of}

@@ -14,7 +14,7 @@ use Rattle.trace_history.specs.Declarations.{IsFit}
 use Rattle.trace_history.specs.Settings.{declared_events, instance_names, is_enabled, is_same, kept_filter}
 use Rattle.trace_book.specs.Instances.{InstanceSeen, InstanceStandsFor, kept_trigger}
 use Rattle.std.proofs.lemmas.List.Filters.{length-filter_both}
-use Rattle.trace_filter.specs.Truth.{Emission}
+use Rattle.trace_format.specs.Operands.{Emission}
 use Rattle.trace_hist.specs.Groups.{admitted, grouped, is_among}
 use Rattle.trace_trigger.specs.HistSpecs.{SpecSeen}
 use Rattle.trace_hist.specs.Hists.{counted}

@@ -1,7 +1,7 @@
 -- Hist triggers as an instance keeps them: what of them agrees with the requests, and what is done to them.
 use Rattle.std.specs.Prelude.{◌≡◌, ℕ, ◌<◌, ◌^◌, Bool, true, not, if◌then◌else◌, List, [], ◌∷◌, ◌++◌, length, map, slice_index_or, Option, Some}
 use Rattle.std.specs.List.{filter}
-use Rattle.trace_filter.specs.Truth.{Emission}
+use Rattle.trace_format.specs.Operands.{Emission}
 use Rattle.trace_format.specs.Definitions.{Definition}
 use Rattle.trace_hist.specs.Groups.{Table, grouped}
 use Rattle.trace_trigger.specs.HistSpecs.{SpecSeen}

@@ -23,7 +23,7 @@ use Rattle.trace_history.specs.History.{answer_with_room}
 use Rattle.trace_history.specs.Snapshots.{is_exchanged_by}
 use Rattle.trace_history.specs.Triggers.{trigger_of}
 use Rattle.trace_history.specs.HistTriggers.{hists_of}
-use Rattle.trace_filter.specs.Truth.{Emission}
+use Rattle.trace_format.specs.Operands.{Emission}
 use Rattle.trace_book.specs.KeptHists.{KeptHist, AreHit, CanCount, HasRoomToCount}
 use Rattle.trace_book.specs.Instances.{InstanceSeen, InstanceStandsFor, IsShaped, WereOffered, hists_kept}
 use Rattle.trace_book.specs.Changes.{IsEffect, IsApplied, IsLawful}

@@ -8,15 +8,16 @@ use Rattle.trace_filter.specs.declared.fault.FilterFault.{FilterFault}
 use Rattle.trace_filter.specs.declared.fault.FilterFault.TheVariants.{TooMany, FilterSyntax, NoSuchField, WrongOperator, Memory}
 use Rattle.trace_filter.specs.declared.syntax.Verdict.{Verdict}
 use Rattle.trace_filter.specs.declared.syntax.Verdict.TheVariants.{Fine, TooDeep, WrongAt}
-use Rattle.trace_filter.specs.declared.test.Subject.TheVariants as subjects
+use Rattle.trace_format.specs.declared.operand.Operand.TheVariants as operands
 use Rattle.trace_filter.specs.declared.token.Comparison.TheVariants as comparisons
 use Rattle.trace_lex.specs.Blanks.{trimmed}
 use Rattle.trace_filter.specs.Tokens.{Token, Compare, Name, Value, Spot, spots_of, tokens_of}
 use Rattle.trace_filter.specs.Grammar.{Expr, Spells, expr_tokens, depth_of}
 use Rattle.trace_filter.specs.Syntax.{start, reading}
 use Rattle.trace_filter.specs.Fields.{is_text_named, takes_at, fits_at, unless, or_later, operator_fault, value_fault, test_fault, fault_of_test, first_misfit}
-use Rattle.trace_filter.specs.Places.{subjects_in, first_fault, IsToldAs}
-use Rattle.trace_filter.specs.Truth.{Emission, Holds}
+use Rattle.trace_filter.specs.Subjects.{subjects_in, first_fault, IsToldAs}
+use Rattle.trace_format.specs.Operands.{Emission}
+use Rattle.trace_filter.specs.Truth.{Holds}
 use Rattle.trace_filter.specs.Steps.{Move, moves_from, moves_about, subjects_tested, evaluated, at_start}
 use Rattle.trace_filter.specs.Values.{holds_of}
 use Rattle.trace_filter.specs.Filters.{ComesTo, misfit_of, IsFilter, IsRefused, IsTold, Parsed, IsFilterOf, Passes, IsOkUnlessMemory, IsAsTold, answer_from, parsed_of, answer_of, IsAnswered}
@@ -203,24 +204,24 @@ module _ (definition : Definition) (text : List ℕ) where
   fine_in_tests : ComesTo text Fine → InTests (tokens_of (spots_of text))
   fine_in_tests fine = subst InTests fine.whole.spelled (tree_in_tests fine.whole.tree)
 
-  pub misfit_found : ComesTo text Fine → first_fault definition.fields subjects.Pid (spots_of text) ≡ misfit_of definition text
-  misfit_found fine = fault_is_misfit definition.fields (spots_of text) subjects.Pid (fine_in_tests fine)
+  pub misfit_found : ComesTo text Fine → first_fault definition.fields operands.Pid (spots_of text) ≡ misfit_of definition text
+  misfit_found fine = fault_is_misfit definition.fields (spots_of text) operands.Pid (fine_in_tests fine)
 
-  pub no_fault_in : ComesTo text Fine → misfit_of definition text ≡ None → first_fault definition.fields subjects.Pid (spots_of text) ≡ None
+  pub no_fault_in : ComesTo text Fine → misfit_of definition text ≡ None → first_fault definition.fields operands.Pid (spots_of text) ≡ None
   no_fault_in fine fits = misfit_found fine ∙ fits
 
   pub tested_subjects : ComesTo text Fine → misfit_of definition text ≡ None
-      → subjects_tested (moves_from definition.fields subjects.Pid comparisons.Eq (tokens_of (spots_of text))) ≡ subjects_in definition.fields (tokens_of (spots_of text))
-  tested_subjects fine fits = tested_is definition.fields subjects.Pid comparisons.Eq (tokens_of (spots_of text)) (fine_in_tests fine) (all_fit definition.fields subjects.Pid (spots_of text) (no_fault_in fine fits))
+      → subjects_tested (moves_from definition.fields operands.Pid comparisons.Eq (tokens_of (spots_of text))) ≡ subjects_in definition.fields (tokens_of (spots_of text))
+  tested_subjects fine fits = tested_is definition.fields operands.Pid comparisons.Eq (tokens_of (spots_of text)) (fine_in_tests fine) (all_fit definition.fields operands.Pid (spots_of text) (no_fault_in fine fits))
 
-  module _ (items : List ℕ) (moves : List Move) (items_is : items ≡ trimmed text) (moves_is : moves ≡ moves_from definition.fields subjects.Pid comparisons.Eq (tokens_of (spots_of text))) where
+  module _ (items : List ℕ) (moves : List Move) (items_is : items ≡ trimmed text) (moves_is : moves ≡ moves_from definition.fields operands.Pid comparisons.Eq (tokens_of (spots_of text))) where
     -- the steps are those of the trimmed text
     pub moves_kept : moves ≡ moves_about (subjects_tested moves) comparisons.Eq (tokens_of (spots_of items))
     moves_kept =
         let same : tokens_of (spots_of text) ≡ tokens_of (spots_of items) = sym (trimmed_tokens text) ∙ ap (λ t. tokens_of (spots_of t)) (sym items_is) in
-        moves_is ∙ about_is definition.fields subjects.Pid comparisons.Eq (tokens_of (spots_of text)) ∙ (λ i. moves_about (subjects_tested (sym moves_is i)) comparisons.Eq (same i))
+        moves_is ∙ about_is definition.fields operands.Pid comparisons.Eq (tokens_of (spots_of text)) ∙ (λ i. moves_about (subjects_tested (sym moves_is i)) comparisons.Eq (same i))
 
-    pub filter_made : length (trimmed text) ≤ 1024 → reading start (spots_of text) (length text) ≡ Fine → first_fault definition.fields subjects.Pid (spots_of text) ≡ None → answer_of definition text ≡ Ok (record { text = items; subjects = subjects_tested moves })
+    pub filter_made : length (trimmed text) ≤ 1024 → reading start (spots_of text) (length text) ≡ Fine → first_fault definition.fields operands.Pid (spots_of text) ≡ None → answer_of definition text ≡ Ok (record { text = items; subjects = subjects_tested moves })
     unfolding answer_of
     filter_made short fine found =
         let comes = subst (ComesTo text) fine verdict_is in
@@ -231,13 +232,13 @@ module _ (definition : Definition) (text : List ℕ) where
 
   -- ---- what `read` tells
 
-  pub fault_made : length (trimmed text) ≤ 1024 → reading start (spots_of text) (length text) ≡ Fine → (fault : FilterFault) → IsToldAs (first_fault definition.fields subjects.Pid (spots_of text)) fault → IsAnswered (Err fault) (answer_of definition text)
+  pub fault_made : length (trimmed text) ≤ 1024 → reading start (spots_of text) (length text) ≡ Fine → (fault : FilterFault) → IsToldAs (first_fault definition.fields operands.Pid (spots_of text)) fault → IsAnswered (Err fault) (answer_of definition text)
   fault_made short fine fault found = by fault found
     where
-      answer : (f : FilterFault) → first_fault definition.fields subjects.Pid (spots_of text) ≡ Some f → answer_of definition text ≡ Err f
+      answer : (f : FilterFault) → first_fault definition.fields operands.Pid (spots_of text) ≡ Some f → answer_of definition text ≡ Err f
       answer f h = let comes = subst (ComesTo text) fine verdict_is in short_answer Fine (Some f) short comes (sym (misfit_found comes) ∙ h)
 
-      by : (f : FilterFault) → IsToldAs (first_fault definition.fields subjects.Pid (spots_of text)) f → IsAnswered (Err f) (answer_of definition text)
+      by : (f : FilterFault) → IsToldAs (first_fault definition.fields operands.Pid (spots_of text)) f → IsAnswered (Err f) (answer_of definition text)
       by TooMany h = answer TooMany h
       by (FilterSyntax at) h = answer (FilterSyntax at) h
       by (NoSuchField at) h = answer (NoSuchField at) h
@@ -280,19 +281,19 @@ module _ (definition : Definition) (written : List ℕ) (filter : Parsed) (row :
     (is : IsFilterOf definition written filter) (is_row : IsRowOf definition row)
     (moves : List Move) (tested : subjects_tested moves ≡ filter.subjects) (kept : moves ≡ moves_about (subjects_tested moves) comparisons.Eq (tokens_of (spots_of filter.text)))
     (result : Bool) (result_is : result ≡ evaluated emission at_start moves) where
-  moves_are : moves ≡ moves_from definition.fields subjects.Pid comparisons.Eq (tokens_of (spots_of written))
+  moves_are : moves ≡ moves_from definition.fields operands.Pid comparisons.Eq (tokens_of (spots_of written))
   moves_are =
       let tokens : tokens_of (spots_of filter.text) ≡ tokens_of (spots_of written) = ap (λ t. tokens_of (spots_of t)) is.text ∙ trimmed_tokens written in
-      let about : subjects_tested moves ≡ subjects_tested (moves_from definition.fields subjects.Pid comparisons.Eq (tokens_of (spots_of written))) = tested ∙ is.subjects ∙ sym (tested_subjects definition written is.is_filter.syntax is.is_filter.fits) in
-      kept ∙ (λ i. moves_about (about i) comparisons.Eq (tokens i)) ∙ sym (about_is definition.fields subjects.Pid comparisons.Eq (tokens_of (spots_of written)))
+      let about : subjects_tested moves ≡ subjects_tested (moves_from definition.fields operands.Pid comparisons.Eq (tokens_of (spots_of written))) = tested ∙ is.subjects ∙ sym (tested_subjects definition written is.is_filter.syntax is.is_filter.fits) in
+      kept ∙ (λ i. moves_about (about i) comparisons.Eq (tokens i)) ∙ sym (about_is definition.fields operands.Pid comparisons.Eq (tokens_of (spots_of written)))
 
   pub each_holds : (tree : Expr) → Spells (tokens_of (spots_of written)) tree → IsTrue result ↔ Holds definition.fields emission tree
   each_holds tree spelled =
-      let fits = subst (AllFit definition.fields subjects.Pid) (sym spelled) (all_fit definition.fields subjects.Pid (spots_of written) (no_fault_in definition written is.is_filter.syntax is.is_filter.fits)) in
+      let fits = subst (AllFit definition.fields operands.Pid) (sym spelled) (all_fit definition.fields operands.Pid (spots_of written) (no_fault_in definition written is.is_filter.syntax is.is_filter.fits)) in
       let shallow = subst (λ t. depth_of t ≤ 16) (sym spelled) is.is_filter.syntax.shallow in
-      let value = value_is definition.fields emission (tests_decide definition row emission is.defined is_row same) tree subjects.Pid comparisons.Eq fits shallow in
-      let there : result ≡ evaluated emission at_start (moves_from definition.fields subjects.Pid comparisons.Eq (tokens_of (spots_of written))) = result_is ∙ ap (evaluated emission at_start) moves_are in
-      let whole : result ≡ evaluated emission at_start (moves_from definition.fields subjects.Pid comparisons.Eq (expr_tokens tree)) = there ∙ ap (λ t. evaluated emission at_start (moves_from definition.fields subjects.Pid comparisons.Eq t)) (sym spelled) in
+      let value = value_is definition.fields emission (tests_decide definition row emission is.defined is_row same) tree operands.Pid comparisons.Eq fits shallow in
+      let there : result ≡ evaluated emission at_start (moves_from definition.fields operands.Pid comparisons.Eq (tokens_of (spots_of written))) = result_is ∙ ap (evaluated emission at_start) moves_are in
+      let whole : result ≡ evaluated emission at_start (moves_from definition.fields operands.Pid comparisons.Eq (expr_tokens tree)) = there ∙ ap (λ t. evaluated emission at_start (moves_from definition.fields operands.Pid comparisons.Eq t)) (sym spelled) in
       ((λ h. value.0 (sym whole ∙ h)), (λ h. whole ∙ value.1 h))
 
   pub some_passes : IsTrue result ↔ Passes definition written emission
@@ -311,11 +312,11 @@ pub holds_as_its_tree : (definition : Definition) (text : List ℕ) (row : Cells
     → emission.values ≡ row.values → IsTrue (holds_of (parsed_of definition text) emission) ↔ Passes definition text emission
 holds_as_its_tree definition text row emission filter defined is_row same =
     let tokens = tokens_of (spots_of text) in
-    let moves = moves_from definition.fields subjects.Pid comparisons.Eq tokens in
+    let moves = moves_from definition.fields operands.Pid comparisons.Eq tokens in
     let tested : subjects_tested moves ≡ subjects_in definition.fields tokens = tested_subjects definition text filter.syntax filter.fits in
     let trimmed_same : tokens_of (spots_of (trimmed text)) ≡ tokens = trimmed_tokens text in
     let kept : moves ≡ moves_about (subjects_tested moves) comparisons.Eq (tokens_of (spots_of (trimmed text))) =
-    about_is definition.fields subjects.Pid comparisons.Eq tokens ∙ ap (λ ts. moves_about (subjects_tested moves) comparisons.Eq ts) (sym trimmed_same) in
+    about_is definition.fields operands.Pid comparisons.Eq tokens ∙ ap (λ ts. moves_about (subjects_tested moves) comparisons.Eq ts) (sym trimmed_same) in
     let value : holds_of (parsed_of definition text) emission ≡ evaluated emission at_start moves =
     sym (value_of_filter (parsed_of definition text) emission)
     ∙ ap (λ ss. evaluated emission at_start (moves_about ss comparisons.Eq (tokens_of (spots_of (trimmed text))))) (sym tested)

@@ -12,7 +12,6 @@ pub mod ClassGrammarLaws
 pub mod TokenGrammarLaws
 pub mod RowLemmas
 pub mod Depths
-pub mod NamedValues
 pub mod Truths
 pub mod RowTruths
 pub mod TrimLemmas

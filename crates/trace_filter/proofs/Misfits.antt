@@ -1,59 +1,35 @@
 -- The first fault of the tokens is that of the tests.
-use Rattle.std.proofs.Common.{◌≡◌, ℕ, ◌+◌, Bool, true, false, if◌then◌else◌, bytes_eq, codes, List, [], ◌∷◌, Option, None, Some, option_map, refl, sym, ap, ◌∙◌}
-use Rattle.trace_format.specs.declared.kind.Kind.{Kind}
-use Rattle.trace_format.specs.declared.kind.Kind.TheVariants as kind
+use Rattle.std.proofs.Common.{◌≡◌, ℕ, Bool, true, false, List, [], ◌∷◌, Option, None, Some, option_map, refl}
 use Rattle.trace_format.specs.declared.event.Field.{Field}
+use Rattle.trace_format.specs.declared.operand.Operand.{Operand}
+use Rattle.trace_format.specs.Operands.{operand_named, is_text}
 use Rattle.trace_filter.specs.declared.token.Comparison.{Comparison}
 use Rattle.trace_filter.specs.declared.fault.FilterFault.TheVariants.{FilterSyntax, NoSuchField, WrongOperator}
-use Rattle.trace_filter.specs.declared.test.Subject.{Subject}
-use Rattle.trace_filter.specs.declared.test.Subject.TheVariants.{Pid, Cpu}
 use Rattle.trace_filter.specs.Tokens.{Literal, Token, Open, Close, Bang, AndAnd, OrOr, Compare, Name, Value, Illegible, Spot, tokens_of}
-use Rattle.trace_filter.specs.Fields.{is_text_kind, field_has_text, is_text_named, takes_at, fits_at, unless, or_later, test_fault, first_misfit}
-use Rattle.trace_filter.specs.Places.{is_text, subject_at, subject_from, subject_named, unless_named, named_or, first_fault}
+use Rattle.trace_filter.specs.Fields.{takes_at, fits_at, unless, or_later, test_fault, first_misfit}
+use Rattle.trace_filter.specs.Subjects.{unless_named, named_or, first_fault}
 use Rattle.trace_filter.proofs.TestedMoves.{InTests}
-
-module _ (name : List ℕ) where
-  field_has_text-subject : (place : ℕ) (fields : List Field) → field_has_text fields name ≡ option_map is_text (subject_from place fields name)
-  field_has_text-subject place [] = refl
-  field_has_text-subject place (field ∷ fields) = by (bytes_eq field.name name) field.kind (field_has_text-subject (place + 1) fields)
-    where
-      by : (same : Bool) (k : Kind) → field_has_text fields name ≡ option_map is_text (subject_from (place + 1) fields name)
-          → (if same then Some (is_text_kind k) else field_has_text fields name) ≡ option_map is_text (if same then Some (subject_at place k) else subject_from (place + 1) fields name)
-      by true (kind.Number t) later = refl
-      by true (kind.Char n) later = refl
-      by false k later = later
-
-  is_text_named-subject : (fields : List Field) → is_text_named fields name ≡ option_map is_text (subject_named fields name)
-  unfolding subject_named
-  is_text_named-subject fields = by (bytes_eq name (codes "common_pid")) (bytes_eq name (codes "common_cpu")) (field_has_text-subject 0 fields)
-    where
-      by : (p q : Bool) → field_has_text fields name ≡ option_map is_text (subject_from 0 fields name)
-          → (if p then Some false else if q then Some false else field_has_text fields name) ≡ option_map is_text (if p then Some Pid else if q then Some Cpu else subject_from 0 fields name)
-      by true q later = refl
-      by false true later = refl
-      by false false later = later
 
 module _ (fields : List Field) where
   -- the two agree behind some tokens
   abbrev Agree : List Spot → Type 0
-  Agree spots = (subject : Subject) → InTests (tokens_of spots) → first_fault fields subject spots ≡ first_misfit fields spots
+  Agree spots = (subject : Operand) → InTests (tokens_of spots) → first_fault fields subject spots ≡ first_misfit fields spots
 
-  one_test : (name : List ℕ) (at : ℕ) (by : Comparison) (by_at : ℕ) (literal : Literal) (value_at : ℕ) (rest : List Spot) (subject : Subject)
+  one_test : (name : List ℕ) (at : ℕ) (by : Comparison) (by_at : ℕ) (literal : Literal) (value_at : ℕ) (rest : List Spot) (subject : Operand)
       → InTests (tokens_of rest) → Agree rest
       → first_fault fields subject (record { at = at; token = Name name } ∷ record { at = by_at; token = Compare by } ∷ record { at = value_at; token = Value literal } ∷ rest)
       ≡ first_misfit fields (record { at = at; token = Name name } ∷ record { at = by_at; token = Compare by } ∷ record { at = value_at; token = Value literal } ∷ rest)
   one_test name at by by_at literal value_at rest subject h agree =
-      named (subject_named fields name)
-      ∙ ap (λ text. or_later (test_fault text at (record { at = by_at; token = Compare by }) (record { at = value_at; token = Value literal })) (first_misfit fields rest)) (sym (is_text_named-subject name fields))
+      named (operand_named fields name)
     where
-      fits : (s : Subject) (takes fit : Bool)
+      fits : (s : Operand) (takes fit : Bool)
           → or_later (unless takes (WrongOperator by_at)) (or_later (unless fit (FilterSyntax value_at)) (first_fault fields s rest))
           ≡ or_later (or_later (unless takes (WrongOperator by_at)) (unless fit (FilterSyntax value_at))) (first_misfit fields rest)
       fits s true true = agree s h
       fits s true false = refl
       fits s false fit = refl
 
-      named : (o : Option Subject)
+      named : (o : Option Operand)
           → or_later (unless_named o (NoSuchField at))
           (or_later (unless (takes_at (is_text (named_or o subject)) by) (WrongOperator by_at)) (or_later (unless (fits_at (is_text (named_or o subject)) literal) (FilterSyntax value_at)) (first_fault fields (named_or o subject) rest)))
           ≡ or_later (test_fault (option_map is_text o) at (record { at = by_at; token = Compare by }) (record { at = value_at; token = Value literal })) (first_misfit fields rest)

@@ -11,21 +11,22 @@ use Rattle.std.proofs.lemmas.Slice.Eq.{bytes_eq-Decides}
 use Rattle.trace_format.specs.declared.kind.Kind.{Kind}
 use Rattle.trace_format.specs.declared.kind.Kind.TheVariants as kind
 use Rattle.trace_format.specs.declared.event.Field.{Field}
+use Rattle.trace_format.specs.declared.operand.Operand.{Operand}
+use Rattle.trace_format.specs.declared.operand.Operand.TheVariants as operands
 use Rattle.trace_lex.specs.Numbers.{number_of}
+use Rattle.trace_format.specs.Kinds.{is_text_kind}
 use Rattle.trace_format.specs.Cells.{Datum, Whole, Bytes, Cells, Holds, IsRowOf}
+use Rattle.trace_format.specs.Operands.{Emission, operand_from, operand_named, is_text, operand_value}
 use Rattle.trace_format.specs.Definitions.{Definition, AreFields, IsDefinition, is_kind}
 use Rattle.trace_filter.specs.declared.token.Comparison.{Comparison}
 use Rattle.trace_filter.specs.declared.token.Comparison.TheVariants as comparison
-use Rattle.trace_filter.specs.declared.test.Subject.{Subject}
-use Rattle.trace_filter.specs.declared.test.Subject.TheVariants.{Pid, Cpu}
 use Rattle.trace_filter.specs.Tokens.{Literal, Word, Quoted}
 use Rattle.trace_filter.specs.Globs.{parts_of}
 use Rattle.trace_filter.specs.Marks.{is_match}
 use Rattle.trace_filter.specs.Fields.{fits_at}
-use Rattle.trace_filter.specs.Places.{subject_at, subject_from, subject_named, is_text}
-use Rattle.trace_filter.specs.Truth.{pattern_of, NumbersCompare, TextsCompare, literal_bytes, NumberCompares, DatumCompares, Emission}
+use Rattle.trace_filter.specs.Truth.{pattern_of, NumbersCompare, TextsCompare, literal_bytes, NumberCompares, DatumCompares}
 use Rattle.trace_filter.specs.Tests.{number_test, text_test}
-use Rattle.trace_filter.specs.Steps.{value_of, datum_at, test_of}
+use Rattle.trace_filter.specs.Steps.{datum_at, test_of}
 use Rattle.trace_filter.proofs.Options.{some_is}
 use Rattle.trace_filter.proofs.GlobLemmas.{is_match-Decides}
 use Rattle.trace_filter.proofs.Truths.{TestsDecide, not_decides}
@@ -86,7 +87,7 @@ test_decides by false o (Word w) (z, is) fits =
 test_decides by false o (Quoted w) (z, is) fits = absurd (wrong fits)
 
 module _ (emission : Emission) (name : List ℕ) where
-  field_type : (k : Kind) (v : Datum) (place : ℕ) → Holds k v → IsTrue (is_kind k) → slice_get emission.values place ≡ Some v → HasType (is_text (subject_at place k)) (value_of emission (subject_at place k))
+  field_type : (k : Kind) (v : Datum) (place : ℕ) → Holds k v → IsTrue (is_kind k) → slice_get emission.values place ≡ Some v → HasType (is_text_kind k) (slice_get emission.values place)
   field_type (kind.Number t) (Whole z) place holds sized at = (z, at)
   field_type (kind.Number t) (Bytes b) place holds sized at = absurd holds
   field_type (kind.Char n) (Whole z) place holds sized at = absurd holds
@@ -95,7 +96,7 @@ module _ (emission : Emission) (name : List ℕ) where
       (b, at, omega (arith, holds.0, small))
 
   types_from : (place : ℕ) (before fields : List Field) (values : List Datum) → AllZip Holds (map (λ field. field.kind) fields) values → AreFields before fields
-      → ((k : ℕ) → slice_get emission.values (place + k) ≡ slice_get values k) → (subject : Subject) → subject_from place fields name ≡ Some subject → HasType (is_text subject) (value_of emission subject)
+      → ((k : ℕ) → slice_get emission.values (place + k) ≡ slice_get values k) → (subject : Operand) → operand_from place fields name ≡ Some subject → HasType (is_text subject) (operand_value emission subject)
   types_from place before [] values holds are at subject h = absurd (cc)
   types_from place before (field ∷ fields) [] holds are at subject h = absurd holds
   types_from place before (field ∷ fields) (v ∷ values) holds are at subject h =
@@ -104,14 +105,14 @@ module _ (emission : Emission) (name : List ℕ) where
       next : (k : ℕ) → place + 1 + k ≡ place + suc k
       next k = omega arith
 
-      by : (same : Bool) → (subject_from (place + 1) fields name ≡ Some subject → HasType (is_text subject) (value_of emission subject))
-          → (if same then Some (subject_at place field.kind) else subject_from (place + 1) fields name) ≡ Some subject → HasType (is_text subject) (value_of emission subject)
-      by true later h = subst (λ s. HasType (is_text s) (value_of emission s)) (some_is h) (field_type field.kind v place holds.0 are.0.sized (ap (slice_get emission.values) (sym (add-zero place)) ∙ at 0))
+      by : (same : Bool) → (operand_from (place + 1) fields name ≡ Some subject → HasType (is_text subject) (operand_value emission subject))
+          → (if same then Some (operands.Field place (is_text_kind field.kind)) else operand_from (place + 1) fields name) ≡ Some subject → HasType (is_text subject) (operand_value emission subject)
+      by true later h = subst (λ s. HasType (is_text s) (operand_value emission s)) (some_is h) (field_type field.kind v place holds.0 are.0.sized (ap (slice_get emission.values) (sym (add-zero place)) ∙ at 0))
       by false later h = later h
 
-  named_type : (definition : Definition) (row : Cells) → IsDefinition definition → IsRowOf definition row → emission.values ≡ row.values → (subject : Subject) → subject_named definition.fields name ≡ Some subject
-      → HasType (is_text subject) (value_of emission subject)
-  unfolding subject_named
+  named_type : (definition : Definition) (row : Cells) → IsDefinition definition → IsRowOf definition row → emission.values ≡ row.values → (subject : Operand) → operand_named definition.fields name ≡ Some subject
+      → HasType (is_text subject) (operand_value emission subject)
+  unfolding operand_named
   named_type definition row is is_row same subject h =
       by (bytes_eq name (codes "common_pid")) (bytes_eq name (codes "common_cpu"))
       (types_from 0 [] definition.fields row.values (subst (λ k. AllZip Holds k row.values) is_row.kinds is_row.values) is.fields (λ k. ap (slice_get emission.values) (zero_add k) ∙ ap (λ v. slice_get v k) same) subject) h
@@ -119,12 +120,12 @@ module _ (emission : Emission) (name : List ℕ) where
       zero_add : (k : ℕ) → 0 + k ≡ k
       zero_add k = omega arith
 
-      by : (p q : Bool) → (subject_from 0 definition.fields name ≡ Some subject → HasType (is_text subject) (value_of emission subject))
-          → (if p then Some Pid else if q then Some Cpu else subject_from 0 definition.fields name) ≡ Some subject → HasType (is_text subject) (value_of emission subject)
-      by true q later h = subst (λ s. HasType (is_text s) (value_of emission s)) (some_is h) (emission.pid, refl)
-      by false true later h = subst (λ s. HasType (is_text s) (value_of emission s)) (some_is h) (pos emission.cpu, refl)
+      by : (p q : Bool) → (operand_from 0 definition.fields name ≡ Some subject → HasType (is_text subject) (operand_value emission subject))
+          → (if p then Some operands.Pid else if q then Some operands.Cpu else operand_from 0 definition.fields name) ≡ Some subject → HasType (is_text subject) (operand_value emission subject)
+      by true q later h = subst (λ s. HasType (is_text s) (operand_value emission s)) (some_is h) (emission.pid, refl)
+      by false true later h = subst (λ s. HasType (is_text s) (operand_value emission s)) (some_is h) (pos emission.cpu, refl)
       by false false later h = later h
 
 pub tests_decide : (definition : Definition) (row : Cells) (emission : Emission) → IsDefinition definition → IsRowOf definition row → emission.values ≡ row.values → TestsDecide definition.fields emission
 tests_decide definition row emission is is_row same name subject by literal named takes fits =
-    test_decides by (is_text subject) (value_of emission subject) literal (named_type emission name definition row is is_row same subject named) fits
+    test_decides by (is_text subject) (operand_value emission subject) literal (named_type emission name definition row is is_row same subject named) fits

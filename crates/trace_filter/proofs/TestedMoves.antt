@@ -3,11 +3,12 @@ use Rattle.std.proofs.Common.{◌≡◌, List, [], ◌∷◌, ◌++◌, refl, sy
 use Rattle.std.specs.Option.{option_to_list}
 use Rattle.trace_format.specs.declared.event.Field.{Field}
 use Rattle.trace_filter.specs.declared.token.Comparison.{Comparison}
-use Rattle.trace_filter.specs.declared.test.Subject.{Subject}
+use Rattle.trace_format.specs.declared.operand.Operand.{Operand}
+use Rattle.trace_format.specs.Operands.{operand_named, is_text}
 use Rattle.trace_filter.specs.declared.fault.FilterFault.TheVariants.{NoSuchField}
 use Rattle.trace_filter.specs.Tokens.{Token, Open, Close, Bang, AndAnd, OrOr, Compare, Name, Value, Illegible}
 use Rattle.trace_filter.specs.Grammar.{Expr, AllOf, Or, Conj, Only, And, Unary, Not, Group, Test, expr_tokens, conj_tokens, unary_tokens}
-use Rattle.trace_filter.specs.Places.{is_text, subject_named, subjects_in, named_or}
+use Rattle.trace_filter.specs.Subjects.{subjects_in, named_or}
 use Rattle.trace_filter.specs.Steps.{Opens, Closes, Inverts, AndThen, OrElse, Checks, datum_at, moves_from, moves_about, subjects_tested}
 use Rattle.trace_filter.proofs.Truths.{AllFit, unless_some}
 
@@ -44,7 +45,7 @@ tree_in_tests e = subst InTests (append-nil (expr_tokens e)) (expr_in_tests e []
 
 -- the steps of tokens test what the names mean
 module _ (fields : List Field) where
-  pub tested_is : (subject : Subject) (by : Comparison) (tokens : List Token) → InTests tokens → AllFit fields subject tokens → subjects_tested (moves_from fields subject by tokens) ≡ subjects_in fields tokens
+  pub tested_is : (subject : Operand) (by : Comparison) (tokens : List Token) → InTests tokens → AllFit fields subject tokens → subjects_tested (moves_from fields subject by tokens) ≡ subjects_in fields tokens
   tested_is subject by [] h fit = refl
   tested_is subject by (Open ∷ tokens) h fit = tested_is subject by tokens h fit.1
   tested_is subject by (Close ∷ tokens) h fit = tested_is subject by tokens h fit.1
@@ -53,16 +54,16 @@ module _ (fields : List Field) where
   tested_is subject by (OrOr ∷ tokens) h fit = tested_is subject by tokens h fit.1
   tested_is subject by (Compare c ∷ tokens) h fit = absurd h
   tested_is subject by (Name name ∷ Compare c ∷ Value literal ∷ tokens) h fit =
-      let found = unless_some (subject_named fields name) (NoSuchField 0) fit.0 in
-      ap (λ o. named_or o subject ∷ subjects_tested (moves_from fields (named_or (subject_named fields name) subject) c tokens)) found.is
-      ∙ ap (λ rest. found.subject ∷ rest) (tested_is (named_or (subject_named fields name) subject) c tokens h fit.1.1.1)
+      let found = unless_some (operand_named fields name) (NoSuchField 0) fit.0 in
+      ap (λ o. named_or o subject ∷ subjects_tested (moves_from fields (named_or (operand_named fields name) subject) c tokens)) found.is
+      ∙ ap (λ rest. found.subject ∷ rest) (tested_is (named_or (operand_named fields name) subject) c tokens h fit.1.1.1)
       ∙ ap (λ o. option_to_list o ++ subjects_in fields tokens) (sym found.is)
   tested_is subject by (Name name ∷ tokens) h fit = absurd h
   tested_is subject by (Value literal ∷ tokens) h fit = absurd h
   tested_is subject by (Illegible ∷ tokens) h fit = absurd h
 
   -- and are told by the tokens and what is tested
-  pub about_is : (subject : Subject) (by : Comparison) (tokens : List Token) → moves_from fields subject by tokens ≡ moves_about (subjects_tested (moves_from fields subject by tokens)) by tokens
+  pub about_is : (subject : Operand) (by : Comparison) (tokens : List Token) → moves_from fields subject by tokens ≡ moves_about (subjects_tested (moves_from fields subject by tokens)) by tokens
   about_is subject by [] = refl
   about_is subject by (Open ∷ tokens) = ap (λ moves. Opens ∷ moves) (about_is subject by tokens)
   about_is subject by (Close ∷ tokens) = ap (λ moves. Closes ∷ moves) (about_is subject by tokens)
@@ -70,6 +71,6 @@ module _ (fields : List Field) where
   about_is subject by (AndAnd ∷ tokens) = ap (λ moves. AndThen ∷ moves) (about_is subject by tokens)
   about_is subject by (OrOr ∷ tokens) = ap (λ moves. OrElse ∷ moves) (about_is subject by tokens)
   about_is subject by (Compare c ∷ tokens) = about_is subject c tokens
-  about_is subject by (Name name ∷ tokens) = about_is (named_or (subject_named fields name) subject) by tokens
+  about_is subject by (Name name ∷ tokens) = about_is (named_or (operand_named fields name) subject) by tokens
   about_is subject by (Value literal ∷ tokens) = ap (λ moves. Checks subject by (datum_at (is_text subject) literal) ∷ moves) (about_is subject by tokens)
   about_is subject by (Illegible ∷ tokens) = about_is subject by tokens

@@ -9,7 +9,7 @@ use Rattle.trace_lex.specs.Blanks.{is_blank, without_end, trimmed}
 use Rattle.trace_filter.specs.Tokens.{Token, Compare, Name, Value, Spot, spots_of, tokens_of, shifted_by}
 use Rattle.trace_filter.specs.Grammar.{IsFine, IsWhole, depth_of}
 use Rattle.trace_filter.specs.Fields.{is_text_named, takes_at, fits_at, unless, or_later, operator_fault, value_fault, test_fault, fault_of_test, first_misfit}
-use Rattle.trace_filter.specs.Truth.{Emission}
+use Rattle.trace_format.specs.Operands.{Emission}
 use Rattle.trace_filter.specs.Filters.{IsFilter, Passes, misfit_of}
 use Rattle.trace_filter.proofs.TrimLemmas.{trimmed_spots, trimmed_tokens, trimmed_twice}
 

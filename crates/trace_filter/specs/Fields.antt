@@ -1,8 +1,7 @@
--- What the names of a filter mean in an event, and the first of its tests that does not fit.
-use Rattle.std.specs.Prelude.{ℕ, Bool, true, false, if◌then◌else◌, bytes_eq, codes, List, [], ◌∷◌, Option, None, Some, is_some}
-use Rattle.trace_format.specs.declared.kind.Kind.{Kind}
-use Rattle.trace_format.specs.declared.kind.Kind.TheVariants as kind
+-- Which tests fit what their names mean in an event, and the first of a filter's tests that does not.
+use Rattle.std.specs.Prelude.{ℕ, Bool, true, false, List, [], ◌∷◌, Option, None, Some, is_some, option_map}
 use Rattle.trace_format.specs.declared.event.Field.{Field}
+use Rattle.trace_format.specs.Operands.{operand_named, is_text}
 use Rattle.trace_lex.specs.Numbers.{number_of}
 use Rattle.trace_filter.specs.declared.token.Comparison.{Comparison}
 use Rattle.trace_filter.specs.declared.token.Comparison.TheVariants as comparison
@@ -10,21 +9,9 @@ use Rattle.trace_filter.specs.declared.fault.FilterFault.{FilterFault}
 use Rattle.trace_filter.specs.declared.fault.FilterFault.TheVariants.{FilterSyntax, NoSuchField, WrongOperator}
 use Rattle.trace_filter.specs.Tokens.{Literal, Word, Quoted, Token, Compare, Name, Value, Spot}
 
--- whether a field of the type has texts
-abbrev pub is_text_kind : Kind → Bool
-is_text_kind (kind.Number t) = false
-is_text_kind (kind.Char n) = true
-
--- whether the field of a name has texts, if there is one
-abbrev pub field_has_text : List Field → List ℕ → Option Bool
-field_has_text [] name = None
-field_has_text (field ∷ fields) name = if bytes_eq field.name name then Some (is_text_kind field.kind) else field_has_text fields name
-
--- the same of any name: every event has the numbers `common_pid` and `common_cpu`
+-- whether what a name means in the event is a text, if it means something
 abbrev pub is_text_named : List Field → List ℕ → Option Bool
-is_text_named fields name = if bytes_eq name (codes "common_pid") then Some false
-    else if bytes_eq name (codes "common_cpu") then Some false
-    else field_has_text fields name
+is_text_named fields name = option_map is_text (operand_named fields name)
 
 -- texts are compared by `==`, `!=` and `~`; numbers by all but `~`
 abbrev pub takes_at : Bool → Comparison → Bool

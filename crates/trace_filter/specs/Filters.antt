@@ -1,18 +1,19 @@
 -- Filters of an event: which texts are filters, how others are refused, and when a filter passes an emission.
 use Rattle.std.specs.Prelude.{◌≡◌, ◌⊎◌, ◌<◌, ◌≤◌, ℕ, Bool, true, false, nat_lt, List, length, Option, None, Some, Result, Ok, Err}
 use Rattle.trace_format.specs.Definitions.{Definition, IsDefinition}
+use Rattle.trace_format.specs.declared.operand.Operand.{Operand}
+use Rattle.trace_format.specs.Operands.{Emission}
 use Rattle.trace_filter.specs.declared.fault.FilterFault.{FilterFault}
 use Rattle.trace_filter.specs.declared.fault.FilterFault.TheVariants.{TooMany, FilterSyntax, NoSuchField, WrongOperator, Memory}
 use Rattle.trace_filter.specs.declared.syntax.Verdict.{Verdict}
 use Rattle.trace_filter.specs.declared.syntax.Verdict.TheVariants.{Fine, TooDeep, WrongAt}
-use Rattle.trace_filter.specs.declared.test.Subject.{Subject}
 use Rattle.trace_lex.specs.Blanks.{trimmed}
 use Rattle.trace_filter.specs.Tokens.{spots_of, tokens_of}
 use Rattle.trace_filter.specs.Grammar.{Expr, Spells, IsVerdict}
 use Rattle.trace_filter.specs.Syntax.{start, reading}
 use Rattle.trace_filter.specs.Fields.{first_misfit}
-use Rattle.trace_filter.specs.Places.{subjects_in}
-use Rattle.trace_filter.specs.Truth.{Emission, Holds}
+use Rattle.trace_filter.specs.Subjects.{subjects_in}
+use Rattle.trace_filter.specs.Truth.{Holds}
 
 -- at most 1,024 bytes between the blanks at both ends
 abbrev pub IsShort : List ℕ → Type 0
@@ -62,7 +63,7 @@ IsTold definition text Memory = Unit {0}
 -- a filter: its text, and what its tests are about, in order
 pub record Parsed : Type 0 where
   pub text : List ℕ
-  pub subjects : List Subject
+  pub subjects : List Operand
 
 -- the filter that a text is, which is one of the event: the text without blanks at both ends, and what its names mean in the event
 pub record IsFilterOf (definition : Definition) (written : List ℕ) (filter : Parsed) : Type 0 where

@@ -12,7 +12,7 @@ use Rattle.trace_filter.specs.Fits.{tests_of, EachTestFits, test_places, IsFirst
 use Rattle.trace_filter.specs.Globs.{Class, is_in_class, Part, parts_of}
 use Rattle.trace_filter.specs.GlobGrammar.{IsWrittenGlob}
 use Rattle.trace_filter.specs.ClassGrammar.{Member, AreWrittenOf, ClassHolds}
-use Rattle.trace_filter.specs.Truth.{Emission}
+use Rattle.trace_format.specs.Operands.{Emission}
 use Rattle.trace_filter.specs.Filters.{IsShort, misfit_of, IsFilter, IsRefused, Passes, parsed_of, answer_of}
 use Rattle.trace_filter.specs.Values.{holds_of}
 

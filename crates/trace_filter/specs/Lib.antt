@@ -10,7 +10,7 @@ pub mod Marks
 pub mod SeenGlobs
 pub mod Fields
 pub mod Fits
-pub mod Places
+pub mod Subjects
 pub mod Truth
 pub mod Tests
 pub mod Steps

@@ -1,18 +1,18 @@
 -- A filter as the program keeps and evaluates it. That its value is the truth of the filter's tree is the law
 -- `filters_hold_as_their_trees`.
-use Rattle.std.specs.Prelude.{pos, Bool, true, false, not, ◌&&◌, ◌||◌, nat_lt, if◌then◌else◌, List, [], ◌∷◌, ◌++◌, length, reverse, Option, None, Some, unwrap_or, slice_get}
+use Rattle.std.specs.Prelude.{pos, Bool, true, false, not, ◌&&◌, ◌||◌, nat_lt, if◌then◌else◌, List, [], ◌∷◌, ◌++◌, length, reverse, Option, None, Some, unwrap_or}
 use Rattle.trace_format.specs.declared.event.Field.{Field}
+use Rattle.trace_format.specs.declared.operand.Operand.{Operand}
+use Rattle.trace_format.specs.Operands.{Emission, is_text, operand_value}
 use Rattle.trace_format.specs.Cells.{Datum, Whole, Bytes, datum_of}
 use Rattle.trace_filter.specs.declared.token.Comparison.{Comparison}
-use Rattle.trace_filter.specs.declared.test.Subject.{Subject}
-use Rattle.trace_filter.specs.declared.test.Subject.TheVariants.{Pid, Cpu, NumberField, TextField}
 use Rattle.trace_filter.specs.declared.steps.Step as step
 use Rattle.trace_filter.specs.declared.steps.Step.TheVariants as steps
 use Rattle.trace_filter.specs.declared.frames.Frame.{Frame}
 use Rattle.trace_filter.specs.declared.frames.Frames.{Frames}
 use Rattle.trace_filter.specs.Tokens.{Literal, Token, Open, Close, Bang, AndAnd, OrOr, Compare, Name, Value, Illegible}
-use Rattle.trace_filter.specs.Places.{is_text, subject_behind}
-use Rattle.trace_filter.specs.Truth.{Emission, literal_number, literal_bytes}
+use Rattle.trace_filter.specs.Subjects.{subject_behind}
+use Rattle.trace_filter.specs.Truth.{literal_number, literal_bytes}
 use Rattle.trace_filter.specs.Tests.{datum_test}
 
 -- ---- steps
@@ -23,7 +23,7 @@ pub data Move : Type 0 where
   Inverts : Move
   AndThen : Move
   OrElse : Move
-  Checks : Subject → Comparison → Datum → Move
+  Checks : Operand → Comparison → Datum → Move
 
 abbrev pub move_of : step.Step → Move
 move_of steps.Open = Opens
@@ -38,7 +38,7 @@ datum_at true literal = Bytes (literal_bytes literal)
 datum_at false literal = Whole (unwrap_or (literal_number literal) (pos 0))
 
 -- the steps of one token, where the subject and the comparison were named last
-abbrev pub moves_of : Subject → Comparison → Token → List Move
+abbrev pub moves_of : Operand → Comparison → Token → List Move
 moves_of subject by Open = Opens ∷ []
 moves_of subject by Close = Closes ∷ []
 moves_of subject by Bang = Inverts ∷ []
@@ -60,12 +60,12 @@ comparison_behind by (Name name) = by
 comparison_behind by (Value literal) = by
 comparison_behind by Illegible = by
 
-abbrev pub moves_from : List Field → Subject → Comparison → List Token → List Move
+abbrev pub moves_from : List Field → Operand → Comparison → List Token → List Move
 moves_from fields subject by [] = []
 moves_from fields subject by (token ∷ tokens) = moves_of subject by token ++ moves_from fields (subject_behind fields subject token) (comparison_behind by token) tokens
 
 -- the steps of tokens whose tests are about these subjects, in order
-abbrev pub moves_about : List Subject → Comparison → List Token → List Move
+abbrev pub moves_about : List Operand → Comparison → List Token → List Move
 moves_about subjects by [] = []
 moves_about subjects by (Open ∷ tokens) = Opens ∷ moves_about subjects by tokens
 moves_about subjects by (Close ∷ tokens) = Closes ∷ moves_about subjects by tokens
@@ -79,7 +79,7 @@ moves_about (subject ∷ subjects) by (Value literal ∷ tokens) = Checks subjec
 moves_about subjects by (Illegible ∷ tokens) = moves_about subjects by tokens
 
 -- what steps test, in order
-abbrev pub subjects_tested : List Move → List Subject
+abbrev pub subjects_tested : List Move → List Operand
 subjects_tested [] = []
 subjects_tested (Opens ∷ moves) = subjects_tested moves
 subjects_tested (Closes ∷ moves) = subjects_tested moves
@@ -89,13 +89,6 @@ subjects_tested (OrElse ∷ moves) = subjects_tested moves
 subjects_tested (Checks subject by b ∷ moves) = subject ∷ subjects_tested moves
 
 -- ---- their value
-
--- the value of a subject
-abbrev pub value_of : Emission → Subject → Option Datum
-value_of emission Pid = Some (Whole emission.pid)
-value_of emission Cpu = Some (Whole (pos emission.cpu))
-value_of emission (NumberField place) = slice_get emission.values place
-value_of emission (TextField place) = slice_get emission.values place
 
 -- what was found inside the innermost open `(`, and inside those round it, innermost first. Of each: whether an alternative before this one
 -- holds, whether all operands of this one hold so far, and whether the next operand is inverted
@@ -133,7 +126,7 @@ behind_move emission state Closes = closed state.frame state.outer
 behind_move emission state Inverts = record { frame = record { any = state.frame.any; all = state.frame.all; odd = not state.frame.odd }; outer = state.outer }
 behind_move emission state AndThen = state
 behind_move emission state OrElse = record { frame = record { any = total state.frame; all = true; odd = false }; outer = state.outer }
-behind_move emission state (Checks subject by b) = record { frame = with_operand state.frame (test_of by (value_of emission subject) b); outer = state.outer }
+behind_move emission state (Checks subject by b) = record { frame = with_operand state.frame (test_of by (operand_value emission subject) b); outer = state.outer }
 
 abbrev pub evaluated : Emission → State → List Move → Bool
 evaluated emission state [] = total state.frame

@@ -1,8 +1,9 @@
 -- When a filter holds of a row, a CPU and a process.
-use Rattle.std.specs.Prelude.{◌≡◌, ◌⊎◌, ℕ, ◌-◌, ◌%◌, ◌^◌, ℤ, pos, negsuc, ◌≤ℤ◌, bit_and, List, if◌then◌else◌, bytes_eq, codes, Option, None, Some}
+use Rattle.std.specs.Prelude.{◌≡◌, ◌⊎◌, ℕ, ◌-◌, ◌%◌, ◌^◌, ℤ, pos, negsuc, ◌≤ℤ◌, bit_and, List, Option, None, Some}
 use Rattle.trace_format.specs.declared.event.Field.{Field}
 use Rattle.trace_lex.specs.Numbers.{number_of}
-use Rattle.trace_format.specs.Cells.{Datum, Whole, Bytes, value_at}
+use Rattle.trace_format.specs.Cells.{Datum, Whole, Bytes}
+use Rattle.trace_format.specs.Operands.{Emission, value_named}
 use Rattle.trace_filter.specs.declared.token.Comparison.{Comparison}
 use Rattle.trace_filter.specs.declared.token.Comparison.TheVariants as comparison
 use Rattle.trace_filter.specs.Tokens.{Literal, Word, Quoted}
@@ -54,18 +55,6 @@ abbrev pub DatumCompares : Comparison → Option Datum → Literal → Type 0
 DatumCompares by None literal = ⊥
 DatumCompares by (Some (Whole a)) literal = NumberCompares by a (literal_number literal)
 DatumCompares by (Some (Bytes a)) literal = TextsCompare by a (literal_bytes literal)
-
--- what an emission has: the values of its row, its CPU and its process
-pub record Emission : Type 0 where
-  pub values : List Datum
-  pub cpu : ℕ
-  pub pid : ℤ
-
--- the value that a name means: `common_pid` and `common_cpu` are the process and the CPU, another name is a field's
-abbrev pub value_named : List Field → Emission → List ℕ → Option Datum
-value_named fields emission name = if bytes_eq name (codes "common_pid") then Some (Whole emission.pid)
-    else if bytes_eq name (codes "common_cpu") then Some (Whole (pos emission.cpu))
-    else value_at fields emission.values name
 
 -- truth by cases on a filter's tree
 abbrev mutual

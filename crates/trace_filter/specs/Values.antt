@@ -2,7 +2,7 @@
 use Rattle.std.specs.Prelude.{Bool}
 use Rattle.trace_filter.specs.declared.token.Comparison.TheVariants as comparisons
 use Rattle.trace_filter.specs.Tokens.{spots_of, tokens_of}
-use Rattle.trace_filter.specs.Truth.{Emission}
+use Rattle.trace_format.specs.Operands.{Emission}
 use Rattle.trace_filter.specs.Filters.{Parsed}
 use Rattle.trace_filter.specs.Steps.{moves_about, evaluated, at_start}
 

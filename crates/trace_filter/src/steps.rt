@@ -2,23 +2,23 @@
 
 ghost use Rattle.std.specs.Prelude.{◌≡◌, ◌++◌, [], false, None, Some, OnOk, IfOk, IfErr, map};
 ghost use Rattle.trace_format.specs.Cells.{datum_of};
+ghost use Rattle.trace_format.specs.declared.operand.Operand.TheVariants as operands;
 ghost use Rattle.trace_filter.specs.declared.token.Comparison.TheVariants as comparisons;
-ghost use Rattle.trace_filter.specs.declared.test.Subject.TheVariants as subjects;
 ghost use Rattle.trace_filter.specs.Tokens.{spots_from, tokens_of};
-ghost use Rattle.trace_filter.specs.Places.{first_fault, IsToldAs};
+ghost use Rattle.trace_filter.specs.Subjects.{first_fault, IsToldAs};
 ghost use Rattle.trace_filter.specs.Steps.{move_of, moves_from, evaluated, at_start};
 
 use crate::fault::FilterFault;
 use crate::frames::Frames;
-use crate::test::{Subject, compare_values};
+use crate::test::{compare_values, read_literal, takes};
 use crate::token::{Comparison, Token, next_token};
 use std::alloc::Global;
-use trace_format::{Field, Value};
+use trace_format::{Field, Operand, Value};
 
 /// A test: the value that the subject has, against a written one.
 #[derive(Drop)]
 pub(crate) struct Test {
-    subject: Subject,
+    subject: Operand,
     comparison: Comparison,
     value: Value,
 }
@@ -34,24 +34,25 @@ pub(crate) enum Step {
 }
 
 impl Test {
-    ghost use Rattle.trace_filter.specs.Steps.{value_of, test_of};
+    ghost use Rattle.trace_format.specs.Operands.{operand_value};
+    ghost use Rattle.trace_filter.specs.Steps.{test_of};
 
     /// Whether the test holds of a row's values, a CPU and a process.
     fn holds(&self, values: &[Value], cpu: u32, pid: i32) -> bool
-        ensures { result ≡ test_of self.now.comparison (value_of (record { values = map datum_of values.now; cpu = cpu; pid = pid }) self.now.subject) (datum_of self.now.value) }
+        ensures { result ≡ test_of self.now.comparison (operand_value (record { values = map datum_of values.now; cpu = cpu; pid = pid }) self.now.subject) (datum_of self.now.value) }
     {
         match self.subject {
-            Subject::Pid => compare_values(
+            Operand::Pid => compare_values(
                 self.comparison,
                 &Value::Num(i128::from(pid)),
                 &self.value,
             ),
-            Subject::Cpu => compare_values(
+            Operand::Cpu => compare_values(
                 self.comparison,
                 &Value::Num(i128::from(cpu)),
                 &self.value,
             ),
-            Subject::NumberField(place) | Subject::TextField(place) => match values.get(place) {
+            Operand::Field { index, .. } => match values.get(index) {
                 Some(value) => compare_values(self.comparison, value, &self.value),
                 None => false,
             },
@@ -80,7 +81,7 @@ impl Frames {
 /// The part of a filter that was compiled.
 #[derive(Drop)]
 pub(crate) struct Compiler {
-    subject: Subject,
+    subject: Operand,
     comparison: Comparison,
     steps: Vec<Step>,
 }
@@ -88,15 +89,15 @@ pub(crate) struct Compiler {
 impl Compiler {
     ghost use Rattle.trace_filter.specs.Seen.{token_of};
     ghost use Rattle.trace_filter.specs.Steps.{moves_of, comparison_behind};
-    ghost use Rattle.trace_filter.specs.Places.{fault_at, subject_behind};
+    ghost use Rattle.trace_filter.specs.Subjects.{fault_at, subject_behind};
 
     fn new(alloc: Global) -> Compiler
-        ensures subject { result.subject ≡ subjects.Pid }
+        ensures subject { result.subject ≡ operands.Pid }
         ensures comparison { result.comparison ≡ comparisons.Eq }
         ensures steps { result.steps.items ≡ [] }
     {
         Compiler {
-            subject: Subject::Pid,
+            subject: Operand::Pid,
             comparison: Comparison::Eq,
             steps: Vec::new(alloc),
         }
@@ -123,21 +124,21 @@ impl Compiler {
             Token::AndAnd => Step::And,
             Token::OrOr => Step::Or,
             Token::Compare(comparison) => {
-                if !self.subject.takes(comparison) {
+                if !takes(self.subject, comparison) {
                     return Err(FilterFault::WrongOperator { at });
                 }
                 self.comparison = comparison;
                 return Ok(());
             }
             Token::Name(name) => {
-                let Some(subject) = Subject::named(fields, name) else {
+                let Some(subject) = Operand::named(fields, name) else {
                     return Err(FilterFault::NoSuchField { at });
                 };
                 self.subject = subject;
                 return Ok(());
             }
             Token::Value(literal) => {
-                let Some(value) = self.subject.read(alloc, literal)? else {
+                let Some(value) = read_literal(alloc, self.subject, literal)? else {
                     return Err(FilterFault::FilterSyntax { at });
                 };
                 Step::Test(Test {
@@ -159,9 +160,9 @@ pub(crate) fn compile(
     text: &[u8],
     fields: &[Field],
 ) -> Result<Vec<Step>, FilterFault>
-    ensures fits { OnOk result (first_fault fields.now subjects.Pid (spots_from false 0 0 text.now) ≡ None) }
-    ensures steps { IfOk result (λ steps. map move_of steps.items ≡ moves_from fields.now subjects.Pid comparisons.Eq (tokens_of (spots_from false 0 0 text.now))) }
-    ensures refused { IfErr result (IsToldAs (first_fault fields.now subjects.Pid (spots_from false 0 0 text.now))) }
+    ensures fits { OnOk result (first_fault fields.now operands.Pid (spots_from false 0 0 text.now) ≡ None) }
+    ensures steps { IfOk result (λ steps. map move_of steps.items ≡ moves_from fields.now operands.Pid comparisons.Eq (tokens_of (spots_from false 0 0 text.now))) }
+    ensures refused { IfErr result (IsToldAs (first_fault fields.now operands.Pid (spots_from false 0 0 text.now))) }
 {
     let mut compiler = Compiler::new(alloc);
     let mut from = 0;

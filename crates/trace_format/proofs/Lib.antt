@@ -5,6 +5,7 @@ pub mod FreshNames
 pub mod Lengths
 pub mod MapLemmas
 pub mod NewFields
+pub mod OperandLemmas
 pub mod OrderLemmas
 pub mod PairLemmas
 pub mod PartLemmas

@@ -80,6 +80,11 @@ abbrev pub is_signed_kind : Kind → Bool
 is_signed_kind (Number t) = is_signed t
 is_signed_kind (Char n) = false
 
+-- whether a field of the type has texts
+abbrev pub is_text_kind : Kind → Bool
+is_text_kind (Number t) = false
+is_text_kind (Char n) = true
+
 -- the number type that one word spells
 abbrev pub type_of : List ℕ → Option NumberType
 type_of word = if bytes_eq word (codes "u8") then Some U8

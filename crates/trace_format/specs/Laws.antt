@@ -1,11 +1,13 @@
 -- What `spots_of`, `definition_of`, `row_of` and `row_from` say, as laws without a program.
-use Rattle.std.specs.Prelude.{◌≡◌, ◌⊎◌, ◌↔◌, ℕ, ◌<◌, ◌^◌, List, length, All, Some, Ok, Err}
+use Rattle.std.specs.Prelude.{◌≡◌, ◌⊎◌, ◌↔◌, ℕ, ◌<◌, ◌^◌, List, length, All, Some, option_and_then, Ok, Err}
+use Rattle.trace_format.specs.declared.event.Field.{Field}
 use Rattle.trace_format.specs.declared.pair.Pair.{Pair}
 use Rattle.trace_format.specs.Words.{Spot, spots_of, words_of}
 use Rattle.trace_format.specs.WordParts.{IsWritten}
 use Rattle.trace_format.specs.Definitions.{Definition, IsDefinition, Declares, IsRefusedAt}
 use Rattle.trace_format.specs.Reading.{definition_of}
-use Rattle.trace_format.specs.Cells.{Cells, IsRowOf, payload_of, payload_size_of}
+use Rattle.trace_format.specs.Cells.{Cells, IsRowOf, value_at, payload_of, payload_size_of}
+use Rattle.trace_format.specs.Operands.{Emission, operand_from, operand_value}
 use Rattle.trace_format.specs.Rows.{row_of}
 use Rattle.trace_format.specs.Pairs.{Give, IsWrongPair, IsMissingField}
 use Rattle.trace_format.specs.Decoding.{row_from}
@@ -52,6 +54,13 @@ RowIsGiven = (definition : Definition) → IsDefinition definition → (pairs : 
 abbrev pub RefusalIsGiven : Type 0
 RefusalIsGiven = (definition : Definition) → IsDefinition definition → (pairs : List Pair) → (name : List ℕ)
     → (row_of definition pairs ≡ Err name) ↔ (IsWrongPair definition.fields pairs name ⊎ IsMissingField definition.fields pairs name)
+
+-- ---- operands
+
+-- a field's name means the value that the row, as a map from names, has there; a name that is no field's means none
+abbrev pub OperandIsByName : Type 0
+OperandIsByName = (fields : List Field) → (emission : Emission) → (name : List ℕ)
+    → option_and_then (operand_value emission) (operand_from 0 fields name) ≡ value_at fields emission.values name
 
 -- ---- payloads; a byte is below 256
 

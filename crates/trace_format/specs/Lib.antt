@@ -9,4 +9,5 @@ pub mod Pairs
 pub mod InOrder
 pub mod Decoding
 pub mod Catalogs
+pub mod Operands
 pub mod Laws

@@ -2,7 +2,7 @@
 
 ghost use Rattle.std.specs.Prelude.{◌≡◌, ◌<◌, ◌^◌, pos, ◌&&◌, int_le};
 ghost use Rattle.trace_format.specs.declared.kind.Kind.TheVariants as kind;
-ghost use Rattle.trace_format.specs.Kinds.{number_size, is_signed as is_signed_type, least as least_of, greatest as greatest_of, size_of, is_signed_kind, type_name_of, type_of, unsigned_type_of};
+ghost use Rattle.trace_format.specs.Kinds.{number_size, is_signed as is_signed_type, least as least_of, greatest as greatest_of, size_of, is_signed_kind, is_text_kind, type_name_of, type_of, unsigned_type_of};
 
 /// A type of numbers, after the field types of "Synthetic events" (histogram.rst). `u` and `s` are unsigned and signed, with their bits.
 #[derive(Clone, Copy, PartialEq, Eq)]
@@ -212,6 +212,16 @@ impl Kind {
         match self {
             Kind::Number(number) => number.is_signed(),
             Kind::Char(_) => false,
+        }
+    }
+
+    /// Whether a field has texts.
+    pub fn is_text(self) -> bool
+        ensures { result ≡ is_text_kind self }
+    {
+        match self {
+            Kind::Number(_) => false,
+            Kind::Char(_) => true,
         }
     }
 

@@ -2,7 +2,7 @@
 
 ghost use Rattle.std.specs.Prelude.{◌≡◌, ◌↔◌, IsTrue};
 ghost use Rattle.trace_format.specs.declared.pair.Pair.{Pair as PairValue};
-ghost use Rattle.trace_format.specs.Laws.{WordsAreAsWritten, DefinitionIsRead, RefusalIsRead, DeclaredOrRefused, NeverBoth, OneDefinition, OneRefusal, RowIsGiven, RefusalIsGiven, PayloadIsRead, OneRow, PayloadHasItsSize};
+ghost use Rattle.trace_format.specs.Laws.{WordsAreAsWritten, DefinitionIsRead, RefusalIsRead, DeclaredOrRefused, NeverBoth, OneDefinition, OneRefusal, RowIsGiven, RefusalIsGiven, OperandIsByName, PayloadIsRead, OneRow, PayloadHasItsSize};
 
 use crate::pair::Pair;
 
@@ -29,6 +29,11 @@ pub fn declarations_are_as_written()
 pub fn rows_are_as_given()
     ensures row { RowIsGiven }
     ensures refused { RefusalIsGiven }
+{}
+
+/// The value of a field's name, which is found by the field's index, is the one that the row, as a map from names, has there.
+pub fn operands_are_by_name()
+    ensures { OperandIsByName }
 {}
 
 /// Bytes (numbers below 256) are read as a row exactly where they are the payload of that row of the event, and no two rows of an event have one payload.

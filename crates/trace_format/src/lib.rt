@@ -5,12 +5,14 @@
 #![tactic(auto)]
 
 mod catalog;
+mod emission;
 mod event;
 mod fault;
 mod given;
 mod in_order;
 mod kind;
 pub mod laws;
+mod operand;
 mod pair;
 mod payload;
 mod reader;
@@ -20,9 +22,11 @@ mod value;
 mod words;
 
 pub use catalog::Catalog;
+pub use emission::Emission;
 pub use event::{EventDef, Field};
 pub use fault::{CatalogFault, DefinitionFault, RowFault};
 pub use kind::{Kind, NumberType};
+pub use operand::Operand;
 pub use pair::Pair;
 pub use row::{Row, RowMemory};
 pub use sizes::{payload_size, record_size};

@@ -1,6 +1,6 @@
 -- What a caller sees of a histogram, and when that agrees with a list of rows.
 use Rattle.std.specs.Prelude.{◌≡◌, ℕ, ◌+◌, Bool, List, Option, Some}
-use Rattle.trace_filter.specs.Truth.{Emission}
+use Rattle.trace_format.specs.Operands.{Emission}
 use Rattle.trace_trigger.specs.HistSpecs.{SpecSeen}
 use Rattle.trace_hist.specs.Hits.{Hit, hit_of}
 use Rattle.trace_hist.specs.Groups.{Table, grouped}

@@ -6,8 +6,7 @@ ghost use Rattle.trace_hist.specs.Hits as hits;
 
 use crate::number::Number;
 use std::alloc::{AllocError, Global};
-use trace_format::{Row, Value};
-use trace_trigger::Source;
+use trace_format::{Operand, Row, Value};
 
 /// A copy of a value.
 pub(crate) fn copy(alloc: Global, value: &Value) -> Result<Value, AllocError>
@@ -19,60 +18,60 @@ pub(crate) fn copy(alloc: Global, value: &Value) -> Result<Value, AllocError>
     }
 }
 
-/// The value of a field, or 0 where no field has the place.
-fn field_cell(alloc: Global, values: &[Value], place: usize) -> Result<Value, AllocError>
-    ensures { IfOk result (λ cell. datum_of cell ≡ hits.field_cell (map datum_of values.now) place) }
+/// The value of a field, or 0 where no field has the index.
+fn field_cell(alloc: Global, values: &[Value], index: usize) -> Result<Value, AllocError>
+    ensures { IfOk result (λ cell. datum_of cell ≡ hits.field_cell (map datum_of values.now) index) }
 {
-    match values.get(place) {
+    match values.get(index) {
         Some(value) => copy(alloc, value),
         None => Ok(Value::Num(0)),
     }
 }
 
-/// The number in a field, or 0 where no number has the place.
-fn field_number(values: &[Value], place: usize) -> i128
-    ensures { result ≡ hits.number_of (hits.field_cell (map datum_of values.now) place) }
+/// The number in a field, or 0 where no number has the index.
+fn field_number(values: &[Value], index: usize) -> i128
+    ensures { result ≡ hits.number_of (hits.field_cell (map datum_of values.now) index) }
 {
-    match values.get(place) {
+    match values.get(index) {
         Some(Value::Num(number)) => *number,
         _ => 0,
     }
 }
 
 /// The number in a row's field.
-fn row_number(row: &Row, place: usize) -> Number
-    ensures { result ≡ hits.number_of (hits.field_cell row.now.values place) }
+fn row_number(row: &Row, index: usize) -> Number
+    ensures { result ≡ hits.number_of (hits.field_cell row.now.values index) }
 {
     let values = row.values();
-    Number::new(field_number(values, place))
+    Number::new(field_number(values, index))
 }
 
-/// The value of an emission that is meant.
+/// The value of an operand in an emission.
 pub(crate) fn cell_of(
     alloc: Global,
-    source: Source,
+    operand: Operand,
     values: &[Value],
     cpu: u32,
     pid: i32,
 ) -> Result<Value, AllocError>
     ensures { IfOk result (λ cell. datum_of cell
-        ≡ hits.cell_of (record { values = map datum_of values.now; cpu = cpu; pid = pid }) source) }
+        ≡ hits.cell_of (record { values = map datum_of values.now; cpu = cpu; pid = pid }) operand) }
 {
-    match source {
-        Source::Pid => Ok(Value::Num(i128::from(pid))),
-        Source::Cpu => Ok(Value::Num(i128::from(cpu))),
-        Source::Field(place) => field_cell(alloc, values, place),
+    match operand {
+        Operand::Pid => Ok(Value::Num(i128::from(pid))),
+        Operand::Cpu => Ok(Value::Num(i128::from(cpu))),
+        Operand::Field { index, .. } => field_cell(alloc, values, index),
     }
 }
 
-/// The number of an emission that is meant.
-pub(crate) fn number_of(source: Source, row: &Row, cpu: u32, pid: i32) -> Number
+/// The number of an operand in an emission.
+pub(crate) fn number_of(operand: Operand, row: &Row, cpu: u32, pid: i32) -> Number
     ensures { result
-        ≡ hits.number_at (record { values = row.now.values; cpu = cpu; pid = pid }) source }
+        ≡ hits.number_at (record { values = row.now.values; cpu = cpu; pid = pid }) operand }
 {
-    match source {
-        Source::Pid => Number::new(i128::from(pid)),
-        Source::Cpu => Number::new(i128::from(cpu)),
-        Source::Field(place) => row_number(row, place),
+    match operand {
+        Operand::Pid => Number::new(i128::from(pid)),
+        Operand::Cpu => Number::new(i128::from(cpu)),
+        Operand::Field { index, .. } => row_number(row, index),
     }
 }

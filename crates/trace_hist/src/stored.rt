@@ -10,8 +10,8 @@ ghost use Rattle.trace_hist.specs.Stored.{hit_in, is_stored};
 use crate::cell::{cell_of, number_of};
 use crate::number::Number;
 use std::alloc::{AllocError, Global};
-use trace_format::{Row, Value};
-use trace_trigger::{HistSpec, Source};
+use trace_format::{Operand, Row, Value};
+use trace_trigger::HistSpec;
 
 /// The cells of a row's key, and the numbers that are summed.
 #[derive(Drop)]
@@ -40,34 +40,34 @@ impl StoredHit {
 
 fn key_of(
     alloc: Global,
-    sources: &[Source],
+    operands: &[Operand],
     values: &[Value],
     cpu: u32,
     pid: i32,
 ) -> Result<Vec<Value>, AllocError>
     ensures { IfOk result (λ key. map datum_of key.items
-        ≡ map (reads.cell_of (record { values = map datum_of values.now; cpu = cpu; pid = pid })) sources.now) }
+        ≡ map (reads.cell_of (record { values = map datum_of values.now; cpu = cpu; pid = pid })) operands.now) }
 {
-    let mut key = Vec::with_capacity(alloc, sources.len())?;
-    for source in sources {
-        key.push(cell_of(alloc, *source, values, cpu, pid)?)?;
+    let mut key = Vec::with_capacity(alloc, operands.len())?;
+    for operand in operands {
+        key.push(cell_of(alloc, *operand, values, cpu, pid)?)?;
     }
     Ok(key)
 }
 
 fn numbers_of(
     alloc: Global,
-    sources: &[Source],
+    operands: &[Operand],
     row: &Row,
     cpu: u32,
     pid: i32,
 ) -> Result<Vec<Number>, AllocError>
     ensures { IfOk result (λ numbers. numbers.items
-        ≡ map (reads.number_at (record { values = row.now.values; cpu = cpu; pid = pid })) sources.now) }
+        ≡ map (reads.number_at (record { values = row.now.values; cpu = cpu; pid = pid })) operands.now) }
 {
-    sources
+    operands
         .iter()
-        .map(|source| number_of(*source, row, cpu, pid))
+        .map(|operand| number_of(*operand, row, cpu, pid))
         .collect(alloc)
 }
 

@@ -8,7 +8,7 @@ use Rattle.trace_format.specs.Reading.{step, definition_of}
 use Rattle.trace_format.specs.Rows.{value_of, row_of}
 use Rattle.trace_filter.specs.Filters.{answer_of}
 use Rattle.trace_filter.specs.Globs.{part_of}
-use Rattle.trace_filter.specs.Places.{subject_named}
+use Rattle.trace_format.specs.Operands.{operand_named}
 use Rattle.trace_filter.specs.Syntax.{step as filter_step}
 use Rattle.trace_filter.specs.Tokens.{piece_of}
 use Rattle.trace_filter.specs.Values.{holds_of}
@@ -50,7 +50,7 @@ pub record AreAnswered : Type 0 where
 
 pub examples-are_answered : AreAnswered
 unfolding head_bytes head_of timestamp account readings_of stats_of cut merged step definition_of value_of row_of answer_of part_of
-    subject_named filter_step piece_of holds_of taken_lines pipe_text trace_text declaration_text field_text place_line field_line
+    operand_named filter_step piece_of holds_of taken_lines pipe_text trace_text declaration_text field_text place_line field_line
     common_pid_line format_text line_start cell_text row_line record_line stats_line stats_text lost_line trace_title trace_head
     top_file option_file events_file system_file cpu_file event_file mount_point below_mount_point address_of instance_of
     emission_answer declaration_answer switch_answer filter_answer filter_of_all_answer option_answer tracing_answer flag_text

@@ -53,7 +53,7 @@ hist_refused definition text (inr is) = by is.refusal
   where
     value : (name : List ℕ) (place : ℕ) → CannotBeValue definition name place faults.Memory → ⊥
     value name place (inl h) = let same : faults.Memory ≡ faults.NoSuchField place = h.1 in cc
-    value name place (inr h) = let same : faults.Memory ≡ faults.WrongOperator place = h.2 in cc
+    value name place (inr h) = let same : faults.Memory ≡ faults.WrongOperator place = h.3 in cc
 
     condition : (filter : List ℕ) (before : ℕ) (told : FilterFault) → IsRefused definition filter told → faults.Memory ≡ moved before told → ⊥
     condition filter before filters.TooMany is same = cc

@@ -5,12 +5,12 @@ use Rattle.std.proofs.lemmas.Bool.{or_cases, or_left, or_right, false_from_ne_tr
 use Rattle.std.proofs.lemmas.List.{length-map}
 use Rattle.std.proofs.lemmas.List.Elements.{All-from_recursion, recursion_from_All}
 use Rattle.trace_format.specs.Definitions.{Definition}
+use Rattle.trace_format.specs.declared.operand.Operand.{Operand}
 use Rattle.trace_filter.specs.declared.fault.FilterFault.{FilterFault}
 use Rattle.trace_filter.specs.Filters.{Parsed, IsFilter, IsRefused, parsed_of}
 use Rattle.trace_filter.proofs.FilterLemmas.{filter_or_refused}
 use Rattle.trace_trigger.specs.declared.fault.TriggerFault.{TriggerFault}
 use Rattle.trace_trigger.specs.declared.fault.TriggerFault.TheVariants.{HistSyntax, TooMany, BadSize}
-use Rattle.trace_trigger.specs.declared.source.Source.{Source}
 use Rattle.trace_trigger.specs.declared.piece.Piece.{Piece}
 use Rattle.trace_trigger.specs.HistSizes.{rounded_size}
 use Rattle.trace_trigger.specs.HistParts.{attributes_of, tail_of, condition_of}
@@ -108,23 +108,23 @@ module _ (definition : Definition) (text : List ℕ) (settings : List Setting) (
 
   -- ---- what is right
 
-  keys_right : (sources : List Source) → each (key_source definition.fields) lists.keys ≡ Ok sources → HaveKeys definition settings
+  keys_right : (sources : List Operand) → each (key_source definition.fields) lists.keys ≡ Ok sources → HaveKeys definition settings
   keys_right sources e =
       (names_of lists.keys, lists_here.keys, All-from_recursion (CanBeKey definition) (names_of lists.keys) (zip_can definition (names_of lists.keys) sources (keys_found definition lists.keys sources e)))
 
-  right_keys : HaveKeys definition settings → (sources : List Source) × (each (key_source definition.fields) lists.keys ≡ Ok sources)
+  right_keys : HaveKeys definition settings → (sources : List Operand) × (each (key_source definition.fields) lists.keys ≡ Ok sources)
   right_keys is =
       let same : names_of lists.keys ≡ is.0 = keys_are (attributes_of text) settings finds.read once is.0 is.1 in
       let zip = can_zip definition is.0 (recursion_from_All (CanBeKey definition) is.0 is.2) in
       (zip.0, keys_given definition lists.keys zip.0 (subst (λ (names : List (List ℕ)). AllZip (IsKeyOf definition) names zip.0) (sym same) zip.1))
 
-  values_right : (sources : List Source) → each (value_source definition.fields) (summed_items lists.values) ≡ Ok sources → HaveValues definition settings
+  values_right : (sources : List Operand) → each (value_source definition.fields) (summed_items lists.values) ≡ Ok sources → HaveValues definition settings
   values_right sources e =
       let found : AllZip (IsValueOf definition) (summed_names (names_of lists.values)) sources =
       subst (λ (names : List (List ℕ)). AllZip (IsValueOf definition) names sources) (summed_are lists.values) (values_found definition (summed_items lists.values) sources e) in
       (names_of lists.values, lists_here.values, All-from_recursion (CanBeValue definition) (names_of lists.values) (values_can definition (names_of lists.values) sources found))
 
-  right_values : HaveValues definition settings → (sources : List Source) × (each (value_source definition.fields) (summed_items lists.values) ≡ Ok sources)
+  right_values : HaveValues definition settings → (sources : List Operand) × (each (value_source definition.fields) (summed_items lists.values) ≡ Ok sources)
   right_values is =
       let same : names_of lists.values ≡ is.0 = set_once settings Values [] once (λ a b. refl) (λ a b e. cc) (names_of lists.values) is.0 lists_here.values is.1 in
       let zip = can_values definition is.0 (recursion_from_All (CanBeValue definition) is.0 is.2) in
@@ -176,7 +176,7 @@ module _ (definition : Definition) (text : List ℕ) (settings : List Setting) (
   abbrev from_lists : Result SpecSeen TriggerFault
   from_lists = few lists >>= λ ls. spec_from definition text ls
 
-  abbrev spec_of_lists : List Source → List Source → ℕ → Option Parsed → SpecSeen
+  abbrev spec_of_lists : List Operand → List Operand → ℕ → Option Parsed → SpecSeen
   spec_of_lists keys values size only_if = record {
     keys = names_of lists.keys;
     values = names_of (summed_items lists.values);
@@ -189,13 +189,13 @@ module _ (definition : Definition) (text : List ℕ) (settings : List Setting) (
     sort_sources = map (sort_rule (names_of lists.keys) (names_of (summed_items lists.values))) (sort_keys lists.sort);
   }
 
-  abbrev after_size : List Source → List Source → ℕ → Result SpecSeen TriggerFault
+  abbrev after_size : List Operand → List Operand → ℕ → Result SpecSeen TriggerFault
   after_size keys values size = filter_of definition text (condition_of (tail_of text)) >>= λ only_if. Ok (spec_of_lists keys values size only_if)
 
-  abbrev after_values : List Source → List Source → Result SpecSeen TriggerFault
+  abbrev after_values : List Operand → List Operand → Result SpecSeen TriggerFault
   after_values keys values = size_of lists.size >>= λ size. after_size keys values size
 
-  abbrev after_keys : List Source → Result SpecSeen TriggerFault
+  abbrev after_keys : List Operand → Result SpecSeen TriggerFault
   after_keys keys = each (value_source definition.fields) (summed_items lists.values) >>= λ values. after_values keys values
 
   few_so : is_too_many lists ≡ false → from_lists ≡ (each (key_source definition.fields) lists.keys >>= λ keys. after_keys keys)
@@ -208,20 +208,20 @@ module _ (definition : Definition) (text : List ℕ) (settings : List Setting) (
   cause_in : (cut : Cut text) (fault : TriggerFault) → (IsOver settings → ⊥) → (each (key_source definition.fields) lists.keys >>= λ keys. after_keys keys) ≡ Err fault → Cause fault
   cause_in cut fault within e = at_keys (refused (each (key_source definition.fields) lists.keys) (λ keys. after_keys keys) fault e)
     where
-      at_filter : (keys values : List Source) (size : ℕ) → HaveKeys definition settings → HaveValues definition settings → IsSized settings (Some size)
+      at_filter : (keys values : List Operand) (size : ℕ) → HaveKeys definition settings → HaveValues definition settings → IsSized settings (Some size)
           → (filter_of definition text (condition_of (tail_of text)) ≡ Err fault) ⊎ IsPassed (filter_of definition text (condition_of (tail_of text))) (λ only_if. Ok (spec_of_lists keys values size only_if)) fault → Cause fault
       at_filter keys values size have right is (inl f) =
           let it = filter_fault condition fault (sym (ap (filter_of definition text) finds.found) ∙ f) in
           ForFilter within have right size is it.filter it.is it.told it.refused_so it.same
       at_filter keys values size have right is (inr passed) = let wrong = passed.after in absurd (cc)
 
-      at_size : (keys values : List Source) → HaveKeys definition settings → HaveValues definition settings → (size_of lists.size ≡ Err fault) ⊎ IsPassed (size_of lists.size) (λ size. after_size keys values size) fault → Cause fault
+      at_size : (keys values : List Operand) → HaveKeys definition settings → HaveValues definition settings → (size_of lists.size ≡ Err fault) ⊎ IsPassed (size_of lists.size) (λ size. after_size keys values size) fault → Cause fault
       at_size keys values have right (inl f) = let it = no_size fault f in ForSize within have right it.0 it.1
       at_size keys values have right (inr passed) =
           at_filter keys values passed.found have right (some_size passed.found passed.is)
           (refused (filter_of definition text (condition_of (tail_of text))) (λ only_if. Ok (spec_of_lists keys values passed.found only_if)) fault passed.after)
 
-      at_values : (keys : List Source) → HaveKeys definition settings
+      at_values : (keys : List Operand) → HaveKeys definition settings
           → (each (value_source definition.fields) (summed_items lists.values) ≡ Err fault) ⊎ IsPassed (each (value_source definition.fields) (summed_items lists.values)) (λ values. after_values keys values) fault → Cause fault
       at_values keys have (inl f) = ForValue within have (value_fault definition text cut fault f)
       at_values keys have (inr passed) = at_size keys passed.found have (values_right passed.found passed.is) (refused (size_of lists.size) (λ size. after_size keys passed.found size) fault passed.after)
@@ -245,20 +245,20 @@ module _ (definition : Definition) (text : List ℕ) (settings : List Setting) (
   -- ---- and each cause is told
 
   with_keys : (fault : TriggerFault) → (IsOver settings → ⊥) → (have : HaveKeys definition settings) → after_keys (right_keys have).0 ≡ Err fault → from_lists ≡ Err fault
-  with_keys fault within have e = few_so (few_enough within) ∙ ap (λ (r : Result (List Source) TriggerFault). r >>= λ keys. after_keys keys) (right_keys have).1 ∙ e
+  with_keys fault within have e = few_so (few_enough within) ∙ ap (λ (r : Result (List Operand) TriggerFault). r >>= λ keys. after_keys keys) (right_keys have).1 ∙ e
 
   with_values : (fault : TriggerFault) → (IsOver settings → ⊥) → (have : HaveKeys definition settings) → (right : HaveValues definition settings)
       → after_values (right_keys have).0 (right_values right).0 ≡ Err fault → from_lists ≡ Err fault
   with_values fault within have right e =
-      with_keys fault within have (ap (λ (r : Result (List Source) TriggerFault). r >>= λ values. after_values (right_keys have).0 values) (right_values right).1 ∙ e)
+      with_keys fault within have (ap (λ (r : Result (List Operand) TriggerFault). r >>= λ values. after_values (right_keys have).0 values) (right_values right).1 ∙ e)
 
   pub cause_told : (fault : TriggerFault) → Cause fault → from_lists ≡ Err fault
   cause_told fault (ForMany many same) =
       ap (λ (b : Bool). (if b then Err TooMany else Ok lists) >>= λ ls. spec_from definition text ls) (too_many many) ∙ ap (λ (f : TriggerFault). Err f) (sym same)
   cause_told fault (ForKey within place is same) =
-      few_so (few_enough within) ∙ ap (λ (r : Result (List Source) TriggerFault). r >>= λ keys. after_keys keys) (fault_key definition text place is) ∙ ap (λ (f : TriggerFault). Err f) (sym same)
+      few_so (few_enough within) ∙ ap (λ (r : Result (List Operand) TriggerFault). r >>= λ keys. after_keys keys) (fault_key definition text place is) ∙ ap (λ (f : TriggerFault). Err f) (sym same)
   cause_told fault (ForValue within have is) =
-      with_keys fault within have (ap (λ (r : Result (List Source) TriggerFault). r >>= λ values. after_values (right_keys have).0 values) (fault_value definition text fault is))
+      with_keys fault within have (ap (λ (r : Result (List Operand) TriggerFault). r >>= λ values. after_values (right_keys have).0 values) (fault_value definition text fault is))
   cause_told fault (ForSize within have right is same) =
       with_values fault within have right (ap (λ (r : Result ℕ TriggerFault). r >>= λ size. after_size (right_keys have).0 (right_values right).0 size) (sized None is) ∙ ap (λ (f : TriggerFault). Err f) (sym same))
   cause_told fault (ForFilter within have right size is filter at told refused_so same) =

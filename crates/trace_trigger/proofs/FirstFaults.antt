@@ -3,18 +3,17 @@ use Rattle.std.proofs.Common.{◌≡◌, ◌⊎◌, inl, inr, refl, ℕ, ◌+◌
 use Rattle.std.specs.List.{AllByRecursion, AllZip}
 use Rattle.std.proofs.lemmas.Slice.Eq.{bytes_eq-Decides}
 use Rattle.trace_format.specs.Definitions.{Definition}
+use Rattle.trace_format.specs.declared.operand.Operand.{Operand}
+use Rattle.trace_format.specs.Operands.{operand_named, is_text}
 use Rattle.trace_trigger.specs.declared.fault.TriggerFault.{TriggerFault}
 use Rattle.trace_trigger.specs.declared.fault.TriggerFault.TheVariants.{NoSuchField, WrongOperator}
-use Rattle.trace_trigger.specs.declared.named.Named.{Named}
-use Rattle.trace_trigger.specs.declared.source.Source.{Source}
 use Rattle.trace_trigger.specs.declared.piece.Piece.{Piece}
-use Rattle.trace_trigger.specs.HistNames.{meaning_of}
 use Rattle.trace_trigger.specs.TriggerAnswers.{◌>>=◌}
-use Rattle.trace_trigger.specs.HistMeanings.{each, key_named, value_named}
+use Rattle.trace_trigger.specs.HistMeanings.{each, key_meant, value_meant}
 use Rattle.trace_trigger.specs.HistGrammar.{summed_names, IsKeyOf, IsValueOf}
 use Rattle.trace_trigger.specs.HistRefusals.{CanBeKey, CanBeValue, CannotBeValue}
 use Rattle.trace_trigger.proofs.CutLemmas.{placed}
-use Rattle.trace_trigger.proofs.MeaningLaws.{bound}
+use Rattle.trace_trigger.proofs.MeaningLaws.{bound, as_number}
 use Rattle.trace_trigger.proofs.PlaceLemmas.{size, size_first}
 
 -- ---- results
@@ -137,56 +136,54 @@ pub filter_all : {X : Type 0} (xs : List X) → filter (λ _. true) xs ≡ xs
 filter_all [] = refl
 filter_all (x ∷ xs) = ap (λ (ys : List _). x ∷ ys) (filter_all xs)
 
-pub key_refused : (at : ℕ) (named : Option Named) (fault : TriggerFault) → key_named at named ≡ Err fault → (named ≡ None) × (fault ≡ NoSuchField at)
+pub key_refused : (at : ℕ) (named : Option Operand) (fault : TriggerFault) → key_meant at named ≡ Err fault → (named ≡ None) × (fault ≡ NoSuchField at)
 key_refused at None fault e = let same : NoSuchField at ≡ fault = cc in (refl, sym same)
 key_refused at (Some named) fault e = absurd (cc)
 
 module _ (definition : Definition) where
-  pub zip_can : (names : List (List ℕ)) (sources : List Source) → AllZip (IsKeyOf definition) names sources → AllByRecursion (CanBeKey definition) names
+  pub zip_can : (names : List (List ℕ)) (sources : List Operand) → AllZip (IsKeyOf definition) names sources → AllByRecursion (CanBeKey definition) names
   zip_can [] [] zip = tt
   zip_can [] (source ∷ sources) zip = absurd zip
   zip_can (name ∷ names) [] zip = absurd zip
   zip_can (name ∷ names) (source ∷ sources) zip = ((source, zip.0), zip_can names sources zip.1)
 
-  pub can_zip : (names : List (List ℕ)) → AllByRecursion (CanBeKey definition) names → (sources : List Source) × AllZip (IsKeyOf definition) names sources
+  pub can_zip : (names : List (List ℕ)) → AllByRecursion (CanBeKey definition) names → (sources : List Operand) × AllZip (IsKeyOf definition) names sources
   can_zip [] all = ([], tt)
   can_zip (name ∷ names) all = let rest = can_zip names all.1 in (all.0.0 ∷ rest.0, (all.0.1, rest.1))
 
   -- ---- values
 
-  pub value_refused : (at : ℕ) (name : List ℕ) (fault : TriggerFault) → value_named at (meaning_of definition.fields name) ≡ Err fault → CannotBeValue definition name at fault
-  value_refused at name fault e = by (meaning_of definition.fields name) refl e
+  pub value_refused : (at : ℕ) (name : List ℕ) (fault : TriggerFault) → value_meant at (operand_named definition.fields name) ≡ Err fault → CannotBeValue definition name at fault
+  value_refused at name fault e = by (operand_named definition.fields name) refl e
     where
-      text_or_number : (named : Named) → meaning_of definition.fields name ≡ Some named → (b : Bool) → named.is_text ≡ b → (if b then Err (WrongOperator at) else Ok named.source) ≡ Err fault → CannotBeValue definition name at fault
-      text_or_number named f true g h =
-          let same : WrongOperator at ≡ fault = cc in
-          inr (named.source, f ∙ (λ i. Some (record { source = named.source; is_text = g i })), sym same)
+      text_or_number : (named : Operand) → operand_named definition.fields name ≡ Some named → (b : Bool) → is_text named ≡ b → (if b then Err (WrongOperator at) else Ok named) ≡ Err fault → CannotBeValue definition name at fault
+      text_or_number named f true g h = let same : WrongOperator at ≡ fault = cc in inr (named, f, g, sym same)
       text_or_number named f false g h = absurd (cc)
 
-      by : (found : Option Named) → meaning_of definition.fields name ≡ found → value_named at found ≡ Err fault → CannotBeValue definition name at fault
+      by : (found : Option Operand) → operand_named definition.fields name ≡ found → value_meant at found ≡ Err fault → CannotBeValue definition name at fault
       by None f g = let same : NoSuchField at ≡ fault = cc in inl (f, sym same)
-      by (Some named) f g = text_or_number named f named.is_text refl g
+      by (Some named) f g = text_or_number named f (is_text named) refl g
 
-  pub refused_value : (at : ℕ) (name : List ℕ) (fault : TriggerFault) → CannotBeValue definition name at fault → value_named at (meaning_of definition.fields name) ≡ Err fault
-  refused_value at name fault (inl is) = ap (value_named at) is.0 ∙ ap (λ (f : TriggerFault). Err f) (sym is.1)
-  refused_value at name fault (inr is) = ap (value_named at) is.1 ∙ ap (λ (f : TriggerFault). Err f) (sym is.2)
+  pub refused_value : (at : ℕ) (name : List ℕ) (fault : TriggerFault) → CannotBeValue definition name at fault → value_meant at (operand_named definition.fields name) ≡ Err fault
+  refused_value at name fault (inl is) = ap (value_meant at) is.0 ∙ ap (λ (f : TriggerFault). Err f) (sym is.1)
+  refused_value at name fault (inr is) = ap (value_meant at) is.1 ∙ ap (as_number at is.0) is.2 ∙ ap (λ (f : TriggerFault). Err f) (sym is.3)
 
-  pub values_can : (names : List (List ℕ)) (sources : List Source) → AllZip (IsValueOf definition) (summed_names names) sources → AllByRecursion (CanBeValue definition) names
+  pub values_can : (names : List (List ℕ)) (sources : List Operand) → AllZip (IsValueOf definition) (summed_names names) sources → AllByRecursion (CanBeValue definition) names
   values_can [] sources zip = tt
   values_can (name ∷ names) sources zip = by (bytes_eq name (codes "hitcount")) refl sources zip (values_can names)
     where
-      by : (b : Bool) → bytes_eq name (codes "hitcount") ≡ b → (sources : List Source) → AllZip (IsValueOf definition) (cond (not b) (name ∷ summed_names names) (summed_names names)) sources
-          → ((rest : List Source) → AllZip (IsValueOf definition) (summed_names names) rest → AllByRecursion (CanBeValue definition) names) → AllByRecursion (CanBeValue definition) (name ∷ names)
+      by : (b : Bool) → bytes_eq name (codes "hitcount") ≡ b → (sources : List Operand) → AllZip (IsValueOf definition) (cond (not b) (name ∷ summed_names names) (summed_names names)) sources
+          → ((rest : List Operand) → AllZip (IsValueOf definition) (summed_names names) rest → AllByRecursion (CanBeValue definition) names) → AllByRecursion (CanBeValue definition) (name ∷ names)
       by true e sources zip next = (inl ((bytes_eq-Decides name (codes "hitcount")).0 e), next sources zip)
       by false e [] zip next = absurd zip
       by false e (source ∷ sources) zip next = (inr (source, zip.0), next sources zip.1)
 
-  pub can_values : (names : List (List ℕ)) → AllByRecursion (CanBeValue definition) names → (sources : List Source) × AllZip (IsValueOf definition) (summed_names names) sources
+  pub can_values : (names : List (List ℕ)) → AllByRecursion (CanBeValue definition) names → (sources : List Operand) × AllZip (IsValueOf definition) (summed_names names) sources
   can_values [] all = ([], tt)
   can_values (name ∷ names) all = by (bytes_eq name (codes "hitcount")) refl all.0 (can_values names all.1)
     where
-      by : (b : Bool) → bytes_eq name (codes "hitcount") ≡ b → CanBeValue definition name → (sources : List Source) × AllZip (IsValueOf definition) (summed_names names) sources
-          → (sources : List Source) × AllZip (IsValueOf definition) (cond (not b) (name ∷ summed_names names) (summed_names names)) sources
+      by : (b : Bool) → bytes_eq name (codes "hitcount") ≡ b → CanBeValue definition name → (sources : List Operand) × AllZip (IsValueOf definition) (summed_names names) sources
+          → (sources : List Operand) × AllZip (IsValueOf definition) (cond (not b) (name ∷ summed_names names) (summed_names names)) sources
       by true e can rest = rest
       by false e (inl same) rest = let equal : bytes_eq name (codes "hitcount") ≡ true = (bytes_eq-Decides name (codes "hitcount")).1 same in absurd (cc)
       by false e (inr is) rest = (is.0 ∷ rest.0, (is.1, rest.1))

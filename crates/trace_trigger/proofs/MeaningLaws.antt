@@ -4,17 +4,16 @@ use Rattle.std.specs.List.{AllByRecursion, AllZip, position, position_or_len}
 use Rattle.std.proofs.lemmas.Bool.{false_from_ne_true}
 use Rattle.std.proofs.lemmas.Slice.Eq.{bytes_eq-Decides}
 use Rattle.trace_format.specs.Definitions.{Definition}
+use Rattle.trace_format.specs.declared.operand.Operand.{Operand}
+use Rattle.trace_format.specs.Operands.{operand_named, is_text}
 use Rattle.trace_trigger.specs.declared.fault.TriggerFault.{TriggerFault}
 use Rattle.trace_trigger.specs.declared.fault.TriggerFault.TheVariants.{WrongOperator}
 use Rattle.trace_trigger.specs.declared.sort_rule.SortSource.{SortSource}
 use Rattle.trace_trigger.specs.declared.sort_rule.SortSource.TheVariants.{Key, Value, Hitcount}
-use Rattle.trace_trigger.specs.declared.source.Source.{Source}
-use Rattle.trace_trigger.specs.declared.named.Named.{Named}
 use Rattle.trace_trigger.specs.declared.piece.Piece.{Piece}
-use Rattle.trace_trigger.specs.HistNames.{meaning_of}
 use Rattle.trace_trigger.specs.HistLists.{names_of, summed_items, is_hitcount}
 use Rattle.trace_trigger.specs.TriggerAnswers.{◌>>=◌}
-use Rattle.trace_trigger.specs.HistMeanings.{each, key_named, key_source, value_named, value_source, told_size, sort_found, sort_source}
+use Rattle.trace_trigger.specs.HistMeanings.{each, key_meant, key_source, value_meant, value_source, told_size, sort_found, sort_source}
 use Rattle.trace_trigger.specs.HistGrammar.{summed_names, IsKeyOf, IsValueOf, IsSortedBy}
 use Rattle.trace_trigger.proofs.WrongLemmas.{Apart}
 use Rattle.trace_trigger.proofs.ListLaws.{Member, member_from, from_member}
@@ -32,58 +31,62 @@ bound (Err fault) next value e = absurd (cc)
 
 -- ---- keys and values
 
-key_found : (at : ℕ) (named : Option Named) (source : Source) → key_named at named ≡ Ok source → (is_text : Bool) × (named ≡ Some (record { source = source; is_text = is_text }))
-key_found at None source e = absurd (cc)
-key_found at (Some named) source e = let same : named.source ≡ source = cc in (named.is_text, λ i. Some (record { source = same i; is_text = named.is_text }))
+key_found : (at : ℕ) (found : Option Operand) (operand : Operand) → key_meant at found ≡ Ok operand → found ≡ Some operand
+key_found at None operand e = absurd (cc)
+key_found at (Some found) operand e = let same : found ≡ operand = cc in ap Some same
 
-value_found : (at : ℕ) (named : Option Named) (source : Source) → value_named at named ≡ Ok source → named ≡ Some (record { source = source; is_text = false })
-value_found at None source e = absurd (cc)
-value_found at (Some named) source e = by named.is_text refl e
+value_found : (at : ℕ) (found : Option Operand) (operand : Operand) → value_meant at found ≡ Ok operand → (found ≡ Some operand) × (is_text operand ≡ false)
+value_found at None operand e = absurd (cc)
+value_found at (Some found) operand e = by (is_text found) refl e
   where
-    by : (b : Bool) → named.is_text ≡ b → (if b then Err (WrongOperator at) else Ok named.source) ≡ Ok source → Some named ≡ Some (record { source = source; is_text = false })
+    by : (b : Bool) → is_text found ≡ b → (if b then Err (WrongOperator at) else Ok found) ≡ Ok operand → (Some found ≡ Some operand) × (is_text operand ≡ false)
     by true f g = absurd (cc)
-    by false f g = let same : named.source ≡ source = cc in (λ i. Some (record { source = same i; is_text = f i }))
+    by false f g = let same : found ≡ operand = cc in (ap Some same, subst (λ (o : Operand). is_text o ≡ false) same f)
+
+abbrev pub as_number : ℕ → Operand → Bool → Result Operand TriggerFault
+as_number at operand b = if b then Err (WrongOperator at) else Ok operand
 
 module _ (definition : Definition) where
-  pub keys_found : (items : List Piece) (sources : List Source) → each (key_source definition.fields) items ≡ Ok sources → AllZip (IsKeyOf definition) (names_of items) sources
+  pub keys_found : (items : List Piece) (sources : List Operand) → each (key_source definition.fields) items ≡ Ok sources → AllZip (IsKeyOf definition) (names_of items) sources
   keys_found [] [] e = tt
   keys_found [] (source ∷ sources) e = absurd (cc)
   keys_found (item ∷ items) sources e = by sources (bound (key_source definition.fields item) (λ y. each (key_source definition.fields) items >>= λ ys. Ok (y ∷ ys)) sources e) (keys_found items)
     where
-      by : (sources : List Source) → IsBound (key_source definition.fields item) (λ y. each (key_source definition.fields) items >>= λ ys. Ok (y ∷ ys)) sources
-          → ((rest : List Source) → each (key_source definition.fields) items ≡ Ok rest → AllZip (IsKeyOf definition) (names_of items) rest) → AllZip (IsKeyOf definition) (names_of (item ∷ items)) sources
+      by : (sources : List Operand) → IsBound (key_source definition.fields item) (λ y. each (key_source definition.fields) items >>= λ ys. Ok (y ∷ ys)) sources
+          → ((rest : List Operand) → each (key_source definition.fields) items ≡ Ok rest → AllZip (IsKeyOf definition) (names_of items) rest) → AllZip (IsKeyOf definition) (names_of (item ∷ items)) sources
       by sources is next =
           let rest = bound (each (key_source definition.fields) items) (λ ys. Ok (is.found ∷ ys)) sources is.after in
           let same : is.found ∷ rest.found ≡ sources = let f = rest.after in cc in
-          subst (AllZip (IsKeyOf definition) (names_of (item ∷ items))) same (key_found item.at (meaning_of definition.fields item.bytes) is.found is.is, next rest.found rest.is)
+          subst (AllZip (IsKeyOf definition) (names_of (item ∷ items))) same (key_found item.at (operand_named definition.fields item.bytes) is.found is.is, next rest.found rest.is)
 
-  pub keys_given : (items : List Piece) (sources : List Source) → AllZip (IsKeyOf definition) (names_of items) sources → each (key_source definition.fields) items ≡ Ok sources
+  pub keys_given : (items : List Piece) (sources : List Operand) → AllZip (IsKeyOf definition) (names_of items) sources → each (key_source definition.fields) items ≡ Ok sources
   keys_given [] [] zip = refl
   keys_given [] (source ∷ sources) zip = absurd zip
   keys_given (item ∷ items) [] zip = absurd zip
   keys_given (item ∷ items) (source ∷ sources) zip =
-      ap (λ (n : Option Named). key_named item.at n >>= λ y. each (key_source definition.fields) items >>= λ ys. Ok (y ∷ ys)) zip.0.1
-      ∙ ap (λ (r : Result (List Source) TriggerFault). r >>= λ ys. Ok (source ∷ ys)) (keys_given items sources zip.1)
+      ap (λ (n : Option Operand). key_meant item.at n >>= λ y. each (key_source definition.fields) items >>= λ ys. Ok (y ∷ ys)) zip.0
+      ∙ ap (λ (r : Result (List Operand) TriggerFault). r >>= λ ys. Ok (source ∷ ys)) (keys_given items sources zip.1)
 
-  pub values_found : (items : List Piece) (sources : List Source) → each (value_source definition.fields) items ≡ Ok sources → AllZip (IsValueOf definition) (names_of items) sources
+  pub values_found : (items : List Piece) (sources : List Operand) → each (value_source definition.fields) items ≡ Ok sources → AllZip (IsValueOf definition) (names_of items) sources
   values_found [] [] e = tt
   values_found [] (source ∷ sources) e = absurd (cc)
   values_found (item ∷ items) sources e = by sources (bound (value_source definition.fields item) (λ y. each (value_source definition.fields) items >>= λ ys. Ok (y ∷ ys)) sources e) (values_found items)
     where
-      by : (sources : List Source) → IsBound (value_source definition.fields item) (λ y. each (value_source definition.fields) items >>= λ ys. Ok (y ∷ ys)) sources
-          → ((rest : List Source) → each (value_source definition.fields) items ≡ Ok rest → AllZip (IsValueOf definition) (names_of items) rest) → AllZip (IsValueOf definition) (names_of (item ∷ items)) sources
+      by : (sources : List Operand) → IsBound (value_source definition.fields item) (λ y. each (value_source definition.fields) items >>= λ ys. Ok (y ∷ ys)) sources
+          → ((rest : List Operand) → each (value_source definition.fields) items ≡ Ok rest → AllZip (IsValueOf definition) (names_of items) rest) → AllZip (IsValueOf definition) (names_of (item ∷ items)) sources
       by sources is next =
           let rest = bound (each (value_source definition.fields) items) (λ ys. Ok (is.found ∷ ys)) sources is.after in
           let same : is.found ∷ rest.found ≡ sources = let f = rest.after in cc in
-          subst (AllZip (IsValueOf definition) (names_of (item ∷ items))) same (value_found item.at (meaning_of definition.fields item.bytes) is.found is.is, next rest.found rest.is)
+          subst (AllZip (IsValueOf definition) (names_of (item ∷ items))) same (value_found item.at (operand_named definition.fields item.bytes) is.found is.is, next rest.found rest.is)
 
-  pub values_given : (items : List Piece) (sources : List Source) → AllZip (IsValueOf definition) (names_of items) sources → each (value_source definition.fields) items ≡ Ok sources
+  pub values_given : (items : List Piece) (sources : List Operand) → AllZip (IsValueOf definition) (names_of items) sources → each (value_source definition.fields) items ≡ Ok sources
   values_given [] [] zip = refl
   values_given [] (source ∷ sources) zip = absurd zip
   values_given (item ∷ items) [] zip = absurd zip
   values_given (item ∷ items) (source ∷ sources) zip =
-      ap (λ (n : Option Named). value_named item.at n >>= λ y. each (value_source definition.fields) items >>= λ ys. Ok (y ∷ ys)) zip.0
-      ∙ ap (λ (r : Result (List Source) TriggerFault). r >>= λ ys. Ok (source ∷ ys)) (values_given items sources zip.1)
+      ap (λ (n : Option Operand). value_meant item.at n >>= λ y. each (value_source definition.fields) items >>= λ ys. Ok (y ∷ ys)) zip.0.0
+      ∙ ap (λ (b : Bool). as_number item.at source b >>= λ y. each (value_source definition.fields) items >>= λ ys. Ok (y ∷ ys)) zip.0.1
+      ∙ ap (λ (r : Result (List Operand) TriggerFault). r >>= λ ys. Ok (source ∷ ys)) (values_given items sources zip.1)
 
 -- the values that are summed, by their names
 pub summed_are : (items : List Piece) → names_of (summed_items items) ≡ summed_names (names_of items)

@@ -5,15 +5,15 @@ use Rattle.std.proofs.lemmas.Bool.{false_from_ne_true, not_from_false}
 use Rattle.std.proofs.lemmas.List.Elements.{All-from_recursion, recursion_from_All}
 use Rattle.std.proofs.lemmas.Slice.Eq.{bytes_eq-Decides}
 use Rattle.trace_format.specs.Definitions.{Definition}
+use Rattle.trace_format.specs.declared.operand.Operand.{Operand}
+use Rattle.trace_format.specs.Operands.{operand_named}
 use Rattle.trace_trigger.specs.declared.fault.TriggerFault.{TriggerFault}
 use Rattle.trace_trigger.specs.declared.fault.TriggerFault.TheVariants.{NoSuchField}
-use Rattle.trace_trigger.specs.declared.source.Source.{Source}
 use Rattle.trace_trigger.specs.declared.attribute.Attribute.{Attribute}
 use Rattle.trace_trigger.specs.declared.piece.Piece.{Piece}
-use Rattle.trace_trigger.specs.HistNames.{meaning_of}
 use Rattle.trace_trigger.specs.HistParts.{attributes_of}
 use Rattle.trace_trigger.specs.HistLists.{first_about, items_in, Lists, lists_of, names_of, summed_items, is_hitcount}
-use Rattle.trace_trigger.specs.HistMeanings.{each, key_named, key_source, value_source}
+use Rattle.trace_trigger.specs.HistMeanings.{each, key_meant, key_source, value_source}
 use Rattle.trace_trigger.specs.HistGrammar.{Subject, OfKeys, OfValues, summed_names, IsKeyOf, IsValueOf}
 use Rattle.trace_trigger.specs.HistFaultPlaces.{Cut, IsList, items_place}
 use Rattle.trace_trigger.specs.HistRefusals.{IsItemAt, CanBeKey, CanBeValue, IsUnknownKey, CannotBeValue, IsWrongValue}
@@ -97,15 +97,15 @@ module _ (definition : Definition) (text : List ℕ) where
   abbrev summed : Piece → Bool
   summed = λ (item : Piece). not (is_hitcount item.bytes)
 
-  keys_before : (start : ℕ) (before : List (List ℕ)) (sources : List Source) → each (key_source definition.fields) (filter (λ _. true) (placed start before)) ≡ Ok sources → All (CanBeKey definition) before
+  keys_before : (start : ℕ) (before : List (List ℕ)) (sources : List Operand) → each (key_source definition.fields) (filter (λ _. true) (placed start before)) ≡ Ok sources → All (CanBeKey definition) before
   keys_before start before sources e =
       let found : AllZip (IsKeyOf definition) (names_of (placed start before)) sources =
       keys_found definition (placed start before) sources (ap (each (key_source definition.fields)) (sym (filter_all (placed start before))) ∙ e) in
       All-from_recursion (CanBeKey definition) before
       (zip_can definition before sources (subst (λ (names : List (List ℕ)). AllZip (IsKeyOf definition) names sources) (names_of-placed 44 start before) found))
 
-  record SomeOk (pieces : List Piece) (read : Piece → Result Source TriggerFault) : Type 0 where
-    sources : List Source
+  record SomeOk (pieces : List Piece) (read : Piece → Result Operand TriggerFault) : Type 0 where
+    sources : List Operand
     is : each read pieces ≡ Ok sources
 
   before_keys : (start : ℕ) (before : List (List ℕ)) → All (CanBeKey definition) before → SomeOk (filter (λ _. true) (placed start before)) (key_source definition.fields)
@@ -134,7 +134,7 @@ module _ (definition : Definition) (text : List ℕ) where
           let there : each (key_source definition.fields) (filter (λ _. true) (placed begin list.items)) ≡ Err fault =
           ap (each (key_source definition.fields)) (filter_all (placed begin list.items) ∙ sym list.are) ∙ e in
           let first = first_fault (key_source definition.fields) (λ _. true) begin list.items fault there in
-          let wrong = key_refused (begin + size 44 first.before) (meaning_of definition.fields first.item) fault first.fault_there in
+          let wrong = key_refused (begin + size 44 first.before) (operand_named definition.fields first.item) fault first.fault_there in
           record {
             place = begin + size 44 first.before;
             is = record {
@@ -166,13 +166,13 @@ module _ (definition : Definition) (text : List ℕ) where
       let same : place ≡ begin + size 44 is.before = at.is_at.is_there in
       let before = before_keys begin is.before is.first in
       let wrong : key_source definition.fields (record { at = begin + size 44 is.before; bytes = is.name }) ≡ Err (NoSuchField place) =
-      ap (key_named (begin + size 44 is.before)) is.unknown ∙ ap (λ n. Err (NoSuchField n)) (sym same) in
+      ap (key_meant (begin + size 44 is.before)) is.unknown ∙ ap (λ n. Err (NoSuchField n)) (sym same) in
       ap (each (key_source definition.fields)) (keys_of_item text is.cut is.before is.name place at ∙ ap (placed begin) at.is_at.cut ∙ sym (filter_all (placed begin (is.before ++ is.name ∷ at.is_at.after))))
       ∙ fault_first (key_source definition.fields) (λ _. true) begin is.before is.name at.is_at.after (NoSuchField place) before.sources refl wrong before.is
 
   -- ---- the first wrong value
 
-  values_before : (start : ℕ) (before : List (List ℕ)) (sources : List Source) → each (value_source definition.fields) (summed_items (placed start before)) ≡ Ok sources → All (CanBeValue definition) before
+  values_before : (start : ℕ) (before : List (List ℕ)) (sources : List Operand) → each (value_source definition.fields) (summed_items (placed start before)) ≡ Ok sources → All (CanBeValue definition) before
   values_before start before sources e =
       let names : names_of (summed_items (placed start before)) ≡ summed_names before = summed_are (placed start before) ∙ ap summed_names (names_of-placed 44 start before) in
       All-from_recursion (CanBeValue definition) before

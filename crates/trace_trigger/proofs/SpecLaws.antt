@@ -2,12 +2,12 @@
 use Rattle.std.proofs.Common.{◌≡◌, refl, ℕ, Bool, true, false, if◌then◌else◌, List, [], ◌∷◌, ◌++◌, map, Option, Some, None, Result, Ok, Err, ap, sym, ◌∙◌, subst, min}
 use Rattle.std.specs.List.{AllZip, AllPass}
 use Rattle.trace_format.specs.Definitions.{Definition}
+use Rattle.trace_format.specs.declared.operand.Operand.{Operand}
 use Rattle.trace_filter.specs.Filters.{Parsed}
 use Rattle.trace_lex.proofs.Lists.{BeginsNot}
 use Rattle.trace_trigger.specs.Frames.{is_unblank, after_blanks}
 use Rattle.trace_trigger.specs.declared.fault.TriggerFault.{TriggerFault}
 use Rattle.trace_trigger.specs.declared.fault.TriggerFault.TheVariants.{HistSyntax, TooMany}
-use Rattle.trace_trigger.specs.declared.source.Source.{Source}
 use Rattle.trace_trigger.specs.declared.attribute.Attribute.{Attribute}
 use Rattle.trace_trigger.specs.HistAttributes.{attributes_at}
 use Rattle.trace_trigger.specs.HistPieces.{pieces_of}
@@ -156,7 +156,7 @@ pub record IsSaid (definition : Definition) (text : List ℕ) (lists : Lists) (s
   pub sort_sources : map (sort_rule (names_of lists.keys) (names_of (summed_items lists.values))) (sort_keys lists.sort) ≡ spec.sort_sources
 
 module _ (definition : Definition) (text : List ℕ) (lists : Lists) where
-  abbrev spec_of_lists : List Source → List Source → ℕ → Option Parsed → SpecSeen
+  abbrev spec_of_lists : List Operand → List Operand → ℕ → Option Parsed → SpecSeen
   spec_of_lists keys values size only_if = record {
     keys = names_of lists.keys;
     values = names_of (summed_items lists.values);
@@ -205,9 +205,9 @@ module _ (definition : Definition) (text : List ℕ) (lists : Lists) where
   unfolding spec_from
   saying spec is =
       ap (λ (b : Bool). (if b then Err TooMany else Ok lists) >>= λ ls. spec_from definition text ls) is.few
-      ∙ ap (λ (r : Result (List Source) TriggerFault). r >>= λ keys. each (value_source definition.fields) (summed_items lists.values) >>= λ values. size_of lists.size >>= λ size.
+      ∙ ap (λ (r : Result (List Operand) TriggerFault). r >>= λ keys. each (value_source definition.fields) (summed_items lists.values) >>= λ values. size_of lists.size >>= λ size.
       filter_of definition text (condition_of (tail_of text)) >>= λ only_if. Ok (spec_of_lists keys values size only_if)) is.key_sources
-      ∙ ap (λ (r : Result (List Source) TriggerFault). r >>= λ values. size_of lists.size >>= λ size.
+      ∙ ap (λ (r : Result (List Operand) TriggerFault). r >>= λ values. size_of lists.size >>= λ size.
       filter_of definition text (condition_of (tail_of text)) >>= λ only_if. Ok (spec_of_lists spec.key_sources values size only_if)) is.value_sources
       ∙ ap (λ (r : Result ℕ TriggerFault). r >>= λ size. filter_of definition text (condition_of (tail_of text)) >>= λ only_if. Ok (spec_of_lists spec.key_sources spec.value_sources size only_if)) is.size
       ∙ ap (λ (r : Result (Option Parsed) TriggerFault). r >>= λ only_if. Ok (spec_of_lists spec.key_sources spec.value_sources spec.size only_if)) is.filter

@@ -4,7 +4,8 @@ use Rattle.std.specs.Prelude.{◌≡◌, ℕ, Bool, true, false, List, [], ◌�
 use Rattle.trace_format.specs.declared.kind.Kind.TheVariants.{Number, Char}
 use Rattle.trace_format.specs.declared.kind.NumberType.TheVariants.{U64, S64}
 use Rattle.trace_format.specs.Definitions.{Definition}
-use Rattle.trace_filter.specs.declared.test.Subject.TheVariants.{NumberField}
+use Rattle.trace_format.specs.declared.operand.Operand.{Operand}
+use Rattle.trace_format.specs.declared.operand.Operand.TheVariants.{Pid, Cpu, Field}
 use Rattle.trace_trigger.specs.declared.fault.TriggerFault.{TriggerFault}
 use Rattle.trace_trigger.specs.declared.fault.TriggerFault.TheVariants.{HistSyntax, TooMany, NoSuchField, WrongOperator, BadSize, FilterSyntax}
 use Rattle.trace_trigger.specs.declared.spec.Action.TheVariants.{Attach, Pause, Continue, Clear}
@@ -12,7 +13,6 @@ use Rattle.trace_trigger.specs.declared.spec.SortKey.{SortKey}
 use Rattle.trace_trigger.specs.declared.sort_rule.SortRule.{SortRule}
 use Rattle.trace_trigger.specs.declared.sort_rule.SortSource.{SortSource}
 use Rattle.trace_trigger.specs.declared.sort_rule.SortSource.TheVariants.{Key, Value, Hitcount}
-use Rattle.trace_trigger.specs.declared.source.Source.TheVariants.{Pid, Cpu, Field}
 use Rattle.trace_trigger.specs.HistSpecs.{SpecSeen}
 use Rattle.trace_trigger.specs.HistTexts.{spec_of}
 
@@ -43,6 +43,13 @@ text gives answer = record { text = text; answer = answer }
 abbrev pub AreRead : Definition → List Case → Type 0
 AreRead definition cases = map (λ (x : Case). spec_of definition x.text) cases ≡ map (λ (x : Case). x.answer) cases
 
+-- a field of numbers, and one of strings
+abbrev pub number_field : ℕ → Operand
+number_field index = Field index false
+
+abbrev pub text_field : ℕ → Operand
+text_field index = Field index true
+
 -- a name to sort by, and where it is found
 abbrev pub upwards : List ℕ → SortKey
 upwards name = record { name = name; descending = false }
@@ -64,7 +71,7 @@ by_n = record {
   size = 2048;
   action = Attach;
   filter = None;
-  key_sources = Field 0 ∷ [];
+  key_sources = number_field 0 ∷ [];
   value_sources = [];
   sort_sources = by Hitcount false ∷ [];
 }
@@ -86,9 +93,9 @@ by_who = record {
   sort = downwards (codes "d") ∷ upwards (codes "who") ∷ [];
   size = 256;
   action = Pause;
-  filter = Some (record { text = codes "d > 5"; subjects = NumberField 1 ∷ [] });
-  key_sources = Field 0 ∷ Pid ∷ [];
-  value_sources = Field 1 ∷ [];
+  filter = Some (record { text = codes "d > 5"; subjects = number_field 1 ∷ [] });
+  key_sources = text_field 0 ∷ Pid ∷ [];
+  value_sources = number_field 1 ∷ [];
   sort_sources = by (Value 0) true ∷ by (Key 0) false ∷ [];
 }
 
@@ -101,8 +108,8 @@ by_both = record {
   size = 2048;
   action = Continue;
   filter = None;
-  key_sources = Cpu ∷ Field 1 ∷ [];
-  value_sources = Pid ∷ Field 1 ∷ [];
+  key_sources = Cpu ∷ number_field 1 ∷ [];
+  value_sources = Pid ∷ number_field 1 ∷ [];
   sort_sources = by (Value 1) false ∷ by (Key 0) false ∷ [];
 }
 

@@ -5,6 +5,8 @@ use Rattle.std.specs.List.{All, AllPairs, AllZip, Contains, join_with_byte}
 use Rattle.trace_lex.specs.Decimals.{decimal_number}
 use Rattle.trace_lex.specs.Names.{is_name}
 use Rattle.trace_format.specs.Definitions.{Definition}
+use Rattle.trace_format.specs.declared.operand.Operand.{Operand}
+use Rattle.trace_format.specs.Operands.{operand_named, is_text}
 use Rattle.trace_trigger.specs.Frames.{mark, IsTail, IsReadAs}
 use Rattle.trace_trigger.specs.declared.spec.Action.{Action}
 use Rattle.trace_trigger.specs.declared.spec.Action.TheVariants.{Attach, Pause, Continue, Clear}
@@ -12,9 +14,7 @@ use Rattle.trace_trigger.specs.declared.spec.SortKey.{SortKey}
 use Rattle.trace_trigger.specs.declared.sort_rule.SortRule.{SortRule}
 use Rattle.trace_trigger.specs.declared.sort_rule.SortSource.{SortSource}
 use Rattle.trace_trigger.specs.declared.sort_rule.SortSource.TheVariants.{Key, Value, Hitcount}
-use Rattle.trace_trigger.specs.declared.source.Source.{Source}
 use Rattle.trace_trigger.specs.HistSizes.{rounded_size}
-use Rattle.trace_trigger.specs.HistNames.{meaning_of}
 use Rattle.trace_trigger.specs.HistSpecs.{SpecSeen}
 
 -- a text is these parts, with the byte between each two of them and in none
@@ -165,11 +165,11 @@ pub record IsWithinLimits (spec : SpecSeen) : Type 0 where
   pub sort : length spec.sort ≤ 2
 
 -- what a key means in the event, and a value, which is a number
-abbrev pub IsKeyOf : Definition → List ℕ → Source → Type 0
-IsKeyOf definition name source = (is_text : Bool) × (meaning_of definition.fields name ≡ Some (record { source = source; is_text = is_text }))
+abbrev pub IsKeyOf : Definition → List ℕ → Operand → Type 0
+IsKeyOf definition name operand = operand_named definition.fields name ≡ Some operand
 
-abbrev pub IsValueOf : Definition → List ℕ → Source → Type 0
-IsValueOf definition name source = meaning_of definition.fields name ≡ Some (record { source = source; is_text = false })
+abbrev pub IsValueOf : Definition → List ℕ → Operand → Type 0
+IsValueOf definition name operand = (operand_named definition.fields name ≡ Some operand) × (is_text operand ≡ false)
 
 -- what a name to sort by means: the hitcount, a value, or else a key
 abbrev pub IsSortedBy : List (List ℕ) → List (List ℕ) → List ℕ → SortSource → Type 0

@@ -3,17 +3,16 @@ use Rattle.std.specs.Prelude.{ℕ, Bool, ◌||◌, nat_lt, if◌then◌else◌, 
 use Rattle.std.specs.List.{position}
 use Rattle.trace_lex.specs.Decimals.{decimal_number}
 use Rattle.trace_format.specs.declared.event.Field.{Field}
+use Rattle.trace_format.specs.declared.operand.Operand.{Operand}
+use Rattle.trace_format.specs.Operands.{operand_named, is_text}
 use Rattle.trace_trigger.specs.declared.fault.TriggerFault.{TriggerFault}
 use Rattle.trace_trigger.specs.declared.fault.TriggerFault.TheVariants.{TooMany, NoSuchField, WrongOperator, BadSize}
 use Rattle.trace_trigger.specs.declared.spec.SortKey.{SortKey}
 use Rattle.trace_trigger.specs.declared.sort_rule.SortRule.{SortRule}
 use Rattle.trace_trigger.specs.declared.sort_rule.SortSource.{SortSource}
 use Rattle.trace_trigger.specs.declared.sort_rule.SortSource.TheVariants.{Key, Value, Hitcount}
-use Rattle.trace_trigger.specs.declared.source.Source.{Source}
-use Rattle.trace_trigger.specs.declared.named.Named.{Named}
 use Rattle.trace_trigger.specs.declared.piece.Piece.{Piece}
 use Rattle.trace_trigger.specs.TriggerAnswers.{◌>>=◌}
-use Rattle.trace_trigger.specs.HistNames.{meaning_of}
 use Rattle.trace_trigger.specs.HistSizes.{rounded_size}
 use Rattle.trace_trigger.specs.HistLists.{Lists, summed_items, is_hitcount}
 
@@ -37,20 +36,20 @@ each read [] = Ok []
 each read (x ∷ xs) = read x >>= λ y. each read xs >>= λ ys. Ok (y ∷ ys)
 
 -- a key may be a number or a string
-abbrev pub key_named : ℕ → Option Named → Result Source TriggerFault
-key_named at None = Err (NoSuchField at)
-key_named at (Some named) = Ok named.source
+abbrev pub key_meant : ℕ → Option Operand → Result Operand TriggerFault
+key_meant at None = Err (NoSuchField at)
+key_meant at (Some operand) = Ok operand
 
-abbrev pub key_source : List Field → Piece → Result Source TriggerFault
-key_source fields item = key_named item.at (meaning_of fields item.bytes)
+abbrev pub key_source : List Field → Piece → Result Operand TriggerFault
+key_source fields item = key_meant item.at (operand_named fields item.bytes)
 
 -- a value is a number
-abbrev pub value_named : ℕ → Option Named → Result Source TriggerFault
-value_named at None = Err (NoSuchField at)
-value_named at (Some named) = if named.is_text then Err (WrongOperator at) else Ok named.source
+abbrev pub value_meant : ℕ → Option Operand → Result Operand TriggerFault
+value_meant at None = Err (NoSuchField at)
+value_meant at (Some operand) = if is_text operand then Err (WrongOperator at) else Ok operand
 
-abbrev pub value_source : List Field → Piece → Result Source TriggerFault
-value_source fields item = value_named item.at (meaning_of fields item.bytes)
+abbrev pub value_source : List Field → Piece → Result Operand TriggerFault
+value_source fields item = value_meant item.at (operand_named fields item.bytes)
 
 -- ---- size
 

@@ -3,13 +3,13 @@
 use Rattle.std.specs.Prelude.{◌≡◌, ◌≢◌, ◌⊎◌, ℕ, ◌-◌, ◌<◌, true, codes, List, [], length, Option, None, Some}
 use Rattle.std.specs.List.{All, Contains}
 use Rattle.trace_format.specs.Definitions.{Definition}
+use Rattle.trace_format.specs.declared.operand.Operand.{Operand}
+use Rattle.trace_format.specs.Operands.{operand_named, is_text}
 use Rattle.trace_filter.specs.declared.fault.FilterFault.{FilterFault}
 use Rattle.trace_filter.specs.Filters.{IsRefused}
 use Rattle.trace_trigger.specs.declared.fault.TriggerFault.{TriggerFault}
 use Rattle.trace_trigger.specs.declared.fault.TriggerFault.TheVariants.{HistSyntax, TooMany, NoSuchField, WrongOperator, BadSize}
 use Rattle.trace_trigger.specs.declared.spec.SortKey.{SortKey}
-use Rattle.trace_trigger.specs.declared.source.Source.{Source}
-use Rattle.trace_trigger.specs.HistNames.{meaning_of}
 use Rattle.trace_trigger.specs.HistSizes.{rounded_size}
 use Rattle.trace_trigger.specs.Frames.{moved}
 use Rattle.trace_trigger.specs.HistGrammar.{Setting, Keys, Values, Sort, Size, Subject, OfKeys, OfValues, IsWritten, IsSet, summed_names, IsKeyOf, IsValueOf}
@@ -36,10 +36,10 @@ pub record IsItemAt {text : List ℕ} (cut : Cut text) (subject : Subject) (befo
 
 -- a name means something as a key, and one in a list of values as a value
 abbrev pub CanBeKey : Definition → List ℕ → Type 0
-CanBeKey definition name = (source : Source) × IsKeyOf definition name source
+CanBeKey definition name = (operand : Operand) × IsKeyOf definition name operand
 
 abbrev pub CanBeValue : Definition → List ℕ → Type 0
-CanBeValue definition name = (name ≡ codes "hitcount") ⊎ ((source : Source) × IsValueOf definition name source)
+CanBeValue definition name = (name ≡ codes "hitcount") ⊎ ((operand : Operand) × IsValueOf definition name operand)
 
 -- the first key that means nothing is at this place
 pub record IsUnknownKey (definition : Definition) (text : List ℕ) (place : ℕ) : Type 0 where
@@ -47,13 +47,13 @@ pub record IsUnknownKey (definition : Definition) (text : List ℕ) (place : ℕ
   pub before : List (List ℕ)
   pub name : List ℕ
   pub is_at : IsItemAt cut OfKeys before name place
-  pub unknown : meaning_of definition.fields name ≡ None
+  pub unknown : operand_named definition.fields name ≡ None
   pub first : All (CanBeKey definition) before
 
 -- a value means nothing, or it is a string
 abbrev pub CannotBeValue : Definition → List ℕ → ℕ → TriggerFault → Type 0
-CannotBeValue definition name place fault = ((meaning_of definition.fields name ≡ None) × (fault ≡ NoSuchField place))
-    ⊎ ((source : Source) × (meaning_of definition.fields name ≡ Some (record { source = source; is_text = true })) × (fault ≡ WrongOperator place))
+CannotBeValue definition name place fault = ((operand_named definition.fields name ≡ None) × (fault ≡ NoSuchField place))
+    ⊎ ((operand : Operand) × (operand_named definition.fields name ≡ Some operand) × (is_text operand ≡ true) × (fault ≡ WrongOperator place))
 
 -- the first value that cannot be one has this fault
 pub record IsWrongValue (definition : Definition) (text : List ℕ) (fault : TriggerFault) : Type 0 where

@@ -10,7 +10,6 @@ pub mod HistGrammar
 pub mod HistLaws
 pub mod HistLists
 pub mod HistMeanings
-pub mod HistNames
 pub mod HistParts
 pub mod HistPieces
 pub mod HistPlaces

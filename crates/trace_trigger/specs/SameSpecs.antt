@@ -2,7 +2,7 @@
 use Rattle.std.specs.Prelude.{◌≡◌, ℕ, Bool, true, false, ◌&&◌, bytes_eq, List, Option, None, Some, option_map}
 use Rattle.std.specs.Bool.{beq}
 use Rattle.std.specs.Cmp.Lexicographic.{pointwise}
-use Rattle.trace_filter.specs.Truth.{Emission}
+use Rattle.trace_format.specs.Operands.{Emission}
 use Rattle.trace_filter.specs.Filters.{Parsed}
 use Rattle.trace_filter.specs.Values.{holds_of}
 use Rattle.trace_trigger.specs.HistSpecs.{SpecSeen}

@@ -6,15 +6,13 @@ ghost use Rattle.trace_trigger.specs.HistLists as lists;
 ghost use Rattle.trace_trigger.specs.TriggerAnswers.{IsTold};
 
 use crate::fault::TriggerFault;
-use crate::named::meaning_of;
 use crate::piece::Piece;
 use crate::size::rounded_size;
 use crate::sort_rule::{SortRule, SortSource};
-use crate::source::Source;
 use crate::spec::SortKey;
 use crate::written::{Written, is_descending, is_hitcount, sort_name, sort_suffix};
 use std::alloc::{AllocError, Global};
-use trace_format::{Field, Text};
+use trace_format::{Field, Operand, Text};
 use trace_lex::decimal_number;
 
 /// There are at most so many keys, and values besides `hitcount`.
@@ -54,11 +52,11 @@ pub(crate) fn is_too_many(written: &Written) -> bool
 }
 
 /// Where a key is found. It may be a number or a string.
-fn key_source(fields: &[Field], key: &Piece) -> Result<Source, TriggerFault>
+fn key_source(fields: &[Field], key: &Piece) -> Result<Operand, TriggerFault>
     ensures { result ≡ meanings.key_source fields.now key.now }
 {
-    match meaning_of(fields, key.bytes.as_bytes()) {
-        Some(named) => Ok(named.source),
+    match Operand::named(fields, key.bytes.as_bytes()) {
+        Some(operand) => Ok(operand),
         None => Err(TriggerFault::NoSuchField { at: key.at }),
     }
 }
@@ -69,7 +67,7 @@ pub(crate) fn key_sources(
     alloc: Global,
     fields: &[Field],
     keys: &[Piece],
-) -> Result<Vec<Source>, TriggerFault>
+) -> Result<Vec<Operand>, TriggerFault>
     ensures { MatchResult result
         (λ sources. meanings.each (meanings.key_source fields.now) keys.now ≡ Ok sources.items)
         (λ fault. IsTold fault (meanings.each (meanings.key_source fields.now) keys.now)) }
@@ -82,12 +80,12 @@ pub(crate) fn key_sources(
 }
 
 /// Where a value is found. It is a number.
-fn value_source(fields: &[Field], value: &Piece) -> Result<Source, TriggerFault>
+fn value_source(fields: &[Field], value: &Piece) -> Result<Operand, TriggerFault>
     ensures { result ≡ meanings.value_source fields.now value.now }
 {
-    match meaning_of(fields, value.bytes.as_bytes()) {
-        Some(named) if named.is_text => Err(TriggerFault::WrongOperator { at: value.at }),
-        Some(named) => Ok(named.source),
+    match Operand::named(fields, value.bytes.as_bytes()) {
+        Some(operand) if operand.is_text() => Err(TriggerFault::WrongOperator { at: value.at }),
+        Some(operand) => Ok(operand),
         None => Err(TriggerFault::NoSuchField { at: value.at }),
     }
 }
@@ -98,7 +96,7 @@ pub(crate) fn value_sources(
     alloc: Global,
     fields: &[Field],
     values: &[Piece],
-) -> Result<Vec<Source>, TriggerFault>
+) -> Result<Vec<Operand>, TriggerFault>
     ensures { MatchResult result
         (λ sources. meanings.each (meanings.value_source fields.now) values.now ≡ Ok sources.items)
         (λ fault. IsTold fault (meanings.each (meanings.value_source fields.now) values.now)) }

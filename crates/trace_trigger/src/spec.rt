@@ -11,11 +11,10 @@ use crate::hist_parts::{condition_of, cut};
 use crate::meaning::is_too_many;
 use crate::read::{read_written, spec_from};
 use crate::sort_rule::SortRule;
-use crate::source::Source;
 use std::alloc::Global;
 use std::marker::Model;
 use trace_filter::Filter;
-use trace_format::{EventDef, Row, Text};
+use trace_format::{EventDef, Operand, Row, Text};
 
 /// A key that entries are printed by.
 #[derive(PartialEq, Eq, Drop)]
@@ -49,8 +48,8 @@ pub struct HistSpec {
     pub(crate) action: Action,
     pub(crate) filter: Option<Filter>,
     // What the keys' names mean, in order, and the values'.
-    pub(crate) key_sources: Vec<Source>,
-    pub(crate) value_sources: Vec<Source>,
+    pub(crate) key_sources: Vec<Operand>,
+    pub(crate) value_sources: Vec<Operand>,
     // What the sort keys mean, in order.
     pub(crate) sort_sources: Vec<SortRule>,
 }
@@ -136,14 +135,14 @@ impl HistSpec {
     }
 
     /// Where its keys are found in an emission, in their order.
-    pub fn key_sources(&self) -> &[Source]
+    pub fn key_sources(&self) -> &[Operand]
         ensures { result.now ≡ self.now.key_sources }
     {
         &self.key_sources
     }
 
     /// Where its values are found in an emission, in their order.
-    pub fn value_sources(&self) -> &[Source]
+    pub fn value_sources(&self) -> &[Operand]
         ensures { result.now ≡ self.now.value_sources }
     {
         &self.value_sources

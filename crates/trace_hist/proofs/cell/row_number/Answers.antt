@@ -9,6 +9,6 @@ pub new-requires : goal.new-requires
 new-requires c =
     let range : IsFieldNumber c.field_number.result =
     subst IsFieldNumber
-    (sym (c.field_number.ensures ∙ ap (λ cells. number_of (field_cell cells c.args.place)) c.values-values.ensures.values))
-    (row_in_range c.args.row.now.kinds c.args.row.now.values c.args.place c.values-values.ensures.row) in
+    (sym (c.field_number.ensures ∙ ap (λ cells. number_of (field_cell cells c.args.index)) c.values-values.ensures.values))
+    (row_in_range c.args.row.now.kinds c.args.row.now.values c.args.index c.values-values.ensures.row) in
     (omega (arith, ints), omega (arith, ints))

@@ -3,7 +3,7 @@ use Rattle.trace_format.specs.Cells.{datum_of}
 use Rattle.trace_hist.specs.Hits.{cell_of}
 use Rattle.trace_hist.proofs.stored.key_of.Given as goal
 
-abbrev pub invariant-loop-source : goal.invariant-loop-source
-invariant-loop-source l =
+abbrev pub invariant-loop-operand : goal.invariant-loop-operand
+invariant-loop-operand l =
     map datum_of l.key.items
-    ≡ map (cell_of (record { values = map datum_of l.values; cpu = l.cpu; pid = l.pid })) (take l.source-index l.sources)
+    ≡ map (cell_of (record { values = map datum_of l.values; cpu = l.cpu; pid = l.pid })) (take l.operand-index l.operands)

@@ -2,7 +2,7 @@ use Rattle.std.proofs.Common.{◌≡◌, rules, List, map, refl, ap, ◌∙◌}
 use Rattle.trace_format.specs.Cells.{datum_of}
 use Rattle.trace_filter.specs.declared.token.Comparison.TheVariants as comparisons
 use Rattle.trace_filter.specs.Tokens.{spots_of, tokens_of}
-use Rattle.trace_filter.specs.Truth.{Emission}
+use Rattle.trace_format.specs.Operands.{Emission}
 use Rattle.trace_filter.specs.Steps.{Move, move_of, moves_about, subjects_tested, evaluated, at_start}
 use Rattle.trace_filter.specs.Filters.{Parsed}
 use Rattle.trace_filter.proofs.FilterLemmas.{each_holds, some_passes, value_of_filter}

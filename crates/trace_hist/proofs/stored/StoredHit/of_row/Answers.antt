@@ -1,6 +1,6 @@
 use Rattle.std.proofs.Common.{◌≡◌, ap, ◌∙◌, List, ℤ, map, rules}
 use Rattle.trace_format.specs.Cells.{Datum, datum_of}
-use Rattle.trace_filter.specs.Truth.{Emission}
+use Rattle.trace_format.specs.Operands.{Emission}
 use Rattle.trace_hist.specs.Hits.{Hit, cell_of, number_at}
 use Rattle.trace_hist.proofs.stored.StoredHit.of_row.Goals as goal
 
