@@ -3,6 +3,7 @@ use Rattle.std.specs.Prelude.{ℕ, ℤ, pos, List, map, unwrap_or, slice_get}
 use Rattle.trace_format.specs.declared.operand.Operand.{Operand}
 use Rattle.trace_format.specs.Cells.{Datum, Whole, Bytes}
 use Rattle.trace_format.specs.Operands.{Emission, operand_value}
+use Rattle.trace_trigger.specs.declared.key.Key.{Key}
 use Rattle.trace_trigger.specs.HistSpecs.{SpecSeen}
 
 pub record Hit : Type 0 where
@@ -27,6 +28,6 @@ number_at emission operand = number_of (cell_of emission operand)
 
 abbrev pub hit_of : SpecSeen → Emission → Hit
 hit_of spec emission = record {
-  key = map (cell_of emission) spec.key_sources;
+  key = map (λ (key : Key). cell_of emission key.operand) spec.keys;
   numbers = map (number_at emission) spec.value_sources;
 }

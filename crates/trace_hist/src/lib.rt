@@ -16,4 +16,4 @@ mod stored;
 pub use entry::HistRow;
 pub use hist::{Hist, Totals};
 pub use trace_format::Text;
-pub use trace_trigger::{Action, HistSpec, SortKey, TriggerFault};
+pub use trace_trigger::{Action, HistSpec, Key, SortKey, TriggerFault};

@@ -2,6 +2,7 @@
 
 ghost use Rattle.std.specs.Prelude.{◌≡◌, map, IfOk};
 ghost use Rattle.trace_format.specs.Cells.{datum_of};
+ghost use Rattle.trace_trigger.specs.declared.key.Key.{Key as KeySeen};
 ghost use Rattle.trace_hist.specs.Hits as reads;
 ghost use Rattle.trace_hist.specs.Hits.{hit_of};
 ghost use Rattle.trace_hist.specs.Groups as groups;
@@ -11,7 +12,7 @@ use crate::cell::{cell_of, number_of};
 use crate::number::Number;
 use std::alloc::{AllocError, Global};
 use trace_format::{Operand, Row, Value};
-use trace_trigger::HistSpec;
+use trace_trigger::{HistSpec, Key};
 
 /// The cells of a row's key, and the numbers that are summed.
 #[derive(Drop)]
@@ -32,7 +33,7 @@ impl StoredHit {
         ensures { IfOk result (λ hit. hit_in hit
             ≡ hit_of spec.now (record { values = row.now.values; cpu = cpu; pid = pid })) }
     {
-        let key = key_of(alloc, spec.key_sources(), row.values(), cpu, pid)?;
+        let key = key_of(alloc, spec.keys(), row.values(), cpu, pid)?;
         let numbers = numbers_of(alloc, spec.value_sources(), row, cpu, pid)?;
         Ok(StoredHit { key, numbers })
     }
@@ -40,19 +41,19 @@ impl StoredHit {
 
 fn key_of(
     alloc: Global,
-    operands: &[Operand],
+    keys: &[Key],
     values: &[Value],
     cpu: u32,
     pid: i32,
 ) -> Result<Vec<Value>, AllocError>
     ensures { IfOk result (λ key. map datum_of key.items
-        ≡ map (reads.cell_of (record { values = map datum_of values.now; cpu = cpu; pid = pid })) operands.now) }
+        ≡ map (λ (key : KeySeen). reads.cell_of (record { values = map datum_of values.now; cpu = cpu; pid = pid }) key.operand) keys.now) }
 {
-    let mut key = Vec::with_capacity(alloc, operands.len())?;
-    for operand in operands {
-        key.push(cell_of(alloc, *operand, values, cpu, pid)?)?;
+    let mut cells = Vec::with_capacity(alloc, keys.len())?;
+    for key in keys {
+        cells.push(cell_of(alloc, key.operand, values, cpu, pid)?)?;
     }
-    Ok(key)
+    Ok(cells)
 }
 
 fn numbers_of(

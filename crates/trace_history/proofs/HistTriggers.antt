@@ -11,7 +11,7 @@ use Rattle.std.proofs.lemmas.List.Folds.{list_any_at}
 use Rattle.std.proofs.lemmas.List.Kept.{AllPairs-cons, AllPairs-filter}
 use Rattle.std.proofs.lemmas.Slice.Eq.{bytes_eq-Decides}
 use Rattle.trace_format.specs.Definitions.{Definition}
-use Rattle.trace_trigger.specs.HistSpecs.{SpecSeen}
+use Rattle.trace_trigger.specs.HistSpecs.{SpecSeen, written_of}
 use Rattle.trace_trigger.specs.SameSpecs.{IsSame, is_same as is_same_spec, same_sort_key, same_filter, filter_text}
 use Rattle.trace_trigger.specs.declared.spec.Action.{Action}
 use Rattle.trace_trigger.specs.declared.spec.Action.TheVariants as action
@@ -71,7 +71,8 @@ filter-same (Some text) = (bytes_eq-Decides text text).1 refl
 pub same-back : (left right : SpecSeen) → IsSame left right → is_same_spec right left ≡ true
 unfolding is_same_spec
 same-back left right same =
-    let keys : pointwise bytes_eq right.keys left.keys ≡ true = ap (pointwise bytes_eq right.keys) same.keys ∙ names-same right.keys in
+    let keys : pointwise bytes_eq (written_of right.keys) (written_of left.keys) ≡ true =
+    ap (pointwise bytes_eq (written_of right.keys)) same.keys ∙ names-same (written_of right.keys) in
     let values : pointwise bytes_eq right.values left.values ≡ true = ap (pointwise bytes_eq right.values) same.values ∙ names-same right.values in
     let sort : pointwise same_sort_key right.sort left.sort ≡ true = ap (pointwise same_sort_key right.sort) same.sort ∙ sort-same right.sort in
     let filter : same_filter (filter_text right.filter) (filter_text left.filter) ≡ true =

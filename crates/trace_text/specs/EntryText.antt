@@ -4,6 +4,7 @@ use Rattle.std.specs.Fmt.{decimal, signed_decimal}
 use Rattle.std.specs.List.{flat_map, join_by, zip}
 use Rattle.trace_format.specs.Cells.{Datum, Whole, Bytes}
 use Rattle.trace_hist.specs.Groups.{Entry}
+use Rattle.trace_trigger.specs.declared.key.Key.{Key}
 
 -- the blanks (32) that fill up a string to so many places; none for a longer string, since `-` stops at 0
 abbrev pub fill : ℕ → List ℕ → List ℕ
@@ -21,15 +22,15 @@ key_value (Whole n) = on_the_right 10 (signed_decimal n)
 key_value (Bytes bytes) = on_the_left 16 bytes
 
 -- a key's name and value
-abbrev pub key_text : List ℕ × Datum → List ℕ
-key_text key = key.0 ++ codes ": " ++ key_value key.1
+abbrev pub key_text : Key × Datum → List ℕ
+key_text key = key.0.name ++ codes ": " ++ key_value key.1
 
 -- a value's name and sum
 abbrev pub sum_text : List ℕ × ℤ → List ℕ
 sum_text sum = codes "  " ++ sum.0 ++ codes ": " ++ on_the_right 10 (signed_decimal sum.1)
 
 -- an entry of a trigger with these keys and values
-unfoldable pub entry_line : List (List ℕ) → List (List ℕ) → Entry → List ℕ
+unfoldable pub entry_line : List Key → List (List ℕ) → Entry → List ℕ
 entry_line keys values entry =
     codes "{ " ++ join_by key_text (codes ", ") (zip keys entry.key)
     ++ codes " } hitcount: " ++ on_the_right 10 (decimal entry.hitcount)

@@ -4,6 +4,7 @@ use Rattle.std.specs.Prelude.{ℕ, Bool, if◌then◌else◌, List, [], ◌∷�
 use Rattle.std.specs.Fmt.{decimal}
 use Rattle.std.specs.List.{flat_map, join_by}
 use Rattle.trace_hist.specs.Groups.{Table}
+use Rattle.trace_trigger.specs.declared.key.Key.{Key}
 use Rattle.trace_trigger.specs.HistSpecs.{SpecSeen}
 use Rattle.trace_trigger.specs.SameSpecs.{filter_text}
 use Rattle.trace_trigger.specs.declared.sort_rule.SortRule.{SortRule}
@@ -38,6 +39,10 @@ condition_text (Some filter) = codes " if " ++ filter
 abbrev pub with_commas : List (List ℕ) → List ℕ
 with_commas names = join_by (λ name. name) (codes ",") names
 
+-- keys as written, with a `,` between each two
+abbrev pub keys_text : List Key → List ℕ
+keys_text keys = join_by (λ (key : Key). key.written) (codes ",") keys
+
 -- a sort key: ascending ones have no word for it
 abbrev pub sort_text : SortKey → List ℕ
 sort_text key = if key.descending then key.name ++ codes ".descending" else key.name
@@ -48,7 +53,7 @@ state_text paused = if paused then codes " [paused]" else codes " [active]"
 -- the lists of a hist trigger, with `hitcount` first among its values
 abbrev pub lists_text : SpecSeen → List ℕ
 lists_text spec =
-    codes "hist:keys=" ++ with_commas spec.keys ++ codes ":vals=" ++ with_commas (codes "hitcount" ∷ spec.values)
+    codes "hist:keys=" ++ keys_text spec.keys ++ codes ":vals=" ++ with_commas (codes "hitcount" ∷ spec.values)
     ++ codes ":sort=" ++ join_by sort_text (codes ",") spec.sort
 
 -- what a hist trigger says, and whether it is paused

@@ -9,7 +9,7 @@ ghost use Rattle.trace_text.specs.EntryText as texts;
 use itoa::{Buffer, Integer};
 use std::alloc::AllocError;
 use trace_format::{Text, Value};
-use trace_hist::{HistRow, HistSpec};
+use trace_hist::{HistRow, HistSpec, Key};
 
 /// Appends so many blanks.
 fn push_blanks(out: &mut Vec<u8>, count: usize) -> Result<(), AllocError>
@@ -45,38 +45,38 @@ fn push_key_value(out: &mut Vec<u8>, value: &Value) -> Result<(), AllocError>
 }
 
 /// Appends a key's name and value.
-fn push_key(out: &mut Vec<u8>, name: &Text, value: &Value) -> Result<(), AllocError>
+fn push_key(out: &mut Vec<u8>, key: &Key, value: &Value) -> Result<(), AllocError>
     ensures { OnOk result (out.new.items
-        ≡ out.old.items ++ texts.key_text (name.now, datum_of value.now)) }
+        ≡ out.old.items ++ texts.key_text (key.now, datum_of value.now)) }
 {
-    out.extend_from_slice(name.as_bytes())?;
+    out.extend_from_slice(key.name.as_bytes())?;
     out.extend_from_slice(b": ".as_slice())?;
     push_key_value(out, value)
 }
 
 /// Appends keys that follow another one.
-fn push_further_keys(out: &mut Vec<u8>, names: &[Text], values: &[Value]) -> Result<(), AllocError>
+fn push_further_keys(out: &mut Vec<u8>, keys: &[Key], values: &[Value]) -> Result<(), AllocError>
     ensures { OnOk result (out.new.items ≡ out.old.items ++ flat_map
-        (λ key. codes ", " ++ texts.key_text key) (zip names.now (map datum_of values.now))) }
+        (λ key. codes ", " ++ texts.key_text key) (zip keys.now (map datum_of values.now))) }
 {
-    for (name, value) in names.iter().zip(values) {
+    for (key, value) in keys.iter().zip(values) {
         out.extend_from_slice(b", ".as_slice())?;
-        push_key(out, name, value)?;
+        push_key(out, key, value)?;
     }
     Ok(())
 }
 
 /// Appends keys with `, ` between each two.
-fn push_keys(out: &mut Vec<u8>, names: &[Text], values: &[Value]) -> Result<(), AllocError>
+fn push_keys(out: &mut Vec<u8>, keys: &[Key], values: &[Value]) -> Result<(), AllocError>
     ensures { OnOk result (out.new.items ≡ out.old.items
-        ++ join_by texts.key_text (codes ", ") (zip names.now (map datum_of values.now))) }
+        ++ join_by texts.key_text (codes ", ") (zip keys.now (map datum_of values.now))) }
 {
-    let (Some((name, names)), Some((value, values))) = (names.split_first(), values.split_first())
+    let (Some((key, keys)), Some((value, values))) = (keys.split_first(), values.split_first())
     else {
         return Ok(());
     };
-    push_key(out, name, value)?;
-    push_further_keys(out, names, values)
+    push_key(out, key, value)?;
+    push_further_keys(out, keys, values)
 }
 
 /// Appends a value's name and sum.

@@ -3,13 +3,14 @@
 ghost use Rattle.std.specs.Prelude.{◌≡◌, ◌∷◌, ◌++◌, codes, option_copied, OnOk};
 ghost use Rattle.std.specs.Fmt.{decimal};
 ghost use Rattle.std.specs.List.{flat_map, join_by};
+ghost use Rattle.trace_trigger.specs.declared.key.Key.{Key as KeySeen};
 ghost use Rattle.trace_trigger.specs.SameSpecs.{filter_text};
 ghost use Rattle.trace_text.specs.TriggerText as texts;
 
 use crate::append::push_number;
 use std::alloc::AllocError;
 use trace_format::Text;
-use trace_hist::{HistSpec, SortKey};
+use trace_hist::{HistSpec, Key, SortKey};
 
 /// Appends names that follow another one.
 fn push_further_names(out: &mut Vec<u8>, names: &[Text]) -> Result<(), AllocError>
@@ -23,15 +24,27 @@ fn push_further_names(out: &mut Vec<u8>, names: &[Text]) -> Result<(), AllocErro
     Ok(())
 }
 
-/// Appends names with a `,` between each two.
-fn push_names(out: &mut Vec<u8>, names: &[Text]) -> Result<(), AllocError>
-    ensures { OnOk result (out.new.items ≡ out.old.items ++ texts.with_commas names.now) }
+/// Appends keys that follow another one.
+fn push_further_keys(out: &mut Vec<u8>, keys: &[Key]) -> Result<(), AllocError>
+    ensures { OnOk result (out.new.items
+        ≡ out.old.items ++ flat_map (λ (key : KeySeen). codes "," ++ key.written) keys.now) }
 {
-    let Some((first, further)) = names.split_first() else {
+    for key in keys {
+        out.extend_from_slice(b",".as_slice())?;
+        out.extend_from_slice(key.written.as_bytes())?;
+    }
+    Ok(())
+}
+
+/// Appends keys as written, with a `,` between each two.
+fn push_keys(out: &mut Vec<u8>, keys: &[Key]) -> Result<(), AllocError>
+    ensures { OnOk result (out.new.items ≡ out.old.items ++ texts.keys_text keys.now) }
+{
+    let Some((first, further)) = keys.split_first() else {
         return Ok(());
     };
-    out.extend_from_slice(first.as_bytes())?;
-    push_further_names(out, further)
+    out.extend_from_slice(first.written.as_bytes())?;
+    push_further_keys(out, further)
 }
 
 /// Appends values, with `hitcount` as the first.
@@ -127,7 +140,7 @@ fn push_lists(out: &mut Vec<u8>, spec: &HistSpec) -> Result<(), AllocError>
     ensures { OnOk result (out.new.items ≡ out.old.items ++ texts.lists_text spec.now) }
 {
     out.extend_from_slice(b"hist:keys=".as_slice())?;
-    push_names(out, spec.keys())?;
+    push_keys(out, spec.keys())?;
     out.extend_from_slice(b":vals=".as_slice())?;
     push_values(out, spec.values())?;
     out.extend_from_slice(b":sort=".as_slice())?;

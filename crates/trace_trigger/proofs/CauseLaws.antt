@@ -1,6 +1,6 @@
 -- Each refusal of a text has the cause that the grammar gives.
 use Rattle.std.proofs.Common.{◌≡◌, ◌≢◌, ◌⊎◌, ◌↔◌, inl, inr, refl, ℕ, ◌-◌, ◌<◌, Bool, true, false, ◌||◌, nat_lt, if◌then◌else◌, List, [], ◌∷◌, length, map, Option, Some, None, Result, Ok, Err, ap, sym, ◌∙◌, subst, arith, lt-ltb, ltb-true}
-use Rattle.std.specs.List.{AllZip}
+use Rattle.std.specs.List.{AllByRecursion, AllZip}
 use Rattle.std.proofs.lemmas.Bool.{or_cases, or_left, or_right, false_from_ne_true}
 use Rattle.std.proofs.lemmas.List.{length-map}
 use Rattle.std.proofs.lemmas.List.Elements.{All-from_recursion, recursion_from_All}
@@ -11,17 +11,18 @@ use Rattle.trace_filter.specs.Filters.{Parsed, IsFilter, IsRefused, parsed_of}
 use Rattle.trace_filter.proofs.FilterLemmas.{filter_or_refused}
 use Rattle.trace_trigger.specs.declared.fault.TriggerFault.{TriggerFault}
 use Rattle.trace_trigger.specs.declared.fault.TriggerFault.TheVariants.{HistSyntax, TooMany, BadSize}
+use Rattle.trace_trigger.specs.declared.key.Key.{Key}
 use Rattle.trace_trigger.specs.declared.piece.Piece.{Piece}
 use Rattle.trace_trigger.specs.HistSizes.{rounded_size}
 use Rattle.trace_trigger.specs.HistParts.{attributes_of, tail_of, condition_of}
 use Rattle.trace_trigger.specs.HistLists.{Lists, lists_of, names_of, summed_items, sort_keys, sort_key_of}
 use Rattle.trace_trigger.specs.HistPlaces.{wrong_places}
 use Rattle.trace_trigger.specs.TriggerAnswers.{◌>>=◌}
-use Rattle.trace_trigger.specs.HistMeanings.{summed_len, is_too_many, few, each, key_source, value_source, told_size, size_of, sort_rule}
-use Rattle.trace_trigger.specs.HistSpecs.{SpecSeen}
+use Rattle.trace_trigger.specs.HistMeanings.{summed_len, is_too_many, few, each, key_in, value_source, told_size, size_of, sort_rule}
+use Rattle.trace_trigger.specs.HistSpecs.{SpecSeen, key_names}
 use Rattle.trace_trigger.specs.Frames.{moved, filter_of}
 use Rattle.trace_trigger.specs.HistTexts.{IsHistText, spec_from, spec_of}
-use Rattle.trace_trigger.specs.HistGrammar.{Setting, Values, Sort, Size, subject_of, IsSet, summed_names, IsKeyOf, IsValueOf}
+use Rattle.trace_trigger.specs.HistGrammar.{Setting, Values, Sort, Size, subject_of, IsSet, summed_names, IsValueOf}
 use Rattle.trace_trigger.specs.HistFaultPlaces.{Cut}
 use Rattle.trace_trigger.specs.HistRefusals.{IsOver, CanBeKey, CanBeValue, HaveKeys, HaveValues, IsSized, IsRefusal, ForMany, ForKey, ForValue, ForSize, ForFilter, IsRefusedAs}
 use Rattle.trace_trigger.proofs.WrongLemmas.{from_pairs}
@@ -29,12 +30,12 @@ use Rattle.trace_trigger.proofs.ListLaws.{Once}
 use Rattle.trace_trigger.proofs.SettingLaws.{default_sort, ListsAre, keys_are, values_are}
 use Rattle.trace_trigger.proofs.PartLaws.{parts_of}
 use Rattle.trace_trigger.proofs.FilterLaws.{filter_given, filter_refused}
-use Rattle.trace_trigger.proofs.MeaningLaws.{keys_found, keys_given, values_found, values_given, summed_are}
+use Rattle.trace_trigger.proofs.MeaningLaws.{keys_found, keys_given, keys_can, can_keys, values_found, values_given, summed_are}
 use Rattle.trace_trigger.proofs.SpecLaws.{Finds, written_finds, IsSomehowWritten, right_written}
 use Rattle.trace_trigger.proofs.SaysLaws.{are, set_once}
 use Rattle.trace_trigger.proofs.HistTextLaws.{of_right}
 use Rattle.trace_trigger.proofs.SyntaxLaws.{cut_of, syntax_is_leftmost, syntax_or_right}
-use Rattle.trace_trigger.proofs.FirstFaults.{IsPassed, refused, zip_can, can_zip, values_can, can_values}
+use Rattle.trace_trigger.proofs.FirstFaults.{IsPassed, refused, values_can, can_values}
 use Rattle.trace_trigger.proofs.RefusalLaws.{key_fault, fault_key, value_fault, fault_value}
 
 module _ (definition : Definition) (text : List ℕ) (settings : List Setting) (condition : Option (List ℕ)) (finds : Finds text settings condition) where
@@ -108,15 +109,15 @@ module _ (definition : Definition) (text : List ℕ) (settings : List Setting) (
 
   -- ---- what is right
 
-  keys_right : (sources : List Operand) → each (key_source definition.fields) lists.keys ≡ Ok sources → HaveKeys definition settings
-  keys_right sources e =
-      (names_of lists.keys, lists_here.keys, All-from_recursion (CanBeKey definition) (names_of lists.keys) (zip_can definition (names_of lists.keys) sources (keys_found definition lists.keys sources e)))
+  keys_right : (keys : List Key) → each (key_in definition.fields) lists.keys ≡ Ok keys → HaveKeys definition settings
+  keys_right keys e =
+      (names_of lists.keys, lists_here.keys, All-from_recursion (CanBeKey definition) (names_of lists.keys) (keys_can definition lists.keys keys (keys_found definition lists.keys keys e)))
 
-  right_keys : HaveKeys definition settings → (sources : List Operand) × (each (key_source definition.fields) lists.keys ≡ Ok sources)
+  right_keys : HaveKeys definition settings → (keys : List Key) × (each (key_in definition.fields) lists.keys ≡ Ok keys)
   right_keys is =
       let same : names_of lists.keys ≡ is.0 = keys_are (attributes_of text) settings finds.read once is.0 is.1 in
-      let zip = can_zip definition is.0 (recursion_from_All (CanBeKey definition) is.0 is.2) in
-      (zip.0, keys_given definition lists.keys zip.0 (subst (λ (names : List (List ℕ)). AllZip (IsKeyOf definition) names zip.0) (sym same) zip.1))
+      let them = can_keys definition lists.keys (subst (AllByRecursion (CanBeKey definition)) (sym same) (recursion_from_All (CanBeKey definition) is.0 is.2)) in
+      (them.0, keys_given definition lists.keys them.0 them.1)
 
   values_right : (sources : List Operand) → each (value_source definition.fields) (summed_items lists.values) ≡ Ok sources → HaveValues definition settings
   values_right sources e =
@@ -176,57 +177,56 @@ module _ (definition : Definition) (text : List ℕ) (settings : List Setting) (
   abbrev from_lists : Result SpecSeen TriggerFault
   from_lists = few lists >>= λ ls. spec_from definition text ls
 
-  abbrev spec_of_lists : List Operand → List Operand → ℕ → Option Parsed → SpecSeen
+  abbrev spec_of_lists : List Key → List Operand → ℕ → Option Parsed → SpecSeen
   spec_of_lists keys values size only_if = record {
-    keys = names_of lists.keys;
+    keys = keys;
     values = names_of (summed_items lists.values);
     sort = sort_keys lists.sort;
     size = size;
     action = lists.action;
     filter = only_if;
-    key_sources = keys;
     value_sources = values;
-    sort_sources = map (sort_rule (names_of lists.keys) (names_of (summed_items lists.values))) (sort_keys lists.sort);
+    sort_sources = map (sort_rule (key_names keys) (names_of (summed_items lists.values))) (sort_keys lists.sort);
   }
 
-  abbrev after_size : List Operand → List Operand → ℕ → Result SpecSeen TriggerFault
+  abbrev after_size : List Key → List Operand → ℕ → Result SpecSeen TriggerFault
   after_size keys values size = filter_of definition text (condition_of (tail_of text)) >>= λ only_if. Ok (spec_of_lists keys values size only_if)
 
-  abbrev after_values : List Operand → List Operand → Result SpecSeen TriggerFault
+  abbrev after_values : List Key → List Operand → Result SpecSeen TriggerFault
   after_values keys values = size_of lists.size >>= λ size. after_size keys values size
 
-  abbrev after_keys : List Operand → Result SpecSeen TriggerFault
+  abbrev after_keys : List Key → Result SpecSeen TriggerFault
   after_keys keys = each (value_source definition.fields) (summed_items lists.values) >>= λ values. after_values keys values
 
-  few_so : is_too_many lists ≡ false → from_lists ≡ (each (key_source definition.fields) lists.keys >>= λ keys. after_keys keys)
+  few_so : is_too_many lists ≡ false → from_lists ≡ (each (key_in definition.fields) lists.keys >>= λ keys. after_keys keys)
   unfolding spec_from
   few_so e = ap (λ (b : Bool). (if b then Err TooMany else Ok lists) >>= λ ls. spec_from definition text ls) e
 
   abbrev Cause : TriggerFault → Type 0
   Cause fault = IsRefusal definition text settings condition fault
 
-  cause_in : (cut : Cut text) (fault : TriggerFault) → (IsOver settings → ⊥) → (each (key_source definition.fields) lists.keys >>= λ keys. after_keys keys) ≡ Err fault → Cause fault
-  cause_in cut fault within e = at_keys (refused (each (key_source definition.fields) lists.keys) (λ keys. after_keys keys) fault e)
+  cause_in : (cut : Cut text) (fault : TriggerFault) → (IsOver settings → ⊥) → (each (key_in definition.fields) lists.keys >>= λ keys. after_keys keys) ≡ Err fault → Cause fault
+  cause_in cut fault within e = at_keys (refused (each (key_in definition.fields) lists.keys) (λ keys. after_keys keys) fault e)
     where
-      at_filter : (keys values : List Operand) (size : ℕ) → HaveKeys definition settings → HaveValues definition settings → IsSized settings (Some size)
+      at_filter : (keys : List Key) (values : List Operand) (size : ℕ) → HaveKeys definition settings → HaveValues definition settings → IsSized settings (Some size)
           → (filter_of definition text (condition_of (tail_of text)) ≡ Err fault) ⊎ IsPassed (filter_of definition text (condition_of (tail_of text))) (λ only_if. Ok (spec_of_lists keys values size only_if)) fault → Cause fault
       at_filter keys values size have right is (inl f) =
           let it = filter_fault condition fault (sym (ap (filter_of definition text) finds.found) ∙ f) in
           ForFilter within have right size is it.filter it.is it.told it.refused_so it.same
       at_filter keys values size have right is (inr passed) = let wrong = passed.after in absurd (cc)
 
-      at_size : (keys values : List Operand) → HaveKeys definition settings → HaveValues definition settings → (size_of lists.size ≡ Err fault) ⊎ IsPassed (size_of lists.size) (λ size. after_size keys values size) fault → Cause fault
+      at_size : (keys : List Key) (values : List Operand) → HaveKeys definition settings → HaveValues definition settings → (size_of lists.size ≡ Err fault) ⊎ IsPassed (size_of lists.size) (λ size. after_size keys values size) fault → Cause fault
       at_size keys values have right (inl f) = let it = no_size fault f in ForSize within have right it.0 it.1
       at_size keys values have right (inr passed) =
           at_filter keys values passed.found have right (some_size passed.found passed.is)
           (refused (filter_of definition text (condition_of (tail_of text))) (λ only_if. Ok (spec_of_lists keys values passed.found only_if)) fault passed.after)
 
-      at_values : (keys : List Operand) → HaveKeys definition settings
+      at_values : (keys : List Key) → HaveKeys definition settings
           → (each (value_source definition.fields) (summed_items lists.values) ≡ Err fault) ⊎ IsPassed (each (value_source definition.fields) (summed_items lists.values)) (λ values. after_values keys values) fault → Cause fault
       at_values keys have (inl f) = ForValue within have (value_fault definition text cut fault f)
       at_values keys have (inr passed) = at_size keys passed.found have (values_right passed.found passed.is) (refused (size_of lists.size) (λ size. after_size keys passed.found size) fault passed.after)
 
-      at_keys : (each (key_source definition.fields) lists.keys ≡ Err fault) ⊎ IsPassed (each (key_source definition.fields) lists.keys) (λ keys. after_keys keys) fault → Cause fault
+      at_keys : (each (key_in definition.fields) lists.keys ≡ Err fault) ⊎ IsPassed (each (key_in definition.fields) lists.keys) (λ keys. after_keys keys) fault → Cause fault
       at_keys (inl f) = let it = key_fault definition text cut fault f in ForKey within it.place it.is it.same
       at_keys (inr passed) =
           at_values passed.found (keys_right passed.found passed.is)
@@ -245,7 +245,7 @@ module _ (definition : Definition) (text : List ℕ) (settings : List Setting) (
   -- ---- and each cause is told
 
   with_keys : (fault : TriggerFault) → (IsOver settings → ⊥) → (have : HaveKeys definition settings) → after_keys (right_keys have).0 ≡ Err fault → from_lists ≡ Err fault
-  with_keys fault within have e = few_so (few_enough within) ∙ ap (λ (r : Result (List Operand) TriggerFault). r >>= λ keys. after_keys keys) (right_keys have).1 ∙ e
+  with_keys fault within have e = few_so (few_enough within) ∙ ap (λ (r : Result (List Key) TriggerFault). r >>= λ keys. after_keys keys) (right_keys have).1 ∙ e
 
   with_values : (fault : TriggerFault) → (IsOver settings → ⊥) → (have : HaveKeys definition settings) → (right : HaveValues definition settings)
       → after_values (right_keys have).0 (right_values right).0 ≡ Err fault → from_lists ≡ Err fault
@@ -256,7 +256,7 @@ module _ (definition : Definition) (text : List ℕ) (settings : List Setting) (
   cause_told fault (ForMany many same) =
       ap (λ (b : Bool). (if b then Err TooMany else Ok lists) >>= λ ls. spec_from definition text ls) (too_many many) ∙ ap (λ (f : TriggerFault). Err f) (sym same)
   cause_told fault (ForKey within place is same) =
-      few_so (few_enough within) ∙ ap (λ (r : Result (List Operand) TriggerFault). r >>= λ keys. after_keys keys) (fault_key definition text place is) ∙ ap (λ (f : TriggerFault). Err f) (sym same)
+      few_so (few_enough within) ∙ ap (λ (r : Result (List Key) TriggerFault). r >>= λ keys. after_keys keys) (fault_key definition text place is) ∙ ap (λ (f : TriggerFault). Err f) (sym same)
   cause_told fault (ForValue within have is) =
       with_keys fault within have (ap (λ (r : Result (List Operand) TriggerFault). r >>= λ values. after_values (right_keys have).0 values) (fault_value definition text fault is))
   cause_told fault (ForSize within have right is same) =

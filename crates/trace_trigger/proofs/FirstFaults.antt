@@ -10,8 +10,8 @@ use Rattle.trace_trigger.specs.declared.fault.TriggerFault.TheVariants.{NoSuchFi
 use Rattle.trace_trigger.specs.declared.piece.Piece.{Piece}
 use Rattle.trace_trigger.specs.TriggerAnswers.{◌>>=◌}
 use Rattle.trace_trigger.specs.HistMeanings.{each, key_meant, value_meant}
-use Rattle.trace_trigger.specs.HistGrammar.{summed_names, IsKeyOf, IsValueOf}
-use Rattle.trace_trigger.specs.HistRefusals.{CanBeKey, CanBeValue, CannotBeValue}
+use Rattle.trace_trigger.specs.HistGrammar.{summed_names, IsValueOf}
+use Rattle.trace_trigger.specs.HistRefusals.{CanBeValue, CannotBeValue}
 use Rattle.trace_trigger.proofs.CutLemmas.{placed}
 use Rattle.trace_trigger.proofs.MeaningLaws.{bound, as_number}
 use Rattle.trace_trigger.proofs.PlaceLemmas.{size, size_first}
@@ -136,21 +136,11 @@ pub filter_all : {X : Type 0} (xs : List X) → filter (λ _. true) xs ≡ xs
 filter_all [] = refl
 filter_all (x ∷ xs) = ap (λ (ys : List _). x ∷ ys) (filter_all xs)
 
-pub key_refused : (at : ℕ) (named : Option Operand) (fault : TriggerFault) → key_meant at named ≡ Err fault → (named ≡ None) × (fault ≡ NoSuchField at)
-key_refused at None fault e = let same : NoSuchField at ≡ fault = cc in (refl, sym same)
-key_refused at (Some named) fault e = absurd (cc)
+pub key_refused : (item : Piece) (named : Option Operand) (fault : TriggerFault) → key_meant item named ≡ Err fault → (named ≡ None) × (fault ≡ NoSuchField item.at)
+key_refused item None fault e = let same : NoSuchField item.at ≡ fault = cc in (refl, sym same)
+key_refused item (Some named) fault e = absurd (cc)
 
 module _ (definition : Definition) where
-  pub zip_can : (names : List (List ℕ)) (sources : List Operand) → AllZip (IsKeyOf definition) names sources → AllByRecursion (CanBeKey definition) names
-  zip_can [] [] zip = tt
-  zip_can [] (source ∷ sources) zip = absurd zip
-  zip_can (name ∷ names) [] zip = absurd zip
-  zip_can (name ∷ names) (source ∷ sources) zip = ((source, zip.0), zip_can names sources zip.1)
-
-  pub can_zip : (names : List (List ℕ)) → AllByRecursion (CanBeKey definition) names → (sources : List Operand) × AllZip (IsKeyOf definition) names sources
-  can_zip [] all = ([], tt)
-  can_zip (name ∷ names) all = let rest = can_zip names all.1 in (all.0.0 ∷ rest.0, (all.0.1, rest.1))
-
   -- ---- values
 
   pub value_refused : (at : ℕ) (name : List ℕ) (fault : TriggerFault) → value_meant at (operand_named definition.fields name) ≡ Err fault → CannotBeValue definition name at fault

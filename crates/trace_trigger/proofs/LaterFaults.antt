@@ -6,6 +6,7 @@ use Rattle.trace_format.specs.Operands.{operand_named, is_text}
 use Rattle.trace_filter.specs.declared.fault.FilterFault.{FilterFault}
 use Rattle.trace_filter.specs.declared.fault.FilterFault.TheVariants as filter
 use Rattle.trace_filter.specs.Filters.{Parsed, answer_of}
+use Rattle.trace_trigger.specs.declared.piece.Piece.{Piece}
 use Rattle.trace_trigger.specs.declared.fault.TriggerFault.{TriggerFault}
 use Rattle.trace_trigger.specs.declared.fault.TriggerFault.TheVariants.{BadText, TooMany, FilterSyntax, NoSuchField, WrongOperator, HistSyntax, BadSize, Memory}
 use Rattle.trace_trigger.specs.Frames.{moved, filter_read, filter_of}
@@ -13,7 +14,7 @@ use Rattle.trace_trigger.specs.TriggerAnswers.{◌>>=◌}
 use Rattle.trace_trigger.specs.HistParts.{attributes_of, tail_of, condition_of}
 use Rattle.trace_trigger.specs.HistLists.{Lists, lists_of, summed_items}
 use Rattle.trace_trigger.specs.HistPlaces.{wrong_places, least}
-use Rattle.trace_trigger.specs.HistMeanings.{is_too_many, few, each, key_meant, key_source, value_meant, value_source, told_size, size_of}
+use Rattle.trace_trigger.specs.HistMeanings.{is_too_many, few, each, key_meant, key_in, value_meant, value_source, told_size, size_of}
 use Rattle.trace_trigger.specs.HistSpecs.{SpecSeen}
 use Rattle.trace_trigger.specs.HistTexts.{unless_wrong, read_of, spec_from, spec_of}
 
@@ -40,9 +41,9 @@ each_later : {A B : Type 0} (read : A → Result B TriggerFault) → ((x : A) �
 each_later read are [] = tt
 each_later read are (x ∷ xs) = then_later (read x) (λ y. each read xs >>= λ ys. Ok (y ∷ ys)) (are x) (λ y. then_later (each read xs) (λ ys. Ok (y ∷ ys)) (each_later read are xs) (λ ys. tt))
 
-key_later : (at : ℕ) (named : Option Operand) → IsAnyLater (key_meant at named)
-key_later at None = tt
-key_later at (Some named) = tt
+key_later : (item : Piece) (named : Option Operand) → IsAnyLater (key_meant item named)
+key_later item None = tt
+key_later item (Some named) = tt
 
 value_later : (at : ℕ) (named : Option Operand) → IsAnyLater (value_meant at named)
 value_later at None = tt
@@ -86,7 +87,7 @@ few_later lists = by (is_too_many lists)
 from_later : (definition : Definition) (text : List ℕ) (lists : Lists) → IsAnyLater (spec_from definition text lists)
 unfolding spec_from
 from_later definition text lists =
-    then_later (each (key_source definition.fields) lists.keys) _ (each_later (key_source definition.fields) (λ item. key_later item.at (operand_named definition.fields item.bytes)) lists.keys) (λ keys.
+    then_later (each (key_in definition.fields) lists.keys) _ (each_later (key_in definition.fields) (λ item. key_later item (operand_named definition.fields item.bytes)) lists.keys) (λ keys.
     then_later (each (value_source definition.fields) (summed_items lists.values)) _ (each_later (value_source definition.fields) (λ item. value_later item.at (operand_named definition.fields item.bytes)) (summed_items lists.values)) (λ values.
     then_later (size_of lists.size) _ (size_later lists.size) (λ size.
     then_later (filter_of definition text (condition_of (tail_of text))) _ (filter_later definition text (condition_of (tail_of text))) (λ only_if. tt))))

@@ -13,6 +13,7 @@ pub mod FilterLaws
 pub mod FirstFaults
 pub mod HeadLemmas
 pub mod ItemLaws
+pub mod KeyLemmas
 pub mod LaterFaults
 pub mod LawfulLaws
 pub mod ListLaws

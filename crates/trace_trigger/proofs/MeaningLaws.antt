@@ -9,11 +9,14 @@ use Rattle.trace_format.specs.Operands.{operand_named, is_text}
 use Rattle.trace_trigger.specs.declared.fault.TriggerFault.{TriggerFault}
 use Rattle.trace_trigger.specs.declared.fault.TriggerFault.TheVariants.{WrongOperator}
 use Rattle.trace_trigger.specs.declared.sort_rule.SortSource.{SortSource}
-use Rattle.trace_trigger.specs.declared.sort_rule.SortSource.TheVariants.{Key, Value, Hitcount}
+use Rattle.trace_trigger.specs.declared.key.Key.{Key}
+use Rattle.trace_trigger.specs.declared.sort_rule.SortSource.TheVariants as sorted
 use Rattle.trace_trigger.specs.declared.piece.Piece.{Piece}
 use Rattle.trace_trigger.specs.HistLists.{names_of, summed_items, is_hitcount}
 use Rattle.trace_trigger.specs.TriggerAnswers.{◌>>=◌}
-use Rattle.trace_trigger.specs.HistMeanings.{each, key_meant, key_source, value_meant, value_source, told_size, sort_found, sort_source}
+use Rattle.trace_trigger.specs.HistMeanings.{each, key_as, key_meant, key_in, value_meant, value_source, told_size, sort_found, sort_source}
+use Rattle.trace_trigger.specs.HistSpecs.{written_of, key_names}
+use Rattle.trace_trigger.specs.HistRefusals.{CanBeKey}
 use Rattle.trace_trigger.specs.HistGrammar.{summed_names, IsKeyOf, IsValueOf, IsSortedBy}
 use Rattle.trace_trigger.proofs.WrongLemmas.{Apart}
 use Rattle.trace_trigger.proofs.ListLaws.{Member, member_from, from_member}
@@ -31,10 +34,6 @@ bound (Err fault) next value e = absurd (cc)
 
 -- ---- keys and values
 
-key_found : (at : ℕ) (found : Option Operand) (operand : Operand) → key_meant at found ≡ Ok operand → found ≡ Some operand
-key_found at None operand e = absurd (cc)
-key_found at (Some found) operand e = let same : found ≡ operand = cc in ap Some same
-
 value_found : (at : ℕ) (found : Option Operand) (operand : Operand) → value_meant at found ≡ Ok operand → (found ≡ Some operand) × (is_text operand ≡ false)
 value_found at None operand e = absurd (cc)
 value_found at (Some found) operand e = by (is_text found) refl e
@@ -47,25 +46,88 @@ abbrev pub as_number : ℕ → Operand → Bool → Result Operand TriggerFault
 as_number at operand b = if b then Err (WrongOperator at) else Ok operand
 
 module _ (definition : Definition) where
-  pub keys_found : (items : List Piece) (sources : List Operand) → each (key_source definition.fields) items ≡ Ok sources → AllZip (IsKeyOf definition) (names_of items) sources
-  keys_found [] [] e = tt
-  keys_found [] (source ∷ sources) e = absurd (cc)
-  keys_found (item ∷ items) sources e = by sources (bound (key_source definition.fields item) (λ y. each (key_source definition.fields) items >>= λ ys. Ok (y ∷ ys)) sources e) (keys_found items)
-    where
-      by : (sources : List Operand) → IsBound (key_source definition.fields item) (λ y. each (key_source definition.fields) items >>= λ ys. Ok (y ∷ ys)) sources
-          → ((rest : List Operand) → each (key_source definition.fields) items ≡ Ok rest → AllZip (IsKeyOf definition) (names_of items) rest) → AllZip (IsKeyOf definition) (names_of (item ∷ items)) sources
-      by sources is next =
-          let rest = bound (each (key_source definition.fields) items) (λ ys. Ok (is.found ∷ ys)) sources is.after in
-          let same : is.found ∷ rest.found ≡ sources = let f = rest.after in cc in
-          subst (AllZip (IsKeyOf definition) (names_of (item ∷ items))) same (key_found item.at (operand_named definition.fields item.bytes) is.found is.is, next rest.found rest.is)
+  -- what a key is read as
+  key_read : (item : Piece) (found : Option Operand) (key : Key) → key_meant item found ≡ Ok key → (operand : Operand) × (found ≡ Some operand) × (key_as item operand ≡ key)
+  key_read item None key e = absurd (cc)
+  key_read item (Some operand) key e = let same : key_as item operand ≡ key = cc in (operand, refl, same)
 
-  pub keys_given : (items : List Piece) (sources : List Operand) → AllZip (IsKeyOf definition) (names_of items) sources → each (key_source definition.fields) items ≡ Ok sources
+  read_key : (item : Piece) (key : Key) → item.bytes ≡ key.written → IsKeyOf definition key → key_in definition.fields item ≡ Ok key
+  read_key item key written is =
+      let name : item.bytes ≡ key.name = written ∙ sym is.name in
+      ap (λ (bytes : List ℕ). key_meant item (operand_named definition.fields bytes)) name ∙ ap (key_meant item) is.means
+      ∙ (λ i. Ok (record { written = written i; name = name i; operand = key.operand }))
+
+  abbrev pub AreRead : List Piece → List Key → Type 0
+  AreRead items keys = AllZip (λ item key. key_in definition.fields item ≡ Ok key) items keys
+
+  pub keys_found : (items : List Piece) (keys : List Key) → each (key_in definition.fields) items ≡ Ok keys → AreRead items keys
+  keys_found [] [] e = tt
+  keys_found [] (key ∷ keys) e = absurd (cc)
+  keys_found (item ∷ items) keys e = by keys (bound (key_in definition.fields item) (λ y. each (key_in definition.fields) items >>= λ ys. Ok (y ∷ ys)) keys e) (keys_found items)
+    where
+      by : (keys : List Key) → IsBound (key_in definition.fields item) (λ y. each (key_in definition.fields) items >>= λ ys. Ok (y ∷ ys)) keys
+          → ((rest : List Key) → each (key_in definition.fields) items ≡ Ok rest → AreRead items rest) → AreRead (item ∷ items) keys
+      by keys is next =
+          let rest = bound (each (key_in definition.fields) items) (λ ys. Ok (is.found ∷ ys)) keys is.after in
+          let same : is.found ∷ rest.found ≡ keys = let f = rest.after in cc in
+          subst (AreRead (item ∷ items)) same (is.is, next rest.found rest.is)
+
+  pub keys_given : (items : List Piece) (keys : List Key) → AreRead items keys → each (key_in definition.fields) items ≡ Ok keys
   keys_given [] [] zip = refl
-  keys_given [] (source ∷ sources) zip = absurd zip
+  keys_given [] (key ∷ keys) zip = absurd zip
   keys_given (item ∷ items) [] zip = absurd zip
-  keys_given (item ∷ items) (source ∷ sources) zip =
-      ap (λ (n : Option Operand). key_meant item.at n >>= λ y. each (key_source definition.fields) items >>= λ ys. Ok (y ∷ ys)) zip.0
-      ∙ ap (λ (r : Result (List Operand) TriggerFault). r >>= λ ys. Ok (source ∷ ys)) (keys_given items sources zip.1)
+  keys_given (item ∷ items) (key ∷ keys) zip =
+      ap (λ (r : Result Key TriggerFault). r >>= λ y. each (key_in definition.fields) items >>= λ ys. Ok (y ∷ ys)) zip.0
+      ∙ ap (λ (r : Result (List Key) TriggerFault). r >>= λ ys. Ok (key ∷ ys)) (keys_given items keys zip.1)
+
+  -- such keys are written and named as the items are
+  pub keys_written : (items : List Piece) (keys : List Key) → AreRead items keys → names_of items ≡ written_of keys
+  keys_written [] [] zip = refl
+  keys_written [] (key ∷ keys) zip = absurd zip
+  keys_written (item ∷ items) [] zip = absurd zip
+  keys_written (item ∷ items) (key ∷ keys) zip =
+      let is = key_read item (operand_named definition.fields item.bytes) key zip.0 in
+      (λ i. (is.2 i).written ∷ keys_written items keys zip.1 i)
+
+  pub keys_named : (items : List Piece) (keys : List Key) → AreRead items keys → names_of items ≡ key_names keys
+  keys_named [] [] zip = refl
+  keys_named [] (key ∷ keys) zip = absurd zip
+  keys_named (item ∷ items) [] zip = absurd zip
+  keys_named (item ∷ items) (key ∷ keys) zip =
+      let is = key_read item (operand_named definition.fields item.bytes) key zip.0 in
+      (λ i. (is.2 i).name ∷ keys_named items keys zip.1 i)
+
+  -- and are keys of the event
+  pub keys_of_event : (items : List Piece) (keys : List Key) → AreRead items keys → AllByRecursion (IsKeyOf definition) keys
+  keys_of_event [] [] zip = tt
+  keys_of_event [] (key ∷ keys) zip = absurd zip
+  keys_of_event (item ∷ items) [] zip = absurd zip
+  keys_of_event (item ∷ items) (key ∷ keys) zip =
+      let is = key_read item (operand_named definition.fields item.bytes) key zip.0 in
+      (subst (IsKeyOf definition) is.2 (record { name = refl; means = is.1 }), keys_of_event items keys zip.1)
+
+  pub event_keys : (items : List Piece) (keys : List Key) → names_of items ≡ written_of keys → AllByRecursion (IsKeyOf definition) keys → AreRead items keys
+  event_keys [] [] e all = tt
+  event_keys [] (key ∷ keys) e all = absurd (cc)
+  event_keys (item ∷ items) [] e all = absurd (cc)
+  event_keys (item ∷ items) (key ∷ keys) e all =
+      let written : item.bytes ≡ key.written = cc in
+      let rest : names_of items ≡ written_of keys = cc in
+      (read_key item key written all.0, event_keys items keys rest all.1)
+
+  -- what can be a key
+  pub keys_can : (items : List Piece) (keys : List Key) → AreRead items keys → AllByRecursion (CanBeKey definition) (names_of items)
+  keys_can [] keys zip = tt
+  keys_can (item ∷ items) [] zip = absurd zip
+  keys_can (item ∷ items) (key ∷ keys) zip =
+      let is = key_read item (operand_named definition.fields item.bytes) key zip.0 in
+      ((is.0, is.1), keys_can items keys zip.1)
+
+  pub can_keys : (items : List Piece) → AllByRecursion (CanBeKey definition) (names_of items) → (keys : List Key) × AreRead items keys
+  can_keys [] all = ([], tt)
+  can_keys (item ∷ items) all =
+      let rest = can_keys items all.1 in
+      (key_as item all.0.0 ∷ rest.0, (ap (key_meant item) all.0.1, rest.1))
 
   pub values_found : (items : List Piece) (sources : List Operand) → each (value_source definition.fields) items ≡ Ok sources → AllZip (IsValueOf definition) (names_of items) sources
   values_found [] [] e = tt
@@ -198,22 +260,22 @@ module _ (keys values : List (List ℕ)) where
 
   module _ (keys_apart : Apart (λ one later. one ≢ later) keys) (values_apart : Apart (λ one later. one ≢ later) values) (no_count : Member (codes "hitcount") values → ⊥) where
     pub by_is : (name : List ℕ) (source : SortSource) → IsSortedBy keys values name source → source ≡ sort_source keys values name
-    by_is name Hitcount is =
+    by_is name sorted.Hitcount is =
         let none : position (bytes_eq name) values ≡ None = place_missing name values (λ member. no_count (subst (λ (n : List ℕ). Member n values) is member)) in
         sym (source_by name None true none ((bytes_eq-Decides name (codes "hitcount")).1 is))
-    by_is name (Value place) is =
+    by_is name (sorted.Value place) is =
         let found : position (bytes_eq name) values ≡ Some place = place_found name values place (place_of name values place values_apart is) in
         sym (source_by name (Some place) (is_hitcount name) found refl)
-    by_is name (Key place) is =
+    by_is name (sorted.Key place) is =
         let none : position (bytes_eq name) values ≡ None = place_missing name values (λ member. is.1 (from_member name values member)) in
         let other : is_hitcount name ≡ false = false_from_ne_true (is_hitcount name) (λ equal. is.0 ((bytes_eq-Decides name (codes "hitcount")).0 equal)) in
         let place_is : position (bytes_eq name) keys ≡ Some place = place_found name keys place (place_of name keys place keys_apart is.2) in
-        sym (source_by name None false none other ∙ ap (λ (o : Option ℕ). Key (unwrap_or o 0)) place_is)
+        sym (source_by name None false none other ∙ ap (λ (o : Option ℕ). sorted.Key (unwrap_or o 0)) place_is)
 
     pub is_by : (name : List ℕ) → (name ≡ codes "hitcount") ⊎ (Member name keys ⊎ Member name values) → IsSortedBy keys values name (sort_source keys values name)
     is_by name lent = by (position (bytes_eq name) values) (is_hitcount name) refl refl lent
       where
-        key_place : (e : position (bytes_eq name) values ≡ None) → is_hitcount name ≡ false → Member name keys → IsSortedBy keys values name (Key (unwrap_or (position (bytes_eq name) keys) 0))
+        key_place : (e : position (bytes_eq name) values ≡ None) → is_hitcount name ≡ false → Member name keys → IsSortedBy keys values name (sorted.Key (unwrap_or (position (bytes_eq name) keys) 0))
         key_place e f member =
             let it = member_place name keys member in (
               λ same. let equal : is_hitcount name ≡ true = (bytes_eq-Decides name (codes "hitcount")).1 same in let no = f in cc,

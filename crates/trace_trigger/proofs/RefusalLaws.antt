@@ -1,6 +1,6 @@
 -- A text that is written so is refused for just the cause that the grammar gives.
 use Rattle.std.proofs.Common.{◌≡◌, ◌⊎◌, inl, inr, refl, ℕ, ◌+◌, Bool, true, false, not, codes, List, [], ◌∷◌, ◌++◌, filter, Result, Ok, Err, ap, sym, ◌∙◌, subst}
-use Rattle.std.specs.List.{All, AllZip}
+use Rattle.std.specs.List.{All, AllByRecursion, AllZip}
 use Rattle.std.proofs.lemmas.Bool.{false_from_ne_true, not_from_false}
 use Rattle.std.proofs.lemmas.List.Elements.{All-from_recursion, recursion_from_All}
 use Rattle.std.proofs.lemmas.Slice.Eq.{bytes_eq-Decides}
@@ -9,23 +9,24 @@ use Rattle.trace_format.specs.declared.operand.Operand.{Operand}
 use Rattle.trace_format.specs.Operands.{operand_named}
 use Rattle.trace_trigger.specs.declared.fault.TriggerFault.{TriggerFault}
 use Rattle.trace_trigger.specs.declared.fault.TriggerFault.TheVariants.{NoSuchField}
+use Rattle.trace_trigger.specs.declared.key.Key.{Key}
 use Rattle.trace_trigger.specs.declared.attribute.Attribute.{Attribute}
 use Rattle.trace_trigger.specs.declared.piece.Piece.{Piece}
 use Rattle.trace_trigger.specs.HistParts.{attributes_of}
 use Rattle.trace_trigger.specs.HistLists.{first_about, items_in, Lists, lists_of, names_of, summed_items, is_hitcount}
-use Rattle.trace_trigger.specs.HistMeanings.{each, key_meant, key_source, value_source}
-use Rattle.trace_trigger.specs.HistGrammar.{Subject, OfKeys, OfValues, summed_names, IsKeyOf, IsValueOf}
+use Rattle.trace_trigger.specs.HistMeanings.{each, key_meant, key_in, value_source}
+use Rattle.trace_trigger.specs.HistGrammar.{Subject, OfKeys, OfValues, summed_names, IsValueOf}
 use Rattle.trace_trigger.specs.HistFaultPlaces.{Cut, IsList, items_place}
 use Rattle.trace_trigger.specs.HistRefusals.{IsItemAt, CanBeKey, CanBeValue, IsUnknownKey, CannotBeValue, IsWrongValue}
 use Rattle.trace_trigger.proofs.CutLemmas.{placed, names_of-placed}
 use Rattle.trace_trigger.proofs.HeadLemmas.{topic_for}
 use Rattle.trace_trigger.proofs.PartLaws.{start_for}
-use Rattle.trace_trigger.proofs.MeaningLaws.{keys_found, keys_given, values_found, values_given, summed_are}
+use Rattle.trace_trigger.proofs.MeaningLaws.{keys_found, keys_given, keys_can, can_keys, values_found, values_given, summed_are}
 use Rattle.trace_trigger.proofs.PlaceLemmas.{size}
 use Rattle.trace_trigger.proofs.SubjectLaws.{placed_attributes}
 use Rattle.trace_trigger.proofs.FaultLaws.{FoundList, NoList, items_are, keys_list, values_list}
 use Rattle.trace_trigger.proofs.WrongLaws.{attributes_there}
-use Rattle.trace_trigger.proofs.FirstFaults.{first_fault, fault_first, filter_all, key_refused, zip_can, can_zip, value_refused, refused_value, values_can, can_values}
+use Rattle.trace_trigger.proofs.FirstFaults.{first_fault, fault_first, filter_all, key_refused, value_refused, refused_value, values_can, can_values}
 
 -- ---- the items of lists are at their places
 
@@ -97,24 +98,22 @@ module _ (definition : Definition) (text : List ℕ) where
   abbrev summed : Piece → Bool
   summed = λ (item : Piece). not (is_hitcount item.bytes)
 
-  keys_before : (start : ℕ) (before : List (List ℕ)) (sources : List Operand) → each (key_source definition.fields) (filter (λ _. true) (placed start before)) ≡ Ok sources → All (CanBeKey definition) before
-  keys_before start before sources e =
-      let found : AllZip (IsKeyOf definition) (names_of (placed start before)) sources =
-      keys_found definition (placed start before) sources (ap (each (key_source definition.fields)) (sym (filter_all (placed start before))) ∙ e) in
+  keys_before : (start : ℕ) (before : List (List ℕ)) (keys : List Key) → each (key_in definition.fields) (filter (λ _. true) (placed start before)) ≡ Ok keys → All (CanBeKey definition) before
+  keys_before start before keys e =
+      let read = keys_found definition (placed start before) keys (ap (each (key_in definition.fields)) (sym (filter_all (placed start before))) ∙ e) in
       All-from_recursion (CanBeKey definition) before
-      (zip_can definition before sources (subst (λ (names : List (List ℕ)). AllZip (IsKeyOf definition) names sources) (names_of-placed 44 start before) found))
+      (subst (AllByRecursion (CanBeKey definition)) (names_of-placed 44 start before) (keys_can definition (placed start before) keys read))
 
-  record SomeOk (pieces : List Piece) (read : Piece → Result Operand TriggerFault) : Type 0 where
-    sources : List Operand
-    is : each read pieces ≡ Ok sources
+  record SomeOk {B : Type 0} (pieces : List Piece) (read : Piece → Result B TriggerFault) : Type 0 where
+    found : List B
+    is : each read pieces ≡ Ok found
 
-  before_keys : (start : ℕ) (before : List (List ℕ)) → All (CanBeKey definition) before → SomeOk (filter (λ _. true) (placed start before)) (key_source definition.fields)
+  before_keys : (start : ℕ) (before : List (List ℕ)) → All (CanBeKey definition) before → SomeOk (filter (λ _. true) (placed start before)) (key_in definition.fields)
   before_keys start before can =
-      let zip = can_zip definition before (recursion_from_All (CanBeKey definition) before can) in
+      let them = can_keys definition (placed start before) (subst (AllByRecursion (CanBeKey definition)) (sym (names_of-placed 44 start before)) (recursion_from_All (CanBeKey definition) before can)) in
       record {
-        sources = zip.0;
-        is = ap (each (key_source definition.fields)) (filter_all (placed start before))
-            ∙ keys_given definition (placed start before) zip.0 (subst (λ (names : List (List ℕ)). AllZip (IsKeyOf definition) names zip.0) (sym (names_of-placed 44 start before)) zip.1);
+        found = them.0;
+        is = ap (each (key_in definition.fields)) (filter_all (placed start before)) ∙ keys_given definition (placed start before) them.0 them.1;
       }
 
   abbrev lists : Lists
@@ -125,16 +124,16 @@ module _ (definition : Definition) (text : List ℕ) where
     pub is : IsUnknownKey definition text place
     pub same : fault ≡ NoSuchField place
 
-  pub key_fault : Cut text → (fault : TriggerFault) → each (key_source definition.fields) lists.keys ≡ Err fault → KeyFault fault
+  pub key_fault : Cut text → (fault : TriggerFault) → each (key_in definition.fields) lists.keys ≡ Err fault → KeyFault fault
   key_fault cut fault e = by (keys_at text cut)
     where
       at : ListAt cut OfKeys (lists_of (attributes_of text)).keys → KeyFault fault
       at list =
           let begin : ℕ = items_place cut list.before list.head in
-          let there : each (key_source definition.fields) (filter (λ _. true) (placed begin list.items)) ≡ Err fault =
-          ap (each (key_source definition.fields)) (filter_all (placed begin list.items) ∙ sym list.are) ∙ e in
-          let first = first_fault (key_source definition.fields) (λ _. true) begin list.items fault there in
-          let wrong = key_refused (begin + size 44 first.before) (operand_named definition.fields first.item) fault first.fault_there in
+          let there : each (key_in definition.fields) (filter (λ _. true) (placed begin list.items)) ≡ Err fault =
+          ap (each (key_in definition.fields)) (filter_all (placed begin list.items) ∙ sym list.are) ∙ e in
+          let first = first_fault (key_in definition.fields) (λ _. true) begin list.items fault there in
+          let wrong = key_refused (record { at = begin + size 44 first.before; bytes = first.item }) (operand_named definition.fields first.item) fault first.fault_there in
           record {
             place = begin + size 44 first.before;
             is = record {
@@ -156,19 +155,19 @@ module _ (definition : Definition) (text : List ℕ) where
           }
 
       by : ((lists_of (attributes_of text)).keys ≡ []) ⊎ ListAt cut OfKeys (lists_of (attributes_of text)).keys → KeyFault fault
-      by (inl none) = let fine : each (key_source definition.fields) (lists_of (attributes_of text)).keys ≡ Ok [] = ap (each (key_source definition.fields)) none in absurd (cc)
+      by (inl none) = let fine : each (key_in definition.fields) (lists_of (attributes_of text)).keys ≡ Ok [] = ap (each (key_in definition.fields)) none in absurd (cc)
       by (inr list) = at list
 
-  pub fault_key : (place : ℕ) → IsUnknownKey definition text place → each (key_source definition.fields) lists.keys ≡ Err (NoSuchField place)
+  pub fault_key : (place : ℕ) → IsUnknownKey definition text place → each (key_in definition.fields) lists.keys ≡ Err (NoSuchField place)
   fault_key place is =
       let at = is.is_at in
       let begin : ℕ = items_place is.cut at.attributes_before at.head in
       let same : place ≡ begin + size 44 is.before = at.is_at.is_there in
       let before = before_keys begin is.before is.first in
-      let wrong : key_source definition.fields (record { at = begin + size 44 is.before; bytes = is.name }) ≡ Err (NoSuchField place) =
-      ap (key_meant (begin + size 44 is.before)) is.unknown ∙ ap (λ n. Err (NoSuchField n)) (sym same) in
-      ap (each (key_source definition.fields)) (keys_of_item text is.cut is.before is.name place at ∙ ap (placed begin) at.is_at.cut ∙ sym (filter_all (placed begin (is.before ++ is.name ∷ at.is_at.after))))
-      ∙ fault_first (key_source definition.fields) (λ _. true) begin is.before is.name at.is_at.after (NoSuchField place) before.sources refl wrong before.is
+      let wrong : key_in definition.fields (record { at = begin + size 44 is.before; bytes = is.name }) ≡ Err (NoSuchField place) =
+      ap (key_meant (record { at = begin + size 44 is.before; bytes = is.name })) is.unknown ∙ ap (λ n. Err (NoSuchField n)) (sym same) in
+      ap (each (key_in definition.fields)) (keys_of_item text is.cut is.before is.name place at ∙ ap (placed begin) at.is_at.cut ∙ sym (filter_all (placed begin (is.before ++ is.name ∷ at.is_at.after))))
+      ∙ fault_first (key_in definition.fields) (λ _. true) begin is.before is.name at.is_at.after (NoSuchField place) before.found refl wrong before.is
 
   -- ---- the first wrong value
 
@@ -182,7 +181,7 @@ module _ (definition : Definition) (text : List ℕ) where
   before_values start before can =
       let zip = can_values definition before (recursion_from_All (CanBeValue definition) before can) in
       let names : names_of (summed_items (placed start before)) ≡ summed_names before = summed_are (placed start before) ∙ ap summed_names (names_of-placed 44 start before) in
-      record { sources = zip.0; is = values_given definition (summed_items (placed start before)) zip.0 (subst (λ (ns : List (List ℕ)). AllZip (IsValueOf definition) ns zip.0) (sym names) zip.1) }
+      record { found = zip.0; is = values_given definition (summed_items (placed start before)) zip.0 (subst (λ (ns : List (List ℕ)). AllZip (IsValueOf definition) ns zip.0) (sym names) zip.1) }
 
   pub value_fault : Cut text → (fault : TriggerFault) → each (value_source definition.fields) (summed_items lists.values) ≡ Err fault → IsWrongValue definition text fault
   value_fault cut fault e = by (values_at text cut)
@@ -224,4 +223,4 @@ module _ (definition : Definition) (text : List ℕ) where
       let wrong : value_source definition.fields (record { at = begin + size 44 is.before; bytes = is.name }) ≡ Err fault =
       refused_value definition (begin + size 44 is.before) is.name fault (subst (λ n. CannotBeValue definition is.name n fault) same is.wrong) in
       ap (λ (pieces : List Piece). each (value_source definition.fields) (summed_items pieces)) (values_of_item text is.cut is.before is.name is.place at ∙ ap (placed begin) at.is_at.cut)
-      ∙ fault_first (value_source definition.fields) (λ (item : Piece). not (is_hitcount item.bytes)) begin is.before is.name at.is_at.after fault before.sources (not_from_false (is_hitcount is.name) other) wrong before.is
+      ∙ fault_first (value_source definition.fields) (λ (item : Piece). not (is_hitcount item.bytes)) begin is.before is.name at.is_at.after fault before.found (not_from_false (is_hitcount is.name) other) wrong before.is

@@ -3,11 +3,12 @@ use Rattle.std.proofs.Common.{◌≡◌, ◌≢◌, ◌⊎◌, inl, inr, refl, �
 use Rattle.std.specs.List.{AllByRecursion, AllPairs, AllZip, Contains}
 use Rattle.std.proofs.lemmas.Bool.{or_parts, or_from, ltb-false}
 use Rattle.std.proofs.lemmas.List.{length-map}
-use Rattle.std.proofs.lemmas.List.Elements.{recursion_from_All}
+use Rattle.std.proofs.lemmas.List.Elements.{All-from_recursion, recursion_from_All}
 use Rattle.std.proofs.lemmas.List.Kept.{AllPairs-filter}
 use Rattle.std.proofs.lemmas.Slice.Eq.{bytes_eq-Decides}
 use Rattle.trace_format.specs.Definitions.{Definition}
 use Rattle.trace_trigger.specs.declared.spec.Action.TheVariants.{Attach}
+use Rattle.trace_trigger.specs.declared.key.Key.{Key}
 use Rattle.trace_trigger.specs.declared.spec.SortKey.{SortKey}
 use Rattle.trace_trigger.specs.declared.sort_rule.SortRule.{SortRule}
 use Rattle.trace_trigger.specs.declared.piece.Piece.{Piece}
@@ -15,13 +16,13 @@ use Rattle.trace_trigger.specs.HistParts.{attributes_of}
 use Rattle.trace_trigger.specs.HistLists.{Lists, lists_of, names_of, summed_items, is_hitcount, sort_keys, sort_key_of}
 use Rattle.trace_trigger.specs.HistMeanings.{is_too_many, few, size_of, told_size, sort_source, sort_rule}
 use Rattle.trace_trigger.specs.HistSizes.{rounded_size}
-use Rattle.trace_trigger.specs.HistSpecs.{SpecSeen}
+use Rattle.trace_trigger.specs.HistSpecs.{SpecSeen, written_of, key_names}
 use Rattle.trace_trigger.specs.Frames.{filter_of}
 use Rattle.trace_trigger.specs.HistGrammar.{Setting, Keys, Values, Sort, Size, Asks, subject_of, IsListed, IsSet, summed_names, AreSettingsOf, IsWithinLimits, IsKeyOf, IsValueOf, IsSortedBy, IsRuleOf, FitsEvent}
 use Rattle.trace_trigger.proofs.WrongLemmas.{Apart, from_pairs, each_weaker}
 use Rattle.trace_trigger.proofs.ListLaws.{Member, member_from, Once, one_setting}
 use Rattle.trace_trigger.proofs.SettingLaws.{default_sort, ListsAre, given, keys_are, values_are, lists_are}
-use Rattle.trace_trigger.proofs.MeaningLaws.{keys_found, keys_given, values_found, values_given, summed_are, told, by_is, is_by}
+use Rattle.trace_trigger.proofs.MeaningLaws.{keys_found, keys_given, keys_written, keys_named, keys_of_event, event_keys, values_found, values_given, summed_are, told, by_is, is_by}
 use Rattle.trace_trigger.proofs.FilterLaws.{filter_given, filter_found}
 use Rattle.trace_trigger.proofs.SpecLaws.{Finds, IsSaid}
 
@@ -126,12 +127,12 @@ module _ (definition : Definition) (text : List ℕ) (settings : List Setting) (
       subst (λ (ks : List (List ℕ)). IsSortedBy ks values key.name (sort_source (names_of lists.keys) (names_of (summed_items lists.values)) key.name)) e
       (subst (λ (vs : List (List ℕ)). IsSortedBy (names_of lists.keys) vs key.name (sort_source (names_of lists.keys) (names_of (summed_items lists.values)) key.name)) f (source_lent key.name lent))
 
-  rules_found : (spec : SpecSeen) → names_of lists.keys ≡ spec.keys → names_of (summed_items lists.values) ≡ spec.values → (keys : List SortKey) → AllByRecursion (λ (key : SortKey). Lent key.name) keys
+  rules_found : (spec : SpecSeen) → names_of lists.keys ≡ key_names spec.keys → names_of (summed_items lists.values) ≡ spec.values → (keys : List SortKey) → AllByRecursion (λ (key : SortKey). Lent key.name) keys
       → AllZip (IsRuleOf spec) keys (map rule keys)
   rules_found spec e f [] all = tt
-  rules_found spec e f (key ∷ keys) all = ((sorted_same spec.keys spec.values e f key all.0, refl), rules_found spec e f keys all.1)
+  rules_found spec e f (key ∷ keys) all = ((sorted_same (key_names spec.keys) spec.values e f key all.0, refl), rules_found spec e f keys all.1)
 
-  rules_given : (spec : SpecSeen) → names_of lists.keys ≡ spec.keys → names_of (summed_items lists.values) ≡ spec.values → (keys : List SortKey) (rules : List SortRule)
+  rules_given : (spec : SpecSeen) → names_of lists.keys ≡ key_names spec.keys → names_of (summed_items lists.values) ≡ spec.values → (keys : List SortKey) (rules : List SortRule)
       → AllZip (IsRuleOf spec) keys rules → map rule keys ≡ rules
   rules_given spec e f [] [] zip = refl
   rules_given spec e f [] (it ∷ rules) zip = absurd zip
@@ -139,10 +140,13 @@ module _ (definition : Definition) (text : List ℕ) (settings : List Setting) (
   rules_given spec e f (key ∷ keys) (it ∷ rules) zip =
       let sorted : IsSortedBy (names_of lists.keys) (names_of (summed_items lists.values)) key.name it.source =
       subst (λ (ks : List (List ℕ)). IsSortedBy ks (names_of (summed_items lists.values)) key.name it.source) (sym e)
-      (subst (λ (vs : List (List ℕ)). IsSortedBy spec.keys vs key.name it.source) (sym f) zip.0.0) in
+      (subst (λ (vs : List (List ℕ)). IsSortedBy (key_names spec.keys) vs key.name it.source) (sym f) zip.0.0) in
       let source : it.source ≡ sort_source (names_of lists.keys) (names_of (summed_items lists.values)) key.name =
       by_is (names_of lists.keys) (names_of (summed_items lists.values)) keys_apart values_apart no_count key.name it.source sorted in
       (λ i. record { source = sym source i; descending = sym zip.0.1 i } ∷ rules_given spec e f keys rules zip.1 i)
+
+  by_names : (names : List (List ℕ)) → names_of lists.keys ≡ names → map rule (sort_keys lists.sort) ≡ map (sort_rule names (names_of (summed_items lists.values))) (sort_keys lists.sort)
+  by_names names e = ap (λ (ns : List (List ℕ)). map (sort_rule ns (names_of (summed_items lists.values))) (sort_keys lists.sort)) e
 
   -- ---- how many
 
@@ -160,27 +164,33 @@ module _ (definition : Definition) (text : List ℕ) (settings : List Setting) (
   sorts_few [] keys e f = refl
   sorts_few (item ∷ items) keys e f = le-ltb 2 (length (item ∷ items)) (omega (arith, f, length-map (item ∷ items) sort_key_of, ap length e))
 
-  within : (spec : SpecSeen) → names_of lists.keys ≡ spec.keys → names_of (summed_items lists.values) ≡ spec.values → sort_keys lists.sort ≡ spec.sort → is_too_many lists ≡ false → IsWithinLimits spec
+  written_length : (keys : List Key) → length (written_of keys) ≡ length keys
+  written_length keys = length-map keys (λ (key : Key). key.written)
+
+  within : (spec : SpecSeen) → names_of lists.keys ≡ written_of spec.keys → names_of (summed_items lists.values) ≡ spec.values → sort_keys lists.sort ≡ spec.sort → is_too_many lists ≡ false → IsWithinLimits spec
   within spec keys values sort few =
       let first = or_parts (nat_lt 3 (length lists.keys) || nat_lt 3 (length (summed_items lists.values))) (nat_lt 2 (length lists.sort)) few in
       let second = or_parts (nat_lt 3 (length lists.keys)) (nat_lt 3 (length (summed_items lists.values))) first.0 in
       record {
-        keys = few_keys lists.keys spec.keys keys second.0;
+        keys = omega (arith, few_keys lists.keys (written_of spec.keys) keys second.0, written_length spec.keys);
         values = few_keys (summed_items lists.values) spec.values values second.1;
         sort = few_sorts lists.sort spec.sort sort first.1;
       }
 
-  fewer : (spec : SpecSeen) → names_of lists.keys ≡ spec.keys → names_of (summed_items lists.values) ≡ spec.values → sort_keys lists.sort ≡ spec.sort → IsWithinLimits spec → is_too_many lists ≡ false
+  fewer : (spec : SpecSeen) → names_of lists.keys ≡ written_of spec.keys → names_of (summed_items lists.values) ≡ spec.values → sort_keys lists.sort ≡ spec.sort → IsWithinLimits spec → is_too_many lists ≡ false
   fewer spec keys values sort limits =
       or_from (nat_lt 3 (length lists.keys) || nat_lt 3 (length (summed_items lists.values))) (nat_lt 2 (length lists.sort))
-      (or_from (nat_lt 3 (length lists.keys)) (nat_lt 3 (length (summed_items lists.values))) (keys_few lists.keys spec.keys keys limits.keys) (keys_few (summed_items lists.values) spec.values values limits.values))
+      (or_from (nat_lt 3 (length lists.keys)) (nat_lt 3 (length (summed_items lists.values))) (keys_few lists.keys (written_of spec.keys) keys (omega (arith, limits.keys, written_length spec.keys))) (keys_few (summed_items lists.values) spec.values values limits.values))
       (sorts_few lists.sort spec.sort sort limits.sort)
 
   -- ---- what is said is what the settings say
 
+  said_written : (spec : SpecSeen) → IsSaid definition text lists spec → names_of lists.keys ≡ written_of spec.keys
+  said_written spec is = keys_written definition lists.keys spec.keys (keys_found definition lists.keys spec.keys is.keys)
+
   pub said_settings : (spec : SpecSeen) → IsSaid definition text lists spec → AreSettingsOf settings spec
   said_settings spec is = record {
-    keys = subst (λ (names : List (List ℕ)). Contains settings (Keys names)) is.keys are.keys;
+    keys = subst (λ (names : List (List ℕ)). Contains settings (Keys names)) (said_written spec is) are.keys;
     listed = names_of lists.values;
     listed_set = are.values;
     values = sym is.values ∙ summed_are lists.values;
@@ -192,23 +202,26 @@ module _ (definition : Definition) (text : List ℕ) (settings : List Setting) (
   }
 
   pub said_limits : (spec : SpecSeen) → IsSaid definition text lists spec → IsWithinLimits spec
-  said_limits spec is = within spec is.keys is.values is.sort is.few
+  said_limits spec is = within spec (said_written spec is) is.values is.sort is.few
 
   pub said_fits : (spec : SpecSeen) → IsSaid definition text lists spec → FitsEvent definition condition spec
-  said_fits spec is = record {
-    keys = subst (λ (names : List (List ℕ)). AllZip (IsKeyOf definition) names spec.key_sources) is.keys (keys_found definition lists.keys spec.key_sources is.key_sources);
-    values = subst (λ (names : List (List ℕ)). AllZip (IsValueOf definition) names spec.value_sources) is.values (values_found definition (summed_items lists.values) spec.value_sources is.value_sources);
-    sort =
-        subst (λ (keys : List SortKey). AllZip (IsRuleOf spec) keys spec.sort_sources) is.sort
-        (subst (λ (rules : List SortRule). AllZip (IsRuleOf spec) (sort_keys lists.sort) rules) is.sort_sources
-        (rules_found spec is.keys is.values (sort_keys lists.sort) (sort_lent (sort_keys lists.sort) are.sort)));
-    filter = filter_found definition text condition spec.filter (sym (ap (filter_of definition text) finds.found) ∙ is.filter);
-  }
+  said_fits spec is =
+      let read = keys_found definition lists.keys spec.keys is.keys in
+      let named = keys_named definition lists.keys spec.keys read in
+      record {
+        keys = All-from_recursion (IsKeyOf definition) spec.keys (keys_of_event definition lists.keys spec.keys read);
+        values = subst (λ (names : List (List ℕ)). AllZip (IsValueOf definition) names spec.value_sources) is.values (values_found definition (summed_items lists.values) spec.value_sources is.value_sources);
+        sort =
+            subst (λ (keys : List SortKey). AllZip (IsRuleOf spec) keys spec.sort_sources) is.sort
+            (subst (λ (rules : List SortRule). AllZip (IsRuleOf spec) (sort_keys lists.sort) rules) (by_names (key_names spec.keys) named ∙ is.sort_sources)
+            (rules_found spec named is.values (sort_keys lists.sort) (sort_lent (sort_keys lists.sort) are.sort)));
+        filter = filter_found definition text condition spec.filter (sym (ap (filter_of definition text) finds.found) ∙ is.filter);
+      }
 
   -- ---- and what they say is said
 
-  keys_same : (spec : SpecSeen) → AreSettingsOf settings spec → names_of lists.keys ≡ spec.keys
-  keys_same spec set = keys_are (attributes_of text) settings finds.read once spec.keys set.keys
+  keys_same : (spec : SpecSeen) → AreSettingsOf settings spec → names_of lists.keys ≡ written_of spec.keys
+  keys_same spec set = keys_are (attributes_of text) settings finds.read once (written_of spec.keys) set.keys
 
   values_same : (spec : SpecSeen) → AreSettingsOf settings spec → names_of (summed_items lists.values) ≡ spec.values
   values_same spec set =
@@ -231,15 +244,16 @@ module _ (definition : Definition) (text : List ℕ) (settings : List Setting) (
       let keys = keys_same spec set in
       let values = values_same spec set in
       let sort = sort_same spec set in
+      let read = event_keys definition lists.keys spec.keys keys (recursion_from_All (IsKeyOf definition) spec.keys fits.keys) in
+      let named = keys_named definition lists.keys spec.keys read in
       record {
         few = fewer spec keys values sort limits;
-        key_sources = keys_given definition lists.keys spec.key_sources (subst (λ (names : List (List ℕ)). AllZip (IsKeyOf definition) names spec.key_sources) (sym keys) fits.keys);
+        keys = keys_given definition lists.keys spec.keys read;
         value_sources = values_given definition (summed_items lists.values) spec.value_sources (subst (λ (names : List (List ℕ)). AllZip (IsValueOf definition) names spec.value_sources) (sym values) fits.values);
         size = size_same spec set;
         filter = ap (filter_of definition text) finds.found ∙ filter_given definition text condition spec.filter fits.filter;
-        keys = keys;
         values = values;
         sort = sort;
         action = action_same spec set;
-        sort_sources = ap (map rule) sort ∙ rules_given spec keys values spec.sort spec.sort_sources fits.sort;
+        sort_sources = sym (by_names (key_names spec.keys) named) ∙ ap (map rule) sort ∙ rules_given spec named values spec.sort spec.sort_sources fits.sort;
       }

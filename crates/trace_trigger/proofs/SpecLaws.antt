@@ -5,9 +5,10 @@ use Rattle.trace_format.specs.Definitions.{Definition}
 use Rattle.trace_format.specs.declared.operand.Operand.{Operand}
 use Rattle.trace_filter.specs.Filters.{Parsed}
 use Rattle.trace_lex.proofs.Lists.{BeginsNot}
-use Rattle.trace_trigger.specs.Frames.{is_unblank, after_blanks}
+use Rattle.trace_trigger.specs.Frames.{is_unblank, after_blanks, filter_of}
 use Rattle.trace_trigger.specs.declared.fault.TriggerFault.{TriggerFault}
 use Rattle.trace_trigger.specs.declared.fault.TriggerFault.TheVariants.{HistSyntax, TooMany}
+use Rattle.trace_trigger.specs.declared.key.Key.{Key}
 use Rattle.trace_trigger.specs.declared.attribute.Attribute.{Attribute}
 use Rattle.trace_trigger.specs.HistAttributes.{attributes_at}
 use Rattle.trace_trigger.specs.HistPieces.{pieces_of}
@@ -15,9 +16,8 @@ use Rattle.trace_trigger.specs.HistParts.{attributes_of, end_of, tail_of, condit
 use Rattle.trace_trigger.specs.HistLists.{Lists, lists_of, names_of, summed_items, sort_keys}
 use Rattle.trace_trigger.specs.HistPlaces.{attribute_places, item_places, sort_places, list_places, keyless_places, tail_places, wrong_places, earlier, least}
 use Rattle.trace_trigger.specs.TriggerAnswers.{◌>>=◌}
-use Rattle.trace_trigger.specs.HistMeanings.{is_too_many, few, each, key_source, value_source, size_of, sort_rule}
-use Rattle.trace_trigger.specs.HistSpecs.{SpecSeen}
-use Rattle.trace_trigger.specs.Frames.{filter_of}
+use Rattle.trace_trigger.specs.HistMeanings.{is_too_many, few, each, key_in, value_source, size_of, sort_rule}
+use Rattle.trace_trigger.specs.HistSpecs.{SpecSeen, key_names}
 use Rattle.trace_trigger.specs.HistTexts.{unless_wrong, read_of, spec_from}
 use Rattle.trace_trigger.specs.HistGrammar.{Setting, AreLawful, IsWritten}
 use Rattle.trace_trigger.proofs.CutLemmas.{found_is_cut}
@@ -145,28 +145,26 @@ read_wrong text lists e = by (wrong_places text) refl e
 
 pub record IsSaid (definition : Definition) (text : List ℕ) (lists : Lists) (spec : SpecSeen) : Type 0 where
   pub few : is_too_many lists ≡ false
-  pub key_sources : each (key_source definition.fields) lists.keys ≡ Ok spec.key_sources
+  pub keys : each (key_in definition.fields) lists.keys ≡ Ok spec.keys
   pub value_sources : each (value_source definition.fields) (summed_items lists.values) ≡ Ok spec.value_sources
   pub size : size_of lists.size ≡ Ok spec.size
   pub filter : filter_of definition text (condition_of (tail_of text)) ≡ Ok spec.filter
-  pub keys : names_of lists.keys ≡ spec.keys
   pub values : names_of (summed_items lists.values) ≡ spec.values
   pub sort : sort_keys lists.sort ≡ spec.sort
   pub action : lists.action ≡ spec.action
-  pub sort_sources : map (sort_rule (names_of lists.keys) (names_of (summed_items lists.values))) (sort_keys lists.sort) ≡ spec.sort_sources
+  pub sort_sources : map (sort_rule (key_names spec.keys) (names_of (summed_items lists.values))) (sort_keys lists.sort) ≡ spec.sort_sources
 
 module _ (definition : Definition) (text : List ℕ) (lists : Lists) where
-  abbrev spec_of_lists : List Operand → List Operand → ℕ → Option Parsed → SpecSeen
+  abbrev spec_of_lists : List Key → List Operand → ℕ → Option Parsed → SpecSeen
   spec_of_lists keys values size only_if = record {
-    keys = names_of lists.keys;
+    keys = keys;
     values = names_of (summed_items lists.values);
     sort = sort_keys lists.sort;
     size = size;
     action = lists.action;
     filter = only_if;
-    key_sources = keys;
     value_sources = values;
-    sort_sources = map (sort_rule (names_of lists.keys) (names_of (summed_items lists.values))) (sort_keys lists.sort);
+    sort_sources = map (sort_rule (key_names keys) (names_of (summed_items lists.values))) (sort_keys lists.sort);
   }
 
   few_lists : (spec : SpecSeen) → (few lists >>= λ ls. spec_from definition text ls) ≡ Ok spec → (is_too_many lists ≡ false) × (spec_from definition text lists ≡ Ok spec)
@@ -180,7 +178,7 @@ module _ (definition : Definition) (text : List ℕ) (lists : Lists) where
   unfolding spec_from
   said spec e =
       let fewer = few_lists spec e in
-      let keys = bound (each (key_source definition.fields) lists.keys)
+      let keys = bound (each (key_in definition.fields) lists.keys)
       (λ keys. each (value_source definition.fields) (summed_items lists.values) >>= λ values. size_of lists.size >>= λ size.
       filter_of definition text (condition_of (tail_of text)) >>= λ only_if. Ok (spec_of_lists keys values size only_if)) spec fewer.1 in
       let values = bound (each (value_source definition.fields) (summed_items lists.values))
@@ -190,11 +188,10 @@ module _ (definition : Definition) (text : List ℕ) (lists : Lists) where
       let it : spec_of_lists keys.found values.found size.found only_if.found ≡ spec = let f = only_if.after in cc in
       subst (IsSaid definition text lists) it (record {
         few = fewer.0;
-        key_sources = keys.is;
+        keys = keys.is;
         value_sources = values.is;
         size = size.is;
         filter = only_if.is;
-        keys = refl;
         values = refl;
         sort = refl;
         action = refl;
@@ -205,20 +202,19 @@ module _ (definition : Definition) (text : List ℕ) (lists : Lists) where
   unfolding spec_from
   saying spec is =
       ap (λ (b : Bool). (if b then Err TooMany else Ok lists) >>= λ ls. spec_from definition text ls) is.few
-      ∙ ap (λ (r : Result (List Operand) TriggerFault). r >>= λ keys. each (value_source definition.fields) (summed_items lists.values) >>= λ values. size_of lists.size >>= λ size.
-      filter_of definition text (condition_of (tail_of text)) >>= λ only_if. Ok (spec_of_lists keys values size only_if)) is.key_sources
+      ∙ ap (λ (r : Result (List Key) TriggerFault). r >>= λ keys. each (value_source definition.fields) (summed_items lists.values) >>= λ values. size_of lists.size >>= λ size.
+      filter_of definition text (condition_of (tail_of text)) >>= λ only_if. Ok (spec_of_lists keys values size only_if)) is.keys
       ∙ ap (λ (r : Result (List Operand) TriggerFault). r >>= λ values. size_of lists.size >>= λ size.
-      filter_of definition text (condition_of (tail_of text)) >>= λ only_if. Ok (spec_of_lists spec.key_sources values size only_if)) is.value_sources
-      ∙ ap (λ (r : Result ℕ TriggerFault). r >>= λ size. filter_of definition text (condition_of (tail_of text)) >>= λ only_if. Ok (spec_of_lists spec.key_sources spec.value_sources size only_if)) is.size
-      ∙ ap (λ (r : Result (Option Parsed) TriggerFault). r >>= λ only_if. Ok (spec_of_lists spec.key_sources spec.value_sources spec.size only_if)) is.filter
+      filter_of definition text (condition_of (tail_of text)) >>= λ only_if. Ok (spec_of_lists spec.keys values size only_if)) is.value_sources
+      ∙ ap (λ (r : Result ℕ TriggerFault). r >>= λ size. filter_of definition text (condition_of (tail_of text)) >>= λ only_if. Ok (spec_of_lists spec.keys spec.value_sources size only_if)) is.size
+      ∙ ap (λ (r : Result (Option Parsed) TriggerFault). r >>= λ only_if. Ok (spec_of_lists spec.keys spec.value_sources spec.size only_if)) is.filter
       ∙ (λ i. Ok (record {
-        keys = is.keys i;
+        keys = spec.keys;
         values = is.values i;
         sort = is.sort i;
         size = spec.size;
         action = is.action i;
         filter = spec.filter;
-        key_sources = spec.key_sources;
         value_sources = spec.value_sources;
         sort_sources = is.sort_sources i;
       }))

@@ -9,10 +9,11 @@ use Rattle.trace_format.specs.declared.operand.Operand.TheVariants.{Pid, Cpu, Fi
 use Rattle.trace_trigger.specs.declared.fault.TriggerFault.{TriggerFault}
 use Rattle.trace_trigger.specs.declared.fault.TriggerFault.TheVariants.{HistSyntax, TooMany, NoSuchField, WrongOperator, BadSize, FilterSyntax}
 use Rattle.trace_trigger.specs.declared.spec.Action.TheVariants.{Attach, Pause, Continue, Clear}
+use Rattle.trace_trigger.specs.declared.key.Key.{Key}
 use Rattle.trace_trigger.specs.declared.spec.SortKey.{SortKey}
 use Rattle.trace_trigger.specs.declared.sort_rule.SortRule.{SortRule}
 use Rattle.trace_trigger.specs.declared.sort_rule.SortSource.{SortSource}
-use Rattle.trace_trigger.specs.declared.sort_rule.SortSource.TheVariants.{Key, Value, Hitcount}
+use Rattle.trace_trigger.specs.declared.sort_rule.SortSource.TheVariants as sorted
 use Rattle.trace_trigger.specs.HistSpecs.{SpecSeen}
 use Rattle.trace_trigger.specs.HistTexts.{spec_of}
 
@@ -50,6 +51,10 @@ number_field index = Field index false
 abbrev pub text_field : ℕ → Operand
 text_field index = Field index true
 
+-- a key that is a name
+abbrev pub key : List ℕ → Operand → Key
+key name operand = record { written = name; name = name; operand = operand }
+
 -- a name to sort by, and where it is found
 abbrev pub upwards : List ℕ → SortKey
 upwards name = record { name = name; descending = false }
@@ -65,15 +70,14 @@ by source descending = record { source = source; descending = descending }
 -- a key alone: 2,048 entries, sorted by `hitcount`
 abbrev pub by_n : SpecSeen
 by_n = record {
-  keys = codes "n" ∷ [];
+  keys = key (codes "n") (number_field 0) ∷ [];
   values = [];
   sort = upwards (codes "hitcount") ∷ [];
   size = 2048;
   action = Attach;
   filter = None;
-  key_sources = number_field 0 ∷ [];
   value_sources = [];
-  sort_sources = by Hitcount false ∷ [];
+  sort_sources = by sorted.Hitcount false ∷ [];
 }
 
 -- `hitcount` is there whether it is written or not, and a size is rounded up to a power of two
@@ -88,29 +92,27 @@ accepted =
 -- all that a string can say: lists in the order written, the field of a sum and of a filter
 abbrev pub by_who : SpecSeen
 by_who = record {
-  keys = codes "who" ∷ codes "common_pid" ∷ [];
+  keys = key (codes "who") (text_field 0) ∷ key (codes "common_pid") Pid ∷ [];
   values = codes "d" ∷ [];
   sort = downwards (codes "d") ∷ upwards (codes "who") ∷ [];
   size = 256;
   action = Pause;
   filter = Some (record { text = codes "d > 5"; subjects = number_field 1 ∷ [] });
-  key_sources = text_field 0 ∷ Pid ∷ [];
   value_sources = number_field 1 ∷ [];
-  sort_sources = by (Value 0) true ∷ by (Key 0) false ∷ [];
+  sort_sources = by (sorted.Value 0) true ∷ by (sorted.Key 0) false ∷ [];
 }
 
 -- a name that is a key and a value too is sorted by as a value
 abbrev pub by_both : SpecSeen
 by_both = record {
-  keys = codes "common_cpu" ∷ codes "d" ∷ [];
+  keys = key (codes "common_cpu") Cpu ∷ key (codes "d") (number_field 1) ∷ [];
   values = codes "common_pid" ∷ codes "d" ∷ [];
   sort = upwards (codes "d") ∷ upwards (codes "common_cpu") ∷ [];
   size = 2048;
   action = Continue;
   filter = None;
-  key_sources = Cpu ∷ number_field 1 ∷ [];
   value_sources = Pid ∷ number_field 1 ∷ [];
-  sort_sources = by (Value 1) false ∷ by (Key 0) false ∷ [];
+  sort_sources = by (sorted.Value 1) false ∷ by (sorted.Key 0) false ∷ [];
 }
 
 abbrev pub accepted_of_move : List Case

@@ -8,14 +8,15 @@ use Rattle.trace_format.specs.Definitions.{Definition}
 use Rattle.trace_format.specs.declared.operand.Operand.{Operand}
 use Rattle.trace_format.specs.Operands.{operand_named, is_text}
 use Rattle.trace_trigger.specs.Frames.{mark, IsTail, IsReadAs}
+use Rattle.trace_trigger.specs.declared.key.Key.{Key}
 use Rattle.trace_trigger.specs.declared.spec.Action.{Action}
 use Rattle.trace_trigger.specs.declared.spec.Action.TheVariants.{Attach, Pause, Continue, Clear}
 use Rattle.trace_trigger.specs.declared.spec.SortKey.{SortKey}
 use Rattle.trace_trigger.specs.declared.sort_rule.SortRule.{SortRule}
 use Rattle.trace_trigger.specs.declared.sort_rule.SortSource.{SortSource}
-use Rattle.trace_trigger.specs.declared.sort_rule.SortSource.TheVariants.{Key, Value, Hitcount}
+use Rattle.trace_trigger.specs.declared.sort_rule.SortSource.TheVariants as sorted
 use Rattle.trace_trigger.specs.HistSizes.{rounded_size}
-use Rattle.trace_trigger.specs.HistSpecs.{SpecSeen}
+use Rattle.trace_trigger.specs.HistSpecs.{SpecSeen, written_of, key_names}
 
 -- a text is these parts, with the byte between each two of them and in none
 pub record IsCut (byte : ℕ) (text : List ℕ) (parts : List (List ℕ)) : Type 0 where
@@ -148,7 +149,7 @@ summed_names names = filter (λ name. not (bytes_eq name (codes "hitcount"))) na
 
 -- the lists, the size and the action of a trigger with these settings
 pub record AreSettingsOf (settings : List Setting) (spec : SpecSeen) : Type 0 where
-  pub keys : Contains settings (Keys spec.keys)
+  pub keys : Contains settings (Keys (written_of spec.keys))
   pub listed : List (List ℕ)
   pub listed_set : IsSet settings Values [] listed
   pub values : spec.values ≡ summed_names listed
@@ -164,25 +165,27 @@ pub record IsWithinLimits (spec : SpecSeen) : Type 0 where
   pub values : length spec.values ≤ 3
   pub sort : length spec.sort ≤ 2
 
--- what a key means in the event, and a value, which is a number
-abbrev pub IsKeyOf : Definition → List ℕ → Operand → Type 0
-IsKeyOf definition name operand = operand_named definition.fields name ≡ Some operand
+-- a key is a name, and means this in the event
+pub record IsKeyOf (definition : Definition) (key : Key) : Type 0 where
+  pub name : key.name ≡ key.written
+  pub means : operand_named definition.fields key.name ≡ Some key.operand
 
+-- what a value means, which is a number
 abbrev pub IsValueOf : Definition → List ℕ → Operand → Type 0
 IsValueOf definition name operand = (operand_named definition.fields name ≡ Some operand) × (is_text operand ≡ false)
 
 -- what a name to sort by means: the hitcount, a value, or else a key
 abbrev pub IsSortedBy : List (List ℕ) → List (List ℕ) → List ℕ → SortSource → Type 0
-IsSortedBy keys values name Hitcount = name ≡ codes "hitcount"
-IsSortedBy keys values name (Value place) = slice_get values place ≡ Some name
-IsSortedBy keys values name (Key place) = (name ≢ codes "hitcount") × (Contains values name → ⊥) × (slice_get keys place ≡ Some name)
+IsSortedBy keys values name sorted.Hitcount = name ≡ codes "hitcount"
+IsSortedBy keys values name (sorted.Value place) = slice_get values place ≡ Some name
+IsSortedBy keys values name (sorted.Key place) = (name ≢ codes "hitcount") × (Contains values name → ⊥) × (slice_get keys place ≡ Some name)
 
 abbrev pub IsRuleOf : SpecSeen → SortKey → SortRule → Type 0
-IsRuleOf spec key rule = IsSortedBy spec.keys spec.values key.name rule.source × (rule.descending ≡ key.descending)
+IsRuleOf spec key rule = IsSortedBy (key_names spec.keys) spec.values key.name rule.source × (rule.descending ≡ key.descending)
 
 -- what the names of a trigger, and its filter, mean in its event
 pub record FitsEvent (definition : Definition) (condition : Option (List ℕ)) (spec : SpecSeen) : Type 0 where
-  pub keys : AllZip (IsKeyOf definition) spec.keys spec.key_sources
+  pub keys : All (IsKeyOf definition) spec.keys
   pub values : AllZip (IsValueOf definition) spec.values spec.value_sources
   pub sort : AllZip (IsRuleOf spec) spec.sort spec.sort_sources
   pub filter : IsReadAs definition condition spec.filter

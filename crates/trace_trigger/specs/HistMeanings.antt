@@ -7,10 +7,11 @@ use Rattle.trace_format.specs.declared.operand.Operand.{Operand}
 use Rattle.trace_format.specs.Operands.{operand_named, is_text}
 use Rattle.trace_trigger.specs.declared.fault.TriggerFault.{TriggerFault}
 use Rattle.trace_trigger.specs.declared.fault.TriggerFault.TheVariants.{TooMany, NoSuchField, WrongOperator, BadSize}
+use Rattle.trace_trigger.specs.declared.key.Key.{Key}
 use Rattle.trace_trigger.specs.declared.spec.SortKey.{SortKey}
 use Rattle.trace_trigger.specs.declared.sort_rule.SortRule.{SortRule}
 use Rattle.trace_trigger.specs.declared.sort_rule.SortSource.{SortSource}
-use Rattle.trace_trigger.specs.declared.sort_rule.SortSource.TheVariants.{Key, Value, Hitcount}
+use Rattle.trace_trigger.specs.declared.sort_rule.SortSource.TheVariants as sorted
 use Rattle.trace_trigger.specs.declared.piece.Piece.{Piece}
 use Rattle.trace_trigger.specs.TriggerAnswers.{◌>>=◌}
 use Rattle.trace_trigger.specs.HistSizes.{rounded_size}
@@ -35,13 +36,16 @@ abbrev pub each : {A B : Type 0} → (A → Result B TriggerFault) → List A �
 each read [] = Ok []
 each read (x ∷ xs) = read x >>= λ y. each read xs >>= λ ys. Ok (y ∷ ys)
 
--- a key may be a number or a string
-abbrev pub key_meant : ℕ → Option Operand → Result Operand TriggerFault
-key_meant at None = Err (NoSuchField at)
-key_meant at (Some operand) = Ok operand
+-- a key is a name, and may be a number or a string
+abbrev pub key_as : Piece → Operand → Key
+key_as item operand = record { written = item.bytes; name = item.bytes; operand = operand }
 
-abbrev pub key_source : List Field → Piece → Result Operand TriggerFault
-key_source fields item = key_meant item.at (operand_named fields item.bytes)
+abbrev pub key_meant : Piece → Option Operand → Result Key TriggerFault
+key_meant item None = Err (NoSuchField item.at)
+key_meant item (Some operand) = Ok (key_as item operand)
+
+abbrev pub key_in : List Field → Piece → Result Key TriggerFault
+key_in fields item = key_meant item (operand_named fields item.bytes)
 
 -- a value is a number
 abbrev pub value_meant : ℕ → Option Operand → Result Operand TriggerFault
@@ -72,8 +76,8 @@ place_of names name = position (bytes_eq name) names
 
 -- by the place among the values, whether it is `hitcount`, and the place among the keys
 abbrev pub sort_found : Option ℕ → Bool → Option ℕ → SortSource
-sort_found (Some place) is_count key = Value place
-sort_found None is_count key = if is_count then Hitcount else Key (unwrap_or key 0)
+sort_found (Some place) is_count key = sorted.Value place
+sort_found None is_count key = if is_count then sorted.Hitcount else sorted.Key (unwrap_or key 0)
 
 -- a name that is a value means the value; another is `hitcount` or a key
 abbrev pub sort_source : List (List ℕ) → List (List ℕ) → List ℕ → SortSource

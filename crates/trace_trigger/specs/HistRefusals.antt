@@ -12,7 +12,7 @@ use Rattle.trace_trigger.specs.declared.fault.TriggerFault.TheVariants.{HistSynt
 use Rattle.trace_trigger.specs.declared.spec.SortKey.{SortKey}
 use Rattle.trace_trigger.specs.HistSizes.{rounded_size}
 use Rattle.trace_trigger.specs.Frames.{moved}
-use Rattle.trace_trigger.specs.HistGrammar.{Setting, Keys, Values, Sort, Size, Subject, OfKeys, OfValues, IsWritten, IsSet, summed_names, IsKeyOf, IsValueOf}
+use Rattle.trace_trigger.specs.HistGrammar.{Setting, Keys, Values, Sort, Size, Subject, OfKeys, OfValues, IsWritten, IsSet, summed_names, IsValueOf}
 use Rattle.trace_trigger.specs.HistFaultPlaces.{Cut, IsAt, IsList, items_place, IsLeftmostWrong}
 
 -- ---- over the limits
@@ -34,9 +34,9 @@ pub record IsItemAt {text : List ℕ} (cut : Cut text) (subject : Subject) (befo
   pub list : IsList subject cut.attributes attributes_before attribute head items
   pub is_at : IsAt 44 (items_place cut attributes_before head) items before item place
 
--- a name means something as a key, and one in a list of values as a value
+-- a key means something, and one in a list of values means something as a value
 abbrev pub CanBeKey : Definition → List ℕ → Type 0
-CanBeKey definition name = (operand : Operand) × IsKeyOf definition name operand
+CanBeKey definition name = (operand : Operand) × (operand_named definition.fields name ≡ Some operand)
 
 abbrev pub CanBeValue : Definition → List ℕ → Type 0
 CanBeValue definition name = (name ≡ codes "hitcount") ⊎ ((operand : Operand) × IsValueOf definition name operand)

@@ -1,7 +1,7 @@
 -- The texts of hist triggers (histogram.rst, "hist triggers").
 use Rattle.std.specs.Prelude.{◌≡◌, ◌⊎◌, ℕ, List, map, take, codes, Option, None, Some, Result, Ok, Err}
 use Rattle.trace_format.specs.Definitions.{Definition}
-use Rattle.trace_trigger.specs.HistSpecs.{SpecSeen}
+use Rattle.trace_trigger.specs.HistSpecs.{SpecSeen, key_names}
 use Rattle.trace_trigger.specs.declared.fault.TriggerFault.{TriggerFault}
 use Rattle.trace_trigger.specs.declared.fault.TriggerFault.TheVariants.{HistSyntax}
 use Rattle.trace_trigger.specs.Frames.{filter_of}
@@ -9,7 +9,7 @@ use Rattle.trace_trigger.specs.TriggerAnswers.{◌>>=◌}
 use Rattle.trace_trigger.specs.HistParts.{attributes_of, tail_of, condition_of}
 use Rattle.trace_trigger.specs.HistLists.{Lists, lists_of, names_of, summed_items, sort_keys}
 use Rattle.trace_trigger.specs.HistPlaces.{wrong_places, least}
-use Rattle.trace_trigger.specs.HistMeanings.{few, each, key_source, value_source, size_of, sort_rule}
+use Rattle.trace_trigger.specs.HistMeanings.{few, each, key_in, value_source, size_of, sort_rule}
 
 -- a string that says something of a hist trigger
 abbrev pub IsHistText : List ℕ → Type 0
@@ -30,19 +30,18 @@ read_of text = unless_wrong (least (wrong_places text)) (lists_of (attributes_of
 -- the trigger of an event, if its attributes say this: the keys are looked up, then the values, the size and the filter
 unfoldable pub spec_from : Definition → List ℕ → Lists → Result SpecSeen TriggerFault
 spec_from definition text lists =
-    each (key_source definition.fields) lists.keys >>= λ keys.
+    each (key_in definition.fields) lists.keys >>= λ keys.
     each (value_source definition.fields) (summed_items lists.values) >>= λ values.
     size_of lists.size >>= λ size.
     filter_of definition text (condition_of (tail_of text)) >>= λ only_if. Ok (record {
-      keys = names_of lists.keys;
+      keys = keys;
       values = names_of (summed_items lists.values);
       sort = sort_keys lists.sort;
       size = size;
       action = lists.action;
       filter = only_if;
-      key_sources = keys;
       value_sources = values;
-      sort_sources = map (sort_rule (names_of lists.keys) (names_of (summed_items lists.values))) (sort_keys lists.sort);
+      sort_sources = map (sort_rule (key_names keys) (names_of (summed_items lists.values))) (sort_keys lists.sort);
     })
 
 -- what a string says of a hist trigger of an event, or why it is refused

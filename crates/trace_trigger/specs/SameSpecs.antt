@@ -5,14 +5,14 @@ use Rattle.std.specs.Cmp.Lexicographic.{pointwise}
 use Rattle.trace_format.specs.Operands.{Emission}
 use Rattle.trace_filter.specs.Filters.{Parsed}
 use Rattle.trace_filter.specs.Values.{holds_of}
-use Rattle.trace_trigger.specs.HistSpecs.{SpecSeen}
+use Rattle.trace_trigger.specs.HistSpecs.{SpecSeen, written_of}
 use Rattle.trace_trigger.specs.declared.spec.SortKey.{SortKey}
 
 abbrev pub filter_text : Option Parsed → Option (List ℕ)
 filter_text filter = option_map (λ (f : Parsed). f.text) filter
 
 pub record IsSame (left right : SpecSeen) : Type 0 where
-  pub keys : left.keys ≡ right.keys
+  pub keys : written_of left.keys ≡ written_of right.keys
   pub values : left.values ≡ right.values
   pub sort : left.sort ≡ right.sort
   pub filter : filter_text left.filter ≡ filter_text right.filter
@@ -28,7 +28,7 @@ same_filter (Some left) None = false
 same_filter (Some left) (Some right) = bytes_eq left right
 
 unfoldable pub is_same : SpecSeen → SpecSeen → Bool
-is_same left right = pointwise bytes_eq left.keys right.keys && (pointwise bytes_eq left.values right.values
+is_same left right = pointwise bytes_eq (written_of left.keys) (written_of right.keys) && (pointwise bytes_eq left.values right.values
     && (pointwise same_sort_key left.sort right.sort && same_filter (filter_text left.filter) (filter_text right.filter)))
 
 abbrev pub is_passed : Option Parsed → Emission → Bool

@@ -6,6 +6,7 @@ mod condition;
 mod fault;
 pub mod hist_laws;
 mod hist_parts;
+mod key;
 pub mod laws;
 mod meaning;
 mod parts;
@@ -19,6 +20,7 @@ mod trigger;
 mod written;
 
 pub use fault::TriggerFault;
+pub use key::Key;
 pub use sort_rule::{SortRule, SortSource};
 pub use spec::{Action, HistSpec, SortKey};
 pub use trigger::{SnapshotTrigger, TriggerText};

@@ -1,11 +1,15 @@
 //! What the names of a trigger come to in an event.
 
-ghost use Rattle.std.specs.Prelude.{◌≡◌, Ok, MatchResult, IfOk, map};
+ghost use Rattle.std.specs.Prelude.{◌≡◌, Ok, MatchResult, IfOk, bytes_eq, map};
+ghost use Rattle.std.specs.List.{position};
+ghost use Rattle.trace_trigger.specs.declared.key.Key.{Key as KeySeen};
 ghost use Rattle.trace_trigger.specs.HistMeanings as meanings;
 ghost use Rattle.trace_trigger.specs.HistLists as lists;
+ghost use Rattle.trace_trigger.specs.HistSpecs.{key_names};
 ghost use Rattle.trace_trigger.specs.TriggerAnswers.{IsTold};
 
 use crate::fault::TriggerFault;
+use crate::key::Key;
 use crate::piece::Piece;
 use crate::size::rounded_size;
 use crate::sort_rule::{SortRule, SortSource};
@@ -51,9 +55,11 @@ pub(crate) fn is_too_many(written: &Written) -> bool
         || written.sort.len() > MOST_SORT_KEYS
 }
 
-/// Where a key is found. It may be a number or a string.
-fn key_source(fields: &[Field], key: &Piece) -> Result<Operand, TriggerFault>
-    ensures { result ≡ meanings.key_source fields.now key.now }
+/// What a key means. It may be a number or a string.
+fn key_operand(fields: &[Field], key: &Piece) -> Result<Operand, TriggerFault>
+    ensures { MatchResult result
+        (λ operand. meanings.key_in fields.now key.now ≡ Ok (meanings.key_as key.now operand))
+        (λ fault. meanings.key_in fields.now key.now ≡ Err fault) }
 {
     match Operand::named(fields, key.bytes.as_bytes()) {
         Some(operand) => Ok(operand),
@@ -61,22 +67,34 @@ fn key_source(fields: &[Field], key: &Piece) -> Result<Operand, TriggerFault>
     }
 }
 
-/// Where each key is found; or the fault of the first that means nothing.
+/// A key that means this.
+fn key_as(alloc: Global, key: &Piece, operand: Operand) -> Result<Key, AllocError>
+    ensures { IfOk result (λ read. read ≡ meanings.key_as key.now operand) }
+{
+    Ok(Key {
+        written: key.bytes.clone()?,
+        name: key.bytes.clone()?,
+        operand,
+    })
+}
+
+/// The keys; or the fault of the first that means nothing.
 #[tactic(auto, using(crate::proofs::EachLemmas::each_more, crate::proofs::EachLemmas::each_refused, crate::proofs::EachLemmas::each_end, crate::proofs::EachLemmas::told_is))]
-pub(crate) fn key_sources(
+pub(crate) fn keys_of(
     alloc: Global,
     fields: &[Field],
     keys: &[Piece],
-) -> Result<Vec<Operand>, TriggerFault>
+) -> Result<Vec<Key>, TriggerFault>
     ensures { MatchResult result
-        (λ sources. meanings.each (meanings.key_source fields.now) keys.now ≡ Ok sources.items)
-        (λ fault. IsTold fault (meanings.each (meanings.key_source fields.now) keys.now)) }
+        (λ read. meanings.each (meanings.key_in fields.now) keys.now ≡ Ok read.items)
+        (λ fault. IsTold fault (meanings.each (meanings.key_in fields.now) keys.now)) }
 {
-    let mut sources = Vec::with_capacity(alloc, keys.len())?;
+    let mut read = Vec::with_capacity(alloc, keys.len())?;
     for key in keys {
-        sources.push(key_source(fields, key)?)?;
+        let operand = key_operand(fields, key)?;
+        read.push(key_as(alloc, key, operand)?)?;
     }
-    Ok(sources)
+    Ok(read)
 }
 
 /// Where a value is found. It is a number.
@@ -172,21 +190,29 @@ fn place_of(names: &[Text], name: &[u8]) -> Option<usize>
     names.iter().position(|other| name == other.as_bytes())
 }
 
+/// The place of the key of a name, if one has it.
+fn place_of_key(keys: &[Key], name: &[u8]) -> Option<usize>
+    ensures { result ≡ position (λ (key : KeySeen). bytes_eq name.now key.name) keys.now }
+{
+    keys.iter().position(|key| name == key.name.as_bytes())
+}
+
 /// What a name means that entries are sorted by: a value, if it is one, and otherwise `hitcount` or a key.
-fn sort_source(keys: &[Text], values: &[Text], name: &[u8]) -> SortSource
-    ensures { result ≡ meanings.sort_source keys.now values.now name.now }
+#[tactic(auto, using(crate::proofs::KeyLemmas::key_position))]
+fn sort_source(keys: &[Key], values: &[Text], name: &[u8]) -> SortSource
+    ensures { result ≡ meanings.sort_source (key_names keys.now) values.now name.now }
 {
     if let Some(place) = place_of(values, name) {
         SortSource::Value(place)
     } else if is_hitcount(name) {
         SortSource::Hitcount
     } else {
-        SortSource::Key(place_of(keys, name).unwrap_or(0))
+        SortSource::Key(place_of_key(keys, name).unwrap_or(0))
     }
 }
 
-fn sort_rule(keys: &[Text], values: &[Text], key: &SortKey) -> SortRule
-    ensures { result ≡ meanings.sort_rule keys.now values.now key.now }
+fn sort_rule(keys: &[Key], values: &[Text], key: &SortKey) -> SortRule
+    ensures { result ≡ meanings.sort_rule (key_names keys.now) values.now key.now }
 {
     SortRule {
         source: sort_source(keys, values, key.name.as_bytes()),
@@ -197,11 +223,11 @@ fn sort_rule(keys: &[Text], values: &[Text], key: &SortKey) -> SortRule
 /// What each sort key means.
 pub(crate) fn sort_rules(
     alloc: Global,
-    keys: &[Text],
+    keys: &[Key],
     values: &[Text],
     sort: &[SortKey],
 ) -> Result<Vec<SortRule>, AllocError>
-    ensures { IfOk result (λ rules. rules.items ≡ map (meanings.sort_rule keys.now values.now) sort.now) }
+    ensures { IfOk result (λ rules. rules.items ≡ map (meanings.sort_rule (key_names keys.now) values.now) sort.now) }
 {
     let mut rules = Vec::with_capacity(alloc, sort.len())?;
     for key in sort {

@@ -11,9 +11,7 @@ use crate::attribute::attributes_at;
 use crate::condition::read_filter;
 use crate::fault::TriggerFault;
 use crate::hist_parts::start_of;
-use crate::meaning::{
-    key_sources, names_of, size_of, sort_keys, sort_rules, summed, value_sources,
-};
+use crate::meaning::{keys_of, names_of, size_of, sort_keys, sort_rules, summed, value_sources};
 use crate::place::wrong_place;
 use crate::spec::HistSpec;
 use crate::written::Written;
@@ -67,11 +65,10 @@ pub(crate) fn spec_from(
         action,
     } = written;
     let values = summed(values);
-    let key_sources = key_sources(alloc, event.fields(), &keys)?;
+    let keys = keys_of(alloc, event.fields(), &keys)?;
     let value_sources = value_sources(alloc, event.fields(), &values)?;
     let size = size_of(&size)?;
     let filter = read_filter(alloc, text, condition, event)?;
-    let keys = names_of(alloc, &keys)?;
     let values = names_of(alloc, &values)?;
     let sort = sort_keys(alloc, &sort)?;
     let sort_sources = sort_rules(alloc, &keys, &values, &sort)?;
@@ -82,7 +79,6 @@ pub(crate) fn spec_from(
         size,
         action,
         filter,
-        key_sources,
         value_sources,
         sort_sources,
     })

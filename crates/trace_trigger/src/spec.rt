@@ -2,12 +2,14 @@
 
 ghost use Rattle.std.specs.Prelude.{◌≡◌, ◌≢◌, ◌↔◌, Option, Some, None, Err, IsTrue, option_copied, bytes_eq};
 ghost use Rattle.trace_trigger.specs.TriggerAnswers.{IsAnswered};
+ghost use Rattle.trace_trigger.specs.HistSpecs.{written_of};
 ghost use Rattle.trace_trigger.specs.HistTexts.{IsHistText, spec_of};
 ghost use Rattle.trace_trigger.specs.SameSpecs.{IsSame, is_same, same_filter, same_sort_key, is_passed, filter_text};
 ghost use Rattle.std.specs.Cmp.Lexicographic.{pointwise};
 
 use crate::fault::TriggerFault;
 use crate::hist_parts::{condition_of, cut};
+use crate::key::Key;
 use crate::meaning::is_too_many;
 use crate::read::{read_written, spec_from};
 use crate::sort_rule::SortRule;
@@ -41,14 +43,13 @@ pub enum Action {
 /// What a hist trigger says.
 #[derive(Drop)]
 pub struct HistSpec {
-    pub(crate) keys: Vec<Text>,
+    pub(crate) keys: Vec<Key>,
     pub(crate) values: Vec<Text>,
     pub(crate) sort: Vec<SortKey>,
     pub(crate) size: u32,
     pub(crate) action: Action,
     pub(crate) filter: Option<Filter>,
-    // What the keys' names mean, in order, and the values'.
-    pub(crate) key_sources: Vec<Operand>,
+    // What the values mean, in order.
     pub(crate) value_sources: Vec<Operand>,
     // What the sort keys mean, in order.
     pub(crate) sort_sources: Vec<SortRule>,
@@ -66,7 +67,6 @@ impl Model for HistSpec {
       size = s.size;
       action = s.action;
       filter = s.filter;
-      key_sources = s.key_sources.items;
       value_sources = s.value_sources.items;
       sort_sources = s.sort_sources.items;
     } };
@@ -92,8 +92,8 @@ impl HistSpec {
         spec_from(alloc, text, written, condition_of(tail), event)
     }
 
-    /// The names of its keys, as written.
-    pub fn keys(&self) -> &[Text]
+    /// Its keys, in their order.
+    pub fn keys(&self) -> &[Key]
         ensures { result.now ≡ self.now.keys }
     {
         &self.keys
@@ -134,13 +134,6 @@ impl HistSpec {
         self.filter.as_ref()
     }
 
-    /// Where its keys are found in an emission, in their order.
-    pub fn key_sources(&self) -> &[Operand]
-        ensures { result.now ≡ self.now.key_sources }
-    {
-        &self.key_sources
-    }
-
     /// Where its values are found in an emission, in their order.
     pub fn value_sources(&self) -> &[Operand]
         ensures { result.now ≡ self.now.value_sources }
@@ -162,7 +155,7 @@ impl HistSpec {
         ensures same { IsTrue result ↔ IsSame self.now other.now }
         ensures value { result ≡ is_same self.now other.now }
     {
-        is_same_names(&self.keys, &other.keys)
+        is_same_keys(&self.keys, &other.keys)
             && is_same_names(&self.values, &other.values)
             && is_same_sort(&self.sort, &other.sort)
             && is_same_filter(&self.filter, &other.filter)
@@ -177,6 +170,26 @@ impl HistSpec {
             Some(filter) => filter.passes(row, cpu, pid),
             None => true,
         }
+    }
+}
+
+/// Whether keys are the same, as written.
+fn is_same_keys(left: &[Key], right: &[Key]) -> bool
+    ensures value { result ≡ pointwise bytes_eq (written_of left.now) (written_of right.now) }
+    ensures same { IsTrue result ↔ (written_of left.now ≡ written_of right.now) }
+{
+    are_written_alike(left, right)
+}
+
+fn are_written_alike(left: &[Key], right: &[Key]) -> bool
+    ensures { result ≡ pointwise bytes_eq (written_of left.now) (written_of right.now) }
+{
+    match (left, right) {
+        ([], []) => true,
+        ([first, left @ ..], [second, right @ ..]) => {
+            first.written == second.written && are_written_alike(left, right)
+        }
+        _ => false,
     }
 }
 

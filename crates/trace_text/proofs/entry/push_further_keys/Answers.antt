@@ -8,8 +8,8 @@ use Rattle.trace_text.proofs.entry.push_further_keys.Goals as goal
 
 pub returns : goal.returns
 returns c =
-    let names = c.args.names.now in
+    let keys = c.args.keys.now in
     let values = c.args.values.now in
-    let turns : length c.loop-name.yielded ≡ min (length names) (length values) =
-    zip_end names values c.loop-name.yielded c.into_iter-name-iterator.result c.loop-name.name-iterator c.next.new.self c.next.result (cc) (cc) c.loop-name.yielded_by c.in-None.is c.next.ensures.steps in
-    all_written (λ key. codes ", " ++ key_text key) names (map datum_of values) (length c.loop-name.yielded) c.loop-name.out.items _ (rw length-map turns) (rw drop-map c.loop-name.invariant)
+    let turns : length c.loop-key.yielded ≡ min (length keys) (length values) =
+    zip_end keys values c.loop-key.yielded c.into_iter-key-iterator.result c.loop-key.key-iterator c.next.new.self c.next.result (cc) (cc) c.loop-key.yielded_by c.in-None.is c.next.ensures.steps in
+    all_written (λ key. codes ", " ++ key_text key) keys (map datum_of values) (length c.loop-key.yielded) c.loop-key.out.items _ (rw length-map turns) (rw drop-map c.loop-key.invariant)

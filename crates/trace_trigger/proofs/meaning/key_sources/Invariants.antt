@@ -1,7 +1,0 @@
-use Rattle.std.proofs.Common.{◌≡◌}
-use Rattle.trace_trigger.specs.HistMeanings.{each, key_source}
-use Rattle.trace_trigger.proofs.EachLemmas.{each_from}
-use Rattle.trace_trigger.proofs.meaning.key_sources.Given as goal
-
-abbrev pub invariant-loop-key : goal.invariant-loop-key
-invariant-loop-key l = each (key_source l.fields) l.keys ≡ each_from (key_source l.fields) l.keys l.key-index l.sources.items

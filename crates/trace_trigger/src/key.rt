@@ -1,0 +1,14 @@
+//! The keys of a hist trigger.
+
+use trace_format::{Operand, Text};
+
+/// A key of a hist trigger: entries are told apart by its values.
+#[derive(Drop)]
+pub struct Key {
+    /// All that the trigger says of it.
+    pub written: Text,
+    /// Its name, which is that of a field, `common_pid` or `common_cpu`.
+    pub name: Text,
+    /// What the name means in the trigger's event: where the key's value is found in an emission, and whether it is a string.
+    pub operand: Operand,
+}
