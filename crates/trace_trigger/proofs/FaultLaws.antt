@@ -14,7 +14,7 @@ use Rattle.trace_trigger.specs.declared.piece.Piece.{Piece}
 use Rattle.trace_trigger.specs.HistAttributes.{head_len, attribute_of}
 use Rattle.trace_trigger.specs.HistPieces.{pieces_of}
 use Rattle.trace_trigger.specs.HistLists.{first_about, items_in, Lists, lists_of, names_of, is_listed, is_hitcount, sort_name, sort_suffix, is_direction, is_sortable}
-use Rattle.trace_trigger.specs.HistPlaces.{wrong_after, is_wrong_attribute, attribute_places, is_wrong_item, is_sorted_by, is_wrong_sort}
+use Rattle.trace_trigger.specs.HistPlaces.{wrong_after, is_wrong_attribute, attribute_places, is_wrong_name, is_sorted_by, is_wrong_sort}
 use Rattle.trace_trigger.specs.HistGrammar.{Subject, OfKeys, OfValues, OfSort, IsSortItem}
 use Rattle.trace_trigger.specs.HistFaultPlaces.{IsAt, IsAbout, IsUnknown, IsNoSize, IsRepeated, IsList, IsWrongName, IsLentBy, IsLent, HasSortName, IsWrongSort}
 use Rattle.trace_trigger.proofs.CutLemmas.{placed, cut_pieces, found_is_cut, names_of-placed}
@@ -158,14 +158,14 @@ module _ (start : ℕ) (parts : List (List ℕ)) where
 
 -- ---- items of keys and of values
 
-pub item_wrong : (start place : ℕ) (before : List (List ℕ)) (item : List ℕ) → is_wrong_item (placed start before) (record { at = place; bytes = item }) ≡ true → IsWrongName before item
+pub item_wrong : (start place : ℕ) (before : List (List ℕ)) (item : List ℕ) → is_wrong_name (placed start before) (record { at = place; bytes = item }) ≡ true → IsWrongName before item
 item_wrong start place before item e = by (or_cases (not (is_name item)) (is_listed (placed start before) item) e)
   where
     by : (not (is_name item) ≡ true) ⊎ (is_listed (placed start before) item ≡ true) → IsWrongName before item
     by (inl f) = inl (not-true (is_name item) f)
     by (inr f) = inr (from_member item before (subst (Member item) (names_of-placed 44 start before) (listed_member item (placed start before) f)))
 
-pub wrong_item : (start place : ℕ) (before : List (List ℕ)) (item : List ℕ) → IsWrongName before item → is_wrong_item (placed start before) (record { at = place; bytes = item }) ≡ true
+pub wrong_item : (start place : ℕ) (before : List (List ℕ)) (item : List ℕ) → IsWrongName before item → is_wrong_name (placed start before) (record { at = place; bytes = item }) ≡ true
 wrong_item start place before item (inl e) = or_left (not (is_name item)) (is_listed (placed start before) item) (not_from_false (is_name item) e)
 wrong_item start place before item (inr is) =
     or_right (not (is_name item)) (is_listed (placed start before) item) (member_listed item (placed start before) (subst (Member item) (sym (names_of-placed 44 start before)) (member_from item before is)))

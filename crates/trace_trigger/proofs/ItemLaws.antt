@@ -8,7 +8,7 @@ use Rattle.trace_lex.specs.Names.{is_name}
 use Rattle.trace_trigger.specs.declared.spec.SortKey.{SortKey}
 use Rattle.trace_trigger.specs.declared.piece.Piece.{Piece}
 use Rattle.trace_trigger.specs.HistLists.{Lists, names_of, is_listed, is_hitcount, sort_name, sort_suffix, is_direction, sort_key_of, is_sortable}
-use Rattle.trace_trigger.specs.HistPlaces.{wrong_after, is_wrong_item, is_sorted_by, is_wrong_sort}
+use Rattle.trace_trigger.specs.HistPlaces.{wrong_after, is_wrong_name, is_sorted_by, is_wrong_sort}
 use Rattle.trace_trigger.specs.HistGrammar.{IsSortItem}
 use Rattle.trace_trigger.proofs.WordLemmas.{sort_read, sort_written, sort_key_is}
 use Rattle.trace_trigger.proofs.WrongLemmas.{Apart, pairs_from, from_pairs, each_weaker, apart_weaker, each_map, each_unmap, apart_map, apart_unmap, NoneWrong, none_from, from_none, none_weaker, none_each, each_none, none_or, likes, Unlike, unlike_each_other, none_alike}
@@ -33,14 +33,14 @@ pub record AreRight (names : List (List ℕ)) : Type 0 where
   pub named : All (λ name. IsTrue (is_name name)) names
   pub apart : AllPairs (λ one other. one ≢ other) names
 
-pub names_right : (items : List Piece) → wrong_after is_wrong_item [] items ≡ [] → AreRight (names_of items)
+pub names_right : (items : List Piece) → wrong_after is_wrong_name [] items ≡ [] → AreRight (names_of items)
 unfolding same_name unnamed
 names_right items e =
-    let none : NoneWrong is_wrong_item [] items = none_from is_wrong_item [] items e in
+    let none : NoneWrong is_wrong_name [] items = none_from is_wrong_name [] items e in
     let named : AllByRecursion (λ item. unnamed item ≡ false) items =
-    none_each unnamed [] items (none_weaker is_wrong_item (λ _ item. unnamed item) (λ before item f. (or_parts (unnamed item) (is_listed before item.bytes) f).0) [] items none) in
+    none_each unnamed [] items (none_weaker is_wrong_name (λ _ item. unnamed item) (λ before item f. (or_parts (unnamed item) (is_listed before item.bytes) f).0) [] items none) in
     let other : NoneWrong (likes same_name) [] items =
-    none_weaker is_wrong_item (likes same_name)
+    none_weaker is_wrong_name (likes same_name)
     (λ before item f. (or_parts (unnamed item) (is_listed before item.bytes) f).1) [] items none in
     let apart : Apart (Unlike same_name) items = unlike_each_other same_name items other in
     record {
@@ -51,7 +51,7 @@ names_right items e =
           (apart_weaker (Unlike same_name) (λ one later. one.bytes ≢ later.bytes) (λ one later f. other_bytes one.bytes later.bytes f) items apart));
     }
 
-pub right_names : (items : List Piece) → AreRight (names_of items) → wrong_after is_wrong_item [] items ≡ []
+pub right_names : (items : List Piece) → AreRight (names_of items) → wrong_after is_wrong_name [] items ≡ []
 unfolding same_name unnamed
 right_names items right =
     let named : AllByRecursion (λ (item : Piece). unnamed item ≡ false) items =
@@ -62,7 +62,7 @@ right_names items right =
     (apart_unmap (λ one later. one ≢ later) (λ (piece : Piece). piece.bytes) items (from_pairs (λ one later. one ≢ later) (names_of items) right.apart)) in
     let other : NoneWrong (λ before item. is_listed before item.bytes) [] items =
     none_alike same_name items apart in
-    from_none is_wrong_item [] items (none_or (λ _ item. unnamed item) (λ before item. is_listed before item.bytes) [] items (each_none unnamed [] items named) other)
+    from_none is_wrong_name [] items (none_or (λ _ item. unnamed item) (λ before item. is_listed before item.bytes) [] items (each_none unnamed [] items named) other)
 
 -- ---- names to sort by
 

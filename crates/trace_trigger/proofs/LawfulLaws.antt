@@ -13,7 +13,7 @@ use Rattle.trace_trigger.specs.declared.attribute.Topic.TheVariants as topic
 use Rattle.trace_trigger.specs.declared.attribute.Attribute.{Attribute}
 use Rattle.trace_trigger.specs.declared.piece.Piece.{Piece}
 use Rattle.trace_trigger.specs.HistLists.{is_same_topic, first_about, items_of, items_in, lists_of, names_of, is_listed, is_hitcount, sort_key_of, is_sortable}
-use Rattle.trace_trigger.specs.HistPlaces.{wrong_after, is_unknown, is_repeated, is_bad_size, is_wrong_attribute, attribute_places, is_wrong_item, item_places, is_wrong_sort, sort_places, keyless_places}
+use Rattle.trace_trigger.specs.HistPlaces.{wrong_after, is_unknown, is_repeated, is_bad_size, is_wrong_attribute, attribute_places, is_wrong_name, key_places, value_places, is_wrong_sort, sort_places, keyless_places}
 use Rattle.trace_trigger.specs.HistGrammar.{Setting, Keys, Values, Sort, Size, Asks, subject_of, IsListed, AreLawful, IsSet}
 use Rattle.trace_trigger.proofs.WrongLemmas.{Apart, pairs_from, each_weaker, NoneWrong, none_from, none_each, none_left, none_right, Unlike, unlike_each_other}
 use Rattle.trace_trigger.proofs.ItemLaws.{names_right, sorts_right, sort_keys_are}
@@ -102,13 +102,13 @@ module _ (attributes : List Attribute) (end : ℕ) (right : AreAllRight attribut
   sizes : AllByRecursion (λ (a : Attribute). is_bad_size a ≡ false) attributes
   sizes = none_each is_bad_size [] attributes (none_right (λ before a. is_unknown a.topic || is_repeated before a) (λ _ a. is_bad_size a) [] attributes none_wrong)
 
-  keys_items : (a : Attribute) → first_about topic.Keys attributes ≡ Some a → wrong_after is_wrong_item [] (items_of a) ≡ []
-  unfolding lists_of item_places
-  keys_items a first = map-nil (λ (item : Piece). item.at) (wrong_after is_wrong_item [] (items_of a)) (sym (ap (λ (o : Option Attribute). item_places (items_in o)) first) ∙ right.keys)
+  keys_items : (a : Attribute) → first_about topic.Keys attributes ≡ Some a → wrong_after is_wrong_name [] (items_of a) ≡ []
+  unfolding lists_of key_places
+  keys_items a first = map-nil (λ (item : Piece). item.at) (wrong_after is_wrong_name [] (items_of a)) (sym (ap (λ (o : Option Attribute). key_places (items_in o)) first) ∙ right.keys)
 
-  values_items : (a : Attribute) → first_about topic.Values attributes ≡ Some a → wrong_after is_wrong_item [] (items_of a) ≡ []
-  unfolding lists_of item_places
-  values_items a first = map-nil (λ (item : Piece). item.at) (wrong_after is_wrong_item [] (items_of a)) (sym (ap (λ (o : Option Attribute). item_places (items_in o)) first) ∙ right.values)
+  values_items : (a : Attribute) → first_about topic.Values attributes ≡ Some a → wrong_after is_wrong_name [] (items_of a) ≡ []
+  unfolding lists_of value_places
+  values_items a first = map-nil (λ (item : Piece). item.at) (wrong_after is_wrong_name [] (items_of a)) (sym (ap (λ (o : Option Attribute). value_places (items_in o)) first) ∙ right.values)
 
   sort_items : (a : Attribute) → first_about topic.Sort attributes ≡ Some a → wrong_after (is_wrong_sort (lists_of attributes)) [] (items_of a) ≡ []
   unfolding lists_of sort_places
@@ -116,7 +116,7 @@ module _ (attributes : List Attribute) (end : ℕ) (right : AreAllRight attribut
       map-nil (λ (item : Piece). item.at) (wrong_after (is_wrong_sort (lists_of attributes)) [] (items_of a))
       (sym (ap (λ (o : Option Attribute). map (λ (item : Piece). item.at) (wrong_after (is_wrong_sort (lists_of attributes)) [] (items_in o))) first) ∙ right.sort)
 
-  names_held : (a : Attribute) → wrong_after is_wrong_item [] (items_of a) ≡ [] → AreNames a (names_of (items_of a))
+  names_held : (a : Attribute) → wrong_after is_wrong_name [] (items_of a) ≡ [] → AreNames a (names_of (items_of a))
   names_held a none = let are = names_right (items_of a) none in record { items = refl; named = are.named; apart = are.apart }
 
   some_number : (o : Option ℕ) → is_none o ≡ false → o ≡ Some (unwrap_or o 0)

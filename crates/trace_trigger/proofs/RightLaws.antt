@@ -12,7 +12,7 @@ use Rattle.trace_trigger.specs.declared.attribute.Topic.TheVariants as topic
 use Rattle.trace_trigger.specs.declared.attribute.Attribute.{Attribute}
 use Rattle.trace_trigger.specs.declared.piece.Piece.{Piece}
 use Rattle.trace_trigger.specs.HistLists.{is_same_topic, first_about, items_of, items_in, lists_of, is_listed, is_hitcount, is_sortable}
-use Rattle.trace_trigger.specs.HistPlaces.{wrong_after, is_unknown, is_repeated, is_bad_size, is_wrong_attribute, attribute_places, item_places, is_wrong_sort, sort_places, keyless_places}
+use Rattle.trace_trigger.specs.HistPlaces.{wrong_after, is_unknown, is_repeated, is_bad_size, is_wrong_attribute, attribute_places, is_wrong_name, key_places, value_places, is_wrong_sort, sort_places, keyless_places}
 use Rattle.trace_trigger.specs.HistGrammar.{Setting, Keys, Values, Sort, Size, Asks, subject_of, IsListed, AreLawful}
 use Rattle.trace_trigger.proofs.WrongLemmas.{Apart, from_pairs, each_weaker, from_none, each_none, none_or, Unlike, none_alike}
 use Rattle.trace_trigger.proofs.ItemLaws.{AreRight, right_names, right_sorts}
@@ -23,8 +23,8 @@ use Rattle.trace_trigger.proofs.SettingLaws.{member_listed, some_items, keyed, g
 -- nothing is wrong with the attributes, whose word ends there
 pub record AreAllRight (found : List Attribute) (end : ℕ) : Type 0 where
   pub attributes : attribute_places found ≡ []
-  pub keys : item_places (lists_of found).keys ≡ []
-  pub values : item_places (lists_of found).values ≡ []
+  pub keys : key_places (lists_of found).keys ≡ []
+  pub values : value_places (lists_of found).values ≡ []
   pub sort : sort_places (lists_of found) ≡ []
   pub keyed : keyless_places end (lists_of found).keys ≡ []
 
@@ -92,41 +92,40 @@ module _ (attributes : List Attribute) (settings : List Setting) (zip : AllZip I
       (each_none is_bad_size [] attributes (each_sized attributes settings zip))) in
       ap (map (λ (a : Attribute). a.at)) none
 
-  items_right : (attribute : Attribute) (names : List (List ℕ)) → AreNames attribute names → item_places (items_of attribute) ≡ []
-  unfolding item_places
+  items_right : (attribute : Attribute) (names : List (List ℕ)) → AreNames attribute names → map (λ (item : Piece). item.at) (wrong_after is_wrong_name [] (items_of attribute)) ≡ []
   items_right attribute names are =
       let right : AreRight names = record { named = are.named; apart = are.apart } in
       ap (map (λ (item : Piece). item.at)) (right_names (items_of attribute) (subst AreRight (sym are.items) right))
 
-  keys_right : item_places (lists_of attributes).keys ≡ []
-  unfolding lists_of item_places
+  keys_right : key_places (lists_of attributes).keys ≡ []
+  unfolding lists_of key_places
   keys_right = by (found_or_missing topic.Keys attributes settings zip)
     where
-      by : IsFound topic.Keys attributes settings ⊎ IsMissing topic.Keys attributes settings → item_places (items_in (first_about topic.Keys attributes)) ≡ []
+      by : IsFound topic.Keys attributes settings ⊎ IsMissing topic.Keys attributes settings → key_places (items_in (first_about topic.Keys attributes)) ≡ []
       by (inl found) = of found.setting found.same found.read
         where
-          of : (s : Setting) → is_same_topic topic.Keys (topic_of_setting s) ≡ true → IsRead found.attribute s → item_places (items_in (first_about topic.Keys attributes)) ≡ []
-          of (Keys names) e read = ap (λ (a : Option Attribute). item_places (items_in a)) found.first ∙ items_right found.attribute names read.holds
+          of : (s : Setting) → is_same_topic topic.Keys (topic_of_setting s) ≡ true → IsRead found.attribute s → key_places (items_in (first_about topic.Keys attributes)) ≡ []
+          of (Keys names) e read = ap (λ (a : Option Attribute). key_places (items_in a)) found.first ∙ items_right found.attribute names read.holds
           of (Values names) e read = absurd (cc)
           of (Sort keys) e read = absurd (cc)
           of (Size entries) e read = absurd (cc)
           of (Asks action) e read = absurd (cc)
-      by (inr missing) = ap (λ (a : Option Attribute). item_places (items_in a)) missing.first
+      by (inr missing) = ap (λ (a : Option Attribute). key_places (items_in a)) missing.first
 
-  values_right : item_places (lists_of attributes).values ≡ []
-  unfolding lists_of item_places
+  values_right : value_places (lists_of attributes).values ≡ []
+  unfolding lists_of value_places
   values_right = by (found_or_missing topic.Values attributes settings zip)
     where
-      by : IsFound topic.Values attributes settings ⊎ IsMissing topic.Values attributes settings → item_places (items_in (first_about topic.Values attributes)) ≡ []
+      by : IsFound topic.Values attributes settings ⊎ IsMissing topic.Values attributes settings → value_places (items_in (first_about topic.Values attributes)) ≡ []
       by (inl found) = of found.setting found.same found.read
         where
-          of : (s : Setting) → is_same_topic topic.Values (topic_of_setting s) ≡ true → IsRead found.attribute s → item_places (items_in (first_about topic.Values attributes)) ≡ []
+          of : (s : Setting) → is_same_topic topic.Values (topic_of_setting s) ≡ true → IsRead found.attribute s → value_places (items_in (first_about topic.Values attributes)) ≡ []
           of (Keys names) e read = absurd (cc)
-          of (Values names) e read = ap (λ (a : Option Attribute). item_places (items_in a)) found.first ∙ items_right found.attribute names read.holds
+          of (Values names) e read = ap (λ (a : Option Attribute). value_places (items_in a)) found.first ∙ items_right found.attribute names read.holds
           of (Sort keys) e read = absurd (cc)
           of (Size entries) e read = absurd (cc)
           of (Asks action) e read = absurd (cc)
-      by (inr missing) = ap (λ (a : Option Attribute). item_places (items_in a)) missing.first
+      by (inr missing) = ap (λ (a : Option Attribute). value_places (items_in a)) missing.first
 
   -- ---- a name of the keys or of the values can be sorted by
 

@@ -14,7 +14,7 @@ use Rattle.trace_trigger.specs.HistAttributes.{attributes_at}
 use Rattle.trace_trigger.specs.HistPieces.{pieces_of}
 use Rattle.trace_trigger.specs.HistParts.{attributes_of, end_of, tail_of, condition_of}
 use Rattle.trace_trigger.specs.HistLists.{Lists, lists_of, names_of, summed_items, sort_keys}
-use Rattle.trace_trigger.specs.HistPlaces.{attribute_places, item_places, sort_places, list_places, keyless_places, tail_places, wrong_places, earlier, least}
+use Rattle.trace_trigger.specs.HistPlaces.{attribute_places, key_places, value_places, sort_places, list_places, keyless_places, tail_places, wrong_places, earlier, least}
 use Rattle.trace_trigger.specs.TriggerAnswers.{◌>>=◌}
 use Rattle.trace_trigger.specs.HistMeanings.{is_too_many, few, each, key_in, value_source, size_of, sort_rule}
 use Rattle.trace_trigger.specs.HistSpecs.{SpecSeen, key_names}
@@ -82,8 +82,8 @@ right_parts text none =
     let first = both_nil (attribute_places (attributes_of text) ++ list_places lists ++ end) (tail_places text (tail_of text)) none in
     let second = both_nil (attribute_places (attributes_of text) ++ list_places lists) end first.0 in
     let third = both_nil (attribute_places (attributes_of text)) (list_places lists) second.0 in
-    let items = both_nil (item_places lists.keys ++ item_places lists.values) (sort_places lists) third.1 in
-    let more = both_nil (item_places lists.keys) (item_places lists.values) items.0 in
+    let items = both_nil (key_places lists.keys ++ value_places lists.values) (sort_places lists) third.1 in
+    let more = both_nil (key_places lists.keys) (value_places lists.values) items.0 in
     record { attributes = record { attributes = third.0; keys = more.0; values = more.1; sort = items.1; keyed = second.1 }; tail = first.1 }
 
 pub record IsSomehowWritten (text : List ℕ) : Type 0 where

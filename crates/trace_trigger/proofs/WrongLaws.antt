@@ -13,7 +13,7 @@ use Rattle.trace_trigger.specs.declared.piece.Piece.{Piece}
 use Rattle.trace_trigger.specs.HistAttributes.{attribute_of}
 use Rattle.trace_trigger.specs.HistParts.{attributes_of, end_of, tail_of, is_condition, condition_of, place_in}
 use Rattle.trace_trigger.specs.HistLists.{first_about, items_in, Lists, lists_of}
-use Rattle.trace_trigger.specs.HistPlaces.{wrong_after, attribute_places, is_wrong_item, item_places, is_wrong_sort, sort_places, list_places, keyless_places, tail_places, wrong_places}
+use Rattle.trace_trigger.specs.HistPlaces.{wrong_after, attribute_places, is_wrong_name, key_places, value_places, is_wrong_sort, sort_places, list_places, keyless_places, tail_places, wrong_places}
 use Rattle.trace_trigger.specs.HistGrammar.{Subject, OfKeys, OfValues, OfSort, OfSize, OfAction}
 use Rattle.trace_trigger.specs.HistFaultPlaces.{Cut, BeginsBlank, IsAt, IsAbout, IsList, IsWrongItem, WrongItem, WrongTail, IsWrongAt}
 use Rattle.trace_trigger.proofs.CutLemmas.{placed, cut_pieces}
@@ -46,13 +46,13 @@ module _ (begin : ℕ) (parts : List (List ℕ)) where
     pub is_at : IsAt 44 (begin + size 58 attributes_before + length head) items before item place
     pub wrong : IsWrongItem subject parts before item
 
-  keys_sound : (place : ℕ) → Member place (item_places lists.keys) → WrongItemAt place
-  unfolding lists_of item_places
+  keys_sound : (place : ℕ) → Member place (key_places lists.keys) → WrongItemAt place
+  unfolding lists_of key_places
   keys_sound place is = by (keys_list begin parts)
     where
       by : FoundList begin parts OfKeys ⊎ NoList begin parts OfKeys → WrongItemAt place
       by (inl list) =
-          let it = items_sound begin parts is_wrong_item OfKeys place list is in
+          let it = items_sound begin parts is_wrong_name OfKeys place list is in
           record {
             subject = OfKeys;
             attributes_before = list.before;
@@ -65,15 +65,15 @@ module _ (begin : ℕ) (parts : List (List ℕ)) where
             is_at = it.is_at;
             wrong = item_wrong (begin + size 58 list.before + length list.head) place it.before it.part it.wrong_there;
           }
-      by (inr none) = absurd (subst (λ (pieces : List Piece). Member place (places (wrong_after is_wrong_item [] pieces))) none.none is)
+      by (inr none) = absurd (subst (λ (pieces : List Piece). Member place (places (wrong_after is_wrong_name [] pieces))) none.none is)
 
-  values_sound : (place : ℕ) → Member place (item_places lists.values) → WrongItemAt place
-  unfolding lists_of item_places
+  values_sound : (place : ℕ) → Member place (value_places lists.values) → WrongItemAt place
+  unfolding lists_of value_places
   values_sound place is = by (values_list begin parts)
     where
       by : FoundList begin parts OfValues ⊎ NoList begin parts OfValues → WrongItemAt place
       by (inl list) =
-          let it = items_sound begin parts is_wrong_item OfValues place list is in
+          let it = items_sound begin parts is_wrong_name OfValues place list is in
           record {
             subject = OfValues;
             attributes_before = list.before;
@@ -86,7 +86,7 @@ module _ (begin : ℕ) (parts : List (List ℕ)) where
             is_at = it.is_at;
             wrong = item_wrong (begin + size 58 list.before + length list.head) place it.before it.part it.wrong_there;
           }
-      by (inr none) = absurd (subst (λ (pieces : List Piece). Member place (places (wrong_after is_wrong_item [] pieces))) none.none is)
+      by (inr none) = absurd (subst (λ (pieces : List Piece). Member place (places (wrong_after is_wrong_name [] pieces))) none.none is)
 
   sort_sound : (place : ℕ) → Member place (sort_places lists) → WrongItemAt place
   unfolding lists_of sort_places
@@ -110,30 +110,30 @@ module _ (begin : ℕ) (parts : List (List ℕ)) where
       by (inr none) = absurd (subst (λ (pieces : List Piece). Member place (places (wrong_after (is_wrong_sort (lists_of (placed_attributes begin parts))) [] pieces))) none.none is)
 
   lists_sound : (place : ℕ) → Member place (list_places lists) → WrongItemAt place
-  lists_sound place is = by (member_cases place (item_places lists.keys ++ item_places lists.values) (sort_places lists) is)
+  lists_sound place is = by (member_cases place (key_places lists.keys ++ value_places lists.values) (sort_places lists) is)
     where
-      first : Member place (item_places lists.keys) ⊎ Member place (item_places lists.values) → WrongItemAt place
+      first : Member place (key_places lists.keys) ⊎ Member place (value_places lists.values) → WrongItemAt place
       first (inl is) = keys_sound place is
       first (inr is) = values_sound place is
 
-      by : Member place (item_places lists.keys ++ item_places lists.values) ⊎ Member place (sort_places lists) → WrongItemAt place
-      by (inl is) = first (member_cases place (item_places lists.keys) (item_places lists.values) is)
+      by : Member place (key_places lists.keys ++ value_places lists.values) ⊎ Member place (sort_places lists) → WrongItemAt place
+      by (inl is) = first (member_cases place (key_places lists.keys) (value_places lists.values) is)
       by (inr is) = sort_sound place is
 
   -- ---- the other way round
 
   keys_complete : (place : ℕ) (attributes items before : List (List ℕ)) (attribute head item : List ℕ) → IsList OfKeys parts attributes attribute head items
-      → IsAt 44 (begin + size 58 attributes + length head) items before item place → IsWrongItem OfKeys parts before item → Member place (item_places lists.keys)
-  unfolding lists_of item_places
+      → IsAt 44 (begin + size 58 attributes + length head) items before item place → IsWrongItem OfKeys parts before item → Member place (key_places lists.keys)
+  unfolding lists_of key_places
   keys_complete place attributes items before attribute head item list is_at wrong =
-      items_complete begin parts is_wrong_item OfKeys place attribute head attributes items before item (head, list.value, list.has) list is_at
+      items_complete begin parts is_wrong_name OfKeys place attribute head attributes items before item (head, list.value, list.has) list is_at
       (wrong_item (begin + size 58 attributes + length head) place before item wrong)
 
   values_complete : (place : ℕ) (attributes items before : List (List ℕ)) (attribute head item : List ℕ) → IsList OfValues parts attributes attribute head items
-      → IsAt 44 (begin + size 58 attributes + length head) items before item place → IsWrongItem OfValues parts before item → Member place (item_places lists.values)
-  unfolding lists_of item_places
+      → IsAt 44 (begin + size 58 attributes + length head) items before item place → IsWrongItem OfValues parts before item → Member place (value_places lists.values)
+  unfolding lists_of value_places
   values_complete place attributes items before attribute head item list is_at wrong =
-      items_complete begin parts is_wrong_item OfValues place attribute head attributes items before item (head, list.value, list.has) list is_at
+      items_complete begin parts is_wrong_name OfValues place attribute head attributes items before item (head, list.value, list.has) list is_at
       (wrong_item (begin + size 58 attributes + length head) place before item wrong)
 
   sort_complete : (place : ℕ) (attributes items before : List (List ℕ)) (attribute head item : List ℕ) → IsList OfSort parts attributes attribute head items
@@ -148,13 +148,13 @@ module _ (begin : ℕ) (parts : List (List ℕ)) where
     where
       by : (subject : Subject) → IsList subject parts is.attributes_before is.attribute is.head is.items → IsWrongItem subject parts is.before is.item → Member place (list_places lists)
       by OfKeys list wrong =
-          member_left place (item_places lists.keys ++ item_places lists.values) (sort_places lists)
-          (member_left place (item_places lists.keys) (item_places lists.values) (keys_complete place is.attributes_before is.items is.before is.attribute is.head is.item list is.is_at wrong))
+          member_left place (key_places lists.keys ++ value_places lists.values) (sort_places lists)
+          (member_left place (key_places lists.keys) (value_places lists.values) (keys_complete place is.attributes_before is.items is.before is.attribute is.head is.item list is.is_at wrong))
       by OfValues list wrong =
-          member_left place (item_places lists.keys ++ item_places lists.values) (sort_places lists)
-          (member_right place (item_places lists.keys) (item_places lists.values) (values_complete place is.attributes_before is.items is.before is.attribute is.head is.item list is.is_at wrong))
+          member_left place (key_places lists.keys ++ value_places lists.values) (sort_places lists)
+          (member_right place (key_places lists.keys) (value_places lists.values) (values_complete place is.attributes_before is.items is.before is.attribute is.head is.item list is.is_at wrong))
       by OfSort list wrong =
-          member_right place (item_places lists.keys ++ item_places lists.values) (sort_places lists) (sort_complete place is.attributes_before is.items is.before is.attribute is.head is.item list is.is_at wrong)
+          member_right place (key_places lists.keys ++ value_places lists.values) (sort_places lists) (sort_complete place is.attributes_before is.items is.before is.attribute is.head is.item list is.is_at wrong)
       by OfSize list wrong = absurd wrong
       by OfAction list wrong = absurd wrong
 

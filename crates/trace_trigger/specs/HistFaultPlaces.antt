@@ -81,9 +81,16 @@ pub record IsList (subject : Subject) (attributes before : List (List ℕ)) (att
   pub has : HasValue subject attribute head value
   pub listed : IsCut 44 value items
 
--- the item of a list of keys or of values is no name, or one of the items before it
+-- an item is no name, or one of the items before it
 abbrev pub IsWrongName : List (List ℕ) → List ℕ → Type 0
 IsWrongName before item = (is_name item ≡ false) ⊎ Contains before item
+
+-- a key is a name, and so is a value
+abbrev pub IsNoKey : List (List ℕ) → List ℕ → Type 0
+IsNoKey before item = IsWrongName before item
+
+abbrev pub IsNoValue : List (List ℕ) → List ℕ → Type 0
+IsNoValue before item = IsWrongName before item
 
 -- a name that is an item of a list
 pub record IsLentBy (subject : Subject) (attributes : List (List ℕ)) (name : List ℕ) : Type 0 where
@@ -108,8 +115,8 @@ IsWrongSort attributes before item = ((key : SortKey) → IsSortItem item key �
     ⊎ ((key : SortKey) × IsSortItem item key × (Any (HasSortName key.name) before ⊎ (IsLent attributes key.name → ⊥)))
 
 abbrev pub IsWrongItem : Subject → List (List ℕ) → List (List ℕ) → List ℕ → Type 0
-IsWrongItem OfKeys attributes before item = IsWrongName before item
-IsWrongItem OfValues attributes before item = IsWrongName before item
+IsWrongItem OfKeys attributes before item = IsNoKey before item
+IsWrongItem OfValues attributes before item = IsNoValue before item
 IsWrongItem OfSort attributes before item = IsWrongSort attributes before item
 IsWrongItem OfSize attributes before item = ⊥
 IsWrongItem OfAction attributes before item = ⊥

@@ -40,12 +40,23 @@ attribute_places attributes = map (λ (attribute : Attribute). attribute.at) (wr
 
 -- ---- items
 
--- among keys and values: what is no name, and a name that stands in the list before
-abbrev pub is_wrong_item : List Piece → Piece → Bool
-is_wrong_item before item = not (is_name item.bytes) || is_listed before item.bytes
+-- what is no name, and a name that stands in the list before
+abbrev pub is_wrong_name : List Piece → Piece → Bool
+is_wrong_name before item = not (is_name item.bytes) || is_listed before item.bytes
 
-unfoldable pub item_places : List Piece → List ℕ
-item_places items = map (λ (item : Piece). item.at) (wrong_after is_wrong_item [] items)
+-- a key is a name
+abbrev pub is_wrong_key : List Piece → Piece → Bool
+is_wrong_key before item = is_wrong_name before item
+
+unfoldable pub key_places : List Piece → List ℕ
+key_places keys = map (λ (item : Piece). item.at) (wrong_after is_wrong_key [] keys)
+
+-- and so is a value
+abbrev pub is_wrong_value : List Piece → Piece → Bool
+is_wrong_value before item = is_wrong_name before item
+
+unfoldable pub value_places : List Piece → List ℕ
+value_places values = map (λ (item : Piece). item.at) (wrong_after is_wrong_value [] values)
 
 -- whether a sort key has this name
 abbrev pub is_sorted_by : List Piece → List ℕ → Bool
@@ -71,7 +82,7 @@ abbrev pub tail_places : List ℕ → List ℕ → List ℕ
 tail_places text tail = if nat_lt 0 (length tail) && not (is_condition tail) then place_in text tail ∷ [] else []
 
 abbrev pub list_places : Lists → List ℕ
-list_places lists = item_places lists.keys ++ item_places lists.values ++ sort_places lists
+list_places lists = key_places lists.keys ++ value_places lists.values ++ sort_places lists
 
 unfoldable pub wrong_places : List ℕ → List ℕ
 wrong_places text = attribute_places (attributes_of text)

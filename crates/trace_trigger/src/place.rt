@@ -71,22 +71,50 @@ fn attribute_place(attributes: &[Attribute]) -> Option<usize>
     place
 }
 
-/// Whether an item of the keys or the values is no name, or one that stands in the list before.
-fn is_wrong_item(before: &[Piece], item: &Piece) -> bool
-    ensures { result ≡ places.is_wrong_item before.now item.now }
+/// Whether an item is no name, or one that stands in the list before.
+fn is_wrong_name(before: &[Piece], item: &Piece) -> bool
+    ensures { result ≡ places.is_wrong_name before.now item.now }
 {
     let name = item.bytes.as_bytes();
     !is_name(name) || is_listed(before, name)
 }
 
-/// The first place of an item that is wrong among the keys or the values.
-#[tactic(auto, using(crate::proofs::WrongPlaces::from_wrong, crate::proofs::WrongPlaces::from_right, crate::proofs::WrongPlaces::from_end), unfolding(crate::specs::HistPlaces::item_places))]
-fn item_place(items: &[Piece]) -> Option<usize>
-    ensures { result ≡ places.least (places.item_places items.now) }
+/// A key is a name.
+fn is_wrong_key(before: &[Piece], item: &Piece) -> bool
+    ensures { result ≡ places.is_wrong_key before.now item.now }
+{
+    is_wrong_name(before, item)
+}
+
+/// The first place of a key that is wrong.
+#[tactic(auto, using(crate::proofs::WrongPlaces::from_wrong, crate::proofs::WrongPlaces::from_right, crate::proofs::WrongPlaces::from_end), unfolding(crate::specs::HistPlaces::key_places))]
+fn key_place(keys: &[Piece]) -> Option<usize>
+    ensures { result ≡ places.least (places.key_places keys.now) }
 {
     let mut place = None;
-    for (index, item) in items.iter().enumerate() {
-        if is_wrong_item(&items[..index], item) {
+    for (index, item) in keys.iter().enumerate() {
+        if is_wrong_key(&keys[..index], item) {
+            place = earlier(place, Some(item.at));
+        }
+    }
+    place
+}
+
+/// A value is a name.
+fn is_wrong_value(before: &[Piece], item: &Piece) -> bool
+    ensures { result ≡ places.is_wrong_value before.now item.now }
+{
+    is_wrong_name(before, item)
+}
+
+/// The first place of a value that is wrong.
+#[tactic(auto, using(crate::proofs::WrongPlaces::from_wrong, crate::proofs::WrongPlaces::from_right, crate::proofs::WrongPlaces::from_end), unfolding(crate::specs::HistPlaces::value_places))]
+fn value_place(values: &[Piece]) -> Option<usize>
+    ensures { result ≡ places.least (places.value_places values.now) }
+{
+    let mut place = None;
+    for (index, item) in values.iter().enumerate() {
+        if is_wrong_value(&values[..index], item) {
             place = earlier(place, Some(item.at));
         }
     }
@@ -131,7 +159,7 @@ fn sort_place(written: &Written) -> Option<usize>
 fn list_place(written: &Written) -> Option<usize>
     ensures { result ≡ places.least (places.list_places written.now) }
 {
-    let names = earlier(item_place(&written.keys), item_place(&written.values));
+    let names = earlier(key_place(&written.keys), value_place(&written.values));
     earlier(names, sort_place(written))
 }
 
