@@ -8,7 +8,7 @@ use crate::steps::{Step, compile, evaluate};
 use crate::syntax::{Verdict, read_syntax};
 use std::alloc::{AllocError, Global};
 use std::marker::Model;
-use trace_format::{EventDef, Row};
+use trace_format::{Emission, EventDef, Row};
 use trace_lex::{trim, trim_end};
 
 /// A filter has at most so many bytes, without the blanks at both ends.
@@ -93,7 +93,7 @@ impl Filter {
         // All such trees agree.
         ensures each { (definition : Definition) → (written : List ℕ) → IsFilterOf definition written self.now → IsRowOf definition row.now → (tree : Expr) → Spells (tokens_of (spots_of written)) tree → IsTrue result ↔ Holds definition.fields (record { values = row.now.values; cpu = cpu; pid = pid }) tree }
     {
-        evaluate(&self.steps, row.values(), cpu, pid)
+        evaluate(&self.steps, &Emission { row, cpu, pid })
     }
 
     /// The filter's text, without blanks at both ends.

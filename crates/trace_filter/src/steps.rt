@@ -13,7 +13,7 @@ use crate::frames::Frames;
 use crate::test::{compare_values, read_literal, takes};
 use crate::token::{Comparison, Token, next_token};
 use std::alloc::Global;
-use trace_format::{Field, Operand, Value};
+use trace_format::{Emission, Field, Operand, Value};
 
 /// A test: the value that the subject has, against a written one.
 #[derive(Drop)]
@@ -37,22 +37,22 @@ impl Test {
     ghost use Rattle.trace_format.specs.Operands.{operand_value};
     ghost use Rattle.trace_filter.specs.Steps.{test_of};
 
-    /// Whether the test holds of a row's values, a CPU and a process.
-    fn holds(&self, values: &[Value], cpu: u32, pid: i32) -> bool
-        ensures { result ≡ test_of self.now.comparison (operand_value (record { values = map datum_of values.now; cpu = cpu; pid = pid }) self.now.subject) (datum_of self.now.value) }
+    /// Whether the test holds of an emission.
+    fn holds(&self, emission: &Emission) -> bool
+        ensures { result ≡ test_of self.now.comparison (operand_value emission.now self.now.subject) (datum_of self.now.value) }
     {
         match self.subject {
             Operand::Pid => compare_values(
                 self.comparison,
-                &Value::Num(i128::from(pid)),
+                &Value::Num(i128::from(emission.pid)),
                 &self.value,
             ),
             Operand::Cpu => compare_values(
                 self.comparison,
-                &Value::Num(i128::from(cpu)),
+                &Value::Num(i128::from(emission.cpu)),
                 &self.value,
             ),
-            Operand::Field { index, .. } => match values.get(index) {
+            Operand::Field { index, .. } => match emission.field(index) {
                 Some(value) => compare_values(self.comparison, value, &self.value),
                 None => false,
             },
@@ -64,8 +64,8 @@ impl Frames {
     ghost use Rattle.trace_filter.specs.Steps.{state_of, behind_move};
 
     /// Behind one more step.
-    fn take(&mut self, step: &Step, values: &[Value], cpu: u32, pid: i32)
-        ensures { state_of self.new ≡ behind_move (record { values = map datum_of values.now; cpu = cpu; pid = pid }) (state_of self.old) (move_of step.now) }
+    fn take(&mut self, step: &Step, emission: &Emission)
+        ensures { state_of self.new ≡ behind_move emission.now (state_of self.old) (move_of step.now) }
     {
         match step {
             Step::Open => self.open(),
@@ -73,7 +73,7 @@ impl Frames {
             Step::Not => self.invert(),
             Step::And => {}
             Step::Or => self.or_else(),
-            Step::Test(test) => self.test(test.holds(values, cpu, pid)),
+            Step::Test(test) => self.test(test.holds(emission)),
         }
     }
 }
@@ -180,13 +180,13 @@ pub(crate) fn compile(
     Ok(steps)
 }
 
-/// Whether a filter holds of a row's values, a CPU and a process.
-pub(crate) fn evaluate(steps: &[Step], values: &[Value], cpu: u32, pid: i32) -> bool
-    ensures { result ≡ evaluated (record { values = map datum_of values.now; cpu = cpu; pid = pid }) at_start (map move_of steps.now) }
+/// Whether a filter holds of an emission.
+pub(crate) fn evaluate(steps: &[Step], emission: &Emission) -> bool
+    ensures { result ≡ evaluated emission.now at_start (map move_of steps.now) }
 {
     let mut frames = Frames::new();
     for step in steps {
-        frames.take(step, values, cpu, pid);
+        frames.take(step, emission);
     }
     frames.total()
 }

@@ -6,7 +6,7 @@ ghost use Rattle.trace_hist.specs.Hits as hits;
 
 use crate::number::Number;
 use std::alloc::{AllocError, Global};
-use trace_format::{Operand, Row, Value};
+use trace_format::{Emission, Operand, Row, Value};
 
 /// A copy of a value.
 pub(crate) fn copy(alloc: Global, value: &Value) -> Result<Value, AllocError>
@@ -19,10 +19,10 @@ pub(crate) fn copy(alloc: Global, value: &Value) -> Result<Value, AllocError>
 }
 
 /// The value of a field, or 0 where no field has the index.
-fn field_cell(alloc: Global, values: &[Value], index: usize) -> Result<Value, AllocError>
-    ensures { IfOk result (λ cell. datum_of cell ≡ hits.field_cell (map datum_of values.now) index) }
+fn field_cell(alloc: Global, emission: &Emission, index: usize) -> Result<Value, AllocError>
+    ensures { IfOk result (λ cell. datum_of cell ≡ hits.field_cell emission.now.values index) }
 {
-    match values.get(index) {
+    match emission.field(index) {
         Some(value) => copy(alloc, value),
         None => Ok(Value::Num(0)),
     }
@@ -50,28 +50,24 @@ fn row_number(row: &Row, index: usize) -> Number
 pub(crate) fn cell_of(
     alloc: Global,
     operand: Operand,
-    values: &[Value],
-    cpu: u32,
-    pid: i32,
+    emission: &Emission,
 ) -> Result<Value, AllocError>
-    ensures { IfOk result (λ cell. datum_of cell
-        ≡ hits.cell_of (record { values = map datum_of values.now; cpu = cpu; pid = pid }) operand) }
+    ensures { IfOk result (λ cell. datum_of cell ≡ hits.cell_of emission.now operand) }
 {
     match operand {
-        Operand::Pid => Ok(Value::Num(i128::from(pid))),
-        Operand::Cpu => Ok(Value::Num(i128::from(cpu))),
-        Operand::Field { index, .. } => field_cell(alloc, values, index),
+        Operand::Pid => Ok(Value::Num(i128::from(emission.pid))),
+        Operand::Cpu => Ok(Value::Num(i128::from(emission.cpu))),
+        Operand::Field { index, .. } => field_cell(alloc, emission, index),
     }
 }
 
 /// The number of an operand in an emission.
-pub(crate) fn number_of(operand: Operand, row: &Row, cpu: u32, pid: i32) -> Number
-    ensures { result
-        ≡ hits.number_at (record { values = row.now.values; cpu = cpu; pid = pid }) operand }
+pub(crate) fn number_of(operand: Operand, emission: &Emission) -> Number
+    ensures { result ≡ hits.number_at emission.now operand }
 {
     match operand {
-        Operand::Pid => Number::new(i128::from(pid)),
-        Operand::Cpu => Number::new(i128::from(cpu)),
-        Operand::Field { index, .. } => row_number(row, index),
+        Operand::Pid => Number::new(i128::from(emission.pid)),
+        Operand::Cpu => Number::new(i128::from(emission.cpu)),
+        Operand::Field { index, .. } => row_number(emission.row, index),
     }
 }

@@ -14,7 +14,7 @@ use crate::entry::HistRow;
 use crate::stored::{StoredHit, is_known};
 use std::alloc::{AllocError, Global};
 use std::marker::Model;
-use trace_format::Row;
+use trace_format::{Emission, Row};
 use trace_trigger::{Action, HistSpec};
 
 /// What a histogram comes to.
@@ -88,7 +88,7 @@ impl Hist {
             (record { values = row.now.values; cpu = cpu; pid = pid })) }
         ensures err { OnErr result (self.new ≡ self.old) }
     {
-        let next = StoredHit::of_row(self.alloc, &self.spec, row, cpu, pid)?;
+        let next = StoredHit::of(self.alloc, &self.spec, &Emission { row, cpu, pid })?;
         self.hits.reserve(1)?;
         self.next = Some(next);
         Ok(())

@@ -11,7 +11,7 @@ ghost use Rattle.trace_hist.specs.Stored.{hit_in, is_stored};
 use crate::cell::{cell_of, number_of};
 use crate::number::Number;
 use std::alloc::{AllocError, Global};
-use trace_format::{Operand, Row, Value};
+use trace_format::{Emission, Operand, Value};
 use trace_trigger::{HistSpec, Key};
 
 /// The cells of a row's key, and the numbers that are summed.
@@ -22,36 +22,27 @@ pub(crate) struct StoredHit {
 }
 
 impl StoredHit {
-    /// What a trigger reads of a row that was emitted on a CPU by a process.
-    pub(crate) fn of_row(
+    /// What a trigger reads of an emission.
+    pub(crate) fn of(
         alloc: Global,
         spec: &HistSpec,
-        row: &Row,
-        cpu: u32,
-        pid: i32,
+        emission: &Emission,
     ) -> Result<StoredHit, AllocError>
-        ensures { IfOk result (λ hit. hit_in hit
-            ≡ hit_of spec.now (record { values = row.now.values; cpu = cpu; pid = pid })) }
+        ensures { IfOk result (λ hit. hit_in hit ≡ hit_of spec.now emission.now) }
     {
-        let key = key_of(alloc, spec.keys(), row.values(), cpu, pid)?;
-        let numbers = numbers_of(alloc, spec.value_sources(), row, cpu, pid)?;
+        let key = key_of(alloc, spec.keys(), emission)?;
+        let numbers = numbers_of(alloc, spec.value_sources(), emission)?;
         Ok(StoredHit { key, numbers })
     }
 }
 
-fn key_of(
-    alloc: Global,
-    keys: &[Key],
-    values: &[Value],
-    cpu: u32,
-    pid: i32,
-) -> Result<Vec<Value>, AllocError>
-    ensures { IfOk result (λ key. map datum_of key.items
-        ≡ map (λ (key : KeySeen). reads.cell_of (record { values = map datum_of values.now; cpu = cpu; pid = pid }) key.operand) keys.now) }
+fn key_of(alloc: Global, keys: &[Key], emission: &Emission) -> Result<Vec<Value>, AllocError>
+    ensures { IfOk result (λ cells. map datum_of cells.items
+        ≡ map (λ (key : KeySeen). reads.cell_of emission.now key.operand) keys.now) }
 {
     let mut cells = Vec::with_capacity(alloc, keys.len())?;
     for key in keys {
-        cells.push(cell_of(alloc, key.operand, values, cpu, pid)?)?;
+        cells.push(cell_of(alloc, key.operand, emission)?)?;
     }
     Ok(cells)
 }
@@ -59,16 +50,13 @@ fn key_of(
 fn numbers_of(
     alloc: Global,
     operands: &[Operand],
-    row: &Row,
-    cpu: u32,
-    pid: i32,
+    emission: &Emission,
 ) -> Result<Vec<Number>, AllocError>
-    ensures { IfOk result (λ numbers. numbers.items
-        ≡ map (reads.number_at (record { values = row.now.values; cpu = cpu; pid = pid })) operands.now) }
+    ensures { IfOk result (λ numbers. numbers.items ≡ map (reads.number_at emission.now) operands.now) }
 {
     operands
         .iter()
-        .map(|operand| number_of(*operand, row, cpu, pid))
+        .map(|operand| number_of(*operand, emission))
         .collect(alloc)
 }
 

@@ -7,4 +7,4 @@ use Rattle.trace_hist.proofs.stored.key_of.Given as goal
 abbrev pub invariant-loop-key : goal.invariant-loop-key
 invariant-loop-key l =
     map datum_of l.cells.items
-    ≡ map (λ (key : Key). cell_of (record { values = map datum_of l.values; cpu = l.cpu; pid = l.pid }) key.operand) (take l.key-index l.keys)
+    ≡ map (λ (key : Key). cell_of l.emission key.operand) (take l.key-index l.keys)

@@ -1,5 +1,4 @@
 use Rattle.std.proofs.Common.{◌≡◌, rules, List, map, refl, ap, ◌∙◌}
-use Rattle.trace_format.specs.Cells.{datum_of}
 use Rattle.trace_filter.specs.declared.token.Comparison.TheVariants as comparisons
 use Rattle.trace_filter.specs.Tokens.{spots_of, tokens_of}
 use Rattle.trace_format.specs.Operands.{Emission}
@@ -12,26 +11,26 @@ pub returns-clause-truth : goal.returns-clause-truth
 returns-clause-truth c = λ definition written is is_row.
     let emission : Emission = record { values = c.args.row.now.values; cpu = c.args.cpu; pid = c.args.pid } in
     let moves : List Move = map move_of c.self.inside.steps.items in
-    let found : c.evaluate.result ≡ evaluated (record { values = map datum_of c.values.result.now; cpu = c.args.cpu; pid = c.args.pid }) at_start (map move_of c.deref.result.now) = search rules in
+    let found : c.evaluate.result ≡ evaluated emission at_start (map move_of c.deref.result.now) = search rules in
     some_passes definition written c.args.self.now c.args.row.now emission refl is is_row
     moves (ap (λ (f : Parsed). f.subjects) c.self.view_is) (c.self.invariant ∙ ap (λ (f : Parsed). moves_about (subjects_tested moves) comparisons.Eq (tokens_of (spots_of f.text))) c.self.view_is)
     c.evaluate.result
-    (found ∙ (λ i. evaluated (record { values = c.values.ensures.values i; cpu = c.args.cpu; pid = c.args.pid }) at_start (map move_of (c.deref.ensures.value i))))
+    (found ∙ (λ i. evaluated emission at_start (map move_of (c.deref.ensures.value i))))
 
 pub returns-clause-each : goal.returns-clause-each
 returns-clause-each c = λ definition written is is_row.
     let emission : Emission = record { values = c.args.row.now.values; cpu = c.args.cpu; pid = c.args.pid } in
     let moves : List Move = map move_of c.self.inside.steps.items in
-    let found : c.evaluate.result ≡ evaluated (record { values = map datum_of c.values.result.now; cpu = c.args.cpu; pid = c.args.pid }) at_start (map move_of c.deref.result.now) = search rules in
+    let found : c.evaluate.result ≡ evaluated emission at_start (map move_of c.deref.result.now) = search rules in
     each_holds definition written c.args.self.now c.args.row.now emission refl is is_row
     moves (ap (λ (f : Parsed). f.subjects) c.self.view_is) (c.self.invariant ∙ ap (λ (f : Parsed). moves_about (subjects_tested moves) comparisons.Eq (tokens_of (spots_of f.text))) c.self.view_is)
     c.evaluate.result
-    (found ∙ (λ i. evaluated (record { values = c.values.ensures.values i; cpu = c.args.cpu; pid = c.args.pid }) at_start (map move_of (c.deref.ensures.value i))))
+    (found ∙ (λ i. evaluated emission at_start (map move_of (c.deref.ensures.value i))))
 
 pub returns-clause-exact : goal.returns-clause-exact
 returns-clause-exact c =
     let emission : Emission = record { values = c.args.row.now.values; cpu = c.args.cpu; pid = c.args.pid } in
-    let found : c.evaluate.result ≡ evaluated (record { values = map datum_of c.values.result.now; cpu = c.args.cpu; pid = c.args.pid }) at_start (map move_of c.deref.result.now) = search rules in
-    found ∙ (λ i. evaluated (record { values = c.values.ensures.values i; cpu = c.args.cpu; pid = c.args.pid }) at_start (map move_of (c.deref.ensures.value i)))
+    let found : c.evaluate.result ≡ evaluated emission at_start (map move_of c.deref.result.now) = search rules in
+    found ∙ (λ i. evaluated emission at_start (map move_of (c.deref.ensures.value i)))
     ∙ ap (evaluated emission at_start) (c.self.invariant ∙ ap (λ (f : Parsed). moves_about f.subjects comparisons.Eq (tokens_of (spots_of f.text))) c.self.view_is)
     ∙ value_of_filter c.args.self.now emission
