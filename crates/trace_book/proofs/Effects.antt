@@ -20,7 +20,7 @@ use Rattle.trace_book.specs.Files.{IsThere, file_at, name_at}
 use Rattle.trace_book.specs.States.{IsPlain, IsUsableInstance}
 use Rattle.trace_book.specs.Instances.{InstanceSeen}
 use Rattle.trace_book.specs.declared.change.InstanceChange.{InstanceChange}
-use Rattle.trace_book.specs.declared.change.InstanceChange.TheVariants.{Keep, Take, TakeCpu, Switch, SwitchAll, SetFilter, SetFilters, SetOverwrite, SetTracing, Clear, ClearCpu, Triggers, TakeSnapshot, FreeSpare, ClearSpare}
+use Rattle.trace_book.specs.declared.change.InstanceChange.TheVariants.{Keep, Take, TakeCpu, Switch, SwitchAll, SetFilter, SetFilters, ClearFilters, SetOverwrite, SetTracing, Clear, ClearCpu, Triggers, TakeSnapshot, FreeSpare, ClearSpare}
 use Rattle.trace_book.specs.declared.resolve.File.{File}
 use Rattle.trace_book.specs.declared.resolve.File.TheVariants as file
 use Rattle.trace_book.proofs.Calm.{IsQuiet, IsQuietFile, IsWriteEffect, calm-effect, calm-other_write, calm-read, calm-write, quiet-keep}
@@ -142,6 +142,7 @@ own_read g name past named limit (Switch event flag) reading is = absurd reading
 own_read g name past named limit (SwitchAll flag) reading is = absurd reading
 own_read g name past named limit (SetFilter event filter) reading is = absurd reading
 own_read g name past named limit (SetFilters changes) reading is = absurd reading
+own_read g name past named limit ClearFilters reading is = absurd reading
 own_read g name past named limit (SetOverwrite flag) reading is = absurd reading
 own_read g name past named limit (SetTracing flag) reading is = absurd reading
 own_read g name past named limit Clear reading is = absurd reading
@@ -176,6 +177,7 @@ lawful_read g events i (Switch event flag) usable reading = absurd reading
 lawful_read g events i (SwitchAll flag) usable reading = absurd reading
 lawful_read g events i (SetFilter event filter) usable reading = absurd reading
 lawful_read g events i (SetFilters changes) usable reading = absurd reading
+lawful_read g events i ClearFilters usable reading = absurd reading
 lawful_read g events i (SetOverwrite flag) usable reading = absurd reading
 lawful_read g events i (SetTracing flag) usable reading = absurd reading
 lawful_read g events i Clear usable reading = absurd reading

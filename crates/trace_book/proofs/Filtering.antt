@@ -1,5 +1,5 @@
 -- Filters that are written: of one event, and of all.
-use Rattle.std.proofs.Common.{◌≡◌, ◌≢◌, ◌⊎◌, ℕ, ◌<◌, Bool, true, false, cond, List, [], ◌∷◌, length, map, get_or, Option, Some, None, Result, Ok, Err, refl, sym, ap, ◌∙◌, subst, inl, inr, arith}
+use Rattle.std.proofs.Common.{◌≡◌, ◌≢◌, ℕ, ◌<◌, Bool, true, false, cond, List, [], ◌∷◌, length, map, get_or, Option, Some, None, Result, Ok, Err, refl, sym, ap, ◌∙◌, subst, arith}
 use Rattle.std.specs.List.{list_any}
 use Rattle.trace_filter.specs.declared.fault.FilterFault.{FilterFault}
 use Rattle.trace_filter.specs.declared.fault.FilterFault.TheVariants as filter_fault
@@ -64,43 +64,33 @@ takes_not : (text : List ℕ) (event : Definition) (fault : FilterFault) → ans
 unfolding can_take
 takes_not text event fault answered = rw answered refl
 
-pub change-clears : (text : List ℕ) (event : Definition) → clears_filter text ≡ true → change.Drop ≡ change_of text event
-change-clears text event off = rw off refl
-
-pub change-takes : (text : List ℕ) (event : Definition) (kept : Parsed) → clears_filter text ≡ false → IsFilterOf event text kept → answer_of event text ≡ Ok kept
+pub change-takes : (text : List ℕ) (event : Definition) (kept : Parsed) → IsFilterOf event text kept → answer_of event text ≡ Ok kept
     → change.Set kept ≡ change_of text event
-change-takes text event kept on is answered = rw (on, takes text event kept answered) (ap (λ (k : Parsed). change.Set k) (kept-is event text kept is))
+change-takes text event kept is answered = rw (takes text event kept answered) (ap (λ (k : Parsed). change.Set k) (kept-is event text kept is))
 
-pub change-keeps : (text : List ℕ) (event : Definition) (fault : FilterFault) → clears_filter text ≡ false → IsAnswered (Err fault) (answer_of event text)
+pub change-keeps : (text : List ℕ) (event : Definition) (fault : FilterFault) → IsAnswered (Err fault) (answer_of event text)
     → fault ≢ filter_fault.Memory → change.Keep ≡ change_of text event
-change-keeps text event filter_fault.TooMany on is other = rw (on, takes_not text event filter_fault.TooMany is) refl
-change-keeps text event (filter_fault.FilterSyntax at) on is other = rw (on, takes_not text event (filter_fault.FilterSyntax at) is) refl
-change-keeps text event (filter_fault.NoSuchField at) on is other = rw (on, takes_not text event (filter_fault.NoSuchField at) is) refl
-change-keeps text event (filter_fault.WrongOperator at) on is other = rw (on, takes_not text event (filter_fault.WrongOperator at) is) refl
-change-keeps text event filter_fault.Memory on is other = absurd (other refl)
+change-keeps text event filter_fault.TooMany is other = rw (takes_not text event filter_fault.TooMany is) refl
+change-keeps text event (filter_fault.FilterSyntax at) is other = rw (takes_not text event (filter_fault.FilterSyntax at) is) refl
+change-keeps text event (filter_fault.NoSuchField at) is other = rw (takes_not text event (filter_fault.NoSuchField at) is) refl
+change-keeps text event (filter_fault.WrongOperator at) is other = rw (takes_not text event (filter_fault.WrongOperator at) is) refl
+change-keeps text event filter_fault.Memory is other = absurd (other refl)
 
 -- an event gets a filter exactly where it can take it
-set-can : (text : List ℕ) (event : Definition) → clears_filter text ≡ false → is_set (change_of text event) ≡ can_take text event
-set-can text event on = by (can_take text event) refl
+set-can : (text : List ℕ) (event : Definition) → is_set (change_of text event) ≡ can_take text event
+set-can text event = by (can_take text event) refl
   where
     by : (can : Bool) → can_take text event ≡ can → is_set (change_of text event) ≡ can_take text event
-    by true is = rw (on, is) refl
-    by false is = rw (on, is) refl
+    by true is = rw is refl
+    by false is = rw is refl
 
-some-can : (text : List ℕ) (events : List Definition) → clears_filter text ≡ false
+some-can : (text : List ℕ) (events : List Definition)
     → list_any (λ (event : Definition). is_set (change_of text event)) events ≡ list_any (can_take text) events
-some-can text [] on = refl
-some-can text (event ∷ events) on =
-    let first = set-can text event on in
-    let rest = some-can text events on in
+some-can text [] = refl
+some-can text (event ∷ events) =
+    let first = set-can text event in
+    let rest = some-can text events in
     cc
-
-clears-or : (text : List ℕ) → (clears_filter text ≡ true) ⊎ (clears_filter text ≡ false)
-clears-or text = by (clears_filter text) refl
-  where
-    by : (off : Bool) → clears_filter text ≡ off → (clears_filter text ≡ true) ⊎ (clears_filter text ≡ false)
-    by true is = inl is
-    by false is = inr is
 
 done-either : (some : Bool) → cond some (let r : Result Reply Refusal = Ok reply.Done in r) (Ok reply.Done) ≡ Ok reply.Done
 done-either true = refl
@@ -113,26 +103,18 @@ all-done text event events done = rw done (done-either (list_any (can_take text)
 
 pub all-taken : (text : List ℕ) (event : Definition) (events : List Definition)
     → list_any (λ (e : Definition). is_set (change_of text e)) (event ∷ events) ≡ true → filter_of_all_answer text (event ∷ events) ≡ Ok reply.Done
-unfolding filter_of_all_answer filter_answer
-all-taken text event events some = by (clears_filter text) refl
-  where
-    by : (off : Bool) → clears_filter text ≡ off → filter_of_all_answer text (event ∷ events) ≡ Ok reply.Done
-    by true is = all-done text event events (rw is refl)
-    by false is =
-        let can : list_any (can_take text) (event ∷ events) ≡ true = sym (some-can text (event ∷ events) is) ∙ some in
-        rw can refl
+unfolding filter_of_all_answer
+all-taken text event events some =
+    let can : list_any (can_take text) (event ∷ events) ≡ true = sym (some-can text (event ∷ events)) ∙ some in
+    rw can refl
 
 pub all-refused : (text : List ℕ) (event : Definition) (events : List Definition) (r : Refusal)
     → list_any (λ (e : Definition). is_set (change_of text e)) (event ∷ events) ≡ false → filter_answer text event ≡ Err r
     → filter_of_all_answer text (event ∷ events) ≡ Err r
-unfolding filter_of_all_answer filter_answer
-all-refused text event events r none refused = by (clears_filter text) refl
-  where
-    by : (off : Bool) → clears_filter text ≡ off → filter_of_all_answer text (event ∷ events) ≡ Err r
-    by true is = absurd (let h : Ok reply.Done ≡ Err r = rw is at refused in cc)
-    by false is =
-        let can : list_any (can_take text) (event ∷ events) ≡ false = sym (some-can text (event ∷ events) is) ∙ none in
-        rw (can, refused) refl
+unfolding filter_of_all_answer
+all-refused text event events r none refused =
+    let can : list_any (can_take text) (event ∷ events) ≡ false = sym (some-can text (event ∷ events)) ∙ none in
+    rw (can, refused) refl
 
 -- none of its refusals is found early, where there is an event
 pub all-late : (text : List ℕ) (event : Definition) (events : List Definition) → IsFoundEarly (filter_of_all_answer text (event ∷ events)) → ⊥
@@ -152,6 +134,12 @@ pub no-event-refused : (text : List ℕ) (events : List Definition) → length e
 unfolding filter_of_all_answer
 no-event-refused text [] none = refl
 no-event-refused text (event ∷ events) none = absurd (omega (arith, none))
+
+-- where there is one, a text that clears is done
+pub cleared-all : (text : List ℕ) (events : List Definition) → 0 < length events → clears_filter text ≡ true → filter_of_all_answer text events ≡ Ok reply.Done
+unfolding filter_answer
+cleared-all text [] inside off = absurd (omega arith)
+cleared-all text (event ∷ events) inside off = all-done text event events (rw off refl)
 
 pub taken-by-some : (text : List ℕ) (events : List Definition) → 0 < length events → list_any (λ (e : Definition). is_set (change_of text e)) events ≡ true
     → filter_of_all_answer text events ≡ Ok reply.Done

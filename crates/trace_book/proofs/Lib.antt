@@ -15,6 +15,7 @@ pub mod Usable
 pub mod Alike
 pub mod Calm
 pub mod Histories
+pub mod TakenLate
 pub mod EventReads
 pub mod Resolving
 pub mod Writes

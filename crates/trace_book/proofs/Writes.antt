@@ -21,11 +21,11 @@ use Rattle.trace_command.specs.declared.refusal.Refusal.TheVariants as refusal
 use Rattle.trace_book.specs.Changes.{change_of, changed_filter, changed_filters}
 use Rattle.trace_book.specs.Commands.{IsWriteChange, IsWrittenFilter, needed_flag}
 use Rattle.trace_book.specs.Files.{name_at}
-use Rattle.trace_book.specs.declared.change.InstanceChange.TheVariants.{Keep, Switch, SwitchAll, SetFilter, SetFilters, SetOverwrite, SetTracing, Clear, ClearCpu}
+use Rattle.trace_book.specs.declared.change.InstanceChange.TheVariants.{Keep, Switch, SwitchAll, SetFilter, SetFilters, ClearFilters, SetOverwrite, SetTracing, Clear, ClearCpu}
 use Rattle.trace_book.specs.declared.change.FilterChange.{FilterChange}
 use Rattle.trace_book.proofs.Calm.{quiet-keep}
 use Rattle.trace_book.proofs.Effects.{own_write}
-use Rattle.trace_book.proofs.Filtering.{all-late, changed-map, no-event-refused}
+use Rattle.trace_book.proofs.Filtering.{all-late, changed-map, cleared-all, no-event-refused}
 use Rattle.trace_book.proofs.Resolving.{name_at-is}
 use Rattle.trace_history.proofs.EventLists.{map-agrees, map-constant, map-set, named_at, one_place}
 
@@ -265,10 +265,26 @@ pub memory-for-all : (text : List ℕ) (events : List Definition) → 0 < length
 memory-for-all text [] inside = absurd (omega arith)
 memory-for-all text (event ∷ events) inside = (λ other. absurd (other refl), λ early. absurd (all-late text event events early))
 
+pub clears-all : (g : Config) (instance : Option (List ℕ)) (past : List Request) (append : Bool) (text : List ℕ) → AreEvents [] (declared_events past)
+    → 0 < length (declared_events past) → clears_filter text ≡ true → IsWriteChange g instance past append text paths.EventsFilter (Ok ClearFilters)
+clears-all g instance past append text distinct inside off =
+    let events = declared_events past in
+    let none : Option Parsed = None in
+    let filters = λ (old : List ℕ → Option (List ℕ)).
+    map-constant
+    (λ (event : Definition). option_map (parsed_of event) (unwrap_or (sets_filter event.name past paths.EventsFilter text) (old event.name)))
+    none events no_event (λ j within. rw (named_at events j no_event distinct within, off) refl)
+    ∙ ap (λ (n : ℕ). replicate n none) (sym (length-map events (λ (event : Definition). option_map (parsed_of event) (old event.name)))) in (
+      cleared-all text events inside off,
+      own_write g instance past paths.EventsFilter append text ClearFilters tt (record { triggers = λ old. refl; hists = λ old. refl; sides = λ cpus pages page_bytes f. refl })
+          (record { enabled = λ old. refl; filters = filters; overwrite = λ old. refl; tracing = λ old. refl; rings = λ old. same-rings append paths.EventsFilter old refl }),
+      λ i usable. tt,
+    )
+
 pub sets-all : (g : Config) (instance : Option (List ℕ)) (past : List Request) (append : Bool) (text : List ℕ) (changes : Vec FilterChange Global) → AreEvents [] (declared_events past)
-    → changes.items ≡ map (change_of text) (declared_events past) → filter_of_all_answer text (declared_events past) ≡ Ok reply.Done
+    → clears_filter text ≡ false → changes.items ≡ map (change_of text) (declared_events past) → filter_of_all_answer text (declared_events past) ≡ Ok reply.Done
     → IsWriteChange g instance past append text paths.EventsFilter (Ok (SetFilters changes))
-sets-all g instance past append text changes distinct are done = (
+sets-all g instance past append text changes distinct on are done = (
   done,
   own_write g instance past paths.EventsFilter append text (SetFilters changes) tt (record { triggers = λ old. refl; hists = λ old. refl; sides = λ cpus pages page_bytes f. refl })
       (record {
@@ -292,12 +308,11 @@ sets-all g instance past append text changes distinct are done = (
 
     each : (old : List ℕ → Option (List ℕ)) (event : Definition) (k : ℕ) → event_named event.name past ≡ Some (record { id = k; event = event })
         → filtered old event ≡ changed_filter (change_of text event) (kept old event)
-    each old event k there = by (clears_filter text) (can_take text event) refl refl
+    each old event k there = by (can_take text event) refl
       where
-        by : (off can : Bool) → clears_filter text ≡ off → can_take text event ≡ can → filtered old event ≡ changed_filter (change_of text event) (kept old event)
-        by true can off is = rw (there, off) refl
-        by false true off is = rw (there, off, is) refl
-        by false false off is = rw (there, off, is) refl
+        by : (can : Bool) → can_take text event ≡ can → filtered old event ≡ changed_filter (change_of text event) (kept old event)
+        by true is = rw (there, on, is) refl
+        by false is = rw (there, on, is) refl
 
     all : (old : List ℕ → Option (List ℕ)) (j : ℕ) → j < length events
         → filtered old (get_or events j no_event) ≡ changed_filter (change_of text (get_or events j no_event)) (kept old (get_or events j no_event))

@@ -10,12 +10,12 @@ use Rattle.trace_command.specs.Requests.{Request}
 use Rattle.trace_command.specs.declared.command.Config.{Config}
 use Rattle.trace_snapshot.specs.Sides as snapshot
 use Rattle.trace_snapshot.specs.Sides.{SideFamilies, exchanged, spare_cleared, with_spare, without_spare}
-use Rattle.trace_history.specs.Settings.{clears_filter, can_take, declared_events, is_enabled, is_tracing, kept_filter, overwrites}
+use Rattle.trace_history.specs.Settings.{can_take, declared_events, is_enabled, is_tracing, kept_filter, overwrites}
 use Rattle.trace_book.specs.Instances.{InstanceSeen, IsShaped, IsSpared, WereOffered, hists_kept, kept_trigger, side_families}
 use Rattle.trace_book.specs.KeptHists.{KeptHist, asked_same, kept_hists, kept_of, without_same}
 use Rattle.trace_book.specs.declared.trigger.Trigger.{Trigger}
 use Rattle.trace_book.specs.declared.change.InstanceChange.{InstanceChange}
-use Rattle.trace_book.specs.declared.change.InstanceChange.TheVariants.{Switch, SwitchAll, SetFilter, SetFilters, Triggers, SetOverwrite, SetTracing, Clear, ClearCpu, Take, TakeCpu, TakeSnapshot, FreeSpare, ClearSpare}
+use Rattle.trace_book.specs.declared.change.InstanceChange.TheVariants.{Switch, SwitchAll, SetFilter, SetFilters, ClearFilters, Triggers, SetOverwrite, SetTracing, Clear, ClearCpu, Take, TakeCpu, TakeSnapshot, FreeSpare, ClearSpare}
 use Rattle.trace_book.specs.declared.change.TriggerChange.{TriggerChange}
 use Rattle.trace_book.specs.declared.change.TriggerChange.TheVariants.{Attach, Detach, AttachHist, DetachHist, AskHist}
 use Rattle.trace_book.specs.declared.change.FilterChange.{FilterChange}
@@ -32,13 +32,11 @@ flags_after change flags = flags
 -- a filter after a change of it
 abbrev pub changed_filter : FilterChange → Option Parsed → Option Parsed
 changed_filter filter.Keep old = old
-changed_filter filter.Drop old = None
 changed_filter (filter.Set new) old = Some new
 
 -- whether the event gets a filter
 abbrev pub is_set : FilterChange → Bool
 is_set filter.Keep = false
-is_set filter.Drop = false
 is_set (filter.Set new) = true
 
 -- the filters after a change of each
@@ -51,6 +49,7 @@ changed_filters (change ∷ changes) (old ∷ filters) = changed_filter change o
 abbrev pub filters_after : InstanceChange → List (Option Parsed) → List (Option Parsed)
 filters_after (SetFilter index new) filters = slice_set filters index new
 filters_after (SetFilters changes) filters = changed_filters changes.items filters
+filters_after ClearFilters filters = replicate (length filters) None
 filters_after change filters = filters
 
 -- an event's trigger for snapshots after a change of its triggers
@@ -140,6 +139,6 @@ pub record IsEffect (g : Config) (name : Option (List ℕ)) (past : List Request
       → side_families g name (request ∷ past) ≡ sides_changed g.cpus g.pages g.page_bytes change (side_families g name past)
   pub spared : IsSpared g name (declared_events past) past → IsSpared g name (declared_events past) (request ∷ past)
 
--- what a text that is written to the filter of all events changes of one's
+-- what a filter of all events changes of one's
 abbrev pub change_of : List ℕ → Definition → FilterChange
-change_of text event = if clears_filter text then filter.Drop else (if can_take text event then filter.Set (parsed_of event text) else filter.Keep)
+change_of text event = if can_take text event then filter.Set (parsed_of event text) else filter.Keep

@@ -1,7 +1,8 @@
 //! Trigger texts: what is changed by one that is written for an event (events.rst, "Event triggers"; histogram.rst, "hist triggers").
 
-ghost use Rattle.std.specs.Prelude.{◌≡◌, ◌<◌, ◌≤◌, not, ◌&&◌, ◌||◌, List, [], length, slice_index_or, None, option_copied, OnOk, IfErr};
+ghost use Rattle.std.specs.Prelude.{◌≡◌, ◌≢◌, ◌<◌, ◌≤◌, false, not, ◌&&◌, ◌||◌, List, [], length, slice_index_or, None, option_copied, OnOk, IfErr};
 ghost use Rattle.std.specs.List.{list_any};
+ghost use Rattle.trace_trigger.specs.TriggerTexts.{HasFilter, is_hist_text};
 ghost use Rattle.trace_book.specs.Attaching as attaching;
 ghost use Rattle.trace_book.specs.KeptHists.{says_same};
 
@@ -47,7 +48,9 @@ impl EventTriggers<'_> {
         event: &EventDef,
         written: Written<'_>,
     ) -> Result<TriggerChange, Refusal>
-        ensures { attaching.IsChangeOf event.now self.entry written.entry result }
+        ensures change { attaching.IsChangeOf event.now self.entry written.entry result }
+        ensures memory { (HasFilter written.entry.text.now → ⊥) → is_hist_text written.entry.text.now ≡ false
+            → IfErr result (λ r. r ≢ Refusal.Memory) }
     {
         match TriggerText::parse(alloc, written.text, event)? {
             TriggerText::Nothing => Ok(TriggerChange::Keep),
@@ -68,7 +71,8 @@ impl EventTriggers<'_> {
         written: Written<'_>,
         trigger: SnapshotTrigger,
     ) -> Result<TriggerChange, Refusal>
-        ensures { attaching.IsAttached trigger self.entry written.entry result }
+        ensures change { attaching.IsAttached trigger self.entry written.entry result }
+        ensures memory { IfErr result (λ r. r ≢ Refusal.Memory) }
     {
         if self.snapshot.is_some() {
             return Err(Refusal::TriggerExists);

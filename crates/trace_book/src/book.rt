@@ -5,6 +5,7 @@ ghost use Rattle.std.specs.Option.{option_map};
 ghost use Rattle.trace_command.specs.Places.{bytes_now};
 ghost use Rattle.trace_command.specs.Configs.{IsInRange};
 ghost use Rattle.trace_history.specs.History.{answer_to, past_of, IsLegal};
+ghost use Rattle.trace_history.specs.LateMemory.{TakesMemoryLate};
 ghost use Rattle.trace_command.specs.Refusals.{OrMemory, IsFoundEarly};
 ghost use Rattle.trace_command.specs.Requests.{request_of};
 ghost use Rattle.trace_history.specs.Settings.{is_there, now_of, ticks};
@@ -67,12 +68,16 @@ impl Book {
     /// Does a command, or refuses it. The answer is the one that the history gives: a command that is done is the next entry of the
     /// history, under this ticket and the number of this caller; one that is refused changes nothing. The history stays legal.
     /// `Memory` may come in place of the answer, where an allocation was refused; but that no such file, instance, CPU or event is
-    /// there, that an instance is there already, that a file can't be read or written, and that a value is wrong is always told.
+    /// there, that an instance is there already, that a file can't be read or written, and that a value is wrong is always told. And
+    /// every refusal is told of a command that takes memory late (`TakesMemoryLate`): an instance is removed, or a file is written, but
+    /// for a declaration, a filter that doesn't clear, and a trigger text with a filter or of a hist trigger.
     pub fn ask(&mut self, ticket: u64, by: u32, command: Command) -> Result<Reply, Refusal>
         requires { All (λ entry. entry.ticket < ticket) self.old.entries }
         ensures reply { OrMemory result (answer_to self.old.config self.old.entries command) }
         ensures early { IsFoundEarly (answer_to self.old.config self.old.entries command)
             → result ≡ answer_to self.old.config self.old.entries command }
+        ensures late_memory { TakesMemoryLate (request_of command)
+            → IfErr (answer_to self.old.config self.old.entries command) (λ r. result ≡ Err r) }
         ensures done { OnOk result (self.new.entries
             ≡ self.old.entries ++ record { ticket = ticket; by = by; command = command } ∷ []) }
         ensures refused { OnErr result (self.new.entries ≡ self.old.entries) }
@@ -115,13 +120,15 @@ impl Book {
         Ok(Reply::Done)
     }
 
-    // Does a command that is no emission, as `ask` says.
+    // Does a command that is no emission, as `ask` says. The limit of the history is looked at before memory is taken for one more entry.
     fn ask_other(&mut self, ticket: u64, by: u32, command: Command) -> Result<Reply, Refusal>
         requires rises { All (λ entry. entry.ticket < ticket) self.old.entries }
         requires other { ticks (request_of command) ≡ 0 }
         ensures reply { OrMemory result (answer_to self.old.config self.old.entries command) }
         ensures early { IsFoundEarly (answer_to self.old.config self.old.entries command)
             → result ≡ answer_to self.old.config self.old.entries command }
+        ensures late_memory { TakesMemoryLate (request_of command)
+            → IfErr (answer_to self.old.config self.old.entries command) (λ r. result ≡ Err r) }
         ensures done { OnOk result (self.new.entries
             ≡ self.old.entries ++ record { ticket = ticket; by = by; command = command } ∷ []) }
         ensures refused { OnErr result (self.new.entries ≡ self.old.entries) }

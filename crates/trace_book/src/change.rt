@@ -35,6 +35,8 @@ pub(crate) enum InstanceChange {
     SetFilter(usize, Option<Filter>),
     /// Each event's filter is changed.
     SetFilters(Vec<FilterChange>),
+    /// No event has a filter any more.
+    ClearFilters,
     /// An event's triggers are changed; its hist triggers are taken away first, but not where the text is appended.
     Triggers(usize, bool, TriggerChange),
     /// Records may overwrite older ones, or not.
@@ -77,7 +79,6 @@ pub(crate) enum TriggerChange {
 #[derive(Drop)]
 pub(crate) enum FilterChange {
     Keep,
-    Drop,
     Set(Filter),
 }
 
@@ -95,7 +96,6 @@ impl FilterChange {
     {
         match self {
             FilterChange::Keep => {}
-            FilterChange::Drop => *filter = None,
             FilterChange::Set(new) => *filter = Some(new),
         }
     }

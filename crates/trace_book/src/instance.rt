@@ -216,6 +216,7 @@ impl Instance {
             InstanceChange::SwitchAll(flag) => self.enabled.fill(flag),
             InstanceChange::SetFilter(event, filter) => self.filters[event] = filter,
             InstanceChange::SetFilters(changes) => change_all(&mut self.filters, changes),
+            InstanceChange::ClearFilters => clear_all(&mut self.filters),
             InstanceChange::Triggers(event, append, change) => {
                 self.change_triggers(event, append, change)?;
             }
@@ -276,5 +277,14 @@ fn change_all(filters: &mut [Option<Filter>], changes: Vec<FilterChange>)
     for change in changes {
         change.apply(&mut filters[i]);
         i += 1;
+    }
+}
+
+// Takes each filter away.
+fn clear_all(filters: &mut [Option<Filter>])
+    ensures { filters.new ≡ replicate (length filters.old) None }
+{
+    for i in 0..filters.len() {
+        filters[i] = None;
     }
 }

@@ -1,6 +1,6 @@
 //! Instances are made and removed (ftrace.rst, "Instances").
 
-ghost use Rattle.std.specs.Prelude.{◌≡◌, ◌≤◌, Some, List, ◌∷◌, length, IfOk};
+ghost use Rattle.std.specs.Prelude.{◌≡◌, ◌≢◌, ◌≤◌, Some, List, ◌∷◌, length, IfOk, IfErr};
 ghost use Rattle.trace_command.specs.Configs.{IsInRange};
 ghost use Rattle.trace_command.specs.Paths as paths;
 ghost use Rattle.trace_command.specs.Requests.{Request, MakeInstance, RemoveInstance};
@@ -53,8 +53,9 @@ impl State {
 
     /// Prepares that an instance is removed: first its path, then whether it is there.
     pub(crate) fn prepare_remove(&self, path: &[u8]) -> Result<Prepared, Refusal>
-        ensures { (g : Config) (past : List Request) → StandsFor g self.now past
+        ensures prepared { (g : Config) (past : List Request) → StandsFor g self.now past
             → IsPrepared g past (RemoveInstance (paths.instance_of path.now)) self.now result }
+        ensures memory { IfErr result (λ r. r ≢ Refusal.Memory) }
     {
         let Some(name) = instance_of(path) else {
             return Err(Refusal::NoSuchFile);

@@ -1,12 +1,13 @@
 //! Commands are prepared before anything changes: all memory that they need is taken here, but for the lists of events, of instances, of hist
 //! triggers and of entries, and for a spare side.
 
-ghost use Rattle.std.specs.Prelude.{◌≡◌, ℕ, ◌^◌, ◌<◌, ◌≤◌, true, List, length, Option, Some, OnOk};
+ghost use Rattle.std.specs.Prelude.{◌≡◌, ◌≢◌, ℕ, ◌^◌, ◌<◌, ◌≤◌, true, List, length, Option, Some, OnOk, IfErr};
 ghost use Rattle.trace_command.specs.Configs.{IsInRange};
 ghost use Rattle.trace_command.specs.Paths as paths;
 ghost use Rattle.trace_command.specs.Requests as requests;
 ghost use Rattle.trace_command.specs.Requests.{Request, WriteFile, ReadFile};
 ghost use Rattle.trace_command.specs.declared.command.Config.{Config};
+ghost use Rattle.trace_history.specs.LateMemory.{TakesMemoryLate};
 ghost use Rattle.trace_history.specs.Settings.{is_there, ticks};
 ghost use Rattle.trace_book.specs.States.{StandsFor, IsPrepared, IsUsable};
 
@@ -34,6 +35,8 @@ impl State {
         ensures prepared { (past : List Request) → length past ≡ number → StandsFor config.now self.now past
             → IsPrepared config.now past (requests.request_of command.now) self.now result }
         ensures fits { OnOk result (requests.FitsItsTypes (requests.request_of command.now)) }
+        ensures memory { (past : List Request) → StandsFor config.now self.now past → TakesMemoryLate (requests.request_of command.now)
+            → IfErr result (λ r. r ≢ Refusal.Memory) }
     {
         match command {
             Command::Emit { .. } => unreachable!(),
@@ -63,9 +66,12 @@ impl State {
         written: Written<'_>,
     ) -> Result<Prepared, Refusal>
         requires usable { IsUsable config.now self.now }
-        ensures { (past : List Request) → length past ≡ written.entry.number → StandsFor config.now self.now past
+        ensures prepared { (past : List Request) → length past ≡ written.entry.number → StandsFor config.now self.now past
             → IsPrepared config.now past (WriteFile (paths.address_of path.now).instance (paths.address_of path.now).file written.entry.append written.entry.text.now)
             self.now result }
+        ensures memory { (past : List Request) → StandsFor config.now self.now past
+            → TakesMemoryLate (WriteFile (paths.address_of path.now).instance (paths.address_of path.now).file written.entry.append written.entry.text.now)
+            → IfErr result (λ r. r ≢ Refusal.Memory) }
     {
         match self.resolve(config, path)? {
             Target::Declarations => self.prepare_declaration(

@@ -1,6 +1,6 @@
 //! Paths are looked up once: the instance, the CPU and the event that a path names, in the order in which they are refused.
 
-ghost use Rattle.std.specs.Prelude.{◌≡◌, ℕ, ◌<◌, ◌≤◌, List, length, slice_index_or, position, nat_lt, if◌then◌else◌, Some, None, IfSome, IfOk};
+ghost use Rattle.std.specs.Prelude.{◌≡◌, ◌≢◌, ℕ, ◌<◌, ◌≤◌, List, length, slice_index_or, position, nat_lt, if◌then◌else◌, Some, None, IfSome, IfOk, IfErr};
 ghost use Rattle.std.specs.Option.{option_map};
 ghost use Rattle.trace_lex.specs.Decimals.{value_after};
 ghost use Rattle.trace_command.specs.Paths as paths;
@@ -94,6 +94,7 @@ impl State {
         ensures resolved { (past : List Request) → StandsFor config.now self.now past
             → files.IsResolved config.now self.now past (paths.address_of path.now) result }
         ensures there { IfOk result (files.IsTarget config.now.cpus self.now) }
+        ensures memory { IfErr result (λ r. r ≢ Refusal.Memory) }
     {
         let address = address_of(path);
         let Some(place) = self.place_of(address.instance) else {
@@ -133,6 +134,7 @@ fn found_file(catalog: &Catalog, cpus: u32, named: Place<'_>) -> Result<Option<F
     ensures found { (g : Config) (past : List Request) → g.cpus ≡ cpus → catalog.now ≡ declared_events past
         → files.IsFound g past catalog.now (places.file_at named.entry) result }
     ensures there { IfOk result (λ found. IfSome found (files.IsThere cpus catalog.now)) }
+    ensures memory { IfErr result (λ r. r ≢ Refusal.Memory) }
 {
     let file = match named {
         Place::Trace => File::Trace,

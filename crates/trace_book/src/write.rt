@@ -1,6 +1,6 @@
 //! Writes to the files of an instance.
 
-ghost use Rattle.std.specs.Prelude.{◌≡◌, ℕ, ◌≤◌, ◌<◌, Bool, List, [], length, map, Option, Some, None, if◌then◌else◌, IfOk, IfErr, OnOk, Ok};
+ghost use Rattle.std.specs.Prelude.{◌≡◌, ◌≢◌, ℕ, ◌≤◌, ◌<◌, Bool, List, [], length, map, Option, Some, None, true, if◌then◌else◌, IfOk, IfErr, OnOk, Ok};
 ghost use Rattle.std.specs.List.{list_any};
 ghost use Rattle.trace_format.specs.Catalogs.{AreEvents};
 ghost use Rattle.trace_command.specs.Paths.{EventsFilter, EventTrigger, Snapshot};
@@ -9,6 +9,7 @@ ghost use Rattle.trace_command.specs.Requests.{Request};
 ghost use Rattle.trace_command.specs.declared.command.Config.{Config};
 ghost use Rattle.trace_command.specs.declared.command.Reply.TheVariants.{Done};
 ghost use Rattle.trace_history.specs.History as history;
+ghost use Rattle.trace_history.specs.LateMemory.{WriteTakesMemoryLate};
 ghost use Rattle.trace_history.specs.Settings as settings;
 ghost use Rattle.trace_history.specs.Settings.{declared_events};
 ghost use Rattle.trace_book.specs.Changes.{change_of, is_set};
@@ -47,9 +48,10 @@ pub(crate) fn written_change(
     requires event { HasEvent catalog.now file }
     requires triggers { length instance.now.triggers ≡ length catalog.now }
     requires hists { length instance.now.hists ≡ length catalog.now }
-    ensures { (g : Config) (name : Option (List ℕ)) (past : List Request) → length past ≡ written.entry.number → catalog.now ≡ declared_events past → AreEvents [] catalog.now
+    ensures change { (g : Config) (name : Option (List ℕ)) (past : List Request) → length past ≡ written.entry.number → catalog.now ≡ declared_events past → AreEvents [] catalog.now
         → InstanceStandsFor g name past instance.now
         → IsThere g.cpus catalog.now file → IsWriteChange g name past written.entry.append written.entry.text.now (file_at catalog.now file) result }
+    ensures memory { WriteTakesMemoryLate (file_at catalog.now file) written.entry.text.now → IfErr result (λ r. r ≢ Refusal.Memory) }
 {
     let Written { text, append, .. } = written;
     match file {
@@ -83,8 +85,9 @@ pub(crate) fn written_change(
 // needs it.
 #[tactic(auto, unfolding(trace_history::specs::History::snapshot_answer, trace_history::specs::Snapshots::written_snapshot))]
 fn written_snapshot(instance: &Instance, text: &[u8]) -> Result<InstanceChange, Refusal>
-    ensures { (g : Config) (name : Option (List ℕ)) (past : List Request) (append : Bool) → InstanceStandsFor g name past instance.now
+    ensures change { (g : Config) (name : Option (List ℕ)) (past : List Request) (append : Bool) → InstanceStandsFor g name past instance.now
         → IsWriteChange g name past append text.now Snapshot result }
+    ensures memory { IfErr result (λ r. r ≢ Refusal.Memory) }
 {
     match written_number(text) {
         None => Err(Refusal::BadValue),
@@ -104,7 +107,8 @@ fn cleared(append: bool, clear: InstanceChange) -> InstanceChange
 
 // The value that was written, if it is one.
 fn needed(flag: Option<bool>) -> Result<bool, Refusal>
-    ensures { result ≡ needed_flag flag }
+    ensures value { result ≡ needed_flag flag }
+    ensures memory { IfErr result (λ r. r ≢ Refusal.Memory) }
 {
     flag.ok_or(Refusal::BadValue)
 }
@@ -154,7 +158,8 @@ fn clears_filter(text: &[u8]) -> bool
 
 // The filter of an event that a string writes, none if it clears.
 fn written_filter(alloc: Global, text: &[u8], event: &EventDef) -> Result<Option<Filter>, Refusal>
-    ensures { IsWrittenFilter text.now event.now result }
+    ensures filter { IsWrittenFilter text.now event.now result }
+    ensures memory { settings.clears_filter text.now ≡ true → IfErr result (λ r. r ≢ Refusal.Memory) }
 {
     if clears_filter(text) {
         return Ok(None);
@@ -162,14 +167,18 @@ fn written_filter(alloc: Global, text: &[u8], event: &EventDef) -> Result<Option
     Ok(Some(Filter::parse(alloc, text, event)?))
 }
 
-// A filter of all events: it is for those that can take it, of which there is at least one.
+// A filter of all events: a text that clears, or a filter for those that can take it, of which there is at least one.
 fn written_filters(alloc: Global, catalog: &Catalog, text: &[u8]) -> Result<InstanceChange, Refusal>
     requires { length catalog.now ≤ 64 }
-    ensures { (g : Config) (name : Option (List ℕ)) (past : List Request) (append : Bool) → catalog.now ≡ declared_events past → AreEvents [] catalog.now
+    ensures change { (g : Config) (name : Option (List ℕ)) (past : List Request) (append : Bool) → catalog.now ≡ declared_events past → AreEvents [] catalog.now
         → IsWriteChange g name past append text.now EventsFilter result }
+    ensures memory { settings.clears_filter text.now ≡ true → IfErr result (λ r. r ≢ Refusal.Memory) }
 {
     if catalog.is_empty() {
         return Err(Refusal::NoSuchEvent);
+    }
+    if clears_filter(text) {
+        return Ok(InstanceChange::ClearFilters);
     }
     let Taken { changes, some } = filter_changes(alloc, catalog, text)?;
     check_filter_of_all(alloc, catalog, text, some)?;
@@ -183,13 +192,10 @@ struct Taken {
     some: bool,
 }
 
-// What a string that is written to the filter of all events changes of one's.
+// What a filter of all events changes of one's.
 fn filter_change(alloc: Global, event: &EventDef, text: &[u8]) -> Result<FilterChange, AllocError>
     ensures { IfOk result (λ change. change ≡ change_of text.now event.now) }
 {
-    if clears_filter(text) {
-        return Ok(FilterChange::Drop);
-    }
     match Filter::parse(alloc, text, event) {
         Ok(filter) => Ok(FilterChange::Set(filter)),
         Err(FilterFault::Memory) => Err(AllocError),
@@ -213,8 +219,7 @@ fn filter_changes(alloc: Global, events: &Catalog, text: &[u8]) -> Result<Taken,
     Ok(Taken { changes, some })
 }
 
-// Whether a filter of all events, of which there is at least one, is done. If no event gets one, the first event says why it is refused, or
-// that the string clears.
+// Whether a filter of all events, of which there is at least one, is done. If no event gets one, the first event says why it is refused.
 fn check_filter_of_all(
     alloc: Global,
     events: &Catalog,

@@ -6,6 +6,7 @@ pub mod HistTriggers
 pub mod Snapshots
 pub mod Rings
 pub mod History
+pub mod LateMemory
 pub mod Laws
 pub mod Trails
 pub mod TrailLaws

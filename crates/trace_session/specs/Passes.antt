@@ -1,13 +1,15 @@
 -- What a session's pass knows between two items.
-use Rattle.std.specs.Prelude.{◌≡◌, ◌<◌, All}
+use Rattle.std.specs.Prelude.{◌≡◌, ◌<◌, ◌⊎◌, All, IsErr}
 use Rattle.ticket_lock.specs.Views.{HasAllNames}
 use Rattle.ticket_lock.specs.declared.views.View.{View}
 use Rattle.trace_book.specs.Bases.{numbers_of}
 use Rattle.trace_command.specs.Refusals.{IsFoundEarly}
+use Rattle.trace_command.specs.Requests.{request_of}
 use Rattle.trace_command.specs.declared.command.Command.{Command}
 use Rattle.trace_command.specs.declared.command.Config.{Config}
 use Rattle.trace_command.specs.declared.command.Entry.{Entry}
 use Rattle.trace_history.specs.History.{IsLegal, answer_to}
+use Rattle.trace_history.specs.LateMemory.{TakesMemoryLate}
 use Rattle.trace_session.specs.Sessions.{Progress, so_far}
 
 -- how far the session has come. Its lock's tickets count from 0, so as many were drawn as commands were asked
@@ -22,6 +24,7 @@ pub record IsSessionPass (g : Config) (v : View Entry) : Type 0 where
   pub legal : IsLegal g v.seen
   pub below : All (λ (entry : Entry). entry.ticket < v.front) v.seen
 
--- the answer to the command is a refusal that is found before any memory is taken
+-- the answer to the command is a refusal that is found before any memory is taken: by what it is, or as any refusal of such a command
 abbrev pub IsRefusedEarly : Config → View Entry → Command → Type 0
-IsRefusedEarly g v command = IsFoundEarly (answer_to g v.seen command)
+IsRefusedEarly g v command =
+    IsFoundEarly (answer_to g v.seen command) ⊎ (TakesMemoryLate (request_of command) × IsErr (answer_to g v.seen command))

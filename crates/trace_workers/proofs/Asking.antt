@@ -8,11 +8,13 @@ use Rattle.ticket_lock.specs.Entries.{is_under, entries_under}
 use Rattle.ticket_lock.specs.Views.{HasAllNames}
 use Rattle.ticket_lock.specs.declared.views.View.{View}
 use Rattle.trace_history.specs.History.{answer_to}
+use Rattle.trace_history.specs.LateMemory.{TakesMemoryLate}
 use Rattle.trace_history.proofs.Unworn.{worn_is_no_answer}
 use Rattle.trace_book.specs.Bases.{numbers_of}
 use Rattle.trace_book.proofs.SameBases.{numbers_of-determines}
 use Rattle.trace_book.specs.BookSeen.{BookSeen}
 use Rattle.trace_command.specs.Refusals.{OrMemory, IsFoundEarly}
+use Rattle.trace_command.specs.Requests.{request_of}
 use Rattle.trace_command.specs.declared.command.Command.{Command}
 use Rattle.trace_command.specs.declared.command.Config.{Config}
 use Rattle.trace_command.specs.declared.command.Entry.{Entry}
@@ -47,6 +49,12 @@ others_are_callers : (seen others found : List Entry) → found ≡ seen ++ othe
 others_are_callers seen others found is all =
     All-same (λ (e : Entry). e.by < 65536) others (drop (length seen) (seen ++ others)) (sym (drop_at seen others (length seen) refl))
     (All-drop (λ (e : Entry). e.by < 65536) (length seen) (seen ++ others) (All-same (λ (e : Entry). e.by < 65536) (seen ++ others) found (sym is) all))
+
+-- an answer that is a refusal is this one, where the same was told
+told_same : (refusal : Refusal) (answer : Result Reply Refusal) → IfErr answer (λ told. ◌≡◌ {A = Result Reply Refusal} (Err refusal) (Err told))
+    → IfErr answer (λ told. told ≡ refusal)
+told_same refusal (Ok reply) told = tt
+told_same refusal (Err other) told = sym (cc)
 
 module _ (v h w : View Entry) (served : ℕ) (drawn : IsDrawn v h served) where
   rises : (left : List Entry) → IsBack h w left → Rises v w
@@ -94,8 +102,9 @@ module _ (v h w : View Entry) (served : ℕ) (drawn : IsDrawn v h served) where
     refused : (command : Command) (refusal : Refusal) → IsBack h w h.seen
         → (refusal ≢ Memory → answer_to config h.seen command ≡ Err refusal)
         → (IsFoundEarly (answer_to config h.seen command) → answer_to config h.seen command ≡ Err refusal)
+        → (TakesMemoryLate (request_of command) → IfErr (answer_to config h.seen command) (λ told. told ≡ refusal))
         → IsRefused v w command refusal
-    refused command refusal back answer early = record {
+    refused command refusal back answer early late = record {
       others = finds.seen.0;
       seen = back.seen ∙ finds.seen.1;
       by_others = finds.seen.2;
@@ -109,6 +118,10 @@ module _ (v h w : View Entry) (served : ℕ) (drawn : IsDrawn v h served) where
           let alike : config ≡ g = numbers_of-determines config g (base ∙ sym same) in
           let P : Config → Type 0 = λ k. IsFoundEarly (answer_to k w.seen command) → answer_to k w.seen command ≡ Err refusal in
           subst P alike (rw back.seen early);
+      late_memory = λ g same unworn.
+          let alike : config ≡ g = numbers_of-determines config g (base ∙ sym same) in
+          let P : Config → Type 0 = λ k. TakesMemoryLate (request_of command) → IfErr (answer_to k w.seen command) (λ told. told ≡ refusal) in
+          subst P alike (rw back.seen late);
       rises = λ unworn. rises h.seen back;
       worn = λ is. absurd (worn_is_no_answer config h.seen command (answer (λ memory. cc (is, memory)) ∙ ap (λ (r : Refusal). Err r) is));
     }
@@ -165,20 +178,24 @@ module _
 
     pub asked_refused : OrMemory answered (answer_to before.config before.entries command)
         → (IsFoundEarly (answer_to before.config before.entries command) → answered ≡ answer_to before.config before.entries command)
+        → (TakesMemoryLate (request_of command) → IfErr (answer_to before.config before.entries command) (λ told. answered ≡ Err told))
         → OnErr answered (after.entries ≡ before.entries)
         → IsBack h w after.entries → IfErr answered (IsRefused v w command)
-    asked_refused reply early same back = go answered reply early same
+    asked_refused reply early late same back = go answered reply early late same
       where
         go : (r : Result Reply Refusal) → OrMemory r (answer_to before.config before.entries command)
             → (IsFoundEarly (answer_to before.config before.entries command) → r ≡ answer_to before.config before.entries command)
+            → (TakesMemoryLate (request_of command) → IfErr (answer_to before.config before.entries command) (λ told. r ≡ Err told))
             → OnErr r (after.entries ≡ before.entries) → IfErr r (IsRefused v w command)
-        go (Ok text) is first kept = tt
-        go (Err refusal) is first kept =
+        go (Ok text) is first late kept = tt
+        go (Err refusal) is first late kept =
             let P : List Entry → Type 0 = λ es. IsBack h w es in
             let Q : List Entry → Type 0 = λ es. refusal ≢ Memory → answer_to before.config es command ≡ Err refusal in
             let R : List Entry → Type 0 = λ es. IsFoundEarly (answer_to before.config es command) → answer_to before.config es command ≡ Err refusal in
+            let S : List Entry → Type 0 = λ es. TakesMemoryLate (request_of command) → IfErr (answer_to before.config es command) (λ told. told ≡ refusal) in
             refused v h w served drawn finds before.config base_before command refusal
             (subst P (kept ∙ found) back) (subst Q found is) (subst R found (λ is_early. sym (first is_early)))
+            (subst S found (λ is_late. told_same refusal (answer_to before.config before.entries command) (late is_late)))
 
 -- all tickets are drawn: the front is at its end
 pub worn_goes_on : (v w : View Entry) → v.front ≤ 2 ^ 63 → IsWorn v w → GoesOn v w
@@ -200,6 +217,7 @@ asked_worn v w command worn = record {
   mine = ap (λ (x : View Entry). mine_of caller_of x) worn.same;
   answer = λ g same memory unworn. absurd (unworn refl);
   early = λ g same unworn. absurd (unworn refl);
+  late_memory = λ g same unworn. absurd (unworn refl);
   rises = λ unworn. absurd (unworn refl);
   worn = λ is. worn;
 }

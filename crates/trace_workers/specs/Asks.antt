@@ -1,13 +1,15 @@
 -- What one `ask` comes to, told by what the caller's pass knows: `v` is that before the call, and `w` after it.
-use Rattle.std.specs.Prelude.{◌≡◌, ◌≢◌, ℕ, ◌+◌, ◌<◌, ◌≤◌, List, [], ◌∷◌, ◌++◌, All, Err}
+use Rattle.std.specs.Prelude.{◌≡◌, ◌≢◌, ℕ, ◌+◌, ◌<◌, ◌≤◌, List, [], ◌∷◌, ◌++◌, All, Err, IfErr}
 use Rattle.ticket_lock.specs.Calls.{mine_of, IsWorn}
 use Rattle.ticket_lock.specs.Entries.{entries_under}
 use Rattle.ticket_lock.specs.Views.{HasAllNames}
 use Rattle.ticket_lock.specs.declared.views.View.{View}
 use Rattle.trace_history.specs.History.{answer_to}
+use Rattle.trace_history.specs.LateMemory.{TakesMemoryLate}
 use Rattle.trace_history.specs.Trails.{IsDoneAfter, IsRefusedAfter}
 use Rattle.trace_book.specs.Bases.{numbers_of}
 use Rattle.trace_command.specs.Refusals.{IsFoundEarly}
+use Rattle.trace_command.specs.Requests.{request_of}
 use Rattle.trace_command.specs.declared.command.Command.{Command}
 use Rattle.trace_command.specs.declared.command.Config.{Config}
 use Rattle.trace_command.specs.declared.command.Entry.{Entry}
@@ -54,8 +56,8 @@ pub record IsDone (v w : View Entry) (command : Command) (reply : Reply) : Type 
   pub rises : Rises v w
 
 -- A call that was refused. What the pass sees now is what others have done, nothing where it has all names; the pass has no new entry. Unless the refusal is Memory, or the lock's own
--- Worn, it is what all these entries answer. A refusal that is found before any memory is taken is told though memory was refused. Where it is
--- Worn, the pass saw nothing new and all tickets are drawn.
+-- Worn, it is what all these entries answer. A refusal that is found before any memory is taken is told though memory was refused (`early`), and so
+-- is any of a command that takes memory late (`late_memory`). Where it is Worn, the pass saw nothing new and all tickets are drawn.
 pub record IsRefused (v w : View Entry) (command : Command) (refusal : Refusal) : Type 0 where
   pub others : List Entry
   pub seen : w.seen ≡ v.seen ++ others
@@ -64,5 +66,7 @@ pub record IsRefused (v w : View Entry) (command : Command) (refusal : Refusal) 
   pub mine : mine_of caller_of w ≡ mine_of caller_of v
   pub answer : (g : Config) → numbers_of g ≡ v.base → refusal ≢ Memory → IsRefusedAfter g w.seen command refusal
   pub early : (g : Config) → numbers_of g ≡ v.base → refusal ≢ Worn → IsFoundEarly (answer_to g w.seen command) → answer_to g w.seen command ≡ Err refusal
+  pub late_memory : (g : Config) → numbers_of g ≡ v.base → refusal ≢ Worn → TakesMemoryLate (request_of command)
+      → IfErr (answer_to g w.seen command) (λ answered. answered ≡ refusal)
   pub rises : refusal ≢ Worn → Rises v w
   pub worn : refusal ≡ Worn → IsWorn v w

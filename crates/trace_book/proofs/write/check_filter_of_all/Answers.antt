@@ -10,8 +10,8 @@ pub returns-in_err-_filter-clause-refused : goal.returns-in_err-_filter-clause-r
 returns-in_err-_filter-clause-refused c =
     let out : c.from_residual.result ≡ Err c.in_err-_filter.field-0.0 = search rules in
     rw out (first-refuses c.args.text.now c.args.events.now c.event_at.result.now c.in_err-_filter.field-0.0 c.requires.one c.event_at.ensures
-    (sym c.requires.some ∙ c.if-some.false) c.in_err-_filter.ensures)
+    (sym c.requires.some ∙ c.if-some.false) c.in_err-_filter.ensures.filter)
 
 pub returns-clause-done : goal.returns-clause-done
 returns-clause-done c =
-    first-takes c.args.text.now c.args.events.now c.event_at.result.now _ c.requires.one c.event_at.ensures c.in_ok-_filter.ensures
+    first-takes c.args.text.now c.args.events.now c.event_at.result.now _ c.requires.one c.event_at.ensures c.in_ok-_filter.ensures.filter

@@ -1,16 +1,12 @@
-use Rattle.std.proofs.Common.{◌≡◌, ◌≢◌, false, sym, ◌∙◌, rules}
+use Rattle.std.proofs.Common.{◌≢◌, rules}
 use Rattle.trace_filter.specs.declared.fault.FilterFault.TheVariants as filter_fault
-use Rattle.trace_history.specs.Settings.{clears_filter}
 use Rattle.trace_book.proofs.Filtering.{change-takes, change-keeps}
 use Rattle.trace_book.proofs.write.filter_change.Goals as goal
 
 pub returns-in-Ok : goal.returns-in-Ok
-returns-in-Ok c =
-    let on : clears_filter c.args.text.now ≡ false = sym c.clears_filter.ensures ∙ c.if-clears_filter.false in
-    change-takes c.args.text.now c.args.event.now c.in-Ok.filter on c.in-Ok.ensures.read c.in-Ok.ensures.exact
+returns-in-Ok c = change-takes c.args.text.now c.args.event.now c.in-Ok.filter c.in-Ok.ensures.read c.in-Ok.ensures.exact
 
 pub returns-in-Err : goal.returns-in-Err
 returns-in-Err c =
-    let on : clears_filter c.args.text.now ≡ false = sym c.clears_filter.ensures ∙ c.if-clears_filter.false in
     let other : c.in-Err.field-0 ≢ filter_fault.Memory = search rules in
-    change-keeps c.args.text.now c.args.event.now c.in-Err.field-0 on c.in-Err.ensures.exact other
+    change-keeps c.args.text.now c.args.event.now c.in-Err.field-0 c.in-Err.ensures.exact other

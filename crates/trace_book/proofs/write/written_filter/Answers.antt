@@ -4,16 +4,16 @@ use Rattle.trace_history.specs.Settings.{clears_filter}
 use Rattle.trace_book.proofs.Filtering.{filter-clears, filter-reads, filter-refuses}
 use Rattle.trace_book.proofs.write.written_filter.Goals as goal
 
-pub returns-then-clears_filter : goal.returns-then-clears_filter
-returns-then-clears_filter c = filter-clears c.args.text.now c.args.event.now (sym c.clears_filter.ensures ∙ c.if-clears_filter.true)
+pub returns-then-clears_filter-clause-filter : goal.returns-then-clears_filter-clause-filter
+returns-then-clears_filter-clause-filter c = filter-clears c.args.text.now c.args.event.now (sym c.clears_filter.ensures ∙ c.if-clears_filter.true)
 
-pub returns-in_err-parse : goal.returns-in_err-parse
-returns-in_err-parse c =
+pub returns-in_err-parse-clause-filter : goal.returns-in_err-parse-clause-filter
+returns-in_err-parse-clause-filter c =
     let on : clears_filter c.args.text.now ≡ false = sym c.clears_filter.ensures ∙ c.if-clears_filter.false in
     let out : c.from_residual.result ≡ Err (refusal_of_filter c.in_err-parse.field-0.0) = search rules in
     rw out (filter-refuses c.args.text.now c.args.event.now c.in_err-parse.field-0.0 on c.in_err-parse.ensures.exact)
 
-pub returns : goal.returns
-returns c =
+pub returns-clause-filter : goal.returns-clause-filter
+returns-clause-filter c =
     let on : clears_filter c.args.text.now ≡ false = sym c.clears_filter.ensures ∙ c.if-clears_filter.false in
     filter-reads c.args.text.now c.args.event.now c.in_ok-parse.field-0 on c.in_ok-parse.ensures.read c.in_ok-parse.ensures.exact

@@ -29,7 +29,7 @@ returns-in-Ok-clause-refused g c =
     asked_refused (view_of c.args.pass) (held_view c.in-Ok.held) (view_of c.release.result) (held_ticket c.in-Ok.held) c.ticket-ticket.result c.by-by.result
     (held_value c.in-Ok.held) c.value.result.now c.ask-answer.new.self c.args.command c.ask-answer.result named
     c.in-Ok.ensures.drawn c.in-Ok.ensures.finds c.in-Ok.ensures.entries c.in-Ok.ensures.base c.value.ensures.value
-    c.ticket-ticket.ensures c.by-by.ensures c.ask-answer.ensures.reply c.ask-answer.ensures.early c.ask-answer.ensures.refused c.release.ensures.back
+    c.ticket-ticket.ensures c.by-by.ensures c.ask-answer.ensures.reply c.ask-answer.ensures.early c.ask-answer.ensures.late_memory c.ask-answer.ensures.refused c.release.ensures.back
 
 pub returns-in-Err-clause-refused : goal.returns-in-Err-clause-refused
 returns-in-Err-clause-refused g c =

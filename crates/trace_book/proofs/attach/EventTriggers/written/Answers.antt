@@ -1,57 +1,76 @@
-use Rattle.std.proofs.Common.{◌≡◌, not, ◌||◌, true, false, Ok, Err, is_some, rules}
+use Rattle.std.proofs.Common.{◌≡◌, ◌≢◌, ◌⊎◌, inl, inr, not, ◌||◌, true, false, Ok, Err, is_some, rules}
 use Rattle.std.specs.List.{list_any}
 use Rattle.trace_command.specs.Refusals.{refusal_of_trigger}
-use Rattle.trace_trigger.specs.TriggerTexts.{said_of}
+use Rattle.trace_trigger.specs.TriggerTexts.{HasFilter, is_hist_text, said_of}
 use Rattle.trace_trigger.specs.declared.fault.TriggerFault.TheVariants as fault
 use Rattle.trace_trigger.specs.declared.trigger.TriggerText.TheVariants as said
 use Rattle.trace_book.specs.KeptHists.{says_same}
 use Rattle.trace_book.proofs.Answering.{text-detaches, text-lacks, text-nothing, text-refused, text-removes, text-removes_none}
+use Rattle.trace_book.proofs.TakenLate.{hist-begins, other-fault}
 use Rattle.trace_book.proofs.attach.EventTriggers.written.Goals as goal
 
-pub returns-in_err-parse : goal.returns-in_err-parse
-returns-in_err-parse c =
+pub returns-in_err-parse-clause-change : goal.returns-in_err-parse-clause-change
+returns-in_err-parse-clause-change c =
     let faulty = c.in_err-parse.field-0.0 in
     let told : (said_of c.args.event.now c.args.written.text.now ≡ Err fault.BadText → faulty ≡ fault.BadText) = search rules in
     let out : c.from_residual.result ≡ Err (refusal_of_trigger faulty) = search rules in
     rw out (text-refused c.args.event.now c.args.self c.args.written faulty c.in_err-parse.ensures.exact told)
 
-pub returns-in-Nothing : goal.returns-in-Nothing
-returns-in-Nothing c =
+pub returns-in-Nothing-clause-change : goal.returns-in-Nothing-clause-change
+returns-in-Nothing-clause-change c =
     let read : said_of c.args.event.now c.args.written.text.now ≡ Ok said.Nothing = search rules in
     text-nothing c.args.event.now c.args.self c.args.written read
 
-pub returns-in-Attach : goal.returns-in-Attach
-returns-in-Attach c = λ name past number are.
+pub returns-in-Attach-clause-change : goal.returns-in-Attach-clause-change
+returns-in-Attach-clause-change c = λ name past number are.
     let read : said_of c.args.event.now c.args.written.text.now ≡ Ok (said.Attach c.in-Attach.trigger) = search rules in
-    c.attached.ensures c.args.event.now name past number are read
+    c.attached.ensures.change c.args.event.now name past number are read
 
-pub returns-in-Remove : goal.returns-in-Remove
-returns-in-Remove c =
+pub returns-in-Remove-clause-change : goal.returns-in-Remove-clause-change
+returns-in-Remove-clause-change c =
     let read : said_of c.args.event.now c.args.written.text.now ≡ Ok said.Remove = search rules in
     let some : is_some c.args.self.snapshot ≡ true = search rules in
     text-detaches c.args.event.now c.args.self c.args.written read some
 
-pub returns-in-Remove-2 : goal.returns-in-Remove-2
-returns-in-Remove-2 c =
+pub returns-in-Remove-2-clause-change : goal.returns-in-Remove-2-clause-change
+returns-in-Remove-2-clause-change c =
     let read : said_of c.args.event.now c.args.written.text.now ≡ Ok said.Remove = search rules in
     let none : is_some c.args.self.snapshot ≡ false = search rules in
     text-lacks c.args.event.now c.args.self c.args.written read none
 
-pub returns-in-Hist : goal.returns-in-Hist
-returns-in-Hist c = λ name past number are.
+pub returns-in-Hist-clause-change : goal.returns-in-Hist-clause-change
+returns-in-Hist-clause-change c = λ name past number are.
     let read : said_of c.args.event.now c.args.written.text.now ≡ Ok (said.Hist c.in-Hist.spec) = search rules in
     c.asked.ensures c.args.event.now name past number are read
 
-pub returns-in-RemoveHist : goal.returns-in-RemoveHist
-returns-in-RemoveHist c =
+pub returns-in-RemoveHist-clause-change : goal.returns-in-RemoveHist-clause-change
+returns-in-RemoveHist-clause-change c =
     let spec = c.in-RemoveHist.spec in
     let read : said_of c.args.event.now c.args.written.text.now ≡ Ok (said.RemoveHist spec) = search rules in
     let at : (not c.args.written.append || list_any (says_same spec) c.args.self.hists.now) ≡ true = search rules in
     text-removes c.args.event.now c.args.self c.args.written spec read at
 
-pub returns-in-RemoveHist-2 : goal.returns-in-RemoveHist-2
-returns-in-RemoveHist-2 c =
+pub returns-in-RemoveHist-2-clause-change : goal.returns-in-RemoveHist-2-clause-change
+returns-in-RemoveHist-2-clause-change c =
     let spec = c.in-RemoveHist-2.field-0 in
     let read : said_of c.args.event.now c.args.written.text.now ≡ Ok (said.RemoveHist spec) = search rules in
     let none : (not c.args.written.append || list_any (says_same spec) c.args.self.hists.now) ≡ false = search rules in
     text-removes_none c.args.event.now c.args.self c.args.written spec read none
+
+pub returns-in_err-parse-clause-memory : goal.returns-in_err-parse-clause-memory
+returns-in_err-parse-clause-memory c = λ unfiltered plain.
+    let faulty = c.in_err-parse.field-0.0 in
+    let taken : (faulty ≡ fault.Memory → HasFilter c.args.written.text.now ⊎ (is_hist_text c.args.written.text.now ≡ true)) = search rules in
+    let neither : HasFilter c.args.written.text.now ⊎ (is_hist_text c.args.written.text.now ≡ true) → ⊥ =
+    λ either. elim either [
+      | inl filtered ↦ unfiltered filtered
+      | inr hist ↦ cc (hist, plain)
+    ] in
+    let out : c.from_residual.result ≡ Err (refusal_of_trigger faulty) = search rules in
+    rw out (other-fault faulty (λ is. neither (taken is)))
+
+pub returns-in-Hist-clause-memory : goal.returns-in-Hist-clause-memory
+returns-in-Hist-clause-memory c = λ unfiltered plain.
+    let read : said_of c.args.event.now c.args.written.text.now ≡ Ok (said.Hist c.in-Hist.spec) = search rules in
+    let hist : is_hist_text c.args.written.text.now ≡ true = hist-begins c.args.event.now c.args.written.text.now c.in-Hist.spec read in
+    absurd (cc (hist, plain))

@@ -8,6 +8,7 @@ use Rattle.trace_book.proofs.Alike.{unchanged-stands}
 use Rattle.trace_book.proofs.Usable.{few_from_stands, few_rows_from_stands, usable_from_stands}
 use Rattle.trace_book.proofs.Histories.{length-past_of, past_of-push, answer-done, answer-full, refused-reply, refused-early, late-done, IsLegal-push}
 use Rattle.trace_book.proofs.Stands.{stands_after}
+use Rattle.trace_book.proofs.TakenLate.{late_memory-refused, late_memory-full, late_memory-done}
 use Rattle.trace_book.proofs.book.Book.ask_other.Goals as goal
 
 pub prepare-requires-clause-usable : goal.prepare-requires-clause-usable
@@ -132,3 +133,49 @@ commit-requires-clause-usable c =
 
 pub returns-clause-legal : goal.returns-clause-legal
 returns-clause-legal c = (invariant_of-self-2 c).legal
+
+pub returns-in_err-change-clause-late_memory : goal.returns-in_err-change-clause-late_memory
+returns-in_err-change-clause-late_memory c =
+    let book = c.self.inside in
+    let past = past_of book.entries.items in
+    let out : c.from_residual.result ≡ Err c.in_err-change.field-0.0 = search rules in
+    let prepared = c.in_err-change.ensures.prepared past (length-past_of book.entries.items ∙ search rules) c.self.invariant.stands in
+    rw (← c.self.view_is) (λ late.
+    late_memory-refused book.config past (request_of c.args.command) book.state c.in_err-change.field-0.0 c.from_residual.result prepared
+    (c.in_err-change.ensures.memory past c.self.invariant.stands late) out)
+
+pub returns-then-len-self-clause-late_memory : goal.returns-then-len-self-clause-late_memory
+returns-then-len-self-clause-late_memory c =
+    let book = c.self.inside in
+    let past = past_of book.entries.items in
+    let prepared = c.in_ok-change.ensures.prepared past (length-past_of book.entries.items ∙ search rules) c.self.invariant.stands in
+    rw (← c.self.view_is) (λ late.
+    late_memory-full book.config past (request_of c.args.command) c.in_ok-change.reply _ (prepared.0 ∙ ap (λ (r : Reply). Ok r) c.in_ok-change.reply-is)
+    (omega (arith, length-past_of book.entries.items, c.len.ensures, book.entries.ok.0)) refl)
+
+pub returns-in_err-reserve-clause-late_memory : goal.returns-in_err-reserve-clause-late_memory
+returns-in_err-reserve-clause-late_memory c =
+    let book = c.self.inside in
+    let past = past_of book.entries.items in
+    let prepared = c.in_ok-change.ensures.prepared past (length-past_of book.entries.items ∙ search rules) c.self.invariant.stands in
+    rw (← c.self.view_is) (λ late.
+    late_memory-done book.config past (request_of c.args.command) c.in_ok-change.reply _ (prepared.0 ∙ ap (λ (r : Reply). Ok r) c.in_ok-change.reply-is)
+    (omega (arith, length-past_of book.entries.items, c.len.ensures, book.entries.ok.0)))
+
+pub returns-in_err-commit-clause-late_memory : goal.returns-in_err-commit-clause-late_memory
+returns-in_err-commit-clause-late_memory c =
+    let book = c.self.inside in
+    let past = past_of book.entries.items in
+    let prepared = c.in_ok-change.ensures.prepared past (length-past_of book.entries.items ∙ search rules) c.self.invariant.stands in
+    rw (← c.self.view_is) (λ late.
+    late_memory-done book.config past (request_of c.args.command) c.in_ok-change.reply _ (prepared.0 ∙ ap (λ (r : Reply). Ok r) c.in_ok-change.reply-is)
+    (omega (arith, length-past_of book.entries.items, c.len.ensures, book.entries.ok.0)))
+
+pub returns-clause-late_memory : goal.returns-clause-late_memory
+returns-clause-late_memory c =
+    let book = c.self.inside in
+    let past = past_of book.entries.items in
+    let prepared = c.in_ok-change.ensures.prepared past (length-past_of book.entries.items ∙ search rules) c.self.invariant.stands in
+    rw (← c.self.view_is) (λ late.
+    late_memory-done book.config past (request_of c.args.command) c.in_ok-change.field-0.reply _ prepared.0
+    (omega (arith, length-past_of book.entries.items, c.len.ensures, book.entries.ok.0)))

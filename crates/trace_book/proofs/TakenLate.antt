@@ -1,0 +1,84 @@
+-- Memory that is taken late: for which trigger texts none is taken, and what a request is answered that takes none before.
+use Rattle.std.proofs.Common.{◌≡◌, ◌≢◌, ◌<◌, ◌≤◌, ℕ, Bool, true, false, codes, if◌then◌else◌, List, length, Option, Some, None, Result, Ok, Err, IfErr, refl}
+use Rattle.std.specs.List.{list_all}
+use Rattle.trace_lex.specs.Blanks.{is_blank}
+use Rattle.trace_format.specs.Definitions.{Definition}
+use Rattle.trace_trigger.specs.HistSpecs.{SpecSeen}
+use Rattle.trace_trigger.specs.TriggerTexts.{◌>>=◌, after, begins, hist_of, is_hist_text, said_after, said_of, snapshot_said, trigger_of}
+use Rattle.trace_trigger.specs.declared.fault.TriggerFault.{TriggerFault}
+use Rattle.trace_trigger.specs.declared.fault.TriggerFault.TheVariants as fault
+use Rattle.trace_trigger.specs.declared.trigger.SnapshotTrigger.{SnapshotTrigger}
+use Rattle.trace_trigger.specs.declared.trigger.TriggerText.{TriggerText}
+use Rattle.trace_trigger.specs.declared.trigger.TriggerText.TheVariants as said
+use Rattle.trace_command.specs.Refusals.{refusal_of_trigger}
+use Rattle.trace_command.specs.Requests.{Request}
+use Rattle.trace_command.specs.declared.command.Config.{Config}
+use Rattle.trace_command.specs.declared.command.Reply.{Reply}
+use Rattle.trace_command.specs.declared.refusal.Refusal.{Refusal}
+use Rattle.trace_command.specs.declared.refusal.Refusal.TheVariants.{HistoryFull, Memory}
+use Rattle.trace_history.specs.History.{answer, answer_with_room}
+use Rattle.trace_book.specs.States.{IsPrepared}
+use Rattle.trace_book.specs.declared.state.State.{State}
+use Rattle.trace_book.proofs.Histories.{answer-done, answer-full, answer-refused}
+
+-- ---- trigger texts
+
+-- a fault that is not out of memory becomes no such refusal
+pub other-fault : (faulty : TriggerFault) → faulty ≢ fault.Memory → refusal_of_trigger faulty ≢ Memory
+other-fault fault.BadText other is = cc
+other-fault fault.TooMany other is = cc
+other-fault (fault.FilterSyntax at) other is = cc
+other-fault (fault.NoSuchField at) other is = cc
+other-fault (fault.WrongOperator at) other is = cc
+other-fault (fault.HistSyntax at) other is = cc
+other-fault fault.BadSize other is = cc
+other-fault fault.Memory other is = other refl
+
+-- what is said of a snapshot trigger is nothing of a hist trigger
+snapshot-no_hist : (definition : Definition) (text : List ℕ) (spec : SpecSeen) → snapshot_said definition text ≡ Ok (said.Hist spec) → ⊥
+unfolding snapshot_said
+snapshot-no_hist definition text spec e = by (after (codes "!") text) e
+  where
+    attach : (read : Result SnapshotTrigger TriggerFault) → (read >>= λ trigger. Ok (said.Attach trigger)) ≡ Ok (said.Hist spec) → ⊥
+    attach (Ok trigger) h = cc
+    attach (Err faulty) h = cc
+
+    remove : (read : Result SnapshotTrigger TriggerFault) → (read >>= λ trigger. Ok said.Remove) ≡ Ok (said.Hist spec) → ⊥
+    remove (Ok trigger) h = cc
+    remove (Err faulty) h = cc
+
+    by : (body : Option (List ℕ)) → said_after definition text body ≡ Ok (said.Hist spec) → ⊥
+    by None h = attach (trigger_of definition text text) h
+    by (Some body) h = remove (trigger_of definition text body) h
+
+-- a text that says something of a hist trigger begins so
+pub hist-begins : (definition : Definition) (text : List ℕ) (spec : SpecSeen) → said_of definition text ≡ Ok (said.Hist spec) → is_hist_text text ≡ true
+unfolding said_of
+hist-begins definition text spec e =
+    blank (list_all is_blank text) (begins (codes "hist:") text) refl (begins (codes "!hist:") text) refl e
+  where
+    blank : (nothing one : Bool) → begins (codes "hist:") text ≡ one → (two : Bool) → begins (codes "!hist:") text ≡ two
+        → (if nothing then Ok said.Nothing
+        else if one then (hist_of definition text >>= λ s. Ok (said.Hist s)) else if two then (hist_of definition text >>= λ s. Ok (said.RemoveHist s)) else snapshot_said definition text) ≡ Ok (said.Hist spec)
+        → is_hist_text text ≡ true
+    blank true one is two also h = absurd (cc)
+    blank false true is two also h = rw is refl
+    blank false false is true also h = rw (is, also) refl
+    blank false false is false also h = absurd (snapshot-no_hist definition text spec h)
+
+-- ---- answers
+
+-- what was prepared is refused with something else than memory, so it is the answer
+pub late_memory-refused : (g : Config) (past : List Request) (request : Request) (state : State) (refusal : Refusal) (result : Result Reply Refusal)
+    → IsPrepared g past request state (Err refusal) → refusal ≢ Memory → result ≡ Err refusal → IfErr (answer g past request) (λ r. result ≡ Err r)
+late_memory-refused g past request state refusal result prepared other out = rw (answer-refused g past request refusal (prepared.0 other)) out
+
+-- the history is full
+pub late_memory-full : (g : Config) (past : List Request) (request : Request) (reply : Reply) (result : Result Reply Refusal) → answer_with_room g past request ≡ Ok reply
+    → g.history_limit ≤ length past → result ≡ Err HistoryFull → IfErr (answer g past request) (λ r. result ≡ Err r)
+late_memory-full g past request reply result given full out = rw (answer-full g past request reply given full) out
+
+-- nothing refuses it
+pub late_memory-done : (g : Config) (past : List Request) (request : Request) (reply : Reply) (result : Result Reply Refusal)
+    → answer_with_room g past request ≡ Ok reply → length past < g.history_limit → IfErr (answer g past request) (λ r. result ≡ Err r)
+late_memory-done g past request reply result given room = rw (answer-done g past request reply given room) tt
