@@ -353,7 +353,7 @@ ask-full spec kept written none attaching many = λ event name past number are i
     (room-answer spec kept written event name past none attaching are is
     ∙ room-full (trigger_of name event past) (left_by name past event written.append) full)
 
-done-late : (answer : Result Reply Refusal) → answer ≡ Ok Done → IsRefusal refusal.Memory answer
+pub done-late : (answer : Result Reply Refusal) → answer ≡ Ok Done → IsRefusal refusal.Memory answer
 done-late answer is = (λ other. absurd (other refl), λ early. absurd (rw is at early))
 
 pub ask-memory : (spec : SpecSeen) (kept : EventTriggers) (written : Written) → (written.append && list_any (says_same spec) kept.hists.now) ≡ false

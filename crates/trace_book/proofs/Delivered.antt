@@ -32,6 +32,7 @@ use Rattle.trace_book.specs.States.{CanFire, IsDelivered, WereOfferedRow, counte
 use Rattle.trace_book.proofs.HistEmitting.{hists-after}
 use Rattle.trace_book.specs.declared.change.Delivery.{Delivery}
 use Rattle.trace_book.specs.declared.change.Pending.{Pending}
+use Rattle.trace_book.specs.declared.change.Reach.{Reach}
 use Rattle.trace_book.specs.declared.trigger.Trigger.{Trigger}
 
 -- ---- triggers
@@ -180,9 +181,10 @@ spare-there g name past e index spared place acting =
     spared.armed (list_any_at test (declared_events past) index e.k.event place.inside (ap test (sym place.there) ∙ some))
 
 -- an instance whose sides are to be exchanged has a spare
-pub can-fire : (g : Config) (name : Option (List ℕ)) (past : List Request) (e : Emitted) (index : ℕ) (i : InstanceSeen) → InstanceStandsFor g name past i
-    → IsPlaceOf (declared_events past) e.k.event.name index e.k.event → i.fires ≡ is_exchanged_by name past (Some e) → CanFire i
-can-fire g name past e index i stands place fires = λ is.
+pub can-fire : (g : Config) (name : Option (List ℕ)) (past : List Request) (e : Emitted) (index : ℕ) (reach : Reach) (i : InstanceSeen)
+    → InstanceStandsFor g name past i → IsPlaceOf (declared_events past) e.k.event.name index e.k.event
+    → reach.fires ≡ is_exchanged_by name past (Some e) → CanFire reach i
+can-fire g name past e index reach i stands place fires = λ is.
     let there : has_spare name past ≡ true = spare-there g name past e index stands.spared place (sym fires ∙ is) in
     by i.sides.spare (rw there at stands.sides.spare)
   where
@@ -191,14 +193,14 @@ can-fire g name past e index i stands place fires = λ is.
     by (Some side) stood = refl
 
 -- the live side's rings with the record
-written-rings : (name : Option (List ℕ)) (past : List Request) (e : Emitted) (armed overwrite : Bool) (bytes_of : Option Pending) (family : List (List ring.Event))
-    → armed ≡ is_recorded name past e → overwrite ≡ overwrites name past
-    → ((p : Pending) → bytes_of ≡ Some p → (p.bytes.items ≡ emitted_bytes e) × (p.cpu ≡ e.cpu)) → (bytes_of ≡ None → armed ≡ false)
-    → recorded_in armed overwrite bytes_of family ≡ with_emitted name past (Some e) family
-written-rings name past e armed overwrite None family is over bytes none =
+written-rings : (name : Option (List ℕ)) (past : List Request) (e : Emitted) (records overwrite : Bool) (bytes_of : Option Pending) (family : List (List ring.Event))
+    → records ≡ is_recorded name past e → overwrite ≡ overwrites name past
+    → ((p : Pending) → bytes_of ≡ Some p → (p.bytes.items ≡ emitted_bytes e) × (p.cpu ≡ e.cpu)) → (bytes_of ≡ None → records ≡ false)
+    → recorded_in records overwrite bytes_of family ≡ with_emitted name past (Some e) family
+written-rings name past e records overwrite None family is over bytes none =
     let quiet : is_recorded name past e ≡ false = sym is ∙ none refl in
     rw quiet refl
-written-rings name past e armed overwrite (Some p) family is over bytes none =
+written-rings name past e records overwrite (Some p) family is over bytes none =
     let own = bytes p refl in
     rw (is, over, own.0, own.1) refl
 
@@ -249,22 +251,22 @@ spared-after g name past ename cpu pid pairs e fires is by_trigger spare spared 
 -- ---- the instance
 
 -- an emission that reached an instance leaves it as the requests say
-pub delivered-stands : (g : Config) (name : Option (List ℕ)) (past : List Request) (request : Request) (e : Emitted) (d : Delivery) (old new : InstanceSeen)
-    → emitted past request ≡ Some e → AreEvents [] (declared_events past) → InstanceStandsFor g name past old
-    → IsPlaceOf (declared_events past) e.k.event.name d.event e.k.event → old.armed ≡ is_recorded name past e
-    → old.fires ≡ is_exchanged_by name past (Some e)
-    → ((p : Pending) → d.record ≡ Some p → (p.bytes.items ≡ emitted_bytes e) × (p.cpu ≡ e.cpu)) → (d.record ≡ None → old.armed ≡ false)
-    → row_of d ≡ counted_row e → IsDelivered d old new → InstanceStandsFor g name (request ∷ past) new
-delivered-stands g name past (Emission ename cpu pid pairs) e d old new is are stands place armed fires bytes none row came =
+pub delivered-stands : (g : Config) (name : Option (List ℕ)) (past : List Request) (request : Request) (e : Emitted) (d : Delivery) (reach : Reach)
+    (old new : InstanceSeen) → emitted past request ≡ Some e → AreEvents [] (declared_events past) → InstanceStandsFor g name past old
+    → IsPlaceOf (declared_events past) e.k.event.name d.event e.k.event → reach.records ≡ is_recorded name past e
+    → reach.fires ≡ is_exchanged_by name past (Some e)
+    → ((p : Pending) → d.record ≡ Some p → (p.bytes.items ≡ emitted_bytes e) × (p.cpu ≡ e.cpu)) → (d.record ≡ None → reach.records ≡ false)
+    → row_of d ≡ counted_row e → IsDelivered d reach old new → InstanceStandsFor g name (request ∷ past) new
+delivered-stands g name past (Emission ename cpu pid pairs) e d reach old new is are stands place records fires bytes none row came =
     let request : Request = Emission ename cpu pid pairs in
-    let spare : old.fires ≡ true → has_spare name past ≡ true = λ on. spare-there g name past e d.event stands.spared place (sym fires ∙ on) in
-    let written = written-rings name past e old.armed old.overwrite d.record (rings g name past) armed stands.overwrite bytes none in
-    let families = sides-after g name past ename cpu pid pairs e (recorded_in old.armed old.overwrite d.record (rings g name past)) old.fires is written
+    let spare : reach.fires ≡ true → has_spare name past ≡ true = λ on. spare-there g name past e d.event stands.spared place (sym fires ∙ on) in
+    let written = written-rings name past e reach.records old.overwrite d.record (rings g name past) records stands.overwrite bytes none in
+    let families = sides-after g name past ename cpu pid pairs e (recorded_in reach.records old.overwrite d.record (rings g name past)) reach.fires is written
     (sym fires) spare in
     let one : length past + 1 ≡ suc (length past) = omega arith in record {
       enabled = rw append-nil (came.enabled ∙ stands.enabled);
       filters = rw append-nil (came.filters ∙ stands.filters);
-      triggers = rw append-nil (came.triggers ∙ triggers-after name past ename cpu pid pairs e d.event old.triggers old.fires is are place stands.triggers
+      triggers = rw append-nil (came.triggers ∙ triggers-after name past ename cpu pid pairs e d.event old.triggers reach.fires is are place stands.triggers
           (sym fires));
       hists = rw append-nil (hists-after name past ename cpu pid pairs e d.event (hists_kept old.hists) (hists_kept new.hists) is place
           (λ j inside apart. differs-at (declared_events past) d.event j e.k.event e.k.event are place.inside place.there inside apart) stands.hists
@@ -274,6 +276,6 @@ delivered-stands g name past (Emission ename cpu pid pairs) e d old new is are s
       sides = subst (λ (f : SideFamilies). snapshot.StandsFor new.sides f) families (came.sides (side_families g name past) stands.sides);
       shaped = came.shaped g stands.shaped;
       offered = subst (λ (n : ℕ). WereOffered n new.sides) one (came.offered (length past) stands.offered);
-      spared = rw append-nil (spared-after g name past ename cpu pid pairs e old.fires is (sym fires) spare stands.spared);
+      spared = rw append-nil (spared-after g name past ename cpu pid pairs e reach.fires is (sym fires) spare stands.spared);
     }
-delivered-stands g name past request e d old new is are stands place armed fires bytes none row came = absurd (cc)
+delivered-stands g name past request e d reach old new is are stands place records fires bytes none row came = absurd (cc)

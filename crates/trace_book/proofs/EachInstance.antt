@@ -1,6 +1,6 @@
 -- Lists of instances: what a loop over them keeps, and their names.
 use Rattle.std.proofs.Common.{◌≡◌, ℕ, zero, suc, ◌+◌, ◌<◌, ◌≤◌, ◌≢◌, Bool, true, false, not, ◌||◌, cond, List, [], ◌∷◌, ◌++◌, length, map, take, drop, get_or, set, All, Option, Some, None, refl, sym, ap, ◌∙◌, subst, ⊎_elim, arith, below_more, get_or-set_same, get_or-set_other}
-use Rattle.std.proofs.lemmas.Bool.{cases_eq, false≢true}
+use Rattle.std.proofs.lemmas.Bool.{cases_eq, cases_lt, false≢true}
 use Rattle.std.proofs.lemmas.List.{get_or_default, get_or-map, map-append, take-map, drop-map, length-map}
 use Rattle.std.proofs.lemmas.Map.Keys.{IsDistinct-head, IsDistinct-tail, IsDistinct-cons}
 use Rattle.std.proofs.lemmas.Slice.Eq.{bytes_eq-Decides}
@@ -8,23 +8,47 @@ use Rattle.std.specs.List.{AllByRecursion, IsDistinct, filter}
 use Rattle.std.specs.Str.{bytes_eq}
 use Rattle.trace_history.specs.Settings.{is_same, is_born}
 use Rattle.trace_book.specs.Instances.{InstanceSeen}
-use Rattle.trace_book.specs.States.{names_of}
+use Rattle.trace_book.specs.States.{names_of, no_reach}
+use Rattle.trace_book.specs.declared.change.Reach.{Reach}
 use Rattle.trace_book.specs.declared.state.Named.{Named}
 
 -- ---- one more instance of a loop
 
 -- below the index each instance came to be what it is now, also when one more did
-pub came_more : (R : InstanceSeen → InstanceSeen → Type 0) (old now : List Named) (i : ℕ) (read new : Named)
-    → i < length now → R (get_or now i read).instance new.instance
-    → ((k : ℕ) (d : Named) → k < i → R (get_or old k d).instance (get_or now k d).instance)
+pub came_more : (R : ℕ → InstanceSeen → InstanceSeen → Type 0) (old now : List Named) (i : ℕ) (read new : Named)
+    → i < length now → R i (get_or now i read).instance new.instance
+    → ((k : ℕ) (d : Named) → k < i → R k (get_or old k d).instance (get_or now k d).instance)
     → ((k : ℕ) (d : Named) → i ≤ k → get_or now k d ≡ get_or old k d)
-    → (k : ℕ) (d : Named) → k < i + 1 → R (get_or old k d).instance (get_or (set now i new) k d).instance
+    → (k : ℕ) (d : Named) → k < i + 1 → R k (get_or old k d).instance (get_or (set now i new) k d).instance
 came_more R old now i read new inside one came left = λ k d h. below_more
-    (λ (j : ℕ). (e : Named) → R (get_or old j e).instance (get_or (set now i new) j e).instance) i
+    (λ (j : ℕ). (e : Named) → R j (get_or old j e).instance (get_or (set now i new) j e).instance) i
     (λ j below e. let other : j ≢ i = omega arith in rw get_or-set_other (came j e below))
     (λ e.
     let here : get_or now i read ≡ get_or old i e = get_or_default now i read e inside ∙ left i e (omega arith) in
-    rw get_or-set_same (subst (λ (n : Named). R n.instance new.instance) here one))
+    rw get_or-set_same (subst (λ (n : Named). R i n.instance new.instance) here one))
+    k h d
+
+-- and each of all came to be so where one more did and what did not change is so too
+pub came_all : (R : InstanceSeen → InstanceSeen → Type 0) (old now : List Named) (i : ℕ) (read new : Named) → ((x : InstanceSeen) → R x x)
+    → i < length now → R (get_or now i read).instance new.instance
+    → ((k : ℕ) (d : Named) → k < i → R (get_or old k d).instance (get_or now k d).instance)
+    → ((k : ℕ) (d : Named) → i ≤ k → get_or now k d ≡ get_or old k d)
+    → (k : ℕ) (d : Named) → R (get_or old k d).instance (get_or (set now i new) k d).instance
+came_all R old now i read new self inside one came left = λ k d. ⊎_elim
+    (λ (h : k < i + 1). came_more (λ j. R) old now i read new inside one came left k d h)
+    (λ (h : i + 1 ≤ k).
+    let other : k ≢ i = omega (arith, h) in
+    rw get_or-set_other (subst (λ (n : Named). R (get_or old k d).instance n.instance) (sym (left k d (omega (arith, h)))) (self (get_or old k d).instance)))
+    (cases_lt k (i + 1))
+
+-- what holds of each below the index holds of one more
+pub held_more : (P : ℕ → InstanceSeen → Type 0) (now : List Named) (i : ℕ) (new : Named) → i < length now → P i new.instance
+    → ((k : ℕ) (d : Named) → k < i → P k (get_or now k d).instance)
+    → (k : ℕ) (d : Named) → k < i + 1 → P k (get_or (set now i new) k d).instance
+held_more P now i new inside one before = λ k d h. below_more
+    (λ (j : ℕ). (e : Named) → P j (get_or (set now i new) j e).instance) i
+    (λ j below e. let other : j ≢ i = omega arith in rw get_or-set_other (before j e below))
+    (λ e. rw get_or-set_same one)
     k h d
 
 -- each keeps its name
@@ -39,16 +63,21 @@ names_more old now i read new inside same names = λ k d. ⊎_elim
     (λ (other : k ≡ i → ⊥). rw (get_or-set_other now i k new d other) (names k d))
     (cases_eq k i)
 
--- none is armed, also where one more is not
-pub none_more : (now : List Named) (i : ℕ) (new : Named) (some armed : Bool) → i < length now → new.instance.armed ≡ armed
-    → (some ≡ false → (k : ℕ) (d : Named) → k < i → (get_or now k d).instance.armed ≡ false)
-    → (some || armed) ≡ false → (k : ℕ) (d : Named) → k < i + 1 → (get_or (set now i new) k d).instance.armed ≡ false
-none_more now i new true armed inside is before none = absurd (cc)
-none_more now i new false armed inside is before none = λ k d h. below_more
-    (λ (j : ℕ). (e : Named) → (get_or (set now i new) j e).instance.armed ≡ false) i
-    (λ j below e. let other : j ≢ i = omega arith in rw get_or-set_other (before refl j e below))
-    (λ e. rw get_or-set_same (is ∙ none))
-    k h d
+-- what an emission does in each instance is known, also in one more
+pub reached_more : (Q : ℕ → Reach → Type 0) (each : List Reach) (i : ℕ) (reach : Reach) → i < length each → Q i reach
+    → ((k : ℕ) → k < i → Q k (get_or each k no_reach)) → (k : ℕ) → k < i + 1 → Q k (get_or (set each i reach) k no_reach)
+reached_more Q each i reach inside one before = λ k h. below_more
+    (λ (j : ℕ). Q j (get_or (set each i reach) j no_reach)) i
+    (λ j below. let other : j ≢ i = omega arith in rw get_or-set_other (before j below))
+    (rw get_or-set_same one)
+    k h
+
+-- none records it, also where one more does not
+pub none_more : (each : List Reach) (i : ℕ) (reach : Reach) (some : Bool) → i < length each
+    → (some ≡ false → (k : ℕ) → k < i → (get_or each k no_reach).records ≡ false)
+    → (some || reach.records) ≡ false → (k : ℕ) → k < i + 1 → (get_or (set each i reach) k no_reach).records ≡ false
+none_more each i reach true inside before none = absurd (cc)
+none_more each i reach false inside before none = reached_more (λ k r. r.records ≡ false) each i reach inside none (before refl)
 
 -- ---- names
 

@@ -1,5 +1,5 @@
 -- What an emission that is prepared leaves of the instances is what the requests say of it.
-use Rattle.std.proofs.Common.{◌≡◌, ℕ, zero, suc, ℤ, ◌+◌, ◌<◌, ◌≤◌, Bool, true, false, ◌&&◌, List, [], ◌∷◌, ◌++◌, length, take, get_or, All, Option, Some, None, Ok, refl, sym, ap, ◌∙◌, subst, arith}
+use Rattle.std.proofs.Common.{◌≡◌, ℕ, zero, suc, ℤ, ◌+◌, ◌<◌, ◌≤◌, Bool, false, ◌&&◌, List, [], ◌∷◌, ◌++◌, length, take, get_or, All, Option, Some, None, Ok, refl, sym, ap, ◌∙◌, subst, arith}
 use Rattle.std.proofs.Math.Seq.{take-append_seam}
 use Rattle.std.specs.List.{AllByRecursion}
 use Rattle.std.specs.Option.{option_map}
@@ -26,10 +26,12 @@ use Rattle.trace_book.specs.Instances.{InstanceSeen, InstanceStandsFor, IsAlike,
 use Rattle.trace_book.specs.Rows.{fires, kept_acts, kept_holds, records}
 use Rattle.trace_book.specs.KeptHists.{CanCount}
 use Rattle.trace_book.specs.declared.hists.AttachedHist.{AttachedHist}
-use Rattle.trace_book.specs.States.{CanBeWritten, CanCountRow, CanEmit, EachCame, HasRoom, IsEmission, StandsFor}
-use Rattle.trace_book.specs.Emissions.{IsAhead, IsArmedFor, IsReadied, IsStateAlike}
+use Rattle.trace_book.specs.States.{AllReached, CanBeWritten, CanCountRow, CanEmit, EachCame, HasRoom, IsEmission, StandsFor, reach_at}
+use Rattle.trace_book.specs.Emissions.{AreReached, HasBytes, IsAhead, IsReadied, IsStateAlike}
 use Rattle.trace_book.specs.Found.{numbered}
 use Rattle.trace_book.specs.declared.change.Pending.{Pending}
+use Rattle.trace_book.specs.declared.change.Reach.{Reach}
+use Rattle.trace_book.specs.declared.change.Reaches.{Reaches}
 use Rattle.trace_book.specs.declared.resolve.Found.{Found}
 use Rattle.trace_book.specs.declared.state.Named.{Named}
 use Rattle.trace_book.specs.declared.state.State.{State}
@@ -38,88 +40,64 @@ use Rattle.trace_book.proofs.Delivered.{can-fire, self, trigger-at}
 
 -- ---- what is written ahead
 
--- an instance that was armed, and then made ready, is alike
-alike-armed : (i m j : InstanceSeen) (armed fires : Bool) → m ≡ record i { armed = armed; fires = fires } → IsAlike m j → IsAlike i j
-alike-armed i m j armed fires is alike =
-    let same : IsAlike (record i { armed = armed; fires = fires }) j = subst (λ (n : InstanceSeen). IsAlike n j) is alike in record {
-      enabled = same.enabled;
-      filters = same.filters;
-      triggers = same.triggers;
-      hists = same.hists;
-      overwrite = same.overwrite;
-      tracing = same.tracing;
-      sides = same.sides;
-      shaped = same.shaped;
-      offered = same.offered;
-      cpus = same.cpus;
-    }
-
 -- what is written over all of a vector's elements
 pub written-over : {X : Type 0} (n : ℕ) (out rest : List X) → length out ≡ n → take n (out ++ rest) ≡ out
 written-over n out rest is = subst (λ (k : ℕ). take k (out ++ rest) ≡ out) is (take-append_seam out rest)
 
--- and so are all of them
-pub alike-each : (event : ℕ) (row : Cells) (cpu : ℕ) (pid : ℤ) (old armed new : List Named)
-    → EachCame (IsArmedFor event row cpu pid) old armed → EachCame IsReadied armed new → EachCame IsAlike old new
-alike-each event row cpu pid old armed new came readied = record {
-  many = readied.many ∙ came.many;
-  names = λ k d inside. readied.names k d (omega (arith, came.many)) ∙ came.names k d inside;
-  came = λ k d inside. alike-armed (get_or old k d).instance (get_or armed k d).instance (get_or new k d).instance
-      (records (get_or old k d).instance event row cpu pid) (fires (get_or old k d).instance event row cpu pid) (came.came k d inside) (readied.came k d (omega (arith, came.many))).0;
+pub readied-self : (i : InstanceSeen) → IsReadied i i
+readied-self i = (
+  record {
+    enabled = refl;
+    filters = refl;
+    triggers = refl;
+    hists = refl;
+    overwrite = refl;
+    tracing = refl;
+    sides = λ families stood. stood;
+    shaped = λ g is. is;
+    offered = λ most were. were;
+    cpus = refl;
+  },
+  refl,
+)
+
+-- instances that were made ready are alike
+pub alike-each : (old new : List Named) → EachCame IsReadied old new → EachCame IsAlike old new
+alike-each old new readied = record {
+  many = readied.many;
+  names = readied.names;
+  came = λ k d inside. (readied.came k d inside).0;
 }
 
--- each is armed still exactly if it records the emission
-pub armed-each : (event : ℕ) (row : Cells) (cpu : ℕ) (pid : ℤ) (old armed new : List Named)
-    → EachCame (IsArmedFor event row cpu pid) old armed → EachCame IsReadied armed new
-    → (k : ℕ) (d : Named) → k < length old → (get_or new k d).instance.armed ≡ records (get_or old k d).instance event row cpu pid
-armed-each event row cpu pid old armed new came readied k d inside =
-    (readied.came k d (omega (arith, came.many))).2 ∙ ap (λ (i : InstanceSeen). i.armed) (came.came k d inside)
-
--- and is to exchange its sides still exactly if a trigger acts on it
-pub fires-each : (event : ℕ) (row : Cells) (cpu : ℕ) (pid : ℤ) (old armed new : List Named)
-    → EachCame (IsArmedFor event row cpu pid) old armed → EachCame IsReadied armed new
-    → (k : ℕ) (d : Named) → k < length old → (get_or new k d).instance.fires ≡ fires (get_or old k d).instance event row cpu pid
-fires-each event row cpu pid old armed new came readied k d inside =
-    (readied.came k d (omega (arith, came.many))).3 ∙ ap (λ (i : InstanceSeen). i.fires) (came.came k d inside)
-
--- the hist triggers are as they were
-pub hists-each : (event : ℕ) (row : Cells) (cpu : ℕ) (pid : ℤ) (old armed new : List Named)
-    → EachCame (IsArmedFor event row cpu pid) old armed → EachCame IsReadied armed new
+-- and their hist triggers are as they were
+pub hists-each : (old new : List Named) → EachCame IsReadied old new
     → (k : ℕ) (d : Named) → k < length old → (get_or new k d).instance.hists ≡ (get_or old k d).instance.hists
-hists-each event row cpu pid old armed new came readied k d inside =
-    (readied.came k d (omega (arith, came.many))).1 ∙ ap (λ (i : InstanceSeen). i.hists) (came.came k d inside)
+hists-each old new readied k d inside = (readied.came k d inside).1
 
--- and each that is armed has room
-pub room-each : (event : ℕ) (row : Cells) (cpu : ℕ) (pid : ℤ) (old armed new : List Named) (pending : Pending) (len : ℕ)
-    → EachCame (IsArmedFor event row cpu pid) old armed → EachCame IsReadied armed new → pending.cpu ≡ cpu → length pending.bytes.items ≡ len
+-- and each that records the emission has room
+pub room-each : (old new : List Named) (reaches : Reaches) (pending : Pending) (cpu len : ℕ)
+    → EachCame IsReadied old new → pending.cpu ≡ cpu → length pending.bytes.items ≡ len
     → All (λ (n : Named). cpu < buffers.cpus n.instance.sides.live) old
-    → All (λ (n : Named). n.instance.armed ≡ true → len ≤ get_or (buffers.readies n.instance.sides.live) cpu 0) new
-    → All (λ (n : Named). HasRoom pending n.instance) new
-room-each event row cpu pid old armed new pending len came readied is long cpus room k d inside =
-    let within : k < length old = omega (arith, readied.many, came.many) in
-    let alike = (alike-each event row cpu pid old armed new came readied).came k d within in
+    → AllReached (HasBytes cpu len) reaches new → AllReached (HasRoom pending) reaches new
+room-each old new reaches pending cpu len readied is long cpus room k d inside =
+    let within : k < length old = omega (arith, readied.many) in
+    let alike = (readied.came k d within).0 in
     let below = cpus k d within in
     let last = room k d inside in
     rw (is, long) ((rw alike.cpus below), last)
 
--- a record for which each armed instance has room was written ahead
-pub is-ahead : (old new : State) (event : ℕ) (row : Cells) (cpu : ℕ) (pid : ℤ) (p : Pending)
-    → ((k : ℕ) (d : Named) → k < length old.instances.items
-    → (get_or new.instances.items k d).instance.armed ≡ records (get_or old.instances.items k d).instance event row cpu pid)
-    → ((k : ℕ) (d : Named) → k < length old.instances.items
-    → (get_or new.instances.items k d).instance.fires ≡ fires (get_or old.instances.items k d).instance event row cpu pid)
+-- a record for which each instance has room that records it was written ahead
+pub is-ahead : (old new : State) (event : ℕ) (row : Cells) (cpu : ℕ) (pid : ℤ) (reaches : Reaches) (p : Pending)
     → ((k : ℕ) (d : Named) → k < length old.instances.items
     → (get_or new.instances.items k d).instance.hists ≡ (get_or old.instances.items k d).instance.hists)
     → p.cpu ≡ cpu → p.bytes.items ≡ record_bytes (old.clock + 1) pid (event + 1) row → IsRecord p.bytes.items
-    → All (λ (n : Named). HasRoom p n.instance) new.instances.items → IsAhead old new event row cpu pid (Some p)
-is-ahead old new event row cpu pid p armed firing hists is bytes is_record room = record {
-  armed = armed;
-  fires = firing;
+    → AllReached (HasRoom p) reaches new.instances.items → IsAhead old new event row cpu pid reaches (Some p)
+is-ahead old new event row cpu pid reaches p hists is bytes is_record room = record {
   hists = hists;
   bytes = λ q e.
       let same : p ≡ q = cc in
       subst (λ (r : Pending). (r.cpu ≡ cpu) × (r.bytes.items ≡ record_bytes (old.clock + 1) pid (event + 1) row) × IsRecord r.bytes.items
-      × All (λ (n : Named). HasRoom r n.instance) new.instances.items) same (is, bytes, is_record, room);
+      × AllReached (HasRoom r) reaches new.instances.items) same (is, bytes, is_record, room);
   none = λ e. absurd (cc);
 }
 
@@ -196,12 +174,12 @@ answers-emission g past name cpu pairs k row inside there built = rw (lt-ltb cpu
 
 -- what is written ahead is the record of the emission
 pub is-emission : (g : Config) (old new : State) (past : List Request) (name : List ℕ) (cpu : ℕ) (pid : ℤ) (pairs : List Pair) (found : Found) (row : Cells)
-    (pending : Option Pending) → StandsFor g old past → Some (numbered found) ≡ event_named_in old.catalog name
+    (reaches : Reaches) (pending : Option Pending) → StandsFor g old past → Some (numbered found) ≡ event_named_in old.catalog name
     → IsPlaceOf old.catalog name found.index found.event.now → row_of found.event.now pairs ≡ Ok row → IsStateAlike old new
-    → IsAhead old new found.index row cpu pid pending
+    → AreReached found.index row cpu pid reaches old.instances.items → IsAhead old new found.index row cpu pid reaches pending
     → IsEmission g past (Emission name cpu pid pairs) new.instances.items
-    (record { event = found.index; row = row; cpu = cpu; pid = pid; «record» = pending })
-is-emission g old new past name cpu pid pairs found row pending stands named place built alike ahead = record {
+    (record { event = found.index; row = row; cpu = cpu; pid = pid; reaches = reaches; «record» = pending })
+is-emission g old new past name cpu pid pairs found row reaches pending stands named place built alike are ahead = record {
   declares = refl;
   made = refl;
   removed = refl;
@@ -212,10 +190,10 @@ is-emission g old new past name cpu pid pairs found row pending stands named pla
   row = refl;
   cpu = refl;
   pid = refl;
-  armed = armed;
+  records = recording;
   fires = firing;
   bytes = λ p is. let of = ahead.bytes p is in (rw (← stands.clock) of.1, of.0);
-  none = ahead.none;
+  none = λ is k d inside. are.none (ahead.none is) k d (within k inside);
 }
   where
     e : Emitted
@@ -230,42 +208,46 @@ is-emission g old new past name cpu pid pairs found row pending stands named pla
     own : IsPlaceOf (declared_events past) found.event.now.name found.index found.event.now
     own = record { inside = declared.inside; there = declared.there; named = self found.event.now.name }
 
-    armed : All (λ (n : Named). n.instance.armed ≡ is_recorded n.name past e) new.instances.items
-    armed k d inside =
-        let within : k < length old.instances.items = omega (arith, alike.instances.many) in
-        let was = get_or old.instances.items k d in
-        let named_so = alike.instances.names k d within in
-        rw named_so (ahead.armed k d within
-        ∙ records-found g was.name past was.instance found name row cpu pid (now_of past + 1) (stands.each k d within) declared)
+    within : (k : ℕ) → k < length new.instances.items → k < length old.instances.items
+    within k inside = omega (arith, inside, alike.instances.many)
 
-    firing : All (λ (n : Named). n.instance.fires ≡ is_exchanged_by n.name past (Some e)) new.instances.items
+    recording : (k : ℕ) (d : Named) → k < length new.instances.items
+        → (reach_at reaches k).records ≡ is_recorded (get_or new.instances.items k d).name past e
+    recording k d inside =
+        let was = get_or old.instances.items k d in
+        let named_so = alike.instances.names k d (within k inside) in
+        rw named_so (ap (λ (r : Reach). r.records) (are.each k d (within k inside))
+        ∙ records-found g was.name past was.instance found name row cpu pid (now_of past + 1) (stands.each k d (within k inside)) declared)
+
+    firing : (k : ℕ) (d : Named) → k < length new.instances.items
+        → (reach_at reaches k).fires ≡ is_exchanged_by (get_or new.instances.items k d).name past (Some e)
     firing k d inside =
-        let within : k < length old.instances.items = omega (arith, alike.instances.many) in
         let was = get_or old.instances.items k d in
-        let named_so = alike.instances.names k d within in
-        rw named_so (ahead.fires k d within ∙ fires-found g was.name past was.instance e found.index (stands.each k d within) own)
+        let named_so = alike.instances.names k d (within k inside) in
+        rw named_so (ap (λ (r : Reach). r.fires) (are.each k d (within k inside))
+        ∙ fires-found g was.name past was.instance e found.index (stands.each k d (within k inside)) own)
 
--- a record for which each armed instance has room can be written
-can-be-written : (g : Config) (old new : State) (event : ℕ) (row : Cells) (cpu : ℕ) (pid : ℤ) (pending : Option Pending)
-    → IsAhead old new event row cpu pid pending → ((p : Pending) → pending ≡ Some p → length p.bytes.items ≤ g.page_bytes)
-    → CanBeWritten g new.instances.items pending
-can-be-written g old new event row cpu pid None ahead short = tt
-can-be-written g old new event row cpu pid (Some p) ahead short = let of = ahead.bytes p refl in (of.2, short p refl, of.3)
+-- a record for which each instance has room that records it can be written
+can-be-written : (g : Config) (old new : State) (event : ℕ) (row : Cells) (cpu : ℕ) (pid : ℤ) (reaches : Reaches) (pending : Option Pending)
+    → IsAhead old new event row cpu pid reaches pending → ((p : Pending) → pending ≡ Some p → length p.bytes.items ≤ g.page_bytes)
+    → CanBeWritten g new.instances.items reaches pending
+can-be-written g old new event row cpu pid reaches None ahead short = tt
+can-be-written g old new event row cpu pid reaches (Some p) ahead short = let of = ahead.bytes p refl in (of.2, short p refl, of.3)
 
 -- and so all is there for the emission
 pub ready-emission : (g : Config) (old new : State) (past : List Request) (request : Request) (event : ℕ) (row : Cells) (cpu : ℕ) (pid : ℤ)
-    (pending : Option Pending) → StandsFor g new past
-    → IsEmission g past request new.instances.items (record { event = event; row = row; cpu = cpu; pid = pid; «record» = pending })
+    (reaches : Reaches) (pending : Option Pending) → StandsFor g new past
+    → IsEmission g past request new.instances.items (record { event = event; row = row; cpu = cpu; pid = pid; reaches = reaches; «record» = pending })
     → length new.instances.items ≡ length old.instances.items
     → All (λ (n : Named). CanCountRow (record { values = row.values; cpu = cpu; pid = pid }) event n.instance) old.instances.items
-    → IsAhead old new event row cpu pid pending → ((p : Pending) → pending ≡ Some p → length p.bytes.items ≤ g.page_bytes)
-    → CanEmit g new (record { event = event; row = row; cpu = cpu; pid = pid; «record» = pending })
-ready-emission g old new past request event row cpu pid pending stands emission many counted ahead short = (
+    → IsAhead old new event row cpu pid reaches pending → ((p : Pending) → pending ≡ Some p → length p.bytes.items ≤ g.page_bytes)
+    → CanEmit g new (record { event = event; row = row; cpu = cpu; pid = pid; reaches = reaches; «record» = pending })
+ready-emission g old new past request event row cpu pid reaches pending stands emission many counted ahead short = (
   rw stands.events emission.place.inside,
-  can-be-written g old new event row cpu pid pending ahead short,
+  can-be-written g old new event row cpu pid reaches pending ahead short,
   λ k d inside.
       let n = get_or new.instances.items k d in
-      can-fire g n.name past emission.e event n.instance (stands.each k d inside) emission.place (emission.fires k d inside),
+      can-fire g n.name past emission.e event (reach_at reaches k) n.instance (stands.each k d inside) emission.place (emission.fires k d inside),
   λ k d inside.
       let within : k < length old.instances.items = omega (arith, inside, many) in
       subst (λ (hists : List (List AttachedHist)). All (CanCount (record { values = row.values; cpu = cpu; pid = pid })) (get_or hists event []))

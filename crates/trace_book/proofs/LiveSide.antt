@@ -15,6 +15,7 @@ use Rattle.trace_book.specs.States.{HasRoom, IsDelivered, IsExchanged, IsOffered
 use Rattle.trace_book.specs.declared.change.Delivery.{Delivery}
 use Rattle.trace_book.specs.declared.change.InstanceChange.TheVariants.{Clear, ClearSpare, TakeSnapshot}
 use Rattle.trace_book.specs.declared.change.Pending.{Pending}
+use Rattle.trace_book.specs.declared.change.Reach.{Reach}
 use Rattle.trace_book.specs.declared.hists.AttachedHist.{AttachedHist}
 use Rattle.trace_book.proofs.EachInstance.{recursion_at}
 
@@ -190,16 +191,16 @@ like kept lent new lends cpus pages page_bytes = record {
 }
 
 -- a record was put there
-pub written : (p : Pending) (value old : InstanceSeen) (lent new : buffers.Seen) (bytes : List ℕ) → old ≡ value → lent ≡ old.sides.live
-    → bytes ≡ p.bytes.items → old.armed ≡ true → HasRoom p value
+pub written : (p : Pending) (reach : Reach) (value old : InstanceSeen) (lent new : buffers.Seen) (bytes : List ℕ) → old ≡ value → lent ≡ old.sides.live
+    → bytes ≡ p.bytes.items → reach.records ≡ true → HasRoom p reach value
     → ((family : List (List Event)) → buffers.StandsFor lent family → buffers.StandsFor new (with_events p.cpu (Put bytes old.overwrite ∷ []) family))
     → buffers.cpus new ≡ buffers.cpus lent → new.pages ≡ lent.pages → new.page_bytes ≡ lent.page_bytes
     → buffers.offers new ≡ set (buffers.offers lent) p.cpu (get_or (buffers.offers lent) p.cpu 0 + 1)
-    → IsWritten p value (record old { sides = record old.sides { live = new } })
-written p value old lent new bytes view lends copied armed room stands cpus pages page_bytes offers =
-    subst (λ (v : InstanceSeen). IsWritten p v (record old { sides = record old.sides { live = new } })) view (record {
+    → IsWritten p reach value (record old { sides = record old.sides { live = new } })
+written p reach value old lent new bytes view lends copied records room stands cpus pages page_bytes offers =
+    subst (λ (v : InstanceSeen). IsWritten p reach v (record old { sides = record old.sides { live = new } })) view (record {
       rest = refl;
-      sides = λ f s. rw armed (live-stands old.sides new f (with_events p.cpu (Put p.bytes.items old.overwrite ∷ []) f.live) s
+      sides = λ f s. rw records (live-stands old.sides new f (with_events p.cpu (Put p.bytes.items old.overwrite ∷ []) f.live) s
           (subst (λ (bs : List ℕ). buffers.StandsFor new (with_events p.cpu (Put bs old.overwrite ∷ []) f.live)) copied
           (stands f.live (subst (λ (b : buffers.Seen). buffers.StandsFor b f.live) (sym lends) s.live))));
       spare = refl;
@@ -214,10 +215,10 @@ written p value old lent new bytes view lends copied armed room stands cpus page
     inside : p.cpu < length (buffers.offers old.sides.live)
     inside = omega (arith, here, length-map old.sides.live.rings ring.offered)
 
-pub unwritten : (p : Pending) (i : InstanceSeen) → i.armed ≡ false → IsWritten p i i
-unwritten p i unarmed = record {
+pub unwritten : (p : Pending) (reach : Reach) (i : InstanceSeen) → reach.records ≡ false → IsWritten p reach i i
+unwritten p reach i none = record {
   rest = refl;
-  sides = λ f s. rw unarmed s;
+  sides = λ f s. rw none s;
   spare = refl;
   shaped = λ g s. s;
   offered = λ most all. offered_more most i.sides all;
@@ -280,24 +281,25 @@ emptied value old new view live spare stands shape =
 
 -- ---- an emission
 
--- the record, if there is one, came to the live side if the instance is armed
-pub record IsAccepted (pending : Option Pending) (old new : InstanceSeen) : Type 0 where
+-- the record, if there is one, came to the live side if it is written here
+pub record IsAccepted (pending : Option Pending) (reach : Reach) (old new : InstanceSeen) : Type 0 where
   pub rest : new ≡ record old { sides = new.sides }
   pub sides : (f : SideFamilies) → StandsFor old.sides f
-      → StandsFor new.sides (record { live = recorded_in old.armed old.overwrite pending f.live; spare = f.spare })
+      → StandsFor new.sides (record { live = recorded_in reach.records old.overwrite pending f.live; spare = f.spare })
   pub shaped : (g : Config) → IsShaped g old.sides → IsShaped g new.sides
   pub offered : (most : ℕ) → WereOffered most old.sides → WereOffered (most + 1) new.sides
 
-pub accepted_none : (pending : Option Pending) (i : InstanceSeen) → pending ≡ None → IsAccepted pending i i
-accepted_none pending i none = record {
+pub accepted_none : (pending : Option Pending) (reach : Reach) (i : InstanceSeen) → pending ≡ None → IsAccepted pending reach i i
+accepted_none pending reach i none = record {
   rest = refl;
   sides = λ f s. rw none s;
   shaped = λ g s. s;
   offered = λ most all. offered_more most i.sides all;
 }
 
-pub accepted_some : (pending : Option Pending) (p : Pending) (old new : InstanceSeen) → pending ≡ Some p → IsWritten p old new → IsAccepted pending old new
-accepted_some pending p old new some w = record {
+pub accepted_some : (pending : Option Pending) (p : Pending) (reach : Reach) (old new : InstanceSeen) → pending ≡ Some p → IsWritten p reach old new
+    → IsAccepted pending reach old new
+accepted_some pending p reach old new some w = record {
   rest = w.rest;
   sides = λ f s. rw some (w.sides f s);
   shaped = w.shaped;
@@ -305,21 +307,22 @@ accepted_some pending p old new some w = record {
 }
 
 -- and then the row was offered to the hist triggers of the event
-pub record IsTakenIn (d : Delivery) (old new : InstanceSeen) : Type 0 where
+pub record IsTakenIn (d : Delivery) (reach : Reach) (old new : InstanceSeen) : Type 0 where
   pub rest : new ≡ record old { hists = new.hists; sides = new.sides }
   pub hists : WereOfferedRow (row_of d) d.event (hists_kept old.hists) (hists_kept new.hists)
   pub sides : (f : SideFamilies) → StandsFor old.sides f
-      → StandsFor new.sides (record { live = recorded_in old.armed old.overwrite d.record f.live; spare = f.spare })
+      → StandsFor new.sides (record { live = recorded_in reach.records old.overwrite d.record f.live; spare = f.spare })
   pub shaped : (g : Config) → IsShaped g old.sides → IsShaped g new.sides
   pub offered : (most : ℕ) → WereOffered most old.sides → WereOffered (most + 1) new.sides
 
-pub taken_in : (d : Delivery) (old between new : InstanceSeen) → IsAccepted d.record old between → IsOffered d between new → IsTakenIn d old new
-taken_in d old between new a o = record {
+pub taken_in : (d : Delivery) (reach : Reach) (old between new : InstanceSeen) → IsAccepted d.record reach old between → IsOffered d between new
+    → IsTakenIn d reach old new
+taken_in d reach old between new a o = record {
   rest = o.rest ∙ ap (λ (i : InstanceSeen). record i { hists = new.hists }) a.rest
       ∙ ap (λ (s : SidesSeen). record old { hists = new.hists; sides = s }) (sym same);
   hists = subst (λ (h : List (List AttachedHist)). WereOfferedRow (row_of d) d.event (hists_kept h) (hists_kept new.hists))
       (ap (λ (i : InstanceSeen). i.hists) a.rest) o.hists;
-  sides = λ f s. subst (λ (n : SidesSeen). StandsFor n (record { live = recorded_in old.armed old.overwrite d.record f.live; spare = f.spare }))
+  sides = λ f s. subst (λ (n : SidesSeen). StandsFor n (record { live = recorded_in reach.records old.overwrite d.record f.live; spare = f.spare }))
       (sym same) (a.sides f s);
   shaped = λ g s. subst (IsShaped g) (sym same) (a.shaped g s);
   offered = λ most all. subst (WereOffered (most + 1)) (sym same) (a.offered most all);
@@ -329,34 +332,33 @@ taken_in d old between new a o = record {
     same = ap (λ (i : InstanceSeen). i.sides) o.rest
 
 -- and the sides stay where the trigger does not act
-pub delivered_still : (d : Delivery) (old new : InstanceSeen) → IsTakenIn d old new → new.fires ≡ false → IsDelivered d old new
-delivered_still d old new a still =
-    let off : old.fires ≡ false = sym (ap (λ (i : InstanceSeen). i.fires) a.rest) ∙ still in record {
-      enabled = ap (λ (i : InstanceSeen). i.enabled) a.rest;
-      filters = ap (λ (i : InstanceSeen). i.filters) a.rest;
-      triggers = rw off (ap (λ (i : InstanceSeen). i.triggers) a.rest);
-      hists = a.hists;
-      overwrite = ap (λ (i : InstanceSeen). i.overwrite) a.rest;
-      tracing = ap (λ (i : InstanceSeen). i.tracing) a.rest;
-      sides = λ f s. rw off (a.sides f s);
-      shaped = a.shaped;
-      offered = a.offered;
-    }
+pub delivered_still : (d : Delivery) (reach : Reach) (old new : InstanceSeen) → IsTakenIn d reach old new → reach.fires ≡ false
+    → IsDelivered d reach old new
+delivered_still d reach old new a off = record {
+  enabled = ap (λ (i : InstanceSeen). i.enabled) a.rest;
+  filters = ap (λ (i : InstanceSeen). i.filters) a.rest;
+  triggers = rw off (ap (λ (i : InstanceSeen). i.triggers) a.rest);
+  hists = a.hists;
+  overwrite = ap (λ (i : InstanceSeen). i.overwrite) a.rest;
+  tracing = ap (λ (i : InstanceSeen). i.tracing) a.rest;
+  sides = λ f s. rw off (a.sides f s);
+  shaped = a.shaped;
+  offered = a.offered;
+}
 
 -- and are exchanged where it does
-pub delivered_exchanged : (d : Delivery) (old between new : InstanceSeen) → IsTakenIn d old between → between.fires ≡ true
-    → IsExchanged d.event between new → IsDelivered d old new
-delivered_exchanged d old between new a fires x =
-    let on : old.fires ≡ true = sym (ap (λ (i : InstanceSeen). i.fires) a.rest) ∙ fires in record {
-      enabled = ap (λ (i : InstanceSeen). i.enabled) x.rest ∙ ap (λ (i : InstanceSeen). i.enabled) a.rest;
-      filters = ap (λ (i : InstanceSeen). i.filters) x.rest ∙ ap (λ (i : InstanceSeen). i.filters) a.rest;
-      triggers = rw on (ap (λ (i : InstanceSeen). i.triggers) x.rest
-          ∙ ap (λ (i : InstanceSeen). set i.triggers d.event (counted_down (get_or i.triggers d.event None))) a.rest);
-      hists = subst (λ (h : List (List AttachedHist)). WereOfferedRow (row_of d) d.event (hists_kept old.hists) (hists_kept h))
-          (sym (ap (λ (i : InstanceSeen). i.hists) x.rest)) a.hists;
-      overwrite = ap (λ (i : InstanceSeen). i.overwrite) x.rest ∙ ap (λ (i : InstanceSeen). i.overwrite) a.rest;
-      tracing = ap (λ (i : InstanceSeen). i.tracing) x.rest ∙ ap (λ (i : InstanceSeen). i.tracing) a.rest;
-      sides = λ f s. rw on (x.sides (record { live = recorded_in old.armed old.overwrite d.record f.live; spare = f.spare }) (a.sides f s));
-      shaped = λ g s. x.shaped g (a.shaped g s);
-      offered = λ most all. x.offered (most + 1) (a.offered most all);
-    }
+pub delivered_exchanged : (d : Delivery) (reach : Reach) (old between new : InstanceSeen) → IsTakenIn d reach old between → reach.fires ≡ true
+    → IsExchanged d.event between new → IsDelivered d reach old new
+delivered_exchanged d reach old between new a on x = record {
+  enabled = ap (λ (i : InstanceSeen). i.enabled) x.rest ∙ ap (λ (i : InstanceSeen). i.enabled) a.rest;
+  filters = ap (λ (i : InstanceSeen). i.filters) x.rest ∙ ap (λ (i : InstanceSeen). i.filters) a.rest;
+  triggers = rw on (ap (λ (i : InstanceSeen). i.triggers) x.rest
+      ∙ ap (λ (i : InstanceSeen). set i.triggers d.event (counted_down (get_or i.triggers d.event None))) a.rest);
+  hists = subst (λ (h : List (List AttachedHist)). WereOfferedRow (row_of d) d.event (hists_kept old.hists) (hists_kept h))
+      (sym (ap (λ (i : InstanceSeen). i.hists) x.rest)) a.hists;
+  overwrite = ap (λ (i : InstanceSeen). i.overwrite) x.rest ∙ ap (λ (i : InstanceSeen). i.overwrite) a.rest;
+  tracing = ap (λ (i : InstanceSeen). i.tracing) x.rest ∙ ap (λ (i : InstanceSeen). i.tracing) a.rest;
+  sides = λ f s. rw on (x.sides (record { live = recorded_in reach.records old.overwrite d.record f.live; spare = f.spare }) (a.sides f s));
+  shaped = λ g s. x.shaped g (a.shaped g s);
+  offered = λ most all. x.offered (most + 1) (a.offered most all);
+}

@@ -20,7 +20,7 @@ use Rattle.trace_history.specs.Settings.{declares, declared_events, instance_nam
 use Rattle.trace_history.proofs.EventLists.{AreEvents-push}
 use Rattle.trace_history.proofs.Events.{fit-push}
 use Rattle.trace_book.specs.Instances.{InstanceSeen, InstanceStandsFor}
-use Rattle.trace_book.specs.States.{IsChangeOf, IsDeclared, IsEmission, IsFresh, IsMade, IsEmitted, IsPrepared, IsPreparedEmission, IsReady, IsRemoved, IsStep, StandsFor, names_of, row_of}
+use Rattle.trace_book.specs.States.{IsChangeOf, IsDeclared, IsEmission, IsFresh, IsMade, IsEmitted, IsPrepared, IsPreparedEmission, IsReady, IsRemoved, IsStep, StandsFor, names_of, reach_at, row_of}
 use Rattle.trace_history.specs.HistTriggers.{counted_row}
 use Rattle.trace_book.specs.declared.change.Change.{Change}
 use Rattle.trace_book.specs.declared.change.Change.TheVariants.{Declare, Make, Remove, Instance}
@@ -254,8 +254,9 @@ emit_stands g old new past request reply delivery stands given is step =
     let each : (k : ℕ) (d : Named) → k < length old.instances.items
     → InstanceStandsFor g (get_or old.instances.items k d).name (request ∷ past) (get_or new.instances.items k d).instance = λ k d inside.
     let n = get_or old.instances.items k d in
-    delivered-stands g n.name past request is.e delivery n.instance (get_or new.instances.items k d).instance is.emitted stands.distinct
-    (stands.each k d inside) is.place (is.armed k d inside) (is.fires k d inside) is.bytes (λ none. is.none none k d inside) row (came.came k d inside) in
+    delivered-stands g n.name past request is.e delivery (reach_at delivery.reaches k) n.instance (get_or new.instances.items k d).instance is.emitted
+    stands.distinct (stands.each k d inside) is.place (is.records k d inside) (is.fires k d inside) is.bytes (λ none. is.none none k d inside) row
+    (came.came k d inside) in
     state-after g old new past request reply None stands given is.declares (none_fresh g past) (catalog-same old new step.0)
     (omega (arith, is.ticks, step.1))
     (same_instances g old new.instances.items past request stands is.made is.removed came.many came.names each)

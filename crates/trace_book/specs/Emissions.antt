@@ -1,40 +1,43 @@
--- What an emission that is prepared leaves of the instances: room, which of them are armed, and which of them are to exchange their sides.
-use Rattle.std.specs.Prelude.{◌≡◌, ℕ, ℤ, ◌+◌, ◌<◌, false, length, All, slice_index_or, Option, Some, None}
+-- What an emission that is prepared does in each instance, and the room that it has there.
+use Rattle.std.specs.Prelude.{◌≡◌, ℕ, ℤ, ◌+◌, ◌<◌, ◌≤◌, true, false, List, length, slice_index_or, Option, Some, None}
+use Rattle.trace_buffer.specs.Buffers as buffers
 use Rattle.trace_format.specs.Cells.{Cells}
 use Rattle.trace_record.specs.Record.{IsRecord}
 use Rattle.trace_history.specs.Emissions.{record_bytes}
 use Rattle.trace_book.specs.Instances.{InstanceSeen, IsAlike}
-use Rattle.trace_book.specs.Rows.{fires, records}
-use Rattle.trace_book.specs.States.{EachCame, HasRoom}
+use Rattle.trace_book.specs.Rows.{reach_of}
+use Rattle.trace_book.specs.States.{AllReached, EachCame, HasRoom}
 use Rattle.trace_book.specs.declared.change.Pending.{Pending}
+use Rattle.trace_book.specs.declared.change.Reach.{Reach}
+use Rattle.trace_book.specs.declared.change.Reaches.{Reaches}
 use Rattle.trace_book.specs.declared.state.Named.{Named}
 use Rattle.trace_book.specs.declared.state.State.{State}
 
--- the instance was armed for an emission of the event at this place, if it records that, and is to exchange its sides, if a trigger acts on it
-abbrev pub IsArmedFor : ℕ → Cells → ℕ → ℤ → InstanceSeen → InstanceSeen → Type 0
-IsArmedFor event row cpu pid i j = j ≡ record i { armed = records i event row cpu pid; fires = fires i event row cpu pid }
+-- what an emission of the event at this place does in each instance is this, and if none is said to record it, none does
+pub record AreReached (event : ℕ) (row : Cells) (cpu : ℕ) (pid : ℤ) (reaches : Reaches) (instances : List Named) : Type 0 where
+  pub each : AllReached (λ reach i. reach ≡ reach_of i event row cpu pid) reaches instances
+  pub none : reaches.recorded ≡ false → AllReached (λ reach i. reach.records ≡ false) reaches instances
 
 -- room was made, perhaps
 abbrev pub IsReadied : InstanceSeen → InstanceSeen → Type 0
-IsReadied i j = IsAlike i j × (j.hists ≡ i.hists) × (j.armed ≡ i.armed) × (j.fires ≡ i.fires)
+IsReadied i j = IsAlike i j × (j.hists ≡ i.hists)
 
--- a state agrees with another in all but room and what is being prepared
+-- the ring of a CPU has room for so many bytes, if a record is written
+abbrev pub HasBytes : ℕ → ℕ → Reach → InstanceSeen → Type 0
+HasBytes cpu bytes reach i = reach.records ≡ true → bytes ≤ slice_index_or (buffers.readies i.sides.live) cpu 0
+
+-- a state agrees with another in all but room
 pub record IsStateAlike (old new : State) : Type 0 where
   pub catalog : new.catalog ≡ old.catalog
   pub clock : new.clock ≡ old.clock
   pub instances : EachCame IsAlike old.instances.items new.instances.items
 
--- each instance is armed exactly if it records the emission, and is to exchange its sides exactly if a trigger acts on it; and its hist
--- triggers are as they were. What was written ahead is the emission's record, for which each armed
--- instance has room; nothing was, where none is armed
-pub record IsAhead (old new : State) (event : ℕ) (row : Cells) (cpu : ℕ) (pid : ℤ) (pending : Option Pending) : Type 0 where
-  pub armed : (k : ℕ) (d : Named) → k < length old.instances.items
-      → (slice_index_or new.instances.items k d).instance.armed ≡ records (slice_index_or old.instances.items k d).instance event row cpu pid
-  pub fires : (k : ℕ) (d : Named) → k < length old.instances.items
-      → (slice_index_or new.instances.items k d).instance.fires ≡ fires (slice_index_or old.instances.items k d).instance event row cpu pid
+-- what was written ahead is the emission's record, for which each instance that records it has room; nothing was, where none records it. The hist
+-- triggers are as they were
+pub record IsAhead (old new : State) (event : ℕ) (row : Cells) (cpu : ℕ) (pid : ℤ) (reaches : Reaches) (pending : Option Pending) : Type 0 where
   pub bytes : (p : Pending) → pending ≡ Some p
       → (p.cpu ≡ cpu) × (p.bytes.items ≡ record_bytes (old.clock + 1) pid (event + 1) row) × IsRecord p.bytes.items
-      × All (λ (n : Named). HasRoom p n.instance) new.instances.items
+      × AllReached (HasRoom p) reaches new.instances.items
   pub hists : (k : ℕ) (d : Named) → k < length old.instances.items
       → (slice_index_or new.instances.items k d).instance.hists ≡ (slice_index_or old.instances.items k d).instance.hists
-  pub none : pending ≡ None → All (λ (n : Named). n.instance.armed ≡ false) new.instances.items
+  pub none : pending ≡ None → reaches.recorded ≡ false

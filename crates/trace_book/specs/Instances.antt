@@ -18,8 +18,8 @@ use Rattle.trace_book.specs.declared.hists.AttachedHist.{AttachedHist}
 use Rattle.trace_book.specs.declared.trigger.Trigger.{Trigger}
 use Rattle.trace_book.specs.KeptHists.{KeptHist, kept_hists, kept_of}
 
--- which events are enabled, their filters, their triggers for snapshots and their hist triggers, in order of declaration; whether records may overwrite older ones, and whether it
--- records at all; its rings; and whether it is to record the emission that is being prepared, and whether that makes a trigger act
+-- which events are enabled, their filters, their triggers for snapshots and their hist triggers, in order of declaration; whether records may overwrite
+-- older ones, and whether it records at all; and its rings
 pub record InstanceSeen : Type 0 where
   pub enabled : List Bool
   pub filters : List (Option Parsed)
@@ -28,8 +28,6 @@ pub record InstanceSeen : Type 0 where
   pub overwrite : Bool
   pub tracing : Bool
   pub sides : SidesSeen
-  pub armed : Bool
-  pub fires : Bool
 
 -- ---- the shape of rings, and how many records they were offered
 
@@ -87,7 +85,7 @@ pub record InstanceStandsFor (g : Config) (name : Option (List ℕ)) (past : Lis
   pub offered : WereOffered (length past) i.sides
   pub spared : IsSpared g name (declared_events past) past
 
--- two instances agree in all but room for records, and what is being prepared
+-- two instances agree in all but room for records and rows
 pub record IsAlike (old new : InstanceSeen) : Type 0 where
   pub enabled : new.enabled ≡ old.enabled
   pub filters : new.filters ≡ old.filters

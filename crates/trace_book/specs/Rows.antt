@@ -5,6 +5,7 @@ use Rattle.trace_filter.specs.Values.{holds_of}
 use Rattle.trace_format.specs.Cells.{Cells}
 use Rattle.trace_history.specs.Triggers.{is_left}
 use Rattle.trace_book.specs.Instances.{InstanceSeen}
+use Rattle.trace_book.specs.declared.change.Reach.{Reach}
 use Rattle.trace_book.specs.declared.trigger.Trigger.{Trigger}
 
 -- whether a kept filter holds of an emission
@@ -25,3 +26,7 @@ kept_acts (Some t) row cpu pid = is_left t.left && kept_holds t.filter row cpu p
 -- whether an emission of the event at this place makes its trigger act
 abbrev pub fires : InstanceSeen → ℕ → Cells → ℕ → ℤ → Bool
 fires i event row cpu pid = kept_acts (slice_index_or i.triggers event None) row cpu pid
+
+-- what it does in an instance
+abbrev pub reach_of : InstanceSeen → ℕ → Cells → ℕ → ℤ → Reach
+reach_of i event row cpu pid = record { records = records i event row cpu pid; fires = fires i event row cpu pid }

@@ -32,6 +32,8 @@ use Rattle.trace_book.specs.declared.change.Change.TheVariants.{Declare, Make, R
 use Rattle.trace_book.specs.declared.change.InstanceChange.TheVariants.{Keep}
 use Rattle.trace_book.specs.declared.change.Delivery.{Delivery}
 use Rattle.trace_book.specs.declared.change.Pending.{Pending}
+use Rattle.trace_book.specs.declared.change.Reach.{Reach}
+use Rattle.trace_book.specs.declared.change.Reaches.{Reaches}
 use Rattle.trace_book.specs.declared.state.Named.{Named}
 use Rattle.trace_book.specs.declared.state.Prepared.{Prepared}
 use Rattle.trace_book.specs.declared.state.State.{State}
@@ -100,16 +102,28 @@ abbrev pub counted_down : Option Trigger → Option Trigger
 counted_down None = None
 counted_down (Some t) = Some (record { number = t.number; left = option_map (λ times. times - 1) t.left; filter = t.filter })
 
--- the live side's rings after an emission: with its record, if there is one and the instance is armed
-abbrev pub recorded_in : Bool → Bool → Option Pending → List (List ring.Event) → List (List ring.Event)
-recorded_in armed overwrite None family = family
-recorded_in armed overwrite (Some p) family = if armed then with_events p.cpu (ring.Put p.bytes.items overwrite ∷ []) family else family
+-- what an emission does where it does nothing
+abbrev pub no_reach : Reach
+no_reach = record { records = false; fires = false }
 
--- the record is written if the instance is armed
-pub record IsWritten (pending : Pending) (old new : InstanceSeen) : Type 0 where
+-- what it does in the instance at a place
+abbrev pub reach_at : Reaches → ℕ → Reach
+reach_at reaches k = slice_index_or reaches.each k no_reach
+
+-- this holds of what it does in each instance, and of that
+abbrev pub AllReached : (Reach → InstanceSeen → Type 0) → Reaches → List Named → Type 0
+AllReached R reaches instances = (k : ℕ) (n : Named) → k < length instances → R (reach_at reaches k) (slice_index_or instances k n).instance
+
+-- the live side's rings after an emission: with its record, if there is one and it is written here
+abbrev pub recorded_in : Bool → Bool → Option Pending → List (List ring.Event) → List (List ring.Event)
+recorded_in records overwrite None family = family
+recorded_in records overwrite (Some p) family = if records then with_events p.cpu (ring.Put p.bytes.items overwrite ∷ []) family else family
+
+-- the record is written, if it is written here
+pub record IsWritten (pending : Pending) (reach : Reach) (old new : InstanceSeen) : Type 0 where
   pub rest : new ≡ record old { sides = new.sides }
   pub sides : (families : SideFamilies) → snapshot.StandsFor old.sides families → snapshot.StandsFor new.sides
-      (record { live = recorded_in old.armed old.overwrite (Some pending) families.live; spare = families.spare })
+      (record { live = recorded_in reach.records old.overwrite (Some pending) families.live; spare = families.spare })
   pub spare : new.sides.spare ≡ old.sides.spare
   pub shaped : (g : Config) → IsShaped g old.sides → IsShaped g new.sides
   pub offered : (most : ℕ) → WereOffered most old.sides → WereOffered (most + 1) new.sides
@@ -122,10 +136,10 @@ pub record IsExchanged (event : ℕ) (old new : InstanceSeen) : Type 0 where
   pub offered : (most : ℕ) → WereOffered most old.sides → WereOffered most new.sides
 
 -- both sides after it: the record is written before the sides are exchanged
-abbrev pub delivered_to : InstanceSeen → Delivery → SideFamilies → SideFamilies
-delivered_to i d f =
-    let written : SideFamilies = record { live = recorded_in i.armed i.overwrite d.record f.live; spare = f.spare } in
-    if i.fires then exchanged written else written
+abbrev pub delivered_to : InstanceSeen → Delivery → Reach → SideFamilies → SideFamilies
+delivered_to i d reach f =
+    let written : SideFamilies = record { live = recorded_in reach.records i.overwrite d.record f.live; spare = f.spare } in
+    if reach.fires then exchanged written else written
 
 -- the row of an emission, as a histogram takes it
 abbrev pub row_of : Delivery → Emission
@@ -142,17 +156,17 @@ pub record IsOffered (d : Delivery) (old new : InstanceSeen) : Type 0 where
   pub rest : new ≡ record old { hists = new.hists }
   pub hists : WereOfferedRow (row_of d) d.event (hists_kept old.hists) (hists_kept new.hists)
 
--- an emission reached an instance: its record is written if the instance is armed; then the event's hist triggers are offered its row; and then
--- the event's trigger for snapshots acts if the emission makes it
-pub record IsDelivered (d : Delivery) (old new : InstanceSeen) : Type 0 where
+-- an emission reached an instance, where it does this: its record is written, or not; then the event's hist triggers are offered its row; and then
+-- the event's trigger for snapshots acts, or not
+pub record IsDelivered (d : Delivery) (reach : Reach) (old new : InstanceSeen) : Type 0 where
   pub enabled : new.enabled ≡ old.enabled
   pub filters : new.filters ≡ old.filters
   pub triggers : new.triggers
-      ≡ (if old.fires then slice_set old.triggers d.event (counted_down (slice_index_or old.triggers d.event None)) else old.triggers)
+      ≡ (if reach.fires then slice_set old.triggers d.event (counted_down (slice_index_or old.triggers d.event None)) else old.triggers)
   pub hists : WereOfferedRow (row_of d) d.event (hists_kept old.hists) (hists_kept new.hists)
   pub overwrite : new.overwrite ≡ old.overwrite
   pub tracing : new.tracing ≡ old.tracing
-  pub sides : (families : SideFamilies) → snapshot.StandsFor old.sides families → snapshot.StandsFor new.sides (delivered_to old d families)
+  pub sides : (families : SideFamilies) → snapshot.StandsFor old.sides families → snapshot.StandsFor new.sides (delivered_to old d reach families)
   pub shaped : (g : Config) → IsShaped g old.sides → IsShaped g new.sides
   pub offered : (most : ℕ) → WereOffered most old.sides → WereOffered (most + 1) new.sides
 
@@ -161,6 +175,13 @@ pub record EachCame (R : InstanceSeen → InstanceSeen → Type 0) (old new : Li
   pub many : length new ≡ length old
   pub names : (k : ℕ) (d : Named) → k < length old → (slice_index_or new k d).name ≡ (slice_index_or old k d).name
   pub came : (k : ℕ) (d : Named) → k < length old → R (slice_index_or old k d).instance (slice_index_or new k d).instance
+
+-- each has its name still, and an emission reached it
+pub record EachDelivered (d : Delivery) (old new : List Named) : Type 0 where
+  pub many : length new ≡ length old
+  pub names : (k : ℕ) (n : Named) → k < length old → (slice_index_or new k n).name ≡ (slice_index_or old k n).name
+  pub came : (k : ℕ) (n : Named) → k < length old
+      → IsDelivered d (reach_at d.reaches k) (slice_index_or old k n).instance (slice_index_or new k n).instance
 
 -- this came of the instance at a place, and the others are as they were
 pub record OneCame (R : InstanceSeen → InstanceSeen → Type 0) (place : ℕ) (old new : List Named) : Type 0 where
@@ -185,7 +206,7 @@ IsStep old new (Instance place change) =
 -- an emission was brought to each instance, and the clock ticked
 abbrev pub IsEmitted : State → State → Delivery → Type 0
 IsEmitted old new delivery =
-    (new.catalog ≡ old.catalog) × (new.clock ≡ old.clock + 1) × EachCame (IsDelivered delivery) old.instances.items new.instances.items
+    (new.catalog ≡ old.catalog) × (new.clock ≡ old.clock + 1) × EachDelivered delivery old.instances.items new.instances.items
 
 -- ---- when a change is what a request says
 
@@ -241,8 +262,8 @@ pub record IsChanged (g : Config) (past : List Request) (request : Request) (nam
   pub plain : IsPlain request
   pub others : (other : Option (List ℕ)) → is_same other name ≡ false → IsEffect g other past request Keep
 
--- the request emits this row: what was prepared for it is its record, if some instance records it, and each instance whose sides it exchanges
--- is to do so
+-- the request emits this row: it is written in each instance that records it, and exchanges the sides of each whose trigger it makes act; and what
+-- was prepared for it is its record, if some instance records it
 pub record IsEmission (g : Config) (past : List Request) (request : Request) (instances : List Named) (d : Delivery) : Type 0 where
   pub declares : declares request ≡ None
   pub made : made request ≡ None
@@ -254,10 +275,12 @@ pub record IsEmission (g : Config) (past : List Request) (request : Request) (in
   pub row : d.row.values ≡ e.row.values
   pub cpu : d.cpu ≡ e.cpu
   pub pid : d.pid ≡ e.pid
-  pub armed : All (λ (n : Named). n.instance.armed ≡ is_recorded n.name past e) instances
-  pub fires : All (λ (n : Named). n.instance.fires ≡ is_exchanged_by n.name past (Some e)) instances
+  pub records : (k : ℕ) (n : Named) → k < length instances
+      → (reach_at d.reaches k).records ≡ is_recorded (slice_index_or instances k n).name past e
+  pub fires : (k : ℕ) (n : Named) → k < length instances
+      → (reach_at d.reaches k).fires ≡ is_exchanged_by (slice_index_or instances k n).name past (Some e)
   pub bytes : (p : Pending) → d.record ≡ Some p → (p.bytes.items ≡ emitted_bytes e) × (p.cpu ≡ e.cpu)
-  pub none : d.record ≡ None → All (λ (n : Named). n.instance.armed ≡ false) instances
+  pub none : d.record ≡ None → AllReached (λ reach i. reach.records ≡ false) d.reaches instances
 
 -- a change says of a request all that the definitions say of it, after this past, in this state
 abbrev pub IsChangeOf : Config → State → List Request → Request → Change → Type 0
@@ -268,26 +291,26 @@ IsChangeOf g state past request (Instance place change) =
     (d : Named) → IsChanged g past request (slice_index_or state.instances.items place d).name
     × IsEffect g (slice_index_or state.instances.items place d).name past request change
 
--- an instance has room for the record, where it is armed
-abbrev pub HasRoom : Pending → InstanceSeen → Type 0
-HasRoom pending i = (pending.cpu < buffers.cpus i.sides.live)
-    × (i.armed ≡ true → length pending.bytes.items ≤ slice_index_or (buffers.readies i.sides.live) pending.cpu 0)
+-- an instance has room for the record, if it is written there
+abbrev pub HasRoom : Pending → Reach → InstanceSeen → Type 0
+HasRoom pending reach i = (pending.cpu < buffers.cpus i.sides.live)
+    × (reach.records ≡ true → length pending.bytes.items ≤ slice_index_or (buffers.readies i.sides.live) pending.cpu 0)
 
 -- each ring of the live side was offered few records
 abbrev pub HasFew : InstanceSeen → Type 0
 HasFew i = AllByRecursion (λ n. n < 2 ^ 32) (buffers.offers i.sides.live)
 
--- a record can be written wherever an instance is armed
-abbrev pub CanBeWritten : Config → List Named → Option Pending → Type 0
-CanBeWritten g instances None = ⊤
-CanBeWritten g instances (Some pending) =
-    IsRecord pending.bytes.items × (length pending.bytes.items ≤ g.page_bytes) × All (λ (n : Named). HasRoom pending n.instance) instances
+-- a record can be written wherever it is to be
+abbrev pub CanBeWritten : Config → List Named → Reaches → Option Pending → Type 0
+CanBeWritten g instances reaches None = ⊤
+CanBeWritten g instances reaches (Some pending) =
+    IsRecord pending.bytes.items × (length pending.bytes.items ≤ g.page_bytes) × AllReached (HasRoom pending) reaches instances
 
 -- the same for one instance
-abbrev pub IsWritable : InstanceSeen → Option Pending → Type 0
-IsWritable i None = ⊤
-IsWritable i (Some pending) =
-    IsRecord pending.bytes.items × (length pending.bytes.items ≤ i.sides.live.page_bytes) × HasRoom pending i
+abbrev pub IsWritable : Option Pending → Reach → InstanceSeen → Type 0
+IsWritable None reach i = ⊤
+IsWritable (Some pending) reach i =
+    IsRecord pending.bytes.items × (length pending.bytes.items ≤ i.sides.live.page_bytes) × HasRoom pending reach i
 
 -- the hist triggers of the event at a place have the memory to count an emission
 abbrev pub CanCountRow : Emission → ℕ → InstanceSeen → Type 0
@@ -298,8 +321,8 @@ abbrev pub HasFewRows : InstanceSeen → Type 0
 HasFewRows i = All (λ hists. All HasRoomToCount hists) i.hists
 
 -- an instance whose sides are to be exchanged has a spare
-abbrev pub CanFire : InstanceSeen → Type 0
-CanFire i = i.fires ≡ true → is_some i.sides.spare ≡ true
+abbrev pub CanFire : Reach → InstanceSeen → Type 0
+CanFire reach i = reach.fires ≡ true → is_some i.sides.spare ≡ true
 
 -- a change can be made, and what was grown for it is there
 abbrev pub IsReady : Config → State → Change → Type 0
@@ -312,8 +335,8 @@ IsReady g state (Instance place change) = (place < length state.instances.items)
 -- an emission can be brought to each instance, and what was grown for it is there
 abbrev pub CanEmit : Config → State → Delivery → Type 0
 CanEmit g state delivery =
-    (delivery.event < length state.catalog) × CanBeWritten g state.instances.items delivery.record
-    × All (λ (n : Named). CanFire n.instance) state.instances.items
+    (delivery.event < length state.catalog) × CanBeWritten g state.instances.items delivery.reaches delivery.record
+    × AllReached CanFire delivery.reaches state.instances.items
     × All (λ (n : Named). CanCountRow (row_of delivery) delivery.event n.instance) state.instances.items
 
 -- what was prepared for a request, or why it is refused

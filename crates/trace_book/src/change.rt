@@ -4,6 +4,7 @@ ghost use Rattle.std.specs.Prelude.{◌≡◌};
 ghost use Rattle.trace_book.specs.Changes as changes;
 
 use crate::hists::AttachedHist;
+use crate::make::INSTANCES;
 use crate::state::Named;
 use crate::trigger::Trigger;
 use trace_filter::Filter;
@@ -101,14 +102,31 @@ impl FilterChange {
     }
 }
 
-/// What an emission brings to the instances: the place of its event, whose trigger acts in each one whose sides it exchanges; its row, which the
-/// event's hist triggers are offered, with its CPU and its process; and its record, which is written in each one that is armed, if one is.
+/// What an emission does in an instance.
+#[derive(Clone, Copy)]
+pub(crate) struct Reach {
+    /// Whether its record is written.
+    pub records: bool,
+    /// Whether it makes the event's trigger for snapshots act.
+    pub fires: bool,
+}
+
+/// What an emission does in each instance, in their order, and whether some instance records it.
+#[derive(Clone, Copy)]
+pub(crate) struct Reaches {
+    pub each: [Reach; INSTANCES],
+    pub recorded: bool,
+}
+
+/// What an emission brings to the instances: the place of its event; its row, which the event's hist triggers are offered, with its CPU and its
+/// process; what it does in each of them; and its record, if one records it.
 #[derive(Drop)]
 pub(crate) struct Delivery {
     pub event: usize,
     pub row: Row,
     pub cpu: u32,
     pub pid: i32,
+    pub reaches: Reaches,
     pub record: Option<Pending>,
 }
 

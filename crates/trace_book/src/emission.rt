@@ -1,7 +1,7 @@
 //! Emissions: a row is built once, and each instance that records it has room, and each hist trigger that it reaches has memory, before any is
 //! written to.
 
-ghost use Rattle.std.specs.Prelude.{◌≡◌, ℕ, ◌+◌, ◌<◌, ◌≤◌, ◌^◌, true, false, List, length, All, slice_index_or, Some, IfOk, OnOk};
+ghost use Rattle.std.specs.Prelude.{◌≡◌, ℕ, ◌+◌, ◌<◌, ◌≤◌, ◌^◌, true, List, length, All, slice_index_or, Some, IfOk, OnOk};
 ghost use Rattle.trace_buffer.specs.Buffers as buffers;
 ghost use Rattle.trace_command.specs.Configs.{IsInRange};
 ghost use Rattle.trace_command.specs.Requests as requests;
@@ -12,9 +12,10 @@ ghost use Rattle.trace_record.specs.Record.{record_size};
 ghost use Rattle.trace_book.specs.Emissions as emissions;
 ghost use Rattle.trace_book.specs.Instances.{IsAlike};
 ghost use Rattle.trace_book.specs.declared.change.Pending.{Pending as PendingHere};
-ghost use Rattle.trace_book.specs.States.{StandsFor, IsPreparedEmission, IsUsable, EachCame, CanCountRow};
+ghost use Rattle.trace_book.specs.States.{StandsFor, IsPreparedEmission, IsUsable, EachCame, CanCountRow, AllReached};
 
-use crate::change::{Delivery, Pending};
+use crate::change::{Delivery, Pending, Reach, Reaches};
+use crate::make::INSTANCES;
 use crate::memory::EmissionMemory;
 use crate::resolve::find;
 use crate::row::record;
@@ -24,8 +25,8 @@ use trace_command::{Config, Refusal};
 use trace_format::{Pair, Row, payload_size};
 
 impl State {
-    /// Prepares an emission: its CPU, its event, its row, then the memory of its hist triggers, and then room for its
-    /// record in each instance that records it.
+    /// Prepares an emission: its CPU, its event, its row, then the memory of its hist triggers, then what it does in each instance, and then
+    /// room for its record in each one that records it.
     #[tactic(auto, unfolding(trace_history::specs::History::emission_answer))]
     pub(crate) fn prepare_emission(
         &mut self,
@@ -53,12 +54,14 @@ impl State {
         let size = payload_size(found.event);
         let row = memory.row(found.event, pairs)?;
         self.reserve_hits(index, &row, cpu, pid)?;
-        let pending = self.write_ahead(memory, index, cpu, pid, size, &row)?;
+        let reaches = reach_each(&self.instances, index, &row, cpu, pid);
+        let pending = self.write_ahead(memory, &reaches, index, cpu, pid, size, &row)?;
         Ok(Delivery {
             event: index,
             row,
             cpu,
             pid,
+            reaches,
             record: pending,
         })
     }
@@ -79,10 +82,12 @@ impl State {
         reserve_each(&mut self.instances, index, row, cpu, pid)
     }
 
-    // The record of an emission of the event at this place, with room for it in each instance that records it; none if no instance does.
+    // The record of an emission of the event at this place, which does this in each instance, with room for it in each one that records it;
+    // none if no instance does.
     fn write_ahead(
         &mut self,
         memory: &mut EmissionMemory,
+        reaches: &Reaches,
         index: usize,
         cpu: u32,
         pid: i32,
@@ -91,38 +96,43 @@ impl State {
     ) -> Result<Option<Pending>, AllocError>
         requires early { self.old.clock ≤ 2 ^ 32 }
         requires index { index < 64 }
-        requires enabled { All (λ n. index < length n.instance.enabled) self.old.instances.items }
-        requires filters { All (λ n. index < length n.instance.filters) self.old.instances.items }
-        requires triggers { All (λ n. index < length n.instance.triggers) self.old.instances.items }
+        requires few { length self.old.instances.items ≤ 8 }
         requires cpu { All (λ n. cpu < buffers.cpus n.instance.sides.live) self.old.instances.items }
         requires size { size ≡ size_of_all row.now.kinds }
         requires small { size < 2 ^ 12 }
         ensures alike { emissions.IsStateAlike self.old self.new }
-        ensures ahead { IfOk result (λ pending. emissions.IsAhead self.old self.new index row.now cpu pid pending) }
+        ensures ahead { IfOk result (λ pending. emissions.IsAhead self.old self.new index row.now cpu pid reaches.now pending) }
         ensures length { IfOk result (λ pending. (p : PendingHere) → pending ≡ Some p → length p.bytes.items ≡ record_size size) }
     {
-        if !arm_each(&mut self.instances, index, row, cpu, pid) {
+        if !reaches.recorded {
             return Ok(None);
         }
         let bytes = record(memory, self.clock + 1, pid, index as u16 + 1, size, row)?;
-        ready_each(&mut self.instances, cpu, bytes.len())?;
+        ready_each(&mut self.instances, reaches, cpu, bytes.len())?;
         Ok(Some(Pending { cpu, bytes }))
     }
 }
 
-// Arms each instance that records the emission, and tells whether one does.
-fn arm_each(instances: &mut [Named], event: usize, row: &Row, cpu: u32, pid: i32) -> bool
-    requires enabled { All (λ n. event < length n.instance.enabled) instances.old }
-    requires filters { All (λ n. event < length n.instance.filters) instances.old }
-    requires triggers { All (λ n. event < length n.instance.triggers) instances.old }
-    ensures came { EachCame (emissions.IsArmedFor event row.now cpu pid) instances.old instances.new }
-    ensures none { result ≡ false → All (λ n. n.instance.armed ≡ false) instances.new }
+// What an emission of the event at this place does in each instance.
+fn reach_each(instances: &[Named], event: usize, row: &Row, cpu: u32, pid: i32) -> Reaches
+    requires few { length instances.now ≤ 8 }
+    requires enabled { All (λ n. event < length n.instance.enabled) instances.now }
+    requires filters { All (λ n. event < length n.instance.filters) instances.now }
+    requires triggers { All (λ n. event < length n.instance.triggers) instances.now }
+    ensures { emissions.AreReached event row.now cpu pid result instances.now }
 {
-    let mut some = false;
+    let nothing = Reach {
+        records: false,
+        fires: false,
+    };
+    let mut each = [nothing; INSTANCES];
+    let mut recorded = false;
     for i in 0..instances.len() {
-        some |= instances[i].instance.arm(event, row, cpu, pid);
+        let reach = instances[i].instance.reach(event, row, cpu, pid);
+        each[i] = reach;
+        recorded |= reach.records;
     }
-    some
+    Reaches { each, recorded }
 }
 
 fn reserve_each(
@@ -142,15 +152,20 @@ fn reserve_each(
     Ok(())
 }
 
-// Makes room for a record of this length in each instance that is armed.
-fn ready_each(instances: &mut [Named], cpu: u32, len: usize) -> Result<(), AllocError>
-    requires { All (λ n. cpu < buffers.cpus n.instance.sides.live) instances.old }
+// Makes room for a record of this length in each instance that records it.
+fn ready_each(
+    instances: &mut [Named],
+    reaches: &Reaches,
+    cpu: u32,
+    len: usize,
+) -> Result<(), AllocError>
+    requires few { length instances.old ≤ 8 }
+    requires cpu { All (λ n. cpu < buffers.cpus n.instance.sides.live) instances.old }
     ensures came { EachCame emissions.IsReadied instances.old instances.new }
-    ensures room { OnOk result (All (λ n. n.instance.armed ≡ true
-        → len ≤ slice_index_or (buffers.readies n.instance.sides.live) cpu 0) instances.new) }
+    ensures room { OnOk result (AllReached (emissions.HasBytes cpu len) reaches.now instances.new) }
 {
     for i in 0..instances.len() {
-        instances[i].instance.ready(cpu, len)?;
+        instances[i].instance.ready(reaches.each[i], cpu, len)?;
     }
     Ok(())
 }

@@ -37,10 +37,6 @@ pub struct Instance {
     overwrite: bool,
     tracing: bool,
     sides: Sides,
-    // Whether the emission that is being prepared will be recorded.
-    armed: bool,
-    // Whether it will make its event's trigger act.
-    fires: bool,
 }
 
 impl Model for Instance {
@@ -49,7 +45,7 @@ impl Model for Instance {
 
     ghost Value = { InstanceSeen };
 
-    ghost view = { λ i. record { enabled = i.enabled.items; filters = i.filters.items; triggers = i.triggers.items; hists = i.hists.items; overwrite = i.overwrite; tracing = i.tracing; sides = i.sides; armed = i.armed; fires = i.fires } };
+    ghost view = { λ i. record { enabled = i.enabled.items; filters = i.filters.items; triggers = i.triggers.items; hists = i.hists.items; overwrite = i.overwrite; tracing = i.tracing; sides = i.sides } };
 
     ghost invariant = { λ i. (vec_len i.enabled ≤ 64) × (64 ≤ vec_capacity i.enabled)
         × (vec_len i.filters ≤ 64) × (64 ≤ vec_capacity i.filters)
@@ -91,8 +87,6 @@ impl Instance {
             overwrite: true,
             tracing: true,
             sides: Sides::new(alloc, cpus, pages, page_bytes)?,
-            armed: false,
-            fires: false,
         };
         for _event in 0..events {
             instance.add_event();

@@ -17,7 +17,7 @@ use trace_command::{Config, Refusal, Reply, instance_of};
 use trace_lex::{Text, is_name};
 
 /// How many instances there may be, with the top one.
-const INSTANCES: usize = 8;
+pub(crate) const INSTANCES: usize = 8;
 
 impl State {
     /// Prepares that an instance is made: first its path, then its name, then whether it is there, then how many there are.

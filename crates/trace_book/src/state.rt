@@ -101,16 +101,19 @@ fn change_one(
 
 // Brings an emission to each instance.
 fn deliver_each(instances: &mut [Named], delivery: &Delivery)
+    requires few_instances { length instances.old ≤ 8 }
     requires event { All (λ n. delivery.now.event < length n.instance.triggers) instances.old }
-    requires record { All (λ n. states.IsWritable n.instance delivery.now.record) instances.old }
+    requires record { states.AllReached (states.IsWritable delivery.now.record) delivery.now.reaches instances.old }
     requires hists { All (λ n. delivery.now.event < length n.instance.hists) instances.old }
     requires counted { All (λ n. states.CanCountRow (states.row_of delivery.now) delivery.now.event n.instance) instances.old }
     requires few_rows { All (λ n. states.HasFewRows n.instance) instances.old }
     requires few { All (λ n. states.HasFew n.instance) instances.old }
-    requires spare { All (λ n. states.CanFire n.instance) instances.old }
-    ensures { states.EachCame (states.IsDelivered delivery.now) instances.old instances.new }
+    requires spare { states.AllReached states.CanFire delivery.now.reaches instances.old }
+    ensures { states.EachDelivered delivery.now instances.old instances.new }
 {
     for i in 0..instances.len() {
-        instances[i].instance.deliver(delivery);
+        instances[i]
+            .instance
+            .deliver(delivery, delivery.reaches.each[i]);
     }
 }

@@ -1,4 +1,4 @@
-//! What an emission does to an instance: it is looked whether it is recorded, room is made for its record, and then it is taken in.
+//! What an emission does to an instance: first it is looked what that is, then room is made for its record, and then it is taken in.
 
 ghost use Rattle.std.specs.Prelude.{◌≡◌, ◌≤◌, ◌<◌, true, is_some, length, slice_index_or, OnOk};
 ghost use Rattle.trace_record.specs.Record.{IsRecord};
@@ -9,7 +9,7 @@ ghost use Rattle.trace_book.specs.Rows.{kept_holds};
 ghost use Rattle.trace_book.specs.States.{CanCountRow, CanFire, HasFewRows, row_of, IsDelivered, IsOffered, IsExchanged, IsWritable, IsWritten, HasRoom, HasFew};
 
 use super::Instance;
-use crate::change::{Delivery, Pending};
+use crate::change::{Delivery, Pending, Reach};
 use crate::trigger::passes;
 use std::alloc::AllocError;
 use trace_format::Row;
@@ -31,71 +31,69 @@ impl Instance {
         self.hists[event].reserve(row, cpu, pid)
     }
 
-    /// Looks whether an emission of the event at this place is recorded, and whether it makes the event's snapshot trigger act; keeps both,
-    /// and tells the first. It is recorded where tracing is on, the event is enabled, and its filter passes. The trigger heeds its own filter alone.
+    /// What an emission of the event at this place does here: whether it is recorded, and whether it makes the event's snapshot trigger act.
+    /// It is recorded where tracing is on, the event is enabled, and its filter passes. The trigger heeds its own filter alone.
     #[tactic(auto, unfolding(crate::specs::Rows::kept_holds))]
-    pub(crate) fn arm(&mut self, event: usize, row: &Row, cpu: u32, pid: i32) -> bool
-        requires enabled { event < length self.old.enabled }
-        requires filters { event < length self.old.filters }
-        requires triggers { event < length self.old.triggers }
-        ensures armed { self.new ≡ record self.old { armed = result; fires = rows.fires self.old event row.now cpu pid } }
-        ensures records { result ≡ rows.records self.old event row.now cpu pid }
+    pub(crate) fn reach(&self, event: usize, row: &Row, cpu: u32, pid: i32) -> Reach
+        requires enabled { event < length self.now.enabled }
+        requires filters { event < length self.now.filters }
+        requires triggers { event < length self.now.triggers }
+        ensures { result ≡ rows.reach_of self.now event row.now cpu pid }
     {
-        self.fires = match &self.triggers[event] {
+        let fires = match &self.triggers[event] {
             Some(trigger) => trigger.acts(row, cpu, pid),
             None => false,
         };
-        self.armed = self.tracing
+        let records = self.tracing
             && self.enabled[event]
             && passes(self.filter(event), row, cpu, pid);
-        self.armed
+        Reach { records, fires }
     }
 
-    /// Makes room for a record of this length, if the instance is armed. All that can be seen stays as it was.
-    pub(crate) fn ready(&mut self, cpu: u32, len: usize) -> Result<(), AllocError>
+    /// Makes room for a record of this length, if one is written here. All that can be seen stays as it was.
+    pub(crate) fn ready(&mut self, reach: Reach, cpu: u32, len: usize) -> Result<(), AllocError>
         requires { cpu < buffers.cpus self.old.sides.live }
         ensures alike { IsAlike self.old self.new }
-        ensures armed { self.new.armed ≡ self.old.armed }
-        ensures fires { self.new.fires ≡ self.old.fires }
         ensures hists { self.new.hists ≡ self.old.hists }
-        ensures room { OnOk result (self.old.armed ≡ true → len ≤ slice_index_or (buffers.readies self.new.sides.live) cpu 0) }
+        ensures room { OnOk result (reach.records ≡ true → len ≤ slice_index_or (buffers.readies self.new.sides.live) cpu 0) }
     {
-        if self.armed {
+        if reach.records {
             self.sides.live_mut().ready(cpu, len)?;
         }
         Ok(())
     }
 
-    /// Takes in an emission: its record is written if the instance is armed, over older ones where the ring is full and that is allowed; then
-    /// the event's hist triggers are offered its row; and then the sides are exchanged if it makes the event's trigger for snapshots act.
-    pub(crate) fn deliver(&mut self, delivery: &Delivery)
+    /// Takes in an emission, which does this here: its record is written if it is to be, over older ones where the ring is full and that is
+    /// allowed; then the event's hist triggers are offered its row; and then the sides are exchanged if it makes the event's trigger for
+    /// snapshots act.
+    pub(crate) fn deliver(&mut self, delivery: &Delivery, reach: Reach)
         requires event { delivery.now.event < length self.old.triggers }
         requires hists { delivery.now.event < length self.old.hists }
         requires counted { CanCountRow (row_of delivery.now) delivery.now.event self.old }
         requires few_rows { HasFewRows self.old }
-        requires record { IsWritable self.old delivery.now.record }
+        requires record { IsWritable delivery.now.record reach self.old }
         requires few { HasFew self.old }
-        requires spare { CanFire self.old }
-        ensures { IsDelivered delivery.now self.old self.new }
+        requires spare { CanFire reach self.old }
+        ensures { IsDelivered delivery.now reach self.old self.new }
     {
         if let Some(pending) = &delivery.record {
-            self.write(pending);
+            self.write(pending, reach);
         }
         self.offer(delivery);
-        if self.fires {
+        if reach.fires {
             self.exchange(delivery.event);
         }
     }
 
-    // Writes a record if the instance is armed.
-    fn write(&mut self, pending: &Pending)
+    // Writes a record, if it is written here.
+    fn write(&mut self, pending: &Pending, reach: Reach)
         requires is_record { IsRecord pending.now.bytes.items }
         requires fits { length pending.now.bytes.items ≤ self.old.sides.live.page_bytes }
-        requires room { HasRoom pending.now self.old }
+        requires room { HasRoom pending.now reach self.old }
         requires few { HasFew self.old }
-        ensures { IsWritten pending.now self.old self.new }
+        ensures { IsWritten pending.now reach self.old self.new }
     {
-        if self.armed {
+        if reach.records {
             let _put = self
                 .sides
                 .live_mut()

@@ -1,6 +1,6 @@
-use Rattle.std.proofs.Common.{◌≡◌, ℕ, ◌≤◌, ◌<◌, true, length, slice_index_or}
-use Rattle.trace_buffer.specs.Buffers as buffers
-use Rattle.trace_book.specs.Emissions.{IsReadied}
+use Rattle.std.proofs.Common.{◌≡◌, ℕ, ◌≤◌, ◌<◌, length, slice_index_or}
+use Rattle.trace_book.specs.Emissions.{HasBytes, IsReadied}
+use Rattle.trace_book.specs.States.{reach_at}
 use Rattle.trace_book.specs.declared.state.Named.{Named}
 use Rattle.trace_book.proofs.emission.ready_each.Given as goal
 
@@ -10,6 +10,6 @@ invariant-loop-i l = record {
   names : (k : ℕ) (d : Named) → (slice_index_or l.instances k d).name ≡ (slice_index_or l.fn.instances k d).name;
   came : (k : ℕ) (d : Named) → k < l.i → IsReadied (slice_index_or l.fn.instances k d).instance (slice_index_or l.instances k d).instance;
   left : (k : ℕ) (d : Named) → l.i ≤ k → slice_index_or l.instances k d ≡ slice_index_or l.fn.instances k d;
-  room : (k : ℕ) (d : Named) → k < l.i → (slice_index_or l.instances k d).instance.armed ≡ true
-      → l.fn.len ≤ slice_index_or (buffers.readies (slice_index_or l.instances k d).instance.sides.live) l.fn.cpu 0;
+  room : (k : ℕ) (d : Named) → k < l.i
+      → HasBytes l.fn.cpu l.fn.len (reach_at l.fn.reaches k) (slice_index_or l.instances k d).instance;
 }

@@ -1,15 +1,16 @@
 use Rattle.std.proofs.Common.{arith, refl, ◌∙◌, length-set, get_or-set_other, ◌≢◌}
-use Rattle.trace_book.specs.States.{IsDelivered}
+use Rattle.trace_book.specs.States.{IsDelivered, reach_at}
 use Rattle.trace_book.proofs.EachInstance.{came_more, names_more}
 use Rattle.trace_book.proofs.state.deliver_each.Goals as goal
 
 pub loop-i-preserved : goal.loop-i-preserved
 loop-i-preserved c =
     let was = c.loop-i.invariant in
+    let d = c.args.delivery.now in
     let read = c.index-instances-i.result in record {
       many = length-set _ _ _ ∙ was.many;
       names = names_more c.args.instances.now c.loop-i.instances c.loop-i.i read _ (omega arith) refl was.names;
-      came = came_more (IsDelivered c.args.delivery.now) c.args.instances.now c.loop-i.instances c.loop-i.i read _ (omega arith)
+      came = came_more (λ k. IsDelivered d (reach_at d.reaches k)) c.args.instances.now c.loop-i.instances c.loop-i.i read _ (omega arith)
           c.deliver.ensures was.came was.left;
       left = λ k d above. let other : k ≢ c.loop-i.i = omega arith in rw get_or-set_other (was.left k d (omega arith));
     }
