@@ -1,3 +1,4 @@
 pub mod Asking
 pub mod Working
 pub mod Blocking
+pub mod Gating

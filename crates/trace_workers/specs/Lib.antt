@@ -1,4 +1,5 @@
 pub mod Asks
 pub mod BlockRuns
 pub mod Faults
+pub mod Gates
 pub mod PartRuns

@@ -1,6 +1,6 @@
 -- What is done under the names of a pass, told by what the pass knows: `v` is that before, and `w` after. No public contract needs these words: they
 -- are how the promise of a block is put together, first from the calls of one worker, and then from the parts, where their passes are joined.
-use Rattle.std.specs.Prelude.{◌≡◌, ◌≢◌, ℕ, ◌≤◌, ◌<◌, ◌^◌, ◌⊎◌, List, [], ◌∷◌, ◌++◌, take, length, All, Any, AllPairs, Result, Option, None, Some}
+use Rattle.std.specs.Prelude.{◌≡◌, ◌≢◌, ℕ, ◌+◌, ◌≤◌, ◌<◌, ◌^◌, ◌⊎◌, Bool, true, false, List, [], ◌∷◌, ◌++◌, take, length, All, Any, AllPairs, Result, Option, None, Some}
 use Rattle.ticket_lock.specs.declared.views.View.{View}
 use Rattle.trace_history.specs.History.{IsLegal}
 use Rattle.trace_history.specs.Blocks.{Trail, StandsIn, IsUnworn}
@@ -8,6 +8,8 @@ use Rattle.trace_book.specs.Bases.{numbers_of}
 use Rattle.trace_workers.specs.Asks.{GoesOn}
 use Rattle.trace_workers.specs.declared.fault.BlockFault.{BlockFault}
 use Rattle.trace_workers.specs.declared.fault.BlockFault.TheVariants.{Memory, Stopped, NoThread}
+use Rattle.trace_workers.specs.declared.gate.Point.{Point}
+use Rattle.trace_workers.specs.declared.gate.Point.TheVariants.{Asking, Answered}
 use Rattle.trace_workers.specs.declared.part.Part.{Part}
 use Rattle.trace_command.specs.declared.command.Command.{Command}
 use Rattle.trace_command.specs.declared.command.Config.{Config}
@@ -41,6 +43,14 @@ pub record HasAsked (v w : View Entry) (commands : List Command) (replies : List
   pub run : HasRun v w (begun_trail v.low commands replies ∷ [])
   pub few : length replies ≤ length commands
   pub whole : fault ≡ None → length replies ≡ length commands
+
+-- What the gate answered to one worker, whose part came to these replies and this fault; `may` is what it may answer at the command with this place.
+-- Each command with a reply was let pass, before it and after it: after the last one not if the worker was stopped. If it was, that was at one of its
+-- commands.
+pub record IsGated (may : ℕ → Point → Bool → Type 0) (commands : List Command) (replies : List (Result Reply Refusal)) (fault : Option BlockFault) : Type 0 where
+  pub asking : (call : ℕ) → call < length replies → may call Asking true
+  pub answered : (call : ℕ) → call < length replies → (fault ≡ Some Stopped → call + 1 < length replies) → may call Answered true
+  pub stopped : fault ≡ Some Stopped → (call : ℕ) × (point : Point) × (call < length commands) × may call point false
 
 -- what was asked of each part
 abbrev pub begun_trails : List (List Command) → List Part → List Trail

@@ -17,7 +17,8 @@ ghost use Rattle.ticket_lock.specs.Calls.{view_of, IsOf};
 ghost use Rattle.ticket_lock.specs.Views.{HasAllNames};
 ghost use Rattle.trace_history.specs.Blocks.{Trail};
 ghost use Rattle.trace_workers.specs.BlockRuns.{trails_of, Begins, IsAfterBlock};
-ghost use Rattle.trace_workers.specs.PartRuns.{HasRun, HasAsked, AreWhole, SeesCallers, begun_trails};
+ghost use Rattle.trace_workers.specs.Gates.{LetsAllPass, StopsOne};
+ghost use Rattle.trace_workers.specs.PartRuns.{HasRun, HasAsked, IsGated, AreWhole, SeesCallers, begun_trails};
 ghost use Rattle.trace_workers.specs.declared.fault.BlockFault.TheVariants.{Stopped};
 
 use crate::fault::{BlockFault, first_of};
@@ -67,6 +68,8 @@ fn run_parts<'s, E, R: Threads + Wait + Sync, G: Gate + Sync>(
     ensures whole { result.fault ≡ None → AreWhole (map (λ part. part.items) parts.items) result.done.items }
     ensures callers { SeesCallers (view_of pass) (view_of result.pass) }
     ensures open { G.is_open gate.now ≡ true → result.fault ≢ Some Stopped }
+    ensures gate { result.fault ≡ None → LetsAllPass (G.may_answer gate.now) (map (λ part. part.items) parts.items) }
+    ensures stopped { result.fault ≡ Some Stopped → StopsOne (G.may_answer gate.now) (map (λ part. part.items) parts.items) }
 {
     let Some(commands) = parts.pop() else {
         return Ended {
@@ -83,6 +86,7 @@ fn run_parts<'s, E, R: Threads + Wait + Sync, G: Gate + Sync>(
         lock: Snapshot::of(lock),
         pass: Snapshot::of(&upper),
         commands: Snapshot::of(&commands),
+        thread: Snapshot::of(&thread),
         gate: Snapshot::of(gate),
     };
     let started = scope.spawn_with(
@@ -91,7 +95,8 @@ fn run_parts<'s, E, R: Threads + Wait + Sync, G: Gate + Sync>(
             requires { IsOf lock.now upper × ((view_of upper).low < (view_of upper).end) }
             ensures { IsOf lock.entry.now result.pass × (result.part.by ≡ (view_of upper).low)
                 × HasAsked (view_of upper) (view_of result.pass) commands.items result.part.replies.items result.fault
-                × (G.is_open gate.entry.now ≡ true → result.fault ≢ Some Stopped) }
+                × (G.is_open gate.entry.now ≡ true → result.fault ≢ Some Stopped)
+                × IsGated (G.may_answer gate.entry.now thread) commands.items result.part.replies.items result.fault }
         { run_part(rt, alloc, lock, upper, commands, thread, gate, missed) },
     );
     if started.is_err() {
@@ -148,6 +153,10 @@ pub fn run_block<R: Threads + Wait + Sync, G: Gate + Sync>(
     ensures fault { IfErr result.1 (λ fault. (trails : List Trail) × AllZip Begins (map (λ part. part.items) parts.items) trails
         × IsAfterBlock (view_of root) (view_of result.0) trails) }
     ensures open { G.is_open gate.now ≡ true → IfErr result.1 (λ fault. fault ≢ Stopped) }
+    // The gate was asked for each command, before it and after it, by its own place: it can be told from what it may answer there.
+    ensures gate { IfOk result.1 (λ done. LetsAllPass (G.may_answer gate.now) (map (λ part. part.items) parts.items)) }
+    ensures stopped { IfErr result.1 (λ fault. fault ≡ Stopped
+        → StopsOne (G.may_answer gate.now) (map (λ part. part.items) parts.items)) }
 {
     let Ok(done) = Vec::with_capacity(alloc, parts.len()) else {
         return (root, Err(BlockFault::Memory));
@@ -166,7 +175,9 @@ pub fn run_block<R: Threads + Wait + Sync, G: Gate + Sync>(
                 × (vec_len result.done ≡ vec_len done + vec_len parts)
                 × (result.fault ≡ None → AreWhole (map (λ part. part.items) parts.items) result.done.items)
                 × SeesCallers (view_of root) (view_of result.pass)
-                × (G.is_open gate.entry.now ≡ true → result.fault ≢ Some Stopped) }
+                × (G.is_open gate.entry.now ≡ true → result.fault ≢ Some Stopped)
+                × (result.fault ≡ None → LetsAllPass (G.may_answer gate.entry.now) (map (λ part. part.items) parts.items))
+                × (result.fault ≡ Some Stopped → StopsOne (G.may_answer gate.entry.now) (map (λ part. part.items) parts.items)) }
         { run_parts(scope, rt, alloc, lock, root, parts, done, gate, missed) },
     );
     let Ended { pass, done, fault } = ended;

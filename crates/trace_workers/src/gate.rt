@@ -1,6 +1,7 @@
 //! Gates, which a block asks before and after each command.
 
-ghost use Rattle.std.specs.Prelude.{◌≡◌, Bool, true};
+ghost use Rattle.std.specs.Prelude.{◌≡◌, ℕ, Bool, true};
+ghost use Rattle.trace_workers.specs.declared.gate.Point.{Point};
 
 /// Where a worker stands with a command when it asks a gate.
 #[derive(Clone, Copy, PartialEq, Eq)]
@@ -16,9 +17,14 @@ pub trait Gate {
     /// Whether it answers `true` always.
     ghost is_open: { Self → Bool };
 
+    /// What it may answer: to the part with this place in its block, at the command with this place in its part, at this point. Anything, if it can't
+    /// tell beforehand.
+    ghost may_answer: { Self → ℕ → ℕ → Point → Bool → Type 0 } = { λ _ _ _ _ _. Unit {0} };
+
     /// Whether the worker may go on: the part with this place in its block, at the command with this place in its part. Both places count from 0.
     fn arrive(&self, thread: u32, call: u64, point: Point) -> bool
-        ensures { is_open self.now ≡ true → result ≡ true };
+        ensures open { is_open self.now ≡ true → result ≡ true }
+        ensures named { may_answer self.now thread call point result };
 }
 
 /// A gate that lets everybody through.
@@ -27,6 +33,8 @@ pub struct OpenGate;
 
 impl Gate for OpenGate {
     ghost is_open = { λ _. true };
+
+    ghost may_answer = { λ _ _ _ _ answer. answer ≡ true };
 
     fn arrive(&self, _thread: u32, _call: u64, _point: Point) -> bool {
         true

@@ -5,6 +5,7 @@ ghost use Rattle.trace_command.specs.Configs.{IsInRange};
 ghost use Rattle.trace_command.specs.declared.command.Entry.{Entry};
 ghost use Rattle.trace_history.specs.Blocks.{IsBlock, IsUnworn};
 ghost use Rattle.trace_workers.specs.BlockRuns.{trails_of};
+ghost use Rattle.trace_workers.specs.Gates.{LetsAllPass, StopsOne};
 ghost use Rattle.trace_workers.specs.declared.fault.BlockFault.TheVariants.{Stopped};
 
 use crate::block::run_block;
@@ -58,6 +59,9 @@ pub fn history_of<R: Threads + Wait + Sync, G: Gate + Sync>(
         IsBlock config [] r.0.entries (trails_of (map (λ part. part.items) parts.items) r.1.items)) }
     ensures unworn { IfOk result (λ r. All (λ part. IsUnworn part.replies.items) r.1.items) }
     ensures open { G.is_open gate.now ≡ true → IfErr result (λ fault. fault ≢ Stopped) }
+    ensures gate { IfOk result (λ r. LetsAllPass (G.may_answer gate.now) (map (λ part. part.items) parts.items)) }
+    ensures stopped { IfErr result (λ fault. fault ≡ Stopped
+        → StopsOne (G.may_answer gate.now) (map (λ part. part.items) parts.items)) }
 {
     let Ok(book) = Book::new(alloc, config) else {
         return Err(BlockFault::Memory);

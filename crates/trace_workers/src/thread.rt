@@ -2,7 +2,7 @@
 
 ghost use Rattle.std.specs.Prelude.{◌≡◌, ◌≢◌, ◌<◌, [], Some, true};
 ghost use Rattle.ticket_lock.specs.Calls.{view_of, IsOf};
-ghost use Rattle.trace_workers.specs.PartRuns.{HasAsked};
+ghost use Rattle.trace_workers.specs.PartRuns.{HasAsked, IsGated};
 ghost use Rattle.trace_workers.specs.declared.fault.BlockFault.TheVariants.{Stopped};
 
 use crate::fault::BlockFault;
@@ -31,6 +31,7 @@ pub struct Given<G> {
     pub lock: Snapshot<TicketLock<Book>>,
     pub pass: Snapshot<Pass<Book>>,
     pub commands: Snapshot<Vec<Command>>,
+    pub thread: Snapshot<u32>,
     pub gate: Snapshot<G>,
 }
 
@@ -40,6 +41,7 @@ impl<G> Drop for Given<G> {
             lock: _,
             pass: _,
             commands: _,
+            thread: _,
             gate: _,
         } = self;
     }
@@ -49,7 +51,8 @@ impl<G: Gate> Promise<Returned> for Given<G> {
     ghost kept_by = { λ given result. IsOf given.lock.value result.pass
         × (result.part.by ≡ (view_of given.pass.value).low)
         × HasAsked (view_of given.pass.value) (view_of result.pass) given.commands.value.items result.part.replies.items result.fault
-        × (G.is_open given.gate.value ≡ true → result.fault ≢ Some Stopped) };
+        × (G.is_open given.gate.value ≡ true → result.fault ≢ Some Stopped)
+        × IsGated (G.may_answer given.gate.value given.thread.value) given.commands.value.items result.part.replies.items result.fault };
 }
 
 // A part of which nothing was asked.
@@ -86,6 +89,7 @@ pub fn run_part<R: Wait, G: Gate>(
     ensures by { result.part.by ≡ (view_of pass).low }
     ensures asked { HasAsked (view_of pass) (view_of result.pass) commands.items result.part.replies.items result.fault }
     ensures open { G.is_open gate.now ≡ true → result.fault ≢ Some Stopped }
+    ensures gate { IsGated (G.may_answer gate.now thread) commands.items result.part.replies.items result.fault }
 {
     if missed.load(Ordering::SeqCst) {
         return idle(alloc, pass, BlockFault::NoThread);

@@ -1,9 +1,10 @@
 //! One worker of a block: it asks the commands of its part, one after the other.
 
-ghost use Rattle.std.specs.Prelude.{◌≡◌, ◌≢◌, ◌<◌, ◌≤◌, ◌+◌, ◌++◌, ◌∷◌, [], ◌↔◌, IsTrue, Err, Some, None, List, Result, vec_len, vec_capacity, true};
+ghost use Rattle.std.specs.Prelude.{◌≡◌, ◌≢◌, ◌<◌, ◌≤◌, ◌+◌, ◌++◌, ◌∷◌, [], ◌↔◌, IsTrue, Err, Some, None, List, Result, length, vec_len, vec_capacity, true};
 ghost use Rattle.ticket_lock.specs.Calls.{view_of, IsOf};
-ghost use Rattle.trace_workers.specs.PartRuns.{HasAsked};
+ghost use Rattle.trace_workers.specs.PartRuns.{HasAsked, IsGated};
 ghost use Rattle.trace_workers.specs.declared.fault.BlockFault.TheVariants.{Stopped};
+ghost use Rattle.trace_command.specs.declared.command.Command.{Command};
 ghost use Rattle.trace_command.specs.declared.command.Reply.{Reply};
 ghost use Rattle.trace_command.specs.declared.refusal.Refusal.{Refusal};
 ghost use Rattle.trace_command.specs.declared.refusal.Refusal.TheVariants.{Memory};
@@ -51,6 +52,10 @@ fn take_turn<R: Wait, G: Gate>(
     ensures asked { (answers : List (Result Reply Refusal)) × (result.0.replies.items ≡ worker.replies.items ++ answers)
         × HasAsked (view_of worker.pass) (view_of result.0.pass) (command ∷ []) answers result.1 }
     ensures open { G.is_open gate.now ≡ true → result.1 ≢ Some Stopped }
+    // What was asked before this one is as many commands as there are replies.
+    ensures gate { (asked : List Command) → length asked ≡ vec_len worker.replies
+        → IsGated (G.may_answer gate.now thread) asked worker.replies.items None
+        → IsGated (G.may_answer gate.now thread) (asked ++ command ∷ []) result.0.replies.items result.1 }
 {
     let Worker { pass, mut replies } = worker;
     let call = replies.len() as u64;
@@ -87,6 +92,7 @@ pub fn ask_part<R: Wait, G: Gate>(
     ensures of { IsOf lock.now result.0.pass }
     ensures asked { HasAsked (view_of worker.pass) (view_of result.0.pass) commands.items result.0.replies.items result.1 }
     ensures open { G.is_open gate.now ≡ true → result.1 ≢ Some Stopped }
+    ensures gate { IsGated (G.may_answer gate.now thread) commands.items result.0.replies.items result.1 }
 {
     let mut mine = worker;
     for command in commands {

@@ -1,8 +1,10 @@
-use Rattle.std.proofs.Common.{◌≡◌, ◌∷◌, ◌++◌, ℕ, ◌+◌, ◌<◌, [], map, length, vec_len, List, refl, sym, ap, ◌∙◌, arith, rules}
+use Rattle.std.proofs.Common.{◌≡◌, ◌≢◌, inl, inr, Some, ◌∷◌, ◌++◌, ℕ, ◌+◌, ◌<◌, [], map, length, vec_len, List, refl, sym, ap, ◌∙◌, arith, rules}
 use Rattle.std.proofs.lemmas.List.{length-map}
 use Rattle.ticket_lock.specs.Calls.{view_of}
-use Rattle.trace_workers.specs.PartRuns.{HasAsked, begun_trail, begun_trails}
+use Rattle.trace_workers.specs.PartRuns.{HasAsked, IsGated, begun_trail, begun_trails}
 use Rattle.trace_command.specs.declared.command.Command.{Command}
+use Rattle.trace_workers.specs.declared.fault.BlockFault.TheVariants.{Stopped}
+use Rattle.trace_workers.proofs.Gating.{gated_whole, pass_push, stops_before, stops_last, told_stopped}
 use Rattle.trace_workers.proofs.Working.{run_meet, run_none}
 use Rattle.trace_workers.proofs.Blocking.{names_left, map_push, begun_none, begun_push, whole_push, told_none}
 use Rattle.trace_workers.proofs.block.+run_parts.Goals as goal
@@ -67,3 +69,53 @@ returns-clause-whole g t c none =
     let last = told_none c.first_of.result returned.fault c.match-started.returned.1 c.first_of.ensures all.1 in
     rw (parts, c.push_reserved.ensures.items)
     (whole_push before others.result.done.items commands returned.part (others.ensures.whole all.0) (acts.whole last.0))
+
+-- without a fault the gate let all of them pass
+pub returns-clause-gate : goal.returns-clause-gate
+returns-clause-gate g t c none =
+    let b = view_of c.in-Ok.upper in
+    let may = g.G.Gate.may_answer c.args.gate.now in
+    let others = c.run_parts-others in
+    let returned = c.match-started.returned.0 in
+    let commands = c.in-Some.commands.items in
+    let replies = returned.part.replies.items in
+    let thread = vec_len c.pop.new.self in
+    let before : List (List Command) = map (λ part. part.items) c.pop.new.self.items in
+    let acts : HasAsked b (view_of returned.pass) commands replies returned.fault =
+    elim c.match-started.branch [ in-Ok-started w ↦ search rules | in-Err w ↦ search rules ] in
+    let gated : IsGated (may thread) commands replies returned.fault =
+    elim c.match-started.branch [ in-Ok-started w ↦ search rules | in-Err w ↦ search rules ] in
+    let parts : map (λ part. part.items) c.args.parts.items ≡ before ++ commands ∷ [] =
+    map_push (λ part. part.items) c.args.parts.items c.pop.new.self.items c.in-Some.commands c.in-Some.ensures.items in
+    let counted : thread ≡ length c.pop.new.self.items = omega (arith, c.pop.new.self.ok.0) in
+    let many : length before ≡ thread = length-map c.pop.new.self.items (λ part. part.items) ∙ sym counted in
+    let all = told_none c.first_of-2.result others.result.fault c.first_of.result c.first_of-2.ensures none in
+    let last = told_none c.first_of.result returned.fault c.match-started.returned.1 c.first_of.ensures all.1 in
+    pass_push may _ before commands thread parts many (others.ensures.gate all.0)
+    (gated_whole (may thread) commands replies (rw last.0 at gated) (acts.whole last.0))
+
+-- where Stopped is told, one of them was stopped
+pub returns-clause-stopped : goal.returns-clause-stopped
+returns-clause-stopped g t c told =
+    let may = g.G.Gate.may_answer c.args.gate.now in
+    let others = c.run_parts-others in
+    let returned = c.match-started.returned.0 in
+    let commands = c.in-Some.commands.items in
+    let replies = returned.part.replies.items in
+    let thread = vec_len c.pop.new.self in
+    let before : List (List Command) = map (λ part. part.items) c.pop.new.self.items in
+    let gated : IsGated (may thread) commands replies returned.fault =
+    elim c.match-started.branch [ in-Ok-started w ↦ search rules | in-Err w ↦ search rules ] in
+    let refused : c.match-started.returned.1 ≢ Some Stopped =
+    elim c.match-started.branch [ in-Ok-started w ↦ search rules | in-Err w ↦ search rules ] in
+    let parts : map (λ part. part.items) c.args.parts.items ≡ before ++ commands ∷ [] =
+    map_push (λ part. part.items) c.args.parts.items c.pop.new.self.items c.in-Some.commands c.in-Some.ensures.items in
+    let counted : thread ≡ length c.pop.new.self.items = omega (arith, c.pop.new.self.ok.0) in
+    let many : length before ≡ thread = length-map c.pop.new.self.items (λ part. part.items) ∙ sym counted in
+    elim (told_stopped c.first_of-2.result others.result.fault c.first_of.result c.first_of-2.ensures told) [
+      | inl earlier ↦ stops_before may _ before commands parts (others.ensures.stopped earlier)
+      | inr here ↦ elim (told_stopped c.first_of.result returned.fault c.match-started.returned.1 c.first_of.ensures here) [
+        | inl last ↦ stops_last may _ before commands thread replies returned.fault parts many gated last
+        | inr other ↦ absurd (refused other)
+      ]
+    ]

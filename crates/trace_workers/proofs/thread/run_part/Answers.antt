@@ -1,6 +1,7 @@
 use Rattle.std.proofs.Common.{Some}
 use Rattle.ticket_lock.specs.Calls.{view_of}
 use Rattle.trace_workers.specs.declared.fault.BlockFault.TheVariants.{Memory, NoThread}
+use Rattle.trace_workers.proofs.Gating.{gated_none}
 use Rattle.trace_workers.proofs.Working.{asked_none}
 use Rattle.trace_workers.proofs.thread.run_part.Goals as goal
 
@@ -15,3 +16,13 @@ pub returns-in_default-clause-asked : goal.returns-in_default-clause-asked
 returns-in_default-clause-asked g c =
     rw (c.idle-in_default.ensures.pass, c.idle-in_default.ensures.replies, c.idle-in_default.ensures.fault)
     (asked_none (view_of c.args.pass) c.args.commands.items (Some Memory) c.requires.named (λ e. absurd cc))
+
+pub returns-then-load-clause-gate : goal.returns-then-load-clause-gate
+returns-then-load-clause-gate g c =
+    rw (c.idle.ensures.replies, c.idle.ensures.fault)
+    (gated_none (g.G.Gate.may_answer c.args.gate.now c.args.thread) c.args.commands.items (Some NoThread) (λ e. absurd cc))
+
+pub returns-in_default-clause-gate : goal.returns-in_default-clause-gate
+returns-in_default-clause-gate g c =
+    rw (c.idle-in_default.ensures.replies, c.idle-in_default.ensures.fault)
+    (gated_none (g.G.Gate.may_answer c.args.gate.now c.args.thread) c.args.commands.items (Some Memory) (λ e. absurd cc))

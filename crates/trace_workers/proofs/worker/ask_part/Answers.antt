@@ -1,8 +1,9 @@
-use Rattle.std.proofs.Common.{◌≡◌, ◌∷◌, ◌++◌, [], None, Some, refl, sym, ap, ◌∙◌, append_assoc, arith, rules, List}
+use Rattle.std.proofs.Common.{◌≡◌, ◌∷◌, ◌++◌, [], length, vec_len, None, Some, refl, sym, ap, ◌∙◌, append_assoc, arith, rules, List}
 use Rattle.std.specs.Vec.Iter.{into_iter_items}
 use Rattle.ticket_lock.specs.Calls.{view_of}
-use Rattle.trace_workers.specs.PartRuns.{HasAsked}
+use Rattle.trace_workers.specs.PartRuns.{HasAsked, IsGated}
 use Rattle.trace_command.specs.declared.command.Command.{Command}
+use Rattle.trace_workers.proofs.Gating.{gated_none, gated_more}
 use Rattle.trace_workers.proofs.Working.{asked_none, asked_then, asked_stop}
 use Rattle.trace_workers.proofs.worker.ask_part.Goals as goal
 
@@ -16,6 +17,7 @@ loop-command-init g c =
       search rules,
       search rules,
       rw c.requires.empty (asked_none v [] None c.requires.named (λ e. refl)),
+      rw c.requires.empty (gated_none (g.G.Gate.may_answer c.args.gate.now c.args.thread) [] None (λ e. absurd cc)),
     )
 
 -- the commands are those so far, this one and the rest
@@ -43,6 +45,22 @@ returns-in-Some-fault-clause-asked g c =
     asked_then v w x l.yielded (c.in-Some.command ∷ []) l.mine.replies.items answers (Some c.in-Some-fault.fault) l.invariant.6 one in
     rw (whole, turn.ensures.asked.1) (asked_stop v x asked rest (l.mine.replies.items ++ answers) c.in-Some-fault.fault all)
 
+-- and the gate was not asked for it
+pub returns-in-Some-fault-clause-gate : goal.returns-in-Some-fault-clause-gate
+returns-in-Some-fault-clause-gate g c =
+    let l = c.loop-command in
+    let turn = c.take_turn-next in
+    let may = g.G.Gate.may_answer c.args.gate.now c.args.thread in
+    let asked = l.yielded ++ c.in-Some.command ∷ [] in
+    let rest = into_iter_items c.next.new.self in
+    let whole : c.args.commands.items ≡ asked ++ rest =
+    cut c.args.commands.items l.yielded (into_iter_items l.command-iterator) c.in-Some.command rest l.invariant.5 c.in-Some.ensures.steps.0 in
+    let so_far : length l.mine.replies.items ≡ length l.yielded = l.invariant.6.whole refl in
+    let same : length l.yielded ≡ vec_len l.mine.replies = omega (arith, so_far, l.mine.replies.ok.0) in
+    let gated : IsGated may asked turn.result.0.replies.items (Some c.in-Some-fault.fault) =
+    rw c.in-Some-fault.is at (turn.ensures.gate l.yielded same l.invariant.7) in
+    rw whole (gated_more may asked rest turn.result.0.replies.items (Some c.in-Some-fault.fault) gated)
+
 pub loop-command-preserved : goal.loop-command-preserved
 loop-command-preserved g c =
     let l = c.loop-command in
@@ -55,6 +73,8 @@ loop-command-preserved g c =
     cut c.args.commands.items l.yielded (into_iter_items l.command-iterator) c.in-Some.command rest l.invariant.5 c.in-Some.ensures.steps.0 in
     let answers = turn.ensures.asked.0 in
     let one : HasAsked w x (c.in-Some.command ∷ []) answers None = rw c.in_default.is at turn.ensures.asked.2 in
+    let so_far : length l.mine.replies.items ≡ length l.yielded = l.invariant.6.whole refl in
+    let same : length l.yielded ≡ vec_len l.mine.replies = omega (arith, so_far, l.mine.replies.ok.0) in
     let grown = turn.ensures.len c.in_default.is in (
       search rules,
       search rules,
@@ -63,4 +83,5 @@ loop-command-preserved g c =
       omega (arith, grown, turn.ensures.capacity, l.invariant.4, c.in-Some.ensures.steps.1),
       whole,
       rw turn.ensures.asked.1 (asked_then v w x l.yielded (c.in-Some.command ∷ []) l.mine.replies.items answers None l.invariant.6 one),
+      rw c.in_default.is at (turn.ensures.gate l.yielded same l.invariant.7),
     )

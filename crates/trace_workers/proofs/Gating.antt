@@ -1,0 +1,147 @@
+-- What a gate answered, command by command and part by part.
+use Rattle.std.proofs.Common.{◌≡◌, ◌≢◌, ℕ, ◌+◌, ◌<◌, ◌⊎◌, inl, inr, Bool, true, false, List, [], ◌∷◌, ◌++◌, length, Result, Option, Some, None, refl, sym, subst, arith, length-append}
+use Rattle.std.proofs.lemmas.Bool.{cases_lt}
+use Rattle.std.proofs.lemmas.List.{get_or_append_left, get_or_push}
+use Rattle.trace_command.specs.declared.command.Command.{Command}
+use Rattle.trace_command.specs.declared.command.Reply.{Reply}
+use Rattle.trace_command.specs.declared.refusal.Refusal.{Refusal}
+use Rattle.trace_workers.specs.Gates.{HasCommand, LetsAllPass, StopsOne}
+use Rattle.trace_workers.specs.PartRuns.{IsGated, told_fault}
+use Rattle.trace_workers.specs.declared.fault.BlockFault.{BlockFault}
+use Rattle.trace_workers.specs.declared.fault.BlockFault.TheVariants.{Memory, Stopped, NoThread}
+use Rattle.trace_workers.specs.declared.gate.Point.{Point}
+use Rattle.trace_workers.specs.declared.gate.Point.TheVariants.{Asking, Answered}
+
+abbrev Answer : Type 0
+Answer = Result Reply Refusal
+
+-- ---- one part
+
+-- a command is one of those so far, or the next
+at_next : (P : ℕ → Type 0) (n call : ℕ) → ((k : ℕ) → k < n → P k) → P n → call < n + 1 → P call
+at_next P n call before next within =
+    elim (cases_lt call n) [ inl below ↦ before call below | inr above ↦ let is : n ≡ call = omega arith in subst P is next ]
+
+-- nothing was asked
+pub gated_none : (may : ℕ → Point → Bool → Type 0) (commands : List Command) (fault : Option BlockFault) → fault ≢ Some Stopped
+    → IsGated may commands [] fault
+gated_none may commands fault goes_on = record {
+  asking = λ call within. absurd (omega (arith, within));
+  answered = λ call within last. absurd (omega (arith, within));
+  stopped = λ is. absurd (goes_on is);
+}
+
+-- further commands were not asked
+pub gated_more : (may : ℕ → Point → Bool → Type 0) (commands others : List Command) (replies : List Answer) (fault : Option BlockFault)
+    → IsGated may commands replies fault → IsGated may (commands ++ others) replies fault
+gated_more may commands others replies fault gated = record {
+  asking = gated.asking;
+  answered = gated.answered;
+  stopped = λ is. let at = gated.stopped is in (at.0, at.1, omega (arith, at.2, length-append commands others), at.3);
+}
+
+-- the next command was not to be asked
+pub gated_before : (may : ℕ → Point → Bool → Type 0) (commands : List Command) (replies : List Answer) (command : Command) (call : ℕ)
+    → length commands ≡ length replies → length replies ≡ call → may call Asking false
+    → IsGated may commands replies None → IsGated may (commands ++ command ∷ []) replies (Some Stopped)
+gated_before may commands replies command call same is answer gated = record {
+  asking = gated.asking;
+  answered = λ n within last. gated.answered n within (λ e. absurd cc);
+  stopped = λ e. (call, Asking, omega (arith, same, is, length-append commands (command ∷ [])), answer);
+}
+
+-- the next command was asked for nothing
+pub gated_memory : (may : ℕ → Point → Bool → Type 0) (commands : List Command) (replies : List Answer) (command : Command)
+    → IsGated may commands replies None → IsGated may (commands ++ command ∷ []) replies (Some Memory)
+gated_memory may commands replies command gated = record {
+  asking = gated.asking;
+  answered = λ n within last. gated.answered n within (λ e. absurd cc);
+  stopped = λ e. absurd cc;
+}
+
+-- the next command was answered, and the worker went on
+pub gated_after : (may : ℕ → Point → Bool → Type 0) (commands : List Command) (replies all : List Answer) (command : Command) (answer : Answer) (call : ℕ)
+    → all ≡ replies ++ answer ∷ [] → length replies ≡ call → may call Asking true → may call Answered true
+    → IsGated may commands replies None → IsGated may (commands ++ command ∷ []) all None
+gated_after may commands replies all command answer call grown is first second gated =
+    let many : length all ≡ call + 1 = rw grown (omega (arith, is, length-append replies (answer ∷ []))) in
+    record {
+      asking = λ n within. at_next (λ n. may n Asking true) call n (λ n below. gated.asking n (omega (arith, below, is))) first (omega (arith, within, many));
+      answered = λ n within last.
+          at_next (λ n. may n Answered true) call n (λ n below. gated.answered n (omega (arith, below, is)) (λ e. absurd cc)) second (omega (arith, within, many));
+      stopped = λ e. absurd cc;
+    }
+
+-- the next command was answered, and the worker was stopped there
+pub gated_stop : (may : ℕ → Point → Bool → Type 0) (commands : List Command) (replies all : List Answer) (command : Command) (answer : Answer) (call : ℕ)
+    → all ≡ replies ++ answer ∷ [] → length commands ≡ length replies → length replies ≡ call → may call Asking true → may call Answered false
+    → IsGated may commands replies None → IsGated may (commands ++ command ∷ []) all (Some Stopped)
+gated_stop may commands replies all command answer call grown same is first second gated =
+    let many : length all ≡ call + 1 = rw grown (omega (arith, is, length-append replies (answer ∷ []))) in
+    record {
+      asking = λ n within. at_next (λ n. may n Asking true) call n (λ n below. gated.asking n (omega (arith, below, is))) first (omega (arith, within, many));
+      answered = λ n within last. let more : n + 1 < length all = last refl in gated.answered n (omega (arith, more, many, is)) (λ e. absurd cc);
+      stopped = λ e. (call, Answered, omega (arith, same, is, length-append commands (command ∷ [])), second);
+    }
+
+-- a part that was asked whole was let pass everywhere
+pub gated_whole : (may : ℕ → Point → Bool → Type 0) (commands : List Command) (replies : List Answer) → IsGated may commands replies None
+    → length replies ≡ length commands → (call : ℕ) (point : Point) → call < length commands → may call point true
+gated_whole may commands replies gated same call Asking within = gated.asking call (omega (arith, within, same))
+gated_whole may commands replies gated same call Answered within = gated.answered call (omega (arith, within, same)) (λ e. absurd cc)
+
+-- ---- the parts of a block
+
+-- one part more
+pub pass_push : (may : ℕ → ℕ → Point → Bool → Type 0) (all parts : List (List Command)) (commands : List Command) (thread : ℕ)
+    → all ≡ parts ++ commands ∷ [] → length parts ≡ thread → LetsAllPass may parts
+    → ((call : ℕ) (point : Point) → call < length commands → may thread call point true) → LetsAllPass may all
+pass_push may all parts commands thread grown is before here = λ t call point has.
+    let has' : HasCommand (parts ++ commands ∷ []) t call = rw grown at has in
+    elim (cases_lt t thread) [
+      | inl below ↦
+          let same = get_or_append_left parts (commands ∷ []) [] t (omega (arith, below, is)) in
+          before t call point (omega (arith, below, is), rw same at has'.1)
+      | inr above ↦
+          let next : t ≡ thread = omega (arith, has'.0, above, is, length-append parts (commands ∷ [])) in
+          let same = get_or_push parts commands [] t (omega (arith, next, is)) in
+          subst (λ n. may n call point true) (sym next) (here call point (rw same at has'.1))
+    ]
+
+-- one of the parts before was stopped
+pub stops_before : (may : ℕ → ℕ → Point → Bool → Type 0) (all parts : List (List Command)) (commands : List Command)
+    → all ≡ parts ++ commands ∷ [] → StopsOne may parts → StopsOne may all
+stops_before may all parts commands grown one = record {
+  thread = one.thread;
+  call = one.call;
+  point = one.point;
+  has = rw grown (
+    omega (arith, one.has.0, length-append parts (commands ∷ [])),
+    rw (get_or_append_left parts (commands ∷ []) [] one.thread one.has.0) one.has.1,
+  );
+  stopped = one.stopped;
+}
+
+-- the last part was stopped
+pub stops_last : (may : ℕ → ℕ → Point → Bool → Type 0) (all parts : List (List Command)) (commands : List Command) (thread : ℕ) (replies : List Answer)
+    (fault : Option BlockFault) → all ≡ parts ++ commands ∷ [] → length parts ≡ thread → IsGated (may thread) commands replies fault → fault ≡ Some Stopped
+    → StopsOne may all
+stops_last may all parts commands thread replies fault grown is gated told =
+    let at = gated.stopped told in
+    record {
+      thread = thread;
+      call = at.0;
+      point = at.1;
+      has = rw grown (omega (arith, is, length-append parts (commands ∷ [])), rw (get_or_push parts commands [] thread is) at.2);
+      stopped = at.3;
+    }
+
+-- where Stopped is told there was a Stopped
+pub told_stopped : (told one other : Option BlockFault) → told ≡ told_fault one other → told ≡ Some Stopped → (one ≡ Some Stopped) ⊎ (other ≡ Some Stopped)
+told_stopped told None other is stopped = inr (cc)
+told_stopped told (Some Memory) other is stopped = absurd cc
+told_stopped told (Some Stopped) other is stopped = inl refl
+told_stopped told (Some NoThread) None is stopped = absurd cc
+told_stopped told (Some NoThread) (Some Memory) is stopped = absurd cc
+told_stopped told (Some NoThread) (Some Stopped) is stopped = inr refl
+told_stopped told (Some NoThread) (Some NoThread) is stopped = absurd cc
