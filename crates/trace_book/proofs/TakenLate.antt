@@ -8,7 +8,6 @@ use Rattle.trace_trigger.specs.TriggerTexts.{◌>>=◌, after, begins, hist_of, 
 use Rattle.trace_trigger.specs.declared.fault.TriggerFault.{TriggerFault}
 use Rattle.trace_trigger.specs.declared.fault.TriggerFault.TheVariants as fault
 use Rattle.trace_trigger.specs.declared.trigger.SnapshotTrigger.{SnapshotTrigger}
-use Rattle.trace_trigger.specs.declared.trigger.TriggerText.{TriggerText}
 use Rattle.trace_trigger.specs.declared.trigger.TriggerText.TheVariants as said
 use Rattle.trace_command.specs.Refusals.{refusal_of_trigger}
 use Rattle.trace_command.specs.Requests.{Request}

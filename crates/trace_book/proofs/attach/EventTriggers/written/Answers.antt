@@ -1,4 +1,4 @@
-use Rattle.std.proofs.Common.{◌≡◌, ◌≢◌, ◌⊎◌, inl, inr, not, ◌||◌, true, false, Ok, Err, is_some, rules}
+use Rattle.std.proofs.Common.{◌≡◌, ◌⊎◌, inl, inr, not, ◌||◌, true, false, Ok, Err, is_some, rules}
 use Rattle.std.specs.List.{list_any}
 use Rattle.trace_command.specs.Refusals.{refusal_of_trigger}
 use Rattle.trace_trigger.specs.TriggerTexts.{HasFilter, is_hist_text, said_of}

@@ -5,7 +5,7 @@ use Rattle.trace_book.specs.BookSeen.{BookSeen}
 use Rattle.trace_command.specs.declared.command.Entry.{Entry}
 use Rattle.trace_command.specs.declared.command.Reply.{Reply}
 use Rattle.trace_book.proofs.Alike.{unchanged-stands}
-use Rattle.trace_book.proofs.Usable.{few_from_stands, few_rows_from_stands, usable_from_stands}
+use Rattle.trace_book.proofs.Usable.{usable_from_stands}
 use Rattle.trace_book.proofs.Histories.{length-past_of, past_of-push, answer-done, answer-full, refused-reply, refused-early, late-done, IsLegal-push}
 use Rattle.trace_book.proofs.Stands.{stands_after}
 use Rattle.trace_book.proofs.TakenLate.{late_memory-refused, late_memory-full, late_memory-done}
