@@ -7,7 +7,9 @@ use std::alloc::Global;
 use std::fmt::{Display, Write};
 use std::process::Abort;
 use std::test::Fail;
-use trace_format::{CatalogFault, DefinitionFault, EventDef, Pair, Row, RowFault, Text, payload_size};
+use trace_format::{
+    CatalogFault, DefinitionFault, EventDef, Pair, Row, RowFault, Text, payload_size,
+};
 
 /// Declarations and pairs, each with the row's payload in hexadecimal.
 const ROWS: &str = "\
@@ -117,12 +119,24 @@ fn texts_of_faults(rt: HostRuntime) -> Result<(), Fail> {
     let alloc = rt.alloc();
     let definition = shown(alloc, &DefinitionFault::BadDefinition { at: 12 })?;
     assert_eq!(rt; definition.as_str(), "bad definition at byte 12");
-    assert_eq!(rt; shown(alloc, &DefinitionFault::Memory)?.as_str(), "out of memory");
-    assert_eq!(rt; shown(alloc, &CatalogFault::EventExists)?.as_str(), "the event exists");
-    assert_eq!(rt; shown(alloc, &CatalogFault::TooMany)?.as_str(), "too many fields or events");
+    assert_eq!(rt;
+        shown(alloc, &DefinitionFault::Memory)?.as_str(),
+        "out of memory"
+    );
+    assert_eq!(rt;
+        shown(alloc, &CatalogFault::EventExists)?.as_str(),
+        "the event exists"
+    );
+    assert_eq!(rt;
+        shown(alloc, &CatalogFault::TooMany)?.as_str(),
+        "too many fields or events"
+    );
     let large = shown(alloc, &CatalogFault::TooBig)?;
     assert_eq!(rt; large.as_str(), "the record is larger than a page");
-    assert_eq!(rt; shown(alloc, &CatalogFault::Memory)?.as_str(), "out of memory");
+    assert_eq!(rt;
+        shown(alloc, &CatalogFault::Memory)?.as_str(),
+        "out of memory"
+    );
     let field = Text::from_slice(alloc, b"n")?;
     let row = shown(alloc, &RowFault::BadRow { field })?;
     assert_eq!(rt; row.as_str(), "a field is wrong, repeated or missing");
