@@ -4,7 +4,9 @@ use Rattle.std.specs.List.{list_all}
 use Rattle.trace_lex.specs.Blanks.{is_blank}
 use Rattle.trace_format.specs.Definitions.{Definition}
 use Rattle.trace_trigger.specs.HistSpecs.{SpecSeen}
-use Rattle.trace_trigger.specs.TriggerTexts.{◌>>=◌, after, begins, hist_of, is_hist_text, said_after, said_of, snapshot_said, trigger_of}
+use Rattle.trace_trigger.specs.HistTexts.{spec_of}
+use Rattle.trace_trigger.specs.TriggerAnswers.{◌>>=◌}
+use Rattle.trace_trigger.specs.TriggerTexts.{after, begins, is_hist_text, said_after, said_of, snapshot_said, trigger_of}
 use Rattle.trace_trigger.specs.declared.fault.TriggerFault.{TriggerFault}
 use Rattle.trace_trigger.specs.declared.fault.TriggerFault.TheVariants as fault
 use Rattle.trace_trigger.specs.declared.trigger.SnapshotTrigger.{SnapshotTrigger}
@@ -58,7 +60,7 @@ hist-begins definition text spec e =
   where
     blank : (nothing one : Bool) → begins (codes "hist:") text ≡ one → (two : Bool) → begins (codes "!hist:") text ≡ two
         → (if nothing then Ok said.Nothing
-        else if one then (hist_of definition text >>= λ s. Ok (said.Hist s)) else if two then (hist_of definition text >>= λ s. Ok (said.RemoveHist s)) else snapshot_said definition text) ≡ Ok (said.Hist spec)
+        else if one then (spec_of definition text >>= λ s. Ok (said.Hist s)) else if two then (spec_of definition text >>= λ s. Ok (said.RemoveHist s)) else snapshot_said definition text) ≡ Ok (said.Hist spec)
         → is_hist_text text ≡ true
     blank true one is two also h = absurd (cc)
     blank false true is two also h = rw is refl
