@@ -20,7 +20,7 @@ not_memory : (g : Config) (entries : List Entry) (command : Command) → IsErr (
 not_memory g entries command refused told = by (answer_to g entries command) refl refused told
   where
     by : (answer : Result Reply Refusal) → answer_to g entries command ≡ answer → IsErr answer → IfErr answer (λ t. t ≡ Memory) → ⊥
-    by (Ok reply) at is same = is
+    by (Ok reply) at is same = cc
     by (Err refusal) at is same = memory_is_no_answer g entries command (at ∙ ap (λ (r : Refusal). Err r) same)
 
 -- where memory was refused, the answer is none that is found early: nobody else has asked since
