@@ -2,6 +2,7 @@
 #![tactic(auto)]
 
 mod device;
+mod environment;
 pub mod laws;
 mod line;
 mod output;

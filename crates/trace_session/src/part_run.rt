@@ -1,6 +1,6 @@
 //! A part: its threads ask their commands side by side, and what they give is put together.
 
-ghost use Rattle.std.specs.Prelude.{◌≡◌, ◌≢◌, ◌≤◌, true, vec_len, IfOk, IfErr};
+ghost use Rattle.std.specs.Prelude.{◌≡◌, ◌≤◌, true, vec_len, IfOk, IsErrOf};
 ghost use Rattle.ticket_lock.specs.Calls.{view_of, IsOf};
 ghost use Rattle.trace_command.specs.declared.command.Config.{Config};
 ghost use Rattle.trace_items.specs.PartReads.{commands_in};
@@ -8,15 +8,15 @@ ghost use Rattle.trace_session.specs.Parts.{Given, PartMayGive};
 ghost use Rattle.trace_session.specs.PartTexts.{AreOutcomesOf};
 ghost use Rattle.trace_session.specs.Passes.{IsSessionPass, progress_of};
 ghost use Rattle.trace_session.specs.Sessions.{status_of};
-ghost use Rattle.trace_workers.specs.declared.fault.BlockFault.TheVariants.{Stopped};
 
+use crate::environment::Environment;
 use crate::part_split::split_threads;
 use crate::part_text::{Written, write_threads};
-use std::alloc::Global;
 use std::sync::Wait;
 use std::thread::Threads;
-use ticket_lock::{Pass, TicketLock};
+use ticket_lock::Pass;
 use trace_book::Book;
+use trace_items::Stop;
 use trace_items::part::Numbered;
 use trace_workers::{BlockFault, Gate, run_block};
 
@@ -25,34 +25,33 @@ use trace_workers::{BlockFault, Gate, run_block};
 /// Memory is told where it was refused, and where a command got no turn since all tickets are drawn, to which no script comes. After a fault
 /// nothing is to be written for the part, though some of its commands may have been done: the pass has seen them.
 pub fn run_part<R: Threads + Wait + Sync, G: Gate + Sync>(
-    rt: &R,
-    alloc: Global,
-    lock: &TicketLock<Book>,
+    env: &Environment<'_, R, G>,
     pass: Pass<Book>,
     threads: Vec<Vec<Numbered>>,
-    gate: &G,
-) -> (Pass<Book>, Result<Written, BlockFault>)
-    requires of { IsOf lock.now pass }
+) -> (Pass<Book>, Result<Written, Stop>)
+    requires of { IsOf env.now.lock.now pass }
     requires session { (g : Config) × IsSessionPass g (view_of pass) }
     requires few { vec_len threads ≤ 8 }
-    ensures of { IsOf lock.now result.0 }
+    ensures of { IsOf env.now.lock.now result.0 }
     ensures session { (g : Config) → IsSessionPass g (view_of pass) → IsSessionPass g (view_of result.0) }
     ensures given { IfOk result.1 (λ written. (g : Config) → IsSessionPass g (view_of pass)
         → (given : Given) × PartMayGive g (commands_in threads.items) (progress_of (view_of pass)) (progress_of (view_of result.0)) given
         × (given.text ≡ written.text.items) × (written.status ≡ status_of given.outcomes)
         × AreOutcomesOf (commands_in threads.items) given.outcomes written.outcomes.items) }
-    ensures open { G.is_open gate.now ≡ true → IfErr result.1 (λ fault. fault ≢ Stopped) }
+    ensures open { G.is_open env.now.gate.now ≡ true → IsErrOf result.1 Stop.Stopped → ⊥ }
+    ensures device { IsErrOf result.1 Stop.Device → ⊥ }
 {
-    let Ok((numbers, commands)) = split_threads(alloc, threads) else {
-        return (pass, Err(BlockFault::Memory));
+    let Ok((numbers, commands)) = split_threads(env.alloc, threads) else {
+        return (pass, Err(Stop::Memory));
     };
-    let (pass, replied) = run_block(rt, alloc, lock, pass, commands, gate);
+    let (pass, replied) = run_block(env.rt, env.alloc, env.lock, pass, commands, env.gate);
     let done = match replied {
         Ok(done) => done,
-        Err(fault) => return (pass, Err(fault)),
+        Err(BlockFault::Stopped) => return (pass, Err(Stop::Stopped)),
+        Err(BlockFault::Memory | BlockFault::NoThread) => return (pass, Err(Stop::Memory)),
     };
-    match write_threads(alloc, &numbers, done) {
+    match write_threads(env.alloc, &numbers, done) {
         Ok(written) => (pass, Ok(written)),
-        Err(_) => (pass, Err(BlockFault::Memory)),
+        Err(stop) => (pass, Err(stop)),
     }
 }

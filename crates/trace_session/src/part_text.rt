@@ -72,6 +72,7 @@ fn add_reply(
     ensures outcomes { OnOk result (writing.new.outcomes.items ≡ writing.old.outcomes.items ++ outcome_at number reply ∷ []) }
     ensures unworn { OnOk result (reply ≢ Err Worn) }
     ensures device { IsErrOf result Stop.Device → ⊥ }
+    ensures stopped { IsErrOf result Stop.Stopped → ⊥ }
 {
     let outcome = match reply {
         Ok(reply) => Outcome::Replied(reply),
@@ -100,6 +101,7 @@ fn add_replies(
         ≡ writing.old.outcomes.items ++ numbered_outcomes numbers.now replies.items) }
     ensures unworn { OnOk result (IsUnworn replies.items) }
     ensures device { IsErrOf result Stop.Device → ⊥ }
+    ensures stopped { IsErrOf result Stop.Stopped → ⊥ }
 {
     let mut i = 0;
     for reply in replies {
@@ -125,6 +127,7 @@ fn add_thread(
         ≡ writing.old.outcomes.items ++ numbered_outcomes numbers.now replies.items) }
     ensures unworn { OnOk result (IsUnworn replies.items) }
     ensures device { IsErrOf result Stop.Device → ⊥ }
+    ensures stopped { IsErrOf result Stop.Stopped → ⊥ }
 {
     let line = format!(in alloc; "-- thread {thread}\n")?;
     writing.text.extend_from_slice(line.as_bytes())?;
@@ -162,6 +165,7 @@ pub(crate) fn write_threads(
         written.outcomes.items ≡ outcomes_of_threads (items_in numbers.now) (replies_in done.items)) }
     ensures unworn { OnOk result (All IsUnworn (replies_in done.items)) }
     ensures device { IsErrOf result Stop.Device → ⊥ }
+    ensures stopped { IsErrOf result Stop.Stopped → ⊥ }
 {
     let mut writing = Writing {
         text: Vec::new(alloc),

@@ -13,6 +13,7 @@ ghost use Rattle.trace_session.specs.Passes.{IsSessionPass, progress_of};
 ghost use Rattle.trace_session.specs.Sessions.{beginning, IsWhole, IsRead};
 
 use crate::device::Sink;
+use crate::environment::Environment;
 use crate::replies::Replies;
 use crate::status::Status;
 use crate::step::do_item;
@@ -39,16 +40,13 @@ fn with_item(status: Status, item: Status) -> Status
 
 /// Does the items of a script in turn, up to its end or the first fault, and adds what they give to the replies.
 fn do_items<R: Threads + Wait + Sync, W: Sink, G: Gate + Sync>(
-    rt: &R,
-    alloc: Global,
-    lock: &TicketLock<Book>,
+    env: &Environment<'_, R, G>,
     pass: Pass<Book>,
     script: &[u8],
-    gate: &G,
     replies: &mut Replies,
     writer: &mut W,
 ) -> Result<Status, Stop>
-    requires of { IsOf lock.now pass }
+    requires of { IsOf env.now.lock.now pass }
     requires session { (g : Config) × IsSessionPass g (view_of pass) }
     requires begins { progress_of (view_of pass) ≡ beginning }
     requires short { length script.now ≤ MOST_SCRIPT_BYTES }
@@ -63,7 +61,7 @@ fn do_items<R: Threads + Wait + Sync, W: Sink, G: Gate + Sync>(
     ensures stopped { IsErrOf result Stop.Stopped → (g : Config) → IsSessionPass g (view_of pass)
         → PassesStopped g script.now (W.contents writer.old) (W.contents writer.new) replies.new }
     ensures unwritten { IsErrOf result Stop.Stopped → W.failures writer.new ≡ W.failures writer.old }
-    ensures open { G.is_open gate.now ≡ true → IsErrOf result Stop.Stopped → ⊥ }
+    ensures open { G.is_open env.now.gate.now ≡ true → IsErrOf result Stop.Stopped → ⊥ }
     ensures risen { IsErrOf result Stop.Device → HasRisen (W.failures writer.old) (W.failures writer.new) }
     ensures device { IsErrOf result Stop.Device → (g : Config) → IsSessionPass g (view_of pass)
         → AppendsBegunFront g script.now (W.contents writer.old) (W.contents writer.new) }
@@ -73,12 +71,10 @@ fn do_items<R: Threads + Wait + Sync, W: Sink, G: Gate + Sync>(
     let mut number = 1;
     let mut status = Status::Done;
     while let Some(text) = rest {
-        let Ok(next) = next_item(alloc, number, text) else {
+        let Ok(next) = next_item(env.alloc, number, text) else {
             return Err(Stop::Memory);
         };
-        let (back, done) = do_item(
-            rt, alloc, lock, pass, number, next.item, gate, replies, writer,
-        );
+        let (back, done) = do_item(env, pass, number, next.item, replies, writer);
         pass = back;
         match done? {
             Status::Fault => return Ok(Status::Fault),
@@ -93,15 +89,12 @@ fn do_items<R: Threads + Wait + Sync, W: Sink, G: Gate + Sync>(
 /// Does the items of a script in turn, up to its end or the first fault, and writes what they give. Nothing waits after it, except where a
 /// device failed.
 fn do_script<R: Threads + Wait + Sync, W: Sink, G: Gate + Sync>(
-    rt: &R,
-    alloc: Global,
-    lock: &TicketLock<Book>,
+    env: &Environment<'_, R, G>,
     pass: Pass<Book>,
     script: &[u8],
-    gate: &G,
     writer: &mut W,
 ) -> Result<Status, Stop>
-    requires of { IsOf lock.now pass }
+    requires of { IsOf env.now.lock.now pass }
     requires session { (g : Config) × IsSessionPass g (view_of pass) }
     requires begins { progress_of (view_of pass) ≡ beginning }
     requires short { length script.now ≤ MOST_SCRIPT_BYTES }
@@ -115,13 +108,13 @@ fn do_script<R: Threads + Wait + Sync, W: Sink, G: Gate + Sync>(
     ensures stopped { IsErrOf result Stop.Stopped → (g : Config) → IsSessionPass g (view_of pass)
         → AppendsStopped g script.now (W.contents writer.old) (W.contents writer.new) }
     ensures unwritten { IsErrOf result Stop.Stopped → W.failures writer.new ≡ W.failures writer.old }
-    ensures open { G.is_open gate.now ≡ true → IsErrOf result Stop.Stopped → ⊥ }
+    ensures open { G.is_open env.now.gate.now ≡ true → IsErrOf result Stop.Stopped → ⊥ }
     ensures risen { IsErrOf result Stop.Device → HasRisen (W.failures writer.old) (W.failures writer.new) }
     ensures device { IsErrOf result Stop.Device → (g : Config) → IsSessionPass g (view_of pass)
         → AppendsBegunFront g script.now (W.contents writer.old) (W.contents writer.new) }
 {
-    let mut replies = Replies::new(alloc)?;
-    match do_items(rt, alloc, lock, pass, script, gate, &mut replies, writer) {
+    let mut replies = Replies::new(env.alloc)?;
+    match do_items(env, pass, script, &mut replies, writer) {
         Ok(status) => {
             replies.flush(writer)?;
             Ok(status)
@@ -198,7 +191,13 @@ fn attempt<T: Threads + Wait + Sync, R: Source, W: Sink, G: Gate + Sync>(
 {
     let (lock, root) = new_book(alloc, config)?;
     let script = read_script(alloc, reader)?;
-    do_script(rt, alloc, &lock, root, &script, gate, writer)
+    let env = Environment {
+        rt,
+        alloc,
+        lock: &lock,
+        gate,
+    };
+    do_script(&env, root, &script, writer)
 }
 
 /// A session: reads a script to its end, does its lines and parallel parts in turn over a new book, and writes what each gives. The threads of a

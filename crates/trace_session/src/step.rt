@@ -17,6 +17,7 @@ ghost use Rattle.trace_session.specs.Passes.{IsSessionPass, progress_of};
 ghost use Rattle.trace_session.specs.Sessions.{Progress, turn_of};
 
 use crate::device::Sink;
+use crate::environment::Environment;
 use crate::line::ask_line;
 use crate::part_run::run_part;
 use crate::replies::Replies;
@@ -25,19 +26,17 @@ use crate::told::{give, give_part};
 use std::alloc::Global;
 use std::sync::Wait;
 use std::thread;
-use ticket_lock::{Pass, TicketLock};
+use ticket_lock::Pass;
 use trace_book::Book;
 use trace_items::Stop;
 use trace_items::item::ItemRead;
 use trace_items::part::{FaultAt, Numbered};
 use trace_script::{Line, Outcome, ScriptFault};
-use trace_workers::{BlockFault, Gate};
+use trace_workers::Gate;
 
 /// Asks for what a line by itself asks for, and writes what it gives.
-fn do_line<R: Wait, W: Sink>(
-    rt: &R,
-    alloc: Global,
-    lock: &TicketLock<Book>,
+fn do_line<R: Wait, W: Sink, G>(
+    env: &Environment<'_, R, G>,
     pass: Pass<Book>,
     number: usize,
     line: &[u8],
@@ -45,10 +44,10 @@ fn do_line<R: Wait, W: Sink>(
     replies: &mut Replies,
     writer: &mut W,
 ) -> (Pass<Book>, Result<Status, Stop>)
-    requires of { IsOf lock.now pass }
+    requires of { IsOf env.now.lock.now pass }
     requires session { (g : Config) × IsSessionPass g (view_of pass) }
     requires said { said ≡ line_of line.now }
-    ensures of { IsOf lock.now result.0 }
+    ensures of { IsOf env.now.lock.now result.0 }
     ensures session { (g : Config) → IsSessionPass g (view_of pass) → IsSessionPass g (view_of result.0) }
     ensures done { IfOk result.1 (λ status. (g : Config) → IsSessionPass g (view_of pass)
         → PassesItem g (Single number line.now) (progress_of (view_of pass)) (progress_of (view_of result.0)) status
@@ -65,9 +64,12 @@ fn do_line<R: Wait, W: Sink>(
     ensures heard { (g : Config) → IsSessionPass g (view_of pass) → OnOk result.1 (Hears (W.heard writer.old) (W.heard writer.new)
         (heard_of number line.now (turn_of g (progress_of (view_of pass)) line.now).outcome (W.contents writer.new) ∷ [])) }
 {
-    let (pass, asked) = ask_line(rt, lock, pass, said);
+    let (pass, asked) = ask_line(env.rt, env.lock, pass, said);
     match asked {
-        Ok(outcome) => (pass, give(alloc, number, line, &outcome, replies, writer)),
+        Ok(outcome) => (
+            pass,
+            give(env.alloc, number, line, &outcome, replies, writer),
+        ),
         Err(stop) => (pass, Err(stop)),
     }
 }
@@ -75,22 +77,19 @@ fn do_line<R: Wait, W: Sink>(
 /// Asks the commands of a part, and writes what they give once all of them were asked. The string begins with the part's first line, which
 /// has this number.
 fn do_part<R: thread::Threads + Wait + Sync, W: Sink, G: Gate + Sync>(
-    rt: &R,
-    alloc: Global,
-    lock: &TicketLock<Book>,
+    env: &Environment<'_, R, G>,
     pass: Pass<Book>,
     number: usize,
     text: &[u8],
     threads: Vec<Vec<Numbered>>,
-    gate: &G,
     replies: &mut Replies,
     writer: &mut W,
 ) -> (Pass<Book>, Result<Status, Stop>)
-    requires of { IsOf lock.now pass }
+    requires of { IsOf env.now.lock.now pass }
     requires session { (g : Config) × IsSessionPass g (view_of pass) }
     requires few { vec_len threads ≤ 8 }
     requires lines { AreInOrder number number (lines_of text.now) (numbers_in (commands_in threads.items)) }
-    ensures of { IsOf lock.now result.0 }
+    ensures of { IsOf env.now.lock.now result.0 }
     ensures session { (g : Config) → IsSessionPass g (view_of pass) → IsSessionPass g (view_of result.0) }
     ensures done { IfOk result.1 (λ status. (g : Config) → IsSessionPass g (view_of pass)
         → PassesItem g (Threads (commands_in threads.items)) (progress_of (view_of pass)) (progress_of (view_of result.0)) status
@@ -102,7 +101,7 @@ fn do_part<R: thread::Threads + Wait + Sync, W: Sink, G: Gate + Sync>(
     ensures stopped { IsErrOf result.1 Stop.Stopped
         → Passes (W.contents writer.old) replies.old (W.contents writer.new) replies.new [] }
     ensures unwritten { IsErrOf result.1 Stop.Stopped → W.failures writer.new ≡ W.failures writer.old }
-    ensures open { G.is_open gate.now ≡ true → IsErrOf result.1 Stop.Stopped → ⊥ }
+    ensures open { G.is_open env.now.gate.now ≡ true → IsErrOf result.1 Stop.Stopped → ⊥ }
     ensures risen { IsErrOf result.1 Stop.Device → HasRisen (W.failures writer.old) (W.failures writer.new) }
     ensures device { IsErrOf result.1 Stop.Device → (g : Config) → IsSessionPass g (view_of pass)
         → AppendsItem g (Threads (commands_in threads.items)) (progress_of (view_of pass)) (progress_of (view_of result.0))
@@ -110,11 +109,10 @@ fn do_part<R: thread::Threads + Wait + Sync, W: Sink, G: Gate + Sync>(
     ensures heard { (g : Config) → IsSessionPass g (view_of pass) → OnOk result.1 (HearsPart g number text.now (commands_in threads.items)
         (progress_of (view_of pass)) (progress_of (view_of result.0)) (W.contents writer.new) (W.heard writer.old) (W.heard writer.new)) }
 {
-    let (pass, ran) = run_part(rt, alloc, lock, pass, threads, gate);
+    let (pass, ran) = run_part(env, pass, threads);
     match ran {
         Ok(written) => (pass, give_part(number, text, written, replies, writer)),
-        Err(BlockFault::Stopped) => (pass, Err(Stop::Stopped)),
-        Err(BlockFault::Memory | BlockFault::NoThread) => (pass, Err(Stop::Memory)),
+        Err(stop) => (pass, Err(stop)),
     }
 }
 
@@ -146,22 +144,19 @@ fn do_fault<W: Sink>(
 /// Does an item whose first line has this number: adds what it gives to the replies, and gives its own status. Of a part nothing is added before
 /// all its commands were asked. A writer that hears is told of each line by itself, of a fault with its line, and of each command of a part.
 pub(crate) fn do_item<R: thread::Threads + Wait + Sync, W: Sink, G: Gate + Sync>(
-    rt: &R,
-    alloc: Global,
-    lock: &TicketLock<Book>,
+    env: &Environment<'_, R, G>,
     pass: Pass<Book>,
     number: usize,
     item: ItemRead<'_>,
-    gate: &G,
     replies: &mut Replies,
     writer: &mut W,
 ) -> (Pass<Book>, Result<Status, Stop>)
-    requires of { IsOf lock.now pass }
+    requires of { IsOf env.now.lock.now pass }
     requires session { (g : Config) × IsSessionPass g (view_of pass) }
     requires said { IsSaid item }
     requires few { HasFewThreads (item_read number item) }
     requires lines { HasItsLines number item }
-    ensures of { IsOf lock.now result.0 }
+    ensures of { IsOf env.now.lock.now result.0 }
     ensures session { (g : Config) → IsSessionPass g (view_of pass) → IsSessionPass g (view_of result.0) }
     ensures done { IfOk result.1 (λ status. (g : Config) → IsSessionPass g (view_of pass)
         → PassesItem g (item_read number item.entry) (progress_of (view_of pass)) (progress_of (view_of result.0)) status
@@ -174,7 +169,7 @@ pub(crate) fn do_item<R: thread::Threads + Wait + Sync, W: Sink, G: Gate + Sync>
         → Passes (W.contents writer.old) replies.old (W.contents writer.new) replies.new [] }
     ensures part { IsErrOf result.1 Stop.Stopped → IsThreads (item_read number item.entry) }
     ensures unwritten { IsErrOf result.1 Stop.Stopped → W.failures writer.new ≡ W.failures writer.old }
-    ensures open { G.is_open gate.now ≡ true → IsErrOf result.1 Stop.Stopped → ⊥ }
+    ensures open { G.is_open env.now.gate.now ≡ true → IsErrOf result.1 Stop.Stopped → ⊥ }
     ensures risen { IsErrOf result.1 Stop.Device → HasRisen (W.failures writer.old) (W.failures writer.new) }
     ensures device { IsErrOf result.1 Stop.Device → (g : Config) → IsSessionPass g (view_of pass)
         → AppendsItem g (item_read number item.entry) (progress_of (view_of pass)) (progress_of (view_of result.0))
@@ -183,12 +178,10 @@ pub(crate) fn do_item<R: thread::Threads + Wait + Sync, W: Sink, G: Gate + Sync>
         (progress_of (view_of pass)) (progress_of (view_of result.0)) (W.contents writer.new) (W.heard writer.old) (W.heard writer.new)) }
 {
     match item {
-        ItemRead::Line { line, said } => {
-            do_line(rt, alloc, lock, pass, number, line, said, replies, writer)
+        ItemRead::Line { line, said } => { do_line(env, pass, number, line, said, replies, writer) }
+        ItemRead::Threads { text, threads } => {
+            do_part(env, pass, number, text, threads, replies, writer)
         }
-        ItemRead::Threads { text, threads } => do_part(
-            rt, alloc, lock, pass, number, text, threads, gate, replies, writer,
-        ),
-        ItemRead::Fault { at, line } => { (pass, do_fault(alloc, at, line, replies, writer)) }
+        ItemRead::Fault { at, line } => (pass, do_fault(env.alloc, at, line, replies, writer)),
     }
 }

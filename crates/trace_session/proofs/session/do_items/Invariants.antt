@@ -12,7 +12,7 @@ invariant-loop-rest g l =
     let contents = g.W.Sink.contents in
     let failures = g.W.Sink.failures in
     record {
-      of : IsOf l.lock l.pass;
+      of : IsOf l.env.lock.now l.pass;
       seated : (config : Config) → IsSessionPass config (view_of l.fn.pass) → IsSessionPass config (view_of l.pass);
       stands : (config : Config) → IsSessionPass config (view_of l.fn.pass)
           → Stands config l.script (contents l.fn.writer) (contents l.writer) l.replies (progress_of (view_of l.pass)) (option_copied l.rest) l.number l.status;
