@@ -20,30 +20,30 @@ stand_after b = if is_end b then Between else (if is_quote b then InQuotes b els
 abbrev pub end_after : ℕ → ℕ → ℕ → ℕ
 end_after end at b = if is_end b then end else at + 1
 
--- a byte outside quotes has a place, if it is neither a blank nor a quote
-abbrev pub place_of_byte : ℕ → ℕ → List ℕ
-place_of_byte at b = if is_blank b || is_quote b then [] else at ∷ []
+-- a byte outside quotes has an offset, if it is neither a blank nor a quote
+abbrev pub offset_of_byte : ℕ → ℕ → List ℕ
+offset_of_byte at b = if is_blank b || is_quote b then [] else at ∷ []
 
--- the places of the rest of a line, which begins at `at`; a word that is open ended at `end` so far
-abbrev pub places_from : Stand → ℕ → ℕ → List ℕ → List ℕ
-places_from Between end at [] = []
-places_from InWord end at [] = end ∷ []
-places_from (InQuotes quote) end at [] = []
-places_from Between end at (b ∷ bs) = place_of_byte at b ++ places_from (stand_after b) (end_after end at b) (at + 1) bs
-places_from InWord end at (b ∷ bs) =
-    (if is_end b then end ∷ [] else []) ++ (place_of_byte at b ++ places_from (stand_after b) (end_after end at b) (at + 1) bs)
-places_from (InQuotes quote) end at (b ∷ bs) =
-    if b == quote then places_from InWord end (at + 1) bs else at ∷ places_from (InQuotes quote) (at + 1) (at + 1) bs
+-- the offsets of the rest of a line, which begins at `at`; a word that is open ended at `end` so far
+abbrev pub offsets_from : Stand → ℕ → ℕ → List ℕ → List ℕ
+offsets_from Between end at [] = []
+offsets_from InWord end at [] = end ∷ []
+offsets_from (InQuotes quote) end at [] = []
+offsets_from Between end at (b ∷ bs) = offset_of_byte at b ++ offsets_from (stand_after b) (end_after end at b) (at + 1) bs
+offsets_from InWord end at (b ∷ bs) =
+    (if is_end b then end ∷ [] else []) ++ (offset_of_byte at b ++ offsets_from (stand_after b) (end_after end at b) (at + 1) bs)
+offsets_from (InQuotes quote) end at (b ∷ bs) =
+    if b == quote then offsets_from InWord end (at + 1) bs else at ∷ offsets_from (InQuotes quote) (at + 1) (at + 1) bs
 
--- the places of a line: for each byte of each word where it stands, without the quotes around it, and after each word where the word ends;
+-- the offsets of a line: for each byte of each word where it stands, without the quotes around it, and after each word where the word ends;
 -- and where each `>` stands
-unfoldable pub places_of : List ℕ → List ℕ
-places_of line = places_from Between 0 0 line
+unfoldable pub offsets_of : List ℕ → List ℕ
+offsets_of line = offsets_from Between 0 0 line
 
 -- where byte `at` of what an `echo` writes stands. The four bytes of `echo` and their end come before the first; a space between two words
 -- stands where the first of them ends, and so does the end of what is written.
-abbrev pub written_place : List ℕ → ℕ → Option ℕ
-written_place line at = slice_get (drop 5 (places_of line)) at
+abbrev pub written_offset : List ℕ → ℕ → Option ℕ
+written_offset line at = slice_get (drop 5 (offsets_of line)) at
 
 -- ---- faults
 
@@ -65,11 +65,11 @@ open_quote line = option_map (λ quote. quote.1) (quote_from None 0 line)
 
 -- under which byte of a line the caret stands
 abbrev pub caret_of : List ℕ → Outcome → Option ℕ
-caret_of line (Refused (BadDefinition at)) = written_place line at
-caret_of line (Refused (FilterSyntax at)) = written_place line at
-caret_of line (Refused (NoSuchField at)) = written_place line at
-caret_of line (Refused (WrongOperator at)) = written_place line at
-caret_of line (Refused (HistSyntax at)) = written_place line at
+caret_of line (Refused (BadDefinition at)) = written_offset line at
+caret_of line (Refused (FilterSyntax at)) = written_offset line at
+caret_of line (Refused (NoSuchField at)) = written_offset line at
+caret_of line (Refused (WrongOperator at)) = written_offset line at
+caret_of line (Refused (HistSyntax at)) = written_offset line at
 caret_of line (Fault BadByte) = position (λ b. not (is_line_byte b)) line
 caret_of line (Fault UnclosedQuote) = open_quote line
 caret_of line (Fault UnknownCommand) = position (λ b. not (is_blank b)) line

@@ -5,14 +5,14 @@ ghost use Rattle.trace_lex.specs.Blanks.{is_blank};
 ghost use Rattle.trace_script.specs.Lines.{is_line_byte};
 ghost use Rattle.std.specs.Prelude.{not};
 ghost use Rattle.trace_script.specs.Tokens.{is_end};
-ghost use Rattle.trace_explain.specs.Carets.{stand_after, end_after, place_of_byte, places_from, places_of, written_place, quote_after, open_quote, caret_of};
+ghost use Rattle.trace_explain.specs.Carets.{stand_after, end_after, offset_of_byte, offsets_from, offsets_of, written_offset, quote_after, open_quote, caret_of};
 
 use std::alloc::{AllocError, Global};
 use trace_command::Refusal;
 use trace_lex::is_blank;
 use trace_script::{Outcome, ScriptFault};
 
-/// How many places of a line come before what an `echo` writes: those of the four bytes of its name, and of their end.
+/// How many offsets of a line come before what an `echo` writes: those of the four bytes of its name, and of their end.
 const ECHO_PLACES: usize = 5;
 
 /// Where a reader of a line stands.
@@ -33,26 +33,26 @@ fn is_end(byte: u8) -> bool
     is_blank(byte) || byte == b'>'
 }
 
-/// The places of a line that were found, and where its reader stands.
+/// The offsets of a line that were found, and where its reader stands.
 #[derive(Drop)]
 struct Walk {
-    places: Vec<usize>,
+    offsets: Vec<usize>,
     stand: Stand,
-    /// The place after the last byte of the word that is open.
+    /// The offset after the last byte of the word that is open.
     end: usize,
-    /// The place of the next byte.
+    /// The offset of the next byte.
     at: usize,
 }
 
 impl Walk {
     fn new(alloc: Global) -> Walk
-        ensures places { result.places.items ≡ [] }
+        ensures offsets { result.offsets.items ≡ [] }
         ensures stand { result.stand ≡ Stand.Between }
         ensures end { result.end ≡ 0 }
         ensures at { result.at ≡ 0 }
     {
         Walk {
-            places: Vec::new(alloc),
+            offsets: Vec::new(alloc),
             stand: Stand::Between,
             end: 0,
             at: 0,
@@ -62,7 +62,7 @@ impl Walk {
     /// Takes a byte that stands outside quotes and ends no word.
     fn outside(&mut self, byte: u8) -> Result<(), AllocError>
         requires { self.old.at < 2 ^ 64 - 1 }
-        ensures places { OnOk result (self.new.places.items ≡ self.old.places.items ++ place_of_byte self.old.at byte) }
+        ensures offsets { OnOk result (self.new.offsets.items ≡ self.old.offsets.items ++ offset_of_byte self.old.at byte) }
         ensures stand { OnOk result (self.new.stand ≡ stand_after byte) }
         ensures end { OnOk result (self.new.end ≡ end_after self.old.end self.old.at byte) }
         ensures at { OnOk result (self.new.at ≡ self.old.at) }
@@ -70,7 +70,7 @@ impl Walk {
         match byte {
             b' ' | b'\t' => self.stand = Stand::Between,
             b'>' => {
-                self.places.push(self.at)?;
+                self.offsets.push(self.at)?;
                 self.stand = Stand::Between;
             }
             b'\'' | b'"' => {
@@ -78,7 +78,7 @@ impl Walk {
                 self.stand = Stand::InQuotes(byte);
             }
             _ => {
-                self.places.push(self.at)?;
+                self.offsets.push(self.at)?;
                 self.end = self.at + 1;
                 self.stand = Stand::InWord;
             }
@@ -89,29 +89,29 @@ impl Walk {
     /// Takes a byte of a quoted part.
     fn quoted(&mut self) -> Result<(), AllocError>
         requires { self.old.at < 2 ^ 64 - 1 }
-        ensures places { OnOk result (self.new.places.items ≡ self.old.places.items ++ self.old.at ∷ []) }
+        ensures offsets { OnOk result (self.new.offsets.items ≡ self.old.offsets.items ++ self.old.at ∷ []) }
         ensures stand { OnOk result (self.new.stand ≡ self.old.stand) }
         ensures end { OnOk result (self.new.end ≡ self.old.at + 1) }
         ensures at { OnOk result (self.new.at ≡ self.old.at) }
     {
-        self.places.push(self.at)?;
+        self.offsets.push(self.at)?;
         self.end = self.at + 1;
         Ok(())
     }
 
     /// Takes the next byte, wherever it stands.
-    #[tactic(auto, using(crate::proofs::CaretLemmas::more_places))]
+    #[tactic(auto, using(crate::proofs::CaretLemmas::more_offsets))]
     fn take(&mut self, byte: u8) -> Result<(), AllocError>
         requires { self.old.at < 2 ^ 64 - 1 }
-        ensures places { OnOk result ((bytes : List ℕ) →
-            self.new.places.items ++ places_from self.new.stand self.new.end (self.old.at + 1) bytes
-            ≡ self.old.places.items ++ places_from self.old.stand self.old.end self.old.at (byte ∷ bytes)) }
+        ensures offsets { OnOk result ((bytes : List ℕ) →
+            self.new.offsets.items ++ offsets_from self.new.stand self.new.end (self.old.at + 1) bytes
+            ≡ self.old.offsets.items ++ offsets_from self.old.stand self.old.end self.old.at (byte ∷ bytes)) }
         ensures at { OnOk result (self.new.at ≡ self.old.at) }
     {
         match self.stand {
             Stand::Between => self.outside(byte),
             Stand::InWord if is_end(byte) => {
-                self.places.push(self.end)?;
+                self.offsets.push(self.end)?;
                 self.outside(byte)
             }
             Stand::InWord => self.outside(byte),
@@ -126,9 +126,9 @@ impl Walk {
     /// Takes the next byte, and goes on to the one after it.
     fn step(&mut self, byte: u8) -> Result<(), AllocError>
         requires { self.old.at < 2 ^ 64 - 1 }
-        ensures places { OnOk result ((bytes : List ℕ) →
-            self.new.places.items ++ places_from self.new.stand self.new.end self.new.at bytes
-            ≡ self.old.places.items ++ places_from self.old.stand self.old.end self.old.at (byte ∷ bytes)) }
+        ensures offsets { OnOk result ((bytes : List ℕ) →
+            self.new.offsets.items ++ offsets_from self.new.stand self.new.end self.new.at bytes
+            ≡ self.old.offsets.items ++ offsets_from self.old.stand self.old.end self.old.at (byte ∷ bytes)) }
         ensures at { OnOk result (self.new.at ≡ self.old.at + 1) }
     {
         self.take(byte)?;
@@ -136,21 +136,21 @@ impl Walk {
         Ok(())
     }
 
-    /// The places, at the end of the line.
+    /// The offsets, at the end of the line.
     fn finish(mut self) -> Result<Vec<usize>, AllocError>
-        ensures { IfOk result (λ places. places.items ≡ self.places.items ++ places_from self.stand self.end self.at []) }
+        ensures { IfOk result (λ offsets. offsets.items ≡ self.offsets.items ++ offsets_from self.stand self.end self.at []) }
     {
         if self.stand == Stand::InWord {
-            self.places.push(self.end)?;
+            self.offsets.push(self.end)?;
         }
-        Ok(self.places)
+        Ok(self.offsets)
     }
 }
 
-/// The places of a line.
-#[tactic(auto, unfolding(crate::specs::Carets::places_of))]
-fn places(alloc: Global, line: &[u8]) -> Result<Vec<usize>, AllocError>
-    ensures { IfOk result (λ places. places.items ≡ places_of line.now) }
+/// The offsets of a line.
+#[tactic(auto, unfolding(crate::specs::Carets::offsets_of))]
+fn offsets(alloc: Global, line: &[u8]) -> Result<Vec<usize>, AllocError>
+    ensures { IfOk result (λ offsets. offsets.items ≡ offsets_of line.now) }
 {
     let mut walk = Walk::new(alloc);
     for byte in line {
@@ -159,12 +159,12 @@ fn places(alloc: Global, line: &[u8]) -> Result<Vec<usize>, AllocError>
     walk.finish()
 }
 
-/// Where the byte of this place in what an `echo` writes stands in its line.
-fn written_place(alloc: Global, line: &[u8], at: usize) -> Result<Option<usize>, AllocError>
-    ensures { IfOk result (λ place. place ≡ written_place line.now at) }
+/// Where the byte of this offset in what an `echo` writes stands in its line.
+fn written_offset(alloc: Global, line: &[u8], at: usize) -> Result<Option<usize>, AllocError>
+    ensures { IfOk result (λ offset. offset ≡ written_offset line.now at) }
 {
-    let places = places(alloc, line)?;
-    match places.get(ECHO_PLACES..) {
+    let offsets = offsets(alloc, line)?;
+    match offsets.get(ECHO_PLACES..) {
         Some(written) => Ok(written.get(at).copied()),
         None => Ok(None),
     }
@@ -222,7 +222,7 @@ pub(crate) fn caret(
     line: &[u8],
     outcome: &Outcome,
 ) -> Result<Option<usize>, AllocError>
-    ensures { IfOk result (λ place. place ≡ caret_of line.now outcome.now) }
+    ensures { IfOk result (λ offset. offset ≡ caret_of line.now outcome.now) }
 {
     match outcome {
         Outcome::Refused(
@@ -231,7 +231,7 @@ pub(crate) fn caret(
             | Refusal::NoSuchField { at }
             | Refusal::WrongOperator { at }
             | Refusal::HistSyntax { at },
-        ) => written_place(alloc, line, *at),
+        ) => written_offset(alloc, line, *at),
         Outcome::Fault(ScriptFault::BadByte) => Ok(bad_byte(line)),
         Outcome::Fault(ScriptFault::UnclosedQuote) => Ok(open_quote(line)),
         Outcome::Fault(ScriptFault::UnknownCommand) => Ok(first_word(line)),

@@ -87,27 +87,27 @@ test_decides by false o (Word w) (z, is) fits =
 test_decides by false o (Quoted w) (z, is) fits = absurd (wrong fits)
 
 module _ (emission : Emission) (name : List ℕ) where
-  field_type : (k : Kind) (v : Datum) (place : ℕ) → Holds k v → IsTrue (is_kind k) → slice_get emission.values place ≡ Some v → HasType (is_text_kind k) (slice_get emission.values place)
-  field_type (kind.Number t) (Whole z) place holds sized at = (z, at)
-  field_type (kind.Number t) (Bytes b) place holds sized at = absurd holds
-  field_type (kind.Char n) (Whole z) place holds sized at = absurd holds
-  field_type (kind.Char n) (Bytes b) place holds sized at =
+  field_type : (k : Kind) (v : Datum) (offset : ℕ) → Holds k v → IsTrue (is_kind k) → slice_get emission.values offset ≡ Some v → HasType (is_text_kind k) (slice_get emission.values offset)
+  field_type (kind.Number t) (Whole z) offset holds sized at = (z, at)
+  field_type (kind.Number t) (Bytes b) offset holds sized at = absurd holds
+  field_type (kind.Char n) (Whole z) offset holds sized at = absurd holds
+  field_type (kind.Char n) (Bytes b) offset holds sized at =
       let small : n ≤ 64 = leb-true n 64 (and_parts (nat_le 1 n) (nat_le n 64) sized).1 in
       (b, at, omega (arith, holds.0, small))
 
-  types_from : (place : ℕ) (before fields : List Field) (values : List Datum) → AllZip Holds (map (λ field. field.kind) fields) values → AreFields before fields
-      → ((k : ℕ) → slice_get emission.values (place + k) ≡ slice_get values k) → (subject : Operand) → operand_from place fields name ≡ Some subject → HasType (is_text subject) (operand_value emission subject)
-  types_from place before [] values holds are at subject h = absurd (cc)
-  types_from place before (field ∷ fields) [] holds are at subject h = absurd holds
-  types_from place before (field ∷ fields) (v ∷ values) holds are at subject h =
-      by (bytes_eq field.name name) (types_from (place + 1) (before ++ field ∷ []) fields values holds.1 are.1 (λ k. ap (slice_get emission.values) (next k) ∙ at (suc k)) subject) h
+  types_from : (offset : ℕ) (before fields : List Field) (values : List Datum) → AllZip Holds (map (λ field. field.kind) fields) values → AreFields before fields
+      → ((k : ℕ) → slice_get emission.values (offset + k) ≡ slice_get values k) → (subject : Operand) → operand_from offset fields name ≡ Some subject → HasType (is_text subject) (operand_value emission subject)
+  types_from offset before [] values holds are at subject h = absurd (cc)
+  types_from offset before (field ∷ fields) [] holds are at subject h = absurd holds
+  types_from offset before (field ∷ fields) (v ∷ values) holds are at subject h =
+      by (bytes_eq field.name name) (types_from (offset + 1) (before ++ field ∷ []) fields values holds.1 are.1 (λ k. ap (slice_get emission.values) (next k) ∙ at (suc k)) subject) h
     where
-      next : (k : ℕ) → place + 1 + k ≡ place + suc k
+      next : (k : ℕ) → offset + 1 + k ≡ offset + suc k
       next k = omega arith
 
-      by : (same : Bool) → (operand_from (place + 1) fields name ≡ Some subject → HasType (is_text subject) (operand_value emission subject))
-          → (if same then Some (operands.Field place (is_text_kind field.kind)) else operand_from (place + 1) fields name) ≡ Some subject → HasType (is_text subject) (operand_value emission subject)
-      by true later h = subst (λ s. HasType (is_text s) (operand_value emission s)) (some_is h) (field_type field.kind v place holds.0 are.0.sized (ap (slice_get emission.values) (sym (add-zero place)) ∙ at 0))
+      by : (same : Bool) → (operand_from (offset + 1) fields name ≡ Some subject → HasType (is_text subject) (operand_value emission subject))
+          → (if same then Some (operands.Field offset (is_text_kind field.kind)) else operand_from (offset + 1) fields name) ≡ Some subject → HasType (is_text subject) (operand_value emission subject)
+      by true later h = subst (λ s. HasType (is_text s) (operand_value emission s)) (some_is h) (field_type field.kind v offset holds.0 are.0.sized (ap (slice_get emission.values) (sym (add-zero offset)) ∙ at 0))
       by false later h = later h
 
   named_type : (definition : Definition) (row : Cells) → IsDefinition definition → IsRowOf definition row → emission.values ≡ row.values → (subject : Operand) → operand_named definition.fields name ≡ Some subject

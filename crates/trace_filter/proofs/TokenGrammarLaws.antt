@@ -14,8 +14,8 @@ use Rattle.trace_filter.proofs.Ends.{ends, end_len}
 use Rattle.trace_filter.proofs.SpotLemmas.{skipped}
 use Rattle.trace_filter.proofs.EndBlanks.{sized, no_both, blank_unnamed, uncut}
 
-abbrev placed : ℕ → Token → Spot
-placed at token = record { at = at; token = token }
+abbrev located : ℕ → Token → Spot
+located at token = record { at = at; token = token }
 
 -- ---- bytes
 
@@ -73,13 +73,13 @@ record Leads (due : Bool) (text rest : List ℕ) (token : Token) : Type 0 where
   piece : piece_of due first (front ++ rest) ≡ sized token (length front)
 
 led_read : (due : Bool) (at : ℕ) (text rest : List ℕ) (token : Token) → Leads due text rest token
-    → spots_from due 0 at (text ++ rest) ≡ placed at token ∷ spots_from (is_comparison token) 0 (at + length text) rest
+    → spots_from due 0 at (text ++ rest) ≡ located at token ∷ spots_from (is_comparison token) 0 (at + length text) rest
 led_read due at text rest token l =
     let size : at + 1 + length l.front ≡ at + length text = omega (arith, ap length l.begins) in
     ap (λ bs. spots_from due 0 at (bs ++ rest)) l.begins
     ∙ (cond-false (is_blank l.first) _ _ l.unblank
-    ∙ (ap (λ (p : Piece). placed at p.token ∷ spots_from (is_comparison p.token) p.more (at + 1) (l.front ++ rest)) l.piece
-    ∙ ap (λ spots. placed at token ∷ spots)
+    ∙ (ap (λ (p : Piece). located at p.token ∷ spots_from (is_comparison p.token) p.more (at + 1) (l.front ++ rest)) l.piece
+    ∙ ap (λ spots. located at token ∷ spots)
     (skipped (is_comparison token) (length l.front) (at + 1) (l.front ++ rest)
     ∙ (ap (spots_from (is_comparison token) 0 (at + 1 + length l.front)) (drop-append_seam l.front rest) ∙ ap (λ k. spots_from (is_comparison token) 0 k rest) size))))
 
@@ -301,7 +301,7 @@ stray_reads_not due b bs s r = none due s r.lexeme r.lawful r.text
 -- ---- what is written is read
 
 part_read : (due : Bool) (at : ℕ) (part : TextPart) (rest : List ℕ) → IsTextPart due rest part
-    → spots_from due 0 at (part_text part ++ rest) ≡ map (placed at) (part_tokens part) ++ spots_from (due_behind due (part_tokens part)) 0 (at + length (part_text part)) rest
+    → spots_from due 0 at (part_text part ++ rest) ≡ map (located at) (part_tokens part) ++ spots_from (due_behind due (part_tokens part)) 0 (at + length (part_text part)) rest
 part_read due at (Legible (Gap blank)) rest h = cond-true (is_blank blank) _ _ h
 part_read due at (Legible (Signed sign)) rest h = led_read due at (sign_text sign) rest (sign_token sign) (sign_leads due sign rest h)
 part_read true at (Legible (Run first more)) rest h = absurd h
@@ -319,7 +319,7 @@ part_read due at (Stray b) rest h =
 text_read : (due : Bool) (at : ℕ) (parts : List TextPart) → IsText due parts → part_spots at parts ≡ spots_from due 0 at (flat_map part_text parts)
 text_read due at [] h = refl
 text_read due at (part ∷ parts) h =
-    ap (λ spots. map (placed at) (part_tokens part) ++ spots) (text_read (due_behind due (part_tokens part)) (at + length (part_text part)) parts h.1)
+    ap (λ spots. map (located at) (part_tokens part) ++ spots) (text_read (due_behind due (part_tokens part)) (at + length (part_text part)) parts h.1)
     ∙ sym (part_read due at part (flat_map part_text parts) h.0)
 
 -- ---- each text is written

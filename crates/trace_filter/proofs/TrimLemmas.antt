@@ -1,4 +1,4 @@
--- The tokens of a text without blanks at both ends are those of the text, at shifted places.
+-- The tokens of a text without blanks at both ends are those of the text, at shifted offsets.
 use Rattle.std.proofs.Common.{◌≡◌, ℕ, zero, suc, ◌+◌, ◌-◌, ◌≤◌, Bool, true, false, if◌then◌else◌, List, [], ◌∷◌, ◌++◌, length, reverse, map, take, drop, refl, sym, ap, ◌∙◌, arith, one-add, length-drop}
 use Rattle.std.specs.List.{prefix_len}
 use Rattle.std.proofs.lemmas.Bool.{cond_both}
@@ -9,18 +9,18 @@ use Rattle.trace_lex.specs.Blanks.{is_blank, without_end, trimmed}
 use Rattle.trace_filter.specs.Tokens.{is_comparison, piece_of, Spot, spots_from, spots_of, tokens_of, shifted_by}
 use Rattle.trace_filter.proofs.SpotLemmas.{blanks}
 
--- ---- places
+-- ---- offsets
 
 spots_shift : (value_due : Bool) (skip k at : ℕ) (bs : List ℕ) → spots_from value_due skip (k + at) bs ≡ map (shifted_by k) (spots_from value_due skip at bs)
 spots_shift value_due skip k at [] = refl
-spots_shift value_due (suc skip) k at (b ∷ bs) = ap (λ place. spots_from value_due skip place bs) (next k at) ∙ spots_shift value_due skip k (at + 1) bs
+spots_shift value_due (suc skip) k at (b ∷ bs) = ap (λ offset. spots_from value_due skip offset bs) (next k at) ∙ spots_shift value_due skip k (at + 1) bs
   where
     next : (k at : ℕ) → k + at + 1 ≡ k + (at + 1)
     next k at = omega arith
 spots_shift value_due zero k at (b ∷ bs) =
     by (spots_from value_due 0 (at + 1) bs) (spots_from (is_comparison (piece_of value_due b bs).token) (piece_of value_due b bs).more (at + 1) bs) (is_blank b)
-    (ap (λ place. spots_from value_due 0 place bs) (next k at) ∙ spots_shift value_due 0 k (at + 1) bs)
-    (ap (λ place. spots_from (is_comparison (piece_of value_due b bs).token) (piece_of value_due b bs).more place bs) (next k at) ∙ spots_shift (is_comparison (piece_of value_due b bs).token) (piece_of value_due b bs).more k (at + 1) bs)
+    (ap (λ offset. spots_from value_due 0 offset bs) (next k at) ∙ spots_shift value_due 0 k (at + 1) bs)
+    (ap (λ offset. spots_from (is_comparison (piece_of value_due b bs).token) (piece_of value_due b bs).more offset bs) (next k at) ∙ spots_shift (is_comparison (piece_of value_due b bs).token) (piece_of value_due b bs).more k (at + 1) bs)
   where
     next : (k at : ℕ) → k + at + 1 ≡ k + (at + 1)
     next k at = omega arith
@@ -83,7 +83,7 @@ pub trimmed_spots : (text : List ℕ) → spots_of text ≡ map (shifted_by (pre
 trimmed_spots text =
     let k = prefix_len is_blank (without_end text) in
     let zero_add : 0 + k ≡ k + 0 = omega arith in
-    blanks false 0 (without_end text) ∙ ap (λ place. spots_from false 0 place (trimmed text)) zero_add ∙ spots_shift false 0 k 0 (trimmed text)
+    blanks false 0 (without_end text) ∙ ap (λ offset. spots_from false 0 offset (trimmed text)) zero_add ∙ spots_shift false 0 k 0 (trimmed text)
     ∙ ap (λ bytes. map (shifted_by k) (spots_from false 0 0 bytes)) (sym (trimmed_end text))
 
 same_tokens : (k : ℕ) (spots : List Spot) → tokens_of (map (shifted_by k) spots) ≡ tokens_of spots

@@ -86,16 +86,16 @@ pub unless_some : (o : Option Operand) (f : FilterFault) → unless_named o f �
 unless_some (Some s) f h = record { subject = s; is = refl }
 unless_some None f h = absurd (cc)
 
-no_fault : (fields : List Field) (subject : Operand) (token : Token) (at place : ℕ) → fault_at fields subject token at ≡ None → fault_at fields subject token place ≡ None
-no_fault fields subject Open at place h = refl
-no_fault fields subject Close at place h = refl
-no_fault fields subject Bang at place h = refl
-no_fault fields subject AndAnd at place h = refl
-no_fault fields subject OrOr at place h = refl
-no_fault fields subject Illegible at place h = refl
-no_fault fields subject (Compare by) at place h = ap (λ b. unless b (WrongOperator place)) (unless_true (takes_at (is_text subject) by) (WrongOperator at) h)
-no_fault fields subject (Value literal) at place h = ap (λ b. unless b (FilterSyntax place)) (unless_true (fits_at (is_text subject) literal) (FilterSyntax at) h)
-no_fault fields subject (Name name) at place h = ap (λ o. unless_named o (NoSuchField place)) (unless_some (operand_named fields name) (NoSuchField at) h).is
+no_fault : (fields : List Field) (subject : Operand) (token : Token) (at offset : ℕ) → fault_at fields subject token at ≡ None → fault_at fields subject token offset ≡ None
+no_fault fields subject Open at offset h = refl
+no_fault fields subject Close at offset h = refl
+no_fault fields subject Bang at offset h = refl
+no_fault fields subject AndAnd at offset h = refl
+no_fault fields subject OrOr at offset h = refl
+no_fault fields subject Illegible at offset h = refl
+no_fault fields subject (Compare by) at offset h = ap (λ b. unless b (WrongOperator offset)) (unless_true (takes_at (is_text subject) by) (WrongOperator at) h)
+no_fault fields subject (Value literal) at offset h = ap (λ b. unless b (FilterSyntax offset)) (unless_true (fits_at (is_text subject) literal) (FilterSyntax at) h)
+no_fault fields subject (Name name) at offset h = ap (λ o. unless_named o (NoSuchField offset)) (unless_some (operand_named fields name) (NoSuchField at) h).is
 
 pub all_fit : (fields : List Field) (subject : Operand) (spots : List Spot) → first_fault fields subject spots ≡ None → AllFit fields subject (tokens_of spots)
 all_fit fields subject [] h = tt

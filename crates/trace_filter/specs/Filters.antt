@@ -37,7 +37,7 @@ pub record IsFilter (definition : Definition) (text : List ℕ) : Type 0 where
 abbrev pub IsTooMany : List ℕ → Type 0
 IsTooMany text = (1024 < length (trimmed text)) ⊎ (IsShort text × ComesTo text TooDeep)
 
--- or it is short and wrong at a place
+-- or it is short and wrong at an offset
 abbrev pub IsWrong : List ℕ → ℕ → Type 0
 IsWrong text at = IsShort text × ComesTo text (WrongAt at)
 

@@ -74,34 +74,34 @@ abbrev pub is_value_token : Token → Bool
 is_value_token (Value literal) = true
 is_value_token _ = false
 
--- the places of the tokens of one kind, in order
-abbrev pub places_of : (Token → Bool) → List Spot → List ℕ
-places_of is spots = map (λ spot. spot.at) (filter (λ spot. is spot.token) spots)
+-- the offsets of the tokens of one kind, in order
+abbrev pub offsets_of : (Token → Bool) → List Spot → List ℕ
+offsets_of is spots = map (λ spot. spot.at) (filter (λ spot. is spot.token) spots)
 
 -- where the names, the operators and the values of a text are; in a text that spells a tree each test has one of each, so the n-th of each
 -- are those of the n-th test
-pub record TestPlaces : Type 0 where
+pub record TestOffsets : Type 0 where
   pub names : List ℕ
   pub operators : List ℕ
   pub values : List ℕ
 
-abbrev pub test_places : List Spot → TestPlaces
-test_places spots = record { names = places_of is_name_token spots; operators = places_of is_comparison spots; values = places_of is_value_token spots }
+abbrev pub test_offsets : List Spot → TestOffsets
+test_offsets spots = record { names = offsets_of is_name_token spots; operators = offsets_of is_comparison spots; values = offsets_of is_value_token spots }
 
 -- the fault is told at the name, the operator or the value of the test that has so many before it
-abbrev pub IsAt : TestPlaces → ℕ → FilterFault → Type 0
-IsAt places before TooMany = ⊥
-IsAt places before (FilterSyntax at) = slice_get places.values before ≡ Some at
-IsAt places before (NoSuchField at) = slice_get places.names before ≡ Some at
-IsAt places before (WrongOperator at) = slice_get places.operators before ≡ Some at
-IsAt places before Memory = ⊥
+abbrev pub IsAt : TestOffsets → ℕ → FilterFault → Type 0
+IsAt offsets before TooMany = ⊥
+IsAt offsets before (FilterSyntax at) = slice_get offsets.values before ≡ Some at
+IsAt offsets before (NoSuchField at) = slice_get offsets.names before ≡ Some at
+IsAt offsets before (WrongOperator at) = slice_get offsets.operators before ≡ Some at
+IsAt offsets before Memory = ⊥
 
 -- the tests before one fit, and this one has the fault
-pub record IsFirstMisfit (fields : List Field) (tests : List OneTest) (places : TestPlaces) (fault : FilterFault) : Type 0 where
+pub record IsFirstMisfit (fields : List Field) (tests : List OneTest) (offsets : TestOffsets) (fault : FilterFault) : Type 0 where
   pub front : List OneTest
   pub test : OneTest
   pub back : List OneTest
   pub cut : tests ≡ front ++ test ∷ back
   pub fit : All (TestFits fields) front
   pub wrong : HasFault fields test fault
-  pub place : IsAt places (length front) fault
+  pub offset : IsAt offsets (length front) fault

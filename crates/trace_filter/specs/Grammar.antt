@@ -74,7 +74,7 @@ pub record Begins (tokens : List Token) : Type 0 where
 
 -- ---- depth
 
--- what is open at a place: the `!` inside the innermost `(`, and for each open `(` the `!` before it, innermost first
+-- what is open at an offset: the `!` inside the innermost `(`, and for each open `(` the `!` before it, innermost first
 pub record Opened : Type 0 where
   pub bangs : ℕ
   pub outer : List ℕ
@@ -103,7 +103,7 @@ open_count opened = opened.bangs + length opened.outer + sum opened.outer
 abbrev pub nothing_open : Opened
 nothing_open = record { bangs = 0; outer = [] }
 
--- the most that are open at one place, from a place on
+-- the most that are open at one offset, from an offset on
 abbrev pub deepest : Opened → List Token → ℕ
 deepest opened [] = open_count opened
 deepest opened (token ∷ tokens) = max (open_count opened) (deepest (behind opened token) tokens)
@@ -128,13 +128,13 @@ abbrev mutual
 
 -- ---- what a text comes to
 
--- the tokens before the one at the place begin a filter and are nested 16 deep at most; with it they begin none
-pub record IsMisplaced (spots : List Spot) (place : ℕ) : Type 0 where
+-- the tokens before the one at the offset begin a filter and are nested 16 deep at most; with it they begin none
+pub record IsMisplaced (spots : List Spot) (offset : ℕ) : Type 0 where
   pub front : List Spot
   pub wrong : Spot
   pub back : List Spot
   pub cut : spots ≡ front ++ wrong ∷ back
-  pub at : wrong.at ≡ place
+  pub at : wrong.at ≡ offset
   pub begins : Begins (tokens_of front)
   pub wrong_there : Begins (tokens_of front ++ wrong.token ∷ []) → ⊥
   pub shallow : depth_of (tokens_of front) ≤ 16
@@ -145,7 +145,7 @@ pub record EndsEarly (spots : List Spot) : Type 0 where
   pub unfinished : IsWhole (tokens_of spots) → ⊥
   pub shallow : depth_of (tokens_of spots) ≤ 16
 
--- the tokens up to some place begin a filter and are nested too deep
+-- the tokens up to some offset begin a filter and are nested too deep
 pub record IsTooDeep (spots : List Spot) : Type 0 where
   pub front : List Spot
   pub back : List Spot

@@ -8,7 +8,7 @@ use Rattle.trace_lex.specs.Blanks.{is_blank, without_end, trimmed}
 use Rattle.trace_filter.specs.Tokens.{Token, Spot, spots_of, tokens_of, shifted_by}
 use Rattle.trace_filter.specs.TokenGrammar.{IsWrittenText}
 use Rattle.trace_filter.specs.Grammar.{Expr, Spells, depth_of, depth}
-use Rattle.trace_filter.specs.Fits.{tests_of, EachTestFits, test_places, IsFirstMisfit}
+use Rattle.trace_filter.specs.Fits.{tests_of, EachTestFits, test_offsets, IsFirstMisfit}
 use Rattle.trace_filter.specs.Globs.{Class, is_in_class, Part, parts_of}
 use Rattle.trace_filter.specs.GlobGrammar.{IsWrittenGlob}
 use Rattle.trace_filter.specs.ClassGrammar.{Member, AreWrittenOf, ClassHolds}
@@ -47,7 +47,7 @@ pub record SpellsFittingTree (definition : Definition) (text : List ℕ) : Type 
 abbrev pub FilterIsItsTree : Type 0
 FilterIsItsTree = (definition : Definition) → (text : List ℕ) → IsFilter definition text ↔ (IsShort text × SpellsFittingTree definition text)
 
--- a text can be written of parts that mean these tokens at these places exactly where they are those that `spots_of` finds
+-- a text can be written of parts that mean these tokens at these offsets exactly where they are those that `spots_of` finds
 abbrev pub TokensAreAsWritten : Type 0
 TokensAreAsWritten = (text : List ℕ) → (spots : List Spot) → IsWrittenText text spots ↔ (spots ≡ spots_of text)
 
@@ -88,7 +88,7 @@ abbrev pub HoldsAsItsTree : Type 0
 HoldsAsItsTree = (definition : Definition) → (text : List ℕ) → (row : Cells) → (emission : Emission) → IsFilter definition text → IsDefinition definition → IsRowOf definition row
     → emission.values ≡ row.values → IsTrue (holds_of (parsed_of definition text) emission) ↔ Passes definition text emission
 
--- the most that are open at one place of the tokens is the depth of each tree that they spell
+-- the most that are open at one offset of the tokens is the depth of each tree that they spell
 abbrev pub DepthIsOfTheTree : Type 0
 DepthIsOfTheTree = (tokens : List Token) → (tree : Expr) → Spells tokens tree → depth_of tokens ≡ depth tree
 
@@ -103,4 +103,4 @@ FitsAsItsTree = (definition : Definition) → (text : List ℕ) → (tree : Expr
 -- and their misfit is the fault of the first test of the tree that does not fit
 abbrev pub MisfitIsTheFirst : Type 0
 MisfitIsTheFirst = (definition : Definition) → (text : List ℕ) → (tree : Expr) → (fault : FilterFault) → Spells (tokens_of (spots_of text)) tree
-    → (misfit_of definition text ≡ Some fault) ↔ IsFirstMisfit definition.fields (tests_of tree) (test_places (spots_of text)) fault
+    → (misfit_of definition text ≡ Some fault) ↔ IsFirstMisfit definition.fields (tests_of tree) (test_offsets (spots_of text)) fault

@@ -29,7 +29,7 @@ pub record IsPiece (piece : Piece) (found : pieces.Piece) (rest : List ℕ) : Ty
   pub more : found.more ≡ piece.more
   pub within : piece.more ≤ length rest
 
--- the first token from a place on, with the others from its end on
+-- the first token from an offset on, with the others from its end on
 pub record IsNextToken (text : List ℕ) (start : ℕ) (value_due : Bool) (found : spots.Spot) : Type 0 where
   pub spots : spots_from value_due 0 start (drop start text) ≡ record { at = found.at; token = token_of found.token } ∷ spots_from (is_comparison (token_of found.token)) 0 found.end (drop found.end text)
   pub within : found.end ≤ length text

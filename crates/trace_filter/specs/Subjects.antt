@@ -27,7 +27,7 @@ abbrev pub unless_named : Option Operand → FilterFault → Option FilterFault
 unless_named (Some subject) fault = None
 unless_named None fault = Some fault
 
--- what is wrong with a token at a place, where the subject was named last: no such field, a wrong operator, no number
+-- what is wrong with a token at an offset, where the subject was named last: no such field, a wrong operator, no number
 abbrev pub fault_at : List Field → Operand → Token → ℕ → Option FilterFault
 fault_at fields subject Open at = None
 fault_at fields subject Close at = None

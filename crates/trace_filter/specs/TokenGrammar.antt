@@ -134,12 +134,12 @@ abbrev pub IsText : Bool → List TextPart → Type 0
 IsText due [] = Unit {0}
 IsText due (part ∷ parts) = IsTextPart due (flat_map part_text parts) part × IsText (due_behind due (part_tokens part)) parts
 
--- their tokens from a place on, each behind the text of all parts before it
+-- their tokens from an offset on, each behind the text of all parts before it
 abbrev pub part_spots : ℕ → List TextPart → List Spot
 part_spots at [] = []
 part_spots at (part ∷ parts) = map (λ token. record { at = at; token = token }) (part_tokens part) ++ part_spots (at + length (part_text part)) parts
 
--- a text can be written of parts that mean these tokens at these places
+-- a text can be written of parts that mean these tokens at these offsets
 pub record IsWrittenText (text : List ℕ) (spots : List Spot) : Type 0 where
   pub parts : List TextPart
   pub lawful : IsText false parts

@@ -88,12 +88,12 @@ is_comparison (Name bs) = false
 is_comparison (Value v) = false
 is_comparison Illegible = false
 
--- a token with the place of its first byte in the text
+-- a token with the offset of its first byte in the text
 pub record Spot : Type 0 where
   pub at : ℕ
   pub token : Token
 
--- the tokens from a place on, where `skip` more bytes belong to the token before
+-- the tokens from an offset on, where `skip` more bytes belong to the token before
 abbrev pub spots_from : Bool → ℕ → ℕ → List ℕ → List Spot
 spots_from value_due skip at [] = []
 spots_from value_due (suc skip) at (b ∷ bs) = spots_from value_due skip (at + 1) bs
@@ -107,6 +107,6 @@ shifted_by more spot = record { at = more + spot.at; token = spot.token }
 abbrev pub tokens_of : List Spot → List Token
 tokens_of spots = map (λ spot. spot.token) spots
 
--- the tokens of a text with their places; blanks at its end are cut
+-- the tokens of a text with their offsets; blanks at its end are cut
 abbrev pub spots_of : List ℕ → List Spot
 spots_of text = spots_from false 0 0 (without_end text)

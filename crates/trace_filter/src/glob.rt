@@ -11,7 +11,7 @@ use trace_lex::len_before;
 /// A text that is matched has fewer bytes than this.
 pub(crate) const TEXT_END: usize = 256;
 
-/// The bytes that one place of a text may have: those that the members write, or all others.
+/// The bytes that one offset of a text may have: those that the members write, or all others.
 #[derive(Clone, Copy)]
 pub(crate) struct Class<'a> {
     negated: bool,
@@ -151,9 +151,9 @@ fn shift(class: Class, row: &mut [bool], text: &[u8])
     ensures { row.new ≡ spec_shift (class_of class.entry) false row.old text.now }
 {
     let mut carry = false;
-    for (place, byte) in text.iter().enumerate() {
-        let next = row[place] & class.has(*byte);
-        row[place] = carry;
+    for (offset, byte) in text.iter().enumerate() {
+        let next = row[offset] & class.has(*byte);
+        row[offset] = carry;
         carry = next;
     }
     row[text.len()] = carry;
@@ -208,7 +208,7 @@ fn match_parts(pattern: &[u8], row: &mut [bool], text: &[u8]) -> bool
 }
 
 /// Whether a text matches a pattern, in which a `*` stands for any bytes, a `?` for any one, a `[..]` for one of its class, and each further
-/// byte for itself. It takes as many steps as the pattern has bytes for each place of the text.
+/// byte for itself. It takes as many steps as the pattern has bytes for each offset of the text.
 pub(crate) fn matches(pattern: &[u8], text: &[u8]) -> bool
     requires { length text.now < 256 }
     ensures { result ≡ is_match (parts_of pattern.now) text.now }

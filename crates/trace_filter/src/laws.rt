@@ -14,7 +14,7 @@ pub fn filters_are_as_written()
     ensures tree { FilterIsItsTree }
 {}
 
-/// Each text can be written of blanks, tokens and bytes where no token begins, and however it is, its tokens and their places are those that
+/// Each text can be written of blanks, tokens and bytes where no token begins, and however it is, its tokens and their offsets are those that
 /// these mean.
 pub fn tokens_are_as_written()
     ensures { TokensAreAsWritten }
@@ -34,7 +34,7 @@ pub fn classes_are_as_written()
     ensures holds { ClassHoldsAsWritten }
 {}
 
-/// A text without the blanks at both ends has the tokens of the text as written, at shifted places, so it is the same filter.
+/// A text without the blanks at both ends has the tokens of the text as written, at shifted offsets, so it is the same filter.
 pub fn trimming_keeps_filters()
     ensures tokens { TrimmedHasTheTokens }
     ensures filter { TrimmedIsTheFilter }

@@ -54,12 +54,12 @@ impl Token<'_> {
     }
 }
 
-/// A token with its place in the text.
+/// A token with its offset in the text.
 #[derive(Clone, Copy)]
 pub(crate) struct Spot<'a> {
-    /// The place of its first byte.
+    /// The offset of its first byte.
     pub(crate) at: usize,
-    /// The place behind its last.
+    /// The offset behind its last.
     pub(crate) end: usize,
     pub(crate) token: Token<'a>,
 }
@@ -218,7 +218,7 @@ fn first_piece<'a>(value_due: bool, bytes: &'a [u8], first: u8, rest: &'a [u8]) 
     }
 }
 
-/// The first token from a place on.
+/// The first token from an offset on.
 pub(crate) fn next_token(text: &[u8], from: usize, value_due: bool) -> Option<Spot<'_>>
     requires { from ≤ length text.now }
     ensures none { IfNone result (spots_from value_due 0 from (drop from text.now) ≡ []) }

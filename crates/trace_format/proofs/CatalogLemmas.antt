@@ -25,22 +25,22 @@ abbrev keys : List Entry → List (Vec ℕ Global)
 keys entries = map (λ (e : Entry). e.0) entries
 
 module _ (name : List ℕ) where
-  -- the place of a name among the keys is its place among the events
+  -- the index of a name among the keys is its index among the events
   same_len : (entries : List Entry) → AllByRecursion (λ e. e.0.items ≡ e.1.name) entries
       → position_or_len (λ (k : Vec ℕ Global). bytes_eq name k.items) (keys entries) ≡ position_or_len (λ (e : Definition). bytes_eq name e.name) (events_of entries)
   same_len [] named = refl
   same_len (entry ∷ entries) named = (λ i. cond (not (bytes_eq name (named.0 i))) (1 + same_len entries named.1 i) 0)
 
-  pub same_place : (entries : List Entry) → AllByRecursion (λ e. e.0.items ≡ e.1.name) entries
+  pub same_index : (entries : List Entry) → AllByRecursion (λ e. e.0.items ≡ e.1.name) entries
       → position (λ (k : Vec ℕ Global). bytes_eq name k.items) (keys entries) ≡ position (λ (e : Definition). bytes_eq name e.name) (events_of entries)
-  same_place entries named =
-      let place = same_len entries named in
+  same_index entries named =
+      let index = same_len entries named in
       let size : length (keys entries) ≡ length (events_of entries) = length-map entries (λ (e : Entry). e.0) ∙ sym (length-map entries (λ (e : Entry). e.1)) in
-      (λ i. cond (nat_lt (place i) (size i)) (Some (place i)) None)
+      (λ i. cond (nat_lt (index i) (size i)) (Some (index i)) None)
 
   pub id_is : (entries : List Entry) → AllByRecursion (λ e. e.0.items ≡ e.1.name) entries
-      → id_of (events_of entries) name ≡ option_map (λ place. place + 1) (position (λ (k : Vec ℕ Global). bytes_eq name k.items) (keys entries))
-  id_is entries named = ap (option_map (λ place. place + 1)) (sym (same_place entries named))
+      → id_of (events_of entries) name ≡ option_map (λ index. index + 1) (position (λ (k : Vec ℕ Global). bytes_eq name k.items) (keys entries))
+  id_is entries named = ap (option_map (λ index. index + 1)) (sym (same_index entries named))
 
 AreEvents-push : (before events : List Definition) (event : Definition) → AreEvents before events → IsEvent (before ++ events) event → AreEvents before (events ++ event ∷ [])
 AreEvents-push before [] event are is = (subst (λ (b : List Definition). IsEvent b event) (append-nil before) is, tt)
@@ -58,10 +58,10 @@ one_more entries key event is room named new = record {
   events = subst (AreEvents []) (sym (events-push entries key event)) (AreEvents-push [] (events_of entries) event is.events new);
 }
 
-pub event_at : (entries : List Entry) (place : ℕ) → event_of (events_of entries) (suc place) ≡ option_map (λ (e : Entry). e.1) (slice_get entries place)
-event_at [] place = refl
+pub event_at : (entries : List Entry) (index : ℕ) → event_of (events_of entries) (suc index) ≡ option_map (λ (e : Entry). e.1) (slice_get entries index)
+event_at [] index = refl
 event_at (entry ∷ entries) zero = refl
-event_at (entry ∷ entries) (suc place) = event_at entries place
+event_at (entry ∷ entries) (suc index) = event_at entries index
 
 some-map : {A B : Type 0} (f : A → B) (o : Option A) → is_some (option_map f o) ≡ is_some o
 some-map f None = refl
@@ -80,7 +80,7 @@ pub no_key : (entries : List Entry) (key : Vec ℕ Global) (name : List ℕ) →
     → is_some (id_of (events_of entries) name) ≡ false → lookup (λ (k : Vec ℕ Global). bytes_eq key.items k.items) entries ≡ None
 no_key entries key name named is none =
     let test = λ (n : List ℕ) (k : Vec ℕ Global). bytes_eq n k.items in
-    none_from _ (sym (some_index (test key.items) entries) ∙ ap (λ n. is_some (position (test n) (keys entries))) is ∙ sym (some-map (λ place. place + 1) (position (test name) (keys entries))) ∙ ap is_some (sym (id_is name entries named)) ∙ none)
+    none_from _ (sym (some_index (test key.items) entries) ∙ ap (λ n. is_some (position (test n) (keys entries))) is ∙ sym (some-map (λ index. index + 1) (position (test name) (keys entries))) ∙ ap is_some (sym (id_is name entries named)) ∙ none)
 
 no_fault : (test : Bool) (rest : Result ℕ CatalogFault) (fault : CatalogFault) (id : ℕ) → (if test then Err fault else rest) ≡ Ok id → (test ≡ false) × (rest ≡ Ok id)
 no_fault true rest fault id h = absurd (cc)
@@ -139,61 +139,61 @@ module _ {before after : List Entry} {events : List Definition} {key : Vec ℕ G
   pub put_events : events_of after ≡ events ++ event ∷ []
   put_events = ap (λ (es : List Entry). events_of es) put_last ∙ events-push before key event ∙ ap (λ (es : List Definition). es ++ event ∷ []) p.view
 
--- ---- places of names
+-- ---- indexes of names
 
-abbrev place_of : List Definition → List ℕ → Option ℕ
-place_of events name = position (λ (event : Definition). bytes_eq name event.name) events
+abbrev index_of : List Definition → List ℕ → Option ℕ
+index_of events name = position (λ (event : Definition). bytes_eq name event.name) events
 
--- the place of a name is 0, or one more than its place behind the first event
-place-step : (event : Definition) (events : List Definition) (name : List ℕ) → place_of (event ∷ events) name ≡ (if bytes_eq name event.name then Some 0 else option_map (λ place. suc place) (place_of events name))
-place-step event events name = by (bytes_eq name event.name) (position_or_len (λ (e : Definition). bytes_eq name e.name) events) (length events)
+-- the index of a name is 0, or one more than its index behind the first event
+index-step : (event : Definition) (events : List Definition) (name : List ℕ) → index_of (event ∷ events) name ≡ (if bytes_eq name event.name then Some 0 else option_map (λ index. suc index) (index_of events name))
+index-step event events name = by (bytes_eq name event.name) (position_or_len (λ (e : Definition). bytes_eq name e.name) events) (length events)
   where
-    by : (here : Bool) (place size : ℕ) → cond (nat_lt (cond (not here) (1 + place) 0) (suc size)) (Some (cond (not here) (1 + place) 0)) None
-        ≡ (if here then Some 0 else option_map (λ p. suc p) (cond (nat_lt place size) (Some place) None))
-    by true place size = cond-true _ _ _ (lt-ltb 0 (suc size) (omega arith))
-    by false place size =
-        ⊎_elim (λ (a : place < size). cond-true _ _ _ (lt-ltb (1 + place) (suc size) (omega (arith, a))) ∙ ap Some (one-add place) ∙ sym (ap (option_map (λ p. suc p)) (cond-true _ _ _ (lt-ltb place size a))))
-        (λ (a : size ≤ place). cond-false _ _ _ (le-ltb (1 + place) (suc size) (omega (arith, a))) ∙ sym (ap (option_map (λ p. suc p)) (cond-false _ _ _ (le-ltb place size a)))) (cases_lt place size)
+    by : (here : Bool) (index size : ℕ) → cond (nat_lt (cond (not here) (1 + index) 0) (suc size)) (Some (cond (not here) (1 + index) 0)) None
+        ≡ (if here then Some 0 else option_map (λ p. suc p) (cond (nat_lt index size) (Some index) None))
+    by true index size = cond-true _ _ _ (lt-ltb 0 (suc size) (omega arith))
+    by false index size =
+        ⊎_elim (λ (a : index < size). cond-true _ _ _ (lt-ltb (1 + index) (suc size) (omega (arith, a))) ∙ ap Some (one-add index) ∙ sym (ap (option_map (λ p. suc p)) (cond-true _ _ _ (lt-ltb index size a))))
+        (λ (a : size ≤ index). cond-false _ _ _ (le-ltb (1 + index) (suc size) (omega (arith, a))) ∙ sym (ap (option_map (λ p. suc p)) (cond-false _ _ _ (le-ltb index size a)))) (cases_lt index size)
 
--- the event at the place of a name has it
-named_at : (events : List Definition) (name : List ℕ) (place : ℕ) → place_of events name ≡ Some place → option_map (λ (e : Definition). e.name) (slice_get events place) ≡ Some name
-named_at [] name place h = absurd (cc)
-named_at (event ∷ events) name place h = by (bytes_eq name event.name) (bytes_eq-Decides name event.name).0 (sym (place-step event events name) ∙ h) (named_at events name)
+-- the event at the index of a name has it
+named_at : (events : List Definition) (name : List ℕ) (index : ℕ) → index_of events name ≡ Some index → option_map (λ (e : Definition). e.name) (slice_get events index) ≡ Some name
+named_at [] name index h = absurd (cc)
+named_at (event ∷ events) name index h = by (bytes_eq name event.name) (bytes_eq-Decides name event.name).0 (sym (index-step event events name) ∙ h) (named_at events name)
   where
-    by : (here : Bool) → (here ≡ true → name ≡ event.name) → (if here then Some 0 else option_map (λ p. suc p) (place_of events name)) ≡ Some place
-        → ((p : ℕ) → place_of events name ≡ Some p → option_map (λ (e : Definition). e.name) (slice_get events p) ≡ Some name)
-        → option_map (λ (e : Definition). e.name) (slice_get (event ∷ events) place) ≡ Some name
+    by : (here : Bool) → (here ≡ true → name ≡ event.name) → (if here then Some 0 else option_map (λ p. suc p) (index_of events name)) ≡ Some index
+        → ((p : ℕ) → index_of events name ≡ Some p → option_map (λ (e : Definition). e.name) (slice_get events p) ≡ Some name)
+        → option_map (λ (e : Definition). e.name) (slice_get (event ∷ events) index) ≡ Some name
     by true same h' others = subst (λ p. option_map (λ (e : Definition). e.name) (slice_get (event ∷ events) p) ≡ Some name) (some_is h') (ap Some (sym (same refl)))
     by false same h' others =
-        let there = map_some (λ p. suc p) (place_of events name) place h' in
+        let there = map_some (λ p. suc p) (index_of events name) index h' in
         subst (λ p. option_map (λ (e : Definition). e.name) (slice_get (event ∷ events) p) ≡ Some name) there.gives (others there.value there.was)
 
--- a name that no event before a place has
-own_at : (events : List Definition) (place : ℕ) (event : Definition) → slice_get events place ≡ Some event → place_of (take place events) event.name ≡ None → place_of events event.name ≡ Some place
-own_at [] place event h none = absurd (cc)
-own_at (first ∷ events) zero event h none = place-step first events event.name ∙ cond-true _ _ _ ((bytes_eq-Decides event.name first.name).1 (ap (λ (e : Definition). e.name) (sym (some_is h))))
-own_at (first ∷ events) (suc place) event h none =
-    place-step first events event.name ∙ by (bytes_eq event.name first.name) (sym (place-step first (take place events) event.name) ∙ none) (own_at events place event h)
+-- a name that no event before an index has
+own_at : (events : List Definition) (index : ℕ) (event : Definition) → slice_get events index ≡ Some event → index_of (take index events) event.name ≡ None → index_of events event.name ≡ Some index
+own_at [] index event h none = absurd (cc)
+own_at (first ∷ events) zero event h none = index-step first events event.name ∙ cond-true _ _ _ ((bytes_eq-Decides event.name first.name).1 (ap (λ (e : Definition). e.name) (sym (some_is h))))
+own_at (first ∷ events) (suc index) event h none =
+    index-step first events event.name ∙ by (bytes_eq event.name first.name) (sym (index-step first (take index events) event.name) ∙ none) (own_at events index event h)
   where
-    by : (here : Bool) → (if here then Some 0 else option_map (λ p. suc p) (place_of (take place events) event.name)) ≡ None
-        → (place_of (take place events) event.name ≡ None → place_of events event.name ≡ Some place)
-        → (if here then Some 0 else option_map (λ p. suc p) (place_of events event.name)) ≡ Some (suc place)
+    by : (here : Bool) → (if here then Some 0 else option_map (λ p. suc p) (index_of (take index events) event.name)) ≡ None
+        → (index_of (take index events) event.name ≡ None → index_of events event.name ≡ Some index)
+        → (if here then Some 0 else option_map (λ p. suc p) (index_of events event.name)) ≡ Some (suc index)
     by true h' others = absurd (cc)
     by false h' others =
-        ap (option_map (λ p. suc p)) (others (none_from (place_of (take place events) event.name) (sym (some-map (λ p. suc p) (place_of (take place events) event.name)) ∙ ap is_some h')))
+        ap (option_map (λ p. suc p)) (others (none_from (index_of (take index events) event.name) (sym (some-map (λ p. suc p) (index_of (take index events) event.name)) ∙ ap is_some h')))
 
 -- ---- the event of a number
 
 pub id_named : (events : List Definition) (name : List ℕ) (id : ℕ) → id_of events name ≡ Some id → option_map (λ (e : Definition). e.name) (event_of events id) ≡ Some name
 id_named events name id h =
-    let place = map_some (λ p. p + 1) (place_of events name) id h in
-    subst (λ i. option_map (λ (e : Definition). e.name) (event_of events i) ≡ Some name) (sym (add-one place.value) ∙ place.gives) (named_at events name place.value place.was)
+    let index = map_some (λ p. p + 1) (index_of events name) id h in
+    subst (λ i. option_map (λ (e : Definition). e.name) (event_of events i) ≡ Some name) (sym (add-one index.value) ∙ index.gives) (named_at events name index.value index.was)
 
-is_event : (before events : List Definition) (place : ℕ) (event : Definition) → AreEvents before events → slice_get events place ≡ Some event → IsEvent (before ++ take place events) event
-is_event before [] place event are h = absurd (cc)
+is_event : (before events : List Definition) (index : ℕ) (event : Definition) → AreEvents before events → slice_get events index ≡ Some event → IsEvent (before ++ take index events) event
+is_event before [] index event are h = absurd (cc)
 is_event before (first ∷ events) zero event are h = subst (λ (b : List Definition). IsEvent b event) (sym (append-nil before)) (subst (IsEvent before) (some_is h) are.0)
-is_event before (first ∷ events) (suc place) event are h =
-    subst (λ (b : List Definition). IsEvent b event) (append_assoc before (first ∷ []) (take place events)) (is_event (before ++ first ∷ []) events place event are.1 h)
+is_event before (first ∷ events) (suc index) event are h =
+    subst (λ (b : List Definition). IsEvent b event) (append_assoc before (first ∷ []) (take index events)) (is_event (before ++ first ∷ []) events index event are.1 h)
 
 -- an event that a number finds
 pub record IsFound (events : List Definition) (id : ℕ) (event : Definition) : Type 0 where
@@ -203,7 +203,7 @@ pub record IsFound (events : List Definition) (id : ℕ) (event : Definition) : 
 
 pub found_event : (events : List Definition) (id : ℕ) (event : Definition) → AreEvents [] events → event_of events id ≡ Some event → IsFound events id event
 found_event events zero event are h = absurd (cc)
-found_event events (suc place) event are h =
-    let is = is_event [] events place event are h in
-    let none = none_from (place_of (take place events) event.name) (sym (some-map (λ p. p + 1) (place_of (take place events) event.name)) ∙ ap is_some is.new) in
-    record { defined = is.defined; few = is.few; named = ap (option_map (λ p. p + 1)) (own_at events place event h none) ∙ ap Some (add-one place) }
+found_event events (suc index) event are h =
+    let is = is_event [] events index event are h in
+    let none = none_from (index_of (take index events) event.name) (sym (some-map (λ p. p + 1) (index_of (take index events) event.name)) ∙ ap is_some is.new) in
+    record { defined = is.defined; few = is.few; named = ap (option_map (λ p. p + 1)) (own_at events index event h none) ∙ ap Some (add-one index) }

@@ -58,6 +58,6 @@ each_value before (field ∷ fields) earlier (value ∷ values) are size held =
           (subst (λ (vs : List Datum). AllZip (λ (f : Field) (v : Datum). value_at ((before ++ field ∷ []) ++ fields) vs f.name ≡ Some v) fields values) (append_assoc earlier (value ∷ []) values) others),
     )
 
--- in a row of an event, the value at each field's name is the one in the field's place
+-- in a row of an event, the value at each field's name is the one in the field's index
 pub stand_by_name : (definition : Definition) (row : Cells) → IsDefinition definition → IsRowOf definition row → StandByName definition.fields row.values
 stand_by_name definition row is row_is = each_value [] definition.fields [] row.values is.fields refl (subst (λ k. AllZip Holds k row.values) row_is.kinds row_is.values)

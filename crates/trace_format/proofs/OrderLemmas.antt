@@ -14,7 +14,7 @@ use Rattle.trace_format.proofs.BuildLemmas.{value_of-holds}
 use Rattle.trace_format.proofs.FieldNames.{bytes_eq-swap, fields_named, stand_by_name}
 use Rattle.trace_format.proofs.PairLemmas.{row_is}
 
--- each pair names the field in its place and gives it the value there
+-- each pair names the field in its index and gives it the value there
 record IsNamed (field : Field) (pair : Pair) (value : Datum) : Type 0 where
   name : field.name ≡ pair.name
   written : value_of field.kind pair.value ≡ Some value

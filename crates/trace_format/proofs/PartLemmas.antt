@@ -41,18 +41,18 @@ word_found before (b ∷ bytes) rest some all none =
     let passes : is_word_byte b ≡ true = All-head IsWordByte b bytes all in
     let more : more_of b (bytes ++ rest) ≡ length bytes = cond-false _ _ _ (word_byte b passes).1 ∙ run_ends is_word_byte bytes rest (All-tail IsWordByte b bytes all) none in
     let at = length before in
-    let place : at + 1 + length bytes ≡ length (before ++ b ∷ bytes) = omega (arith, length-append before (b ∷ bytes)) in
+    let offset : at + 1 + length bytes ≡ length (before ++ b ∷ bytes) = omega (arith, length-append before (b ∷ bytes)) in
     let word : take (more_of b (bytes ++ rest)) (bytes ++ rest) ≡ bytes = ap (λ n. take n (bytes ++ rest)) more ∙ take-append_seam bytes rest in
     let others : spots_from (more_of b (bytes ++ rest)) (at + 1) (bytes ++ rest) ≡ spots_from 0 (length (before ++ b ∷ bytes)) rest =
     ap (λ n. spots_from n (at + 1) (bytes ++ rest)) more ∙ skipped (length bytes) (at + 1) (bytes ++ rest)
-    ∙ ap (λ n. spots_from 0 n (drop (length bytes) (bytes ++ rest))) place ∙ ap (spots_from 0 (length (before ++ b ∷ bytes))) (drop-append_seam bytes rest) in
+    ∙ ap (λ n. spots_from 0 n (drop (length bytes) (bytes ++ rest))) offset ∙ ap (spots_from 0 (length (before ++ b ∷ bytes))) (drop-append_seam bytes rest) in
     cond-false _ _ _ (word_byte b passes).0 ∙ (λ i. record { at = at; word = b ∷ word i } ∷ others i)
 
--- a place behind one byte more
+-- an offset behind one byte more
 one_more : (before : List ℕ) (b : ℕ) → length before + 1 ≡ length (before ++ b ∷ [])
 one_more before b = omega (arith, length-append before (b ∷ []))
 
--- from the place behind the text before them, the words of parts are found
+-- from the offset behind the text before them, the words of parts are found
 parts_found : (before : List ℕ) (parts : List Part) → AreParts parts → spots_from 0 (length before) (flat_map part_text parts) ≡ parts_spots before parts
 parts_found before [] are = refl
 parts_found before (Blank byte ∷ parts) are =

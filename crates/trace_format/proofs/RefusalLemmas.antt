@@ -1,4 +1,4 @@
--- A text declares one definition or is refused at one place.
+-- A text declares one definition or is refused at one offset.
 use Rattle.std.proofs.Common.{◌≡◌, ℕ, ◌^◌, ◌<◌, ◌⊎◌, ◌↔◌, List, [], ◌∷◌, ◌++◌, length, Result, Ok, Err, refl, sym, ap, ◌∙◌, subst, inl, inr, append_assoc, append-nil}
 use Rattle.std.proofs.lemmas.List.{map-append}
 use Rattle.trace_format.specs.Words.{Spot, spots_of, words_of}
@@ -13,7 +13,7 @@ record IsPart {X : Type 0} (front : List X) (x : X) (whole : List X) : Type 0 wh
   back : List X
   cut : whole ≡ front ++ x ∷ back
 
--- of two cuts of a list at an element, both are at one place or one is in front of the other
+-- of two cuts of a list at an element, both are at one offset or one is in front of the other
 two_cuts : {X : Type 0} (front other : List X) (x y : X) (back after : List X) → front ++ x ∷ back ≡ other ++ y ∷ after → (x ≡ y) ⊎ (IsPart front x other ⊎ IsPart other y front)
 two_cuts [] [] x y back after e = inl (cc)
 two_cuts [] (b ∷ other) x y back after e = inr (inl (record { back = other; cut = (let same : b ≡ x = cc in ap (λ z. z ∷ other) same) }))
@@ -44,8 +44,8 @@ part_begins front spot whole part h =
     begins_less (words_of (front ++ spot ∷ [])) (words_of part.back) (subst Begins words h)
 
 -- where a word is wrong, the words begin no declaration
-wrong_begins_none : (spots : List Spot) (place : ℕ) → IsWrongAt spots place → Begins (words_of spots) → ⊥
-wrong_begins_none spots place w h = w.ends (part_begins w.front w.wrong spots (record { back = w.back; cut = w.cut }) h)
+wrong_begins_none : (spots : List Spot) (offset : ℕ) → IsWrongAt spots offset → Begins (words_of spots) → ⊥
+wrong_begins_none spots offset w h = w.ends (part_begins w.front w.wrong spots (record { back = w.back; cut = w.cut }) h)
 
 -- no two words are wrong
 one_wrong : (spots : List Spot) (one other : ℕ) → IsWrongAt spots one → IsWrongAt spots other → one ≡ other
@@ -58,9 +58,9 @@ one_wrong spots one other w v = by (two_cuts w.front v.front w.wrong v.wrong w.b
 
 -- ---- the laws
 
-pub never_both : (text : List ℕ) (definition : Definition) (place : ℕ) → Declares (words_of (spots_of text)) definition → IsRefusedAt text place → ⊥
-never_both text definition place h (inl w) = wrong_begins_none (spots_of text) place w (declared_begins (words_of (spots_of text)) definition h)
-never_both text definition place h (inr early) = early.0.unfinished definition h
+pub never_both : (text : List ℕ) (definition : Definition) (offset : ℕ) → Declares (words_of (spots_of text)) definition → IsRefusedAt text offset → ⊥
+never_both text definition offset h (inl w) = wrong_begins_none (spots_of text) offset w (declared_begins (words_of (spots_of text)) definition h)
+never_both text definition offset h (inr early) = early.0.unfinished definition h
 
 pub one_definition : (text : List ℕ) (one other : Definition) → Declares (words_of (spots_of text)) one → Declares (words_of (spots_of text)) other → one ≡ other
 one_definition text one other h k = let same : Ok one ≡ Ok other = sym (definition_is text one h) ∙ definition_is text other k in cc
@@ -75,19 +75,19 @@ module _ (text : List ℕ) (small : length text < 2 ^ 64) where
   pub definition_is_read : (definition : Definition) → (definition_of text ≡ Ok definition) ↔ Declares (words_of (spots_of text)) definition
   definition_is_read definition = (λ e. subst (IsVerdict (spots_of text) (length text)) e (law text small), λ h. definition_is text definition h)
 
-  refused_read : (place : ℕ) → IsRefusedAt text place → definition_of text ≡ Err place
-  refused_read place h = by (definition_of text) refl (law text small)
+  refused_read : (offset : ℕ) → IsRefusedAt text offset → definition_of text ≡ Err offset
+  refused_read offset h = by (definition_of text) refl (law text small)
     where
-      by : (r : Result Definition ℕ) → definition_of text ≡ r → IsVerdict (spots_of text) (length text) r → definition_of text ≡ Err place
-      by (Ok definition) e is = absurd (never_both text definition place is h)
-      by (Err at) e is = e ∙ ap Err (one_refusal text at place is h)
+      by : (r : Result Definition ℕ) → definition_of text ≡ r → IsVerdict (spots_of text) (length text) r → definition_of text ≡ Err offset
+      by (Ok definition) e is = absurd (never_both text definition offset is h)
+      by (Err at) e is = e ∙ ap Err (one_refusal text at offset is h)
 
-  pub refusal_is_read : (place : ℕ) → (definition_of text ≡ Err place) ↔ IsRefusedAt text place
-  refusal_is_read place = (λ e. subst (IsVerdict (spots_of text) (length text)) e (law text small), λ h. refused_read place h)
+  pub refusal_is_read : (offset : ℕ) → (definition_of text ≡ Err offset) ↔ IsRefusedAt text offset
+  refusal_is_read offset = (λ e. subst (IsVerdict (spots_of text) (length text)) e (law text small), λ h. refused_read offset h)
 
-  pub declared_or_refused : ((definition : Definition) × Declares (words_of (spots_of text)) definition) ⊎ ((place : ℕ) × IsRefusedAt text place)
+  pub declared_or_refused : ((definition : Definition) × Declares (words_of (spots_of text)) definition) ⊎ ((offset : ℕ) × IsRefusedAt text offset)
   declared_or_refused = by (definition_of text) (law text small)
     where
-      by : (r : Result Definition ℕ) → IsVerdict (spots_of text) (length text) r → ((definition : Definition) × Declares (words_of (spots_of text)) definition) ⊎ ((place : ℕ) × IsRefusedAt text place)
+      by : (r : Result Definition ℕ) → IsVerdict (spots_of text) (length text) r → ((definition : Definition) × Declares (words_of (spots_of text)) definition) ⊎ ((offset : ℕ) × IsRefusedAt text offset)
       by (Ok definition) is = inl (definition, is)
-      by (Err place) is = inr (place, is)
+      by (Err offset) is = inr (offset, is)

@@ -138,7 +138,7 @@ whole words definition h = ⊎_elim
 -- what the words of a text, which ends at `len`, come to
 abbrev pub IsVerdict : List Spot → ℕ → Result Definition ℕ → Type 0
 IsVerdict spots len (Ok definition) = Declares (words_of spots) definition
-IsVerdict spots len (Err place) = IsWrongAt spots place ⊎ (EndsEarly spots × (place ≡ len))
+IsVerdict spots len (Err offset) = IsWrongAt spots offset ⊎ (EndsEarly spots × (offset ≡ len))
 
 words-push : (front : List Spot) (spot : Spot) → words_of (front ++ spot ∷ []) ≡ words_of front ++ spot.word ∷ []
 words-push front spot = map-append (λ (s : Spot). s.word) front (spot ∷ [])
@@ -234,5 +234,5 @@ module _ (text : List ℕ) (small : length text < 2 ^ 64) where
 
   pub read_refused : (r : Result Definition DefinitionFault) → IsRead r (definition_of text) → IfErr r (IsRefusal text)
   read_refused (Ok definition) e = tt
-  read_refused (Err (BadDefinition place)) e = subst (IsVerdict (spots_of text) (length text)) e (law text small)
+  read_refused (Err (BadDefinition offset)) e = subst (IsVerdict (spots_of text) (length text)) e (law text small)
   read_refused (Err Memory) e = tt

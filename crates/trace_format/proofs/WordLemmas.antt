@@ -57,9 +57,9 @@ module _ (text : List ℕ) (start n : ℕ) (n_is : n ≡ prefix_len is_blank (dr
       let size : length word ≡ 1 + more = ap length word_eq ∙ ap suc (length-take-le more bs more_le) ∙ sym (one-add more) in
       let left : length text - at ≡ suc (length bs) = sym (length-drop at text) ∙ ap length rest in
       let tail : drop more bs ≡ drop (at + length word) text = ap (λ k. drop k (b ∷ bs)) (sym (one-add more)) ∙ ap (drop (1 + more)) (sym rest) ∙ drop-drop (1 + more) at text ∙ ap (λ k. drop (at + k) text) (sym size) in
-      let place : at + 1 + more ≡ at + length word = omega (arith, size) in
+      let offset : at + 1 + more ≡ at + length word = omega (arith, size) in
       let others : spots_from (more_of b bs) (at + 1) bs ≡ spots_from 0 (at + length word) (drop (at + length word) text) =
-      ap (λ k. spots_from k (at + 1) bs) (sym more_is) ∙ skipped more (at + 1) bs ∙ ap (λ k. spots_from 0 k (drop more bs)) place ∙ ap (spots_from 0 (at + length word)) tail in
+      ap (λ k. spots_from k (at + 1) bs) (sym more_is) ∙ skipped more (at + 1) bs ∙ ap (λ k. spots_from 0 k (drop more bs)) offset ∙ ap (spots_from 0 (at + length word)) tail in
       let spelled : b ∷ take (more_of b bs) bs ≡ word = ap (λ k. b ∷ take k bs) (sym more_is) ∙ sym word_eq in
       let one : (record { at = at; word = b ∷ take (more_of b bs) bs } ∷ spots_from (more_of b bs) (at + 1) bs) ≡ (record { at = at; word = word } ∷ spots_from 0 (at + length word) (drop (at + length word) text)) = (λ i. record { at = at; word = spelled i } ∷ others i) in
       record {

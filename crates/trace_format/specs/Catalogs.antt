@@ -9,12 +9,12 @@ use Rattle.trace_format.specs.Cells.{record_size_of}
 
 -- the number of the event of a name
 abbrev pub id_of : List Definition → List ℕ → Option ℕ
-id_of events name = option_map (λ place. place + 1) (position (λ event. bytes_eq name event.name) events)
+id_of events name = option_map (λ index. index + 1) (position (λ event. bytes_eq name event.name) events)
 
 -- the event of a number
 abbrev pub event_of : List Definition → ℕ → Option Definition
 event_of events zero = None
-event_of events (suc place) = slice_get events place
+event_of events (suc index) = slice_get events index
 
 -- the number that one more event gets, or why it is refused: its name is there; over 16 fields, or 64 events are there; its record is larger
 -- than a page

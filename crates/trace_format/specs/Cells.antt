@@ -56,7 +56,7 @@ value_at [] values name = None
 value_at (field ∷ fields) [] name = None
 value_at (field ∷ fields) (value ∷ values) name = if bytes_eq field.name name then Some value else value_at fields values name
 
--- the value at each field's name is the one in the field's place
+-- the value at each field's name is the one in the field's offset
 abbrev pub StandByName : List Field → List Datum → Type 0
 StandByName fields values = AllZip (λ field value. value_at fields values field.name ≡ Some value) fields values
 

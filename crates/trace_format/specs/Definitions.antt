@@ -73,13 +73,13 @@ pub record Begins (words : List (List ℕ)) : Type 0 where
   pub rest : List (List ℕ)
   pub whole : Declares (words ++ rest) definition
 
--- the words before the one at the place begin a declaration, and with it they begin none
-pub record IsWrongAt (spots : List Spot) (place : ℕ) : Type 0 where
+-- the words before the one at the offset begin a declaration, and with it they begin none
+pub record IsWrongAt (spots : List Spot) (offset : ℕ) : Type 0 where
   pub front : List Spot
   pub wrong : Spot
   pub back : List Spot
   pub cut : spots ≡ front ++ wrong ∷ back
-  pub at : wrong.at ≡ place
+  pub at : wrong.at ≡ offset
   pub begins : Begins (words_of front)
   pub ends : Begins (words_of (front ++ wrong ∷ [])) → ⊥
 
@@ -90,4 +90,4 @@ pub record EndsEarly (spots : List Spot) : Type 0 where
 
 -- where a text that is no declaration is refused: at the leftmost word that is wrong or cannot stand there, or at its end
 abbrev pub IsRefusedAt : List ℕ → ℕ → Type 0
-IsRefusedAt text place = IsWrongAt (spots_of text) place ⊎ (EndsEarly (spots_of text) × (place ≡ length text))
+IsRefusedAt text offset = IsWrongAt (spots_of text) offset ⊎ (EndsEarly (spots_of text) × (offset ≡ length text))

@@ -14,7 +14,7 @@ use Rattle.trace_format.specs.Decoding.{row_from}
 
 -- ---- words
 
--- a text is written of parts that stand for these words with their places exactly where they are those that `spots_of` finds
+-- a text is written of parts that stand for these words with their offsets exactly where they are those that `spots_of` finds
 abbrev pub WordsAreAsWritten : Type 0
 WordsAreAsWritten = (text : List ℕ) → (spots : List Spot) → IsWritten text spots ↔ (spots ≡ spots_of text)
 
@@ -24,23 +24,23 @@ WordsAreAsWritten = (text : List ℕ) → (spots : List Spot) → IsWritten text
 abbrev pub DefinitionIsRead : Type 0
 DefinitionIsRead = (text : List ℕ) → length text < 2 ^ 64 → (definition : Definition) → (definition_of text ≡ Ok definition) ↔ Declares (words_of (spots_of text)) definition
 
--- and a place exactly where the text is refused there
+-- and an offset exactly where the text is refused there
 abbrev pub RefusalIsRead : Type 0
-RefusalIsRead = (text : List ℕ) → length text < 2 ^ 64 → (place : ℕ) → (definition_of text ≡ Err place) ↔ IsRefusedAt text place
+RefusalIsRead = (text : List ℕ) → length text < 2 ^ 64 → (offset : ℕ) → (definition_of text ≡ Err offset) ↔ IsRefusedAt text offset
 
 -- each text declares a definition or is refused
 abbrev pub DeclaredOrRefused : Type 0
-DeclaredOrRefused = (text : List ℕ) → length text < 2 ^ 64 → ((definition : Definition) × Declares (words_of (spots_of text)) definition) ⊎ ((place : ℕ) × IsRefusedAt text place)
+DeclaredOrRefused = (text : List ℕ) → length text < 2 ^ 64 → ((definition : Definition) × Declares (words_of (spots_of text)) definition) ⊎ ((offset : ℕ) × IsRefusedAt text offset)
 
 -- none is both
 abbrev pub NeverBoth : Type 0
-NeverBoth = (text : List ℕ) → (definition : Definition) → (place : ℕ) → Declares (words_of (spots_of text)) definition → IsRefusedAt text place → ⊥
+NeverBoth = (text : List ℕ) → (definition : Definition) → (offset : ℕ) → Declares (words_of (spots_of text)) definition → IsRefusedAt text offset → ⊥
 
 -- none declares two definitions
 abbrev pub OneDefinition : Type 0
 OneDefinition = (text : List ℕ) → (one other : Definition) → Declares (words_of (spots_of text)) one → Declares (words_of (spots_of text)) other → one ≡ other
 
--- and none is refused at two places
+-- and none is refused at two offsets
 abbrev pub OneRefusal : Type 0
 OneRefusal = (text : List ℕ) → (one other : ℕ) → IsRefusedAt text one → IsRefusedAt text other → one ≡ other
 

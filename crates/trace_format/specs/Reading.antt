@@ -1,5 +1,5 @@
--- A declaration read word by word: the definition that a text declares, or the place at which it is refused.
--- That this reading is what `Definitions` says of words and places is stated in `Laws`, as `DefinitionIsRead` and `RefusalIsRead`.
+-- A declaration read word by word: the definition that a text declares, or the offset at which it is refused.
+-- That this reading is what `Definitions` says of words and offsets is stated in `Laws`, as `DefinitionIsRead` and `RefusalIsRead`.
 use Rattle.std.specs.Prelude.{◌≡◌, ℕ, ◌+◌, ◌*◌, ◌-◌, Bool, true, false, not, ◌&&◌, ◌||◌, ◌==◌, nat_lt, nat_le, if◌then◌else◌, codes, bytes_eq, List, [], ◌∷◌, ◌++◌, length, Option, None, Some, option_map, option_and_then, ok_or, Result, Ok, Err, take, drop}
 use Rattle.std.specs.Char.{is_ascii_digit}
 use Rattle.std.specs.List.{prefix_len}
@@ -82,24 +82,24 @@ start = record { due = due.Name; name = []; fields = [] }
 infixl 10 ◌>>=◌
 abbrev pub ◌>>=◌ : {A B : Type 0} → Result A ℕ → (A → Result B ℕ) → Result B ℕ
 (Ok x) >>= f = f x
-(Err place) >>= f = Err place
+(Err offset) >>= f = Err offset
 
--- the definition, or the place of the first word that cannot stand there, or the end, which is at `len`
+-- the definition, or the offset of the first word that cannot stand there, or the end, which is at `len`
 abbrev pub reading : Standing → List Spot → ℕ → Result Definition ℕ
 reading standing [] len = ok_or (finish standing) len
 reading standing (spot ∷ spots) len = ok_or (step standing spot.word) spot.at >>= λ next. reading next spots len
 
--- the definition that a text declares, or the place at which it is refused
+-- the definition that a text declares, or the offset at which it is refused
 unfoldable pub definition_of : List ℕ → Result Definition ℕ
 definition_of text = reading start (spots_of text) (length text)
 
 -- what `parse` answers is what reading gives, unless memory was refused
 abbrev pub IsRead : Result Definition DefinitionFault → Result Definition ℕ → Type 0
 IsRead (Ok definition) read = read ≡ Ok definition
-IsRead (Err (BadDefinition place)) read = read ≡ Err place
+IsRead (Err (BadDefinition offset)) read = read ≡ Err offset
 IsRead (Err Memory) read = Unit {0}
 
--- a text was refused at its place, or for memory
+-- a text was refused at its offset, or for memory
 abbrev pub IsRefusal : List ℕ → DefinitionFault → Type 0
-IsRefusal text (BadDefinition place) = IsRefusedAt text place
+IsRefusal text (BadDefinition offset) = IsRefusedAt text offset
 IsRefusal text Memory = Unit {0}

@@ -1,4 +1,4 @@
--- What a text is written of, and which words with which places these parts stand for. `spots_of` finds exactly these.
+-- What a text is written of, and which words with which offsets these parts stand for. `spots_of` finds exactly these.
 use Rattle.std.specs.Prelude.{◌≡◌, ℕ, ◌<◌, IsTrue, List, [], ◌∷◌, ◌++◌, length, flat_map}
 use Rattle.std.specs.List.{AllPass}
 use Rattle.trace_lex.specs.Blanks.{is_blank}
@@ -43,7 +43,7 @@ abbrev pub parts_spots : List ℕ → List Part → List Spot
 parts_spots before [] = []
 parts_spots before (part ∷ parts) = part_spots before part ++ parts_spots (before ++ part_text part) parts
 
--- a text can be written of parts that stand for these words at these places
+-- a text can be written of parts that stand for these words at these offsets
 pub record IsWritten (text : List ℕ) (spots : List Spot) : Type 0 where
   pub parts : List Part
   pub lawful : AreParts parts

@@ -84,14 +84,14 @@ impl Catalog {
         Ok(id)
     }
 
-    /// The number of the event of a name, by its place in the table and without a scan of all events.
+    /// The number of the event of a name, by its index in the table and without a scan of all events.
     pub fn find(&self, name: &[u8]) -> Option<u16>
         ensures id { result ≡ id_of self.now name.now }
         // The event of the number has the name.
         ensures named { IfSome result (λ id. option_map (λ (event : Definition). event.name) (event_of self.now id) ≡ Some name.now) }
     {
         match self.events.get_index_of(name) {
-            Some(place) => Some(place as u16 + 1),
+            Some(index) => Some(index as u16 + 1),
             None => None,
         }
     }
@@ -104,8 +104,8 @@ impl Catalog {
         // Its name has the number.
         ensures named { IfSome result (λ def. id_of self.now def.now.name ≡ Some id) }
     {
-        let place = usize::from(id).checked_sub(1)?;
-        let (_name, def) = self.events.get_index(place)?;
+        let index = usize::from(id).checked_sub(1)?;
+        let (_name, def) = self.events.get_index(index)?;
         Some(def)
     }
 

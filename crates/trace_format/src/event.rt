@@ -42,7 +42,7 @@ impl EventDef {
     /// The event that a text declares, after "Synthetic events" (histogram.rst): its name, then for each field a type and a name, with a
     /// `;` between two fields. Blanks part the words; round a `;` they may stand or lack, and so may a `;` behind the last field.
     ///
-    /// Otherwise it is `BadDefinition`, at the place of the first word or `;` with which no declaration goes on, or at the text's end,
+    /// Otherwise it is `BadDefinition`, at the offset of the first word or `;` with which no declaration goes on, or at the text's end,
     /// where more was to come. `Memory` comes where an allocation is refused.
     pub fn parse(alloc: Global, text: &[u8]) -> Result<EventDef, DefinitionFault>
         // What is read is declared so.

@@ -6,15 +6,15 @@ ghost use Rattle.trace_format.specs.Laws.{WordsAreAsWritten, DefinitionIsRead, R
 
 use crate::pair::Pair;
 
-/// The words and `;` of a text with their places are those of the parts that it is written of: blanks, `;` and words, where no two words
-/// stand side by side and each place is the length of all that is written before it. So each text has one list of words and places.
+/// The words and `;` of a text with their offsets are those of the parts that it is written of: blanks, `;` and words, where no two words
+/// stand side by side and each offset is the length of all that is written before it. So each text has one list of words and offsets.
 pub fn words_are_as_written()
     ensures { WordsAreAsWritten }
 {}
 
 /// For texts of fewer than 2^64 bytes, as all in memory are: reading a text gives a definition exactly where the text's words declare it, and a
-/// place exactly where the text is refused there: at the first word with which no declaration goes on, or at the end. Each text declares one
-/// definition or is refused at one place.
+/// offset exactly where the text is refused there: at the first word with which no declaration goes on, or at the end. Each text declares one
+/// definition or is refused at one offset.
 pub fn declarations_are_as_written()
     ensures definition { DefinitionIsRead }
     ensures refused { RefusalIsRead }

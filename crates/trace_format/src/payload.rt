@@ -26,7 +26,7 @@ pub(crate) fn encode_values(kinds: &[Kind], values: &[Value], out: &mut [u8])
     }
 }
 
-/// Writes one value at a place.
+/// Writes one value at an offset.
 fn encode_field(kind: Kind, value: &Value, out: &mut [u8], at: usize)
     requires held { Holds kind (datum_of value.now) }
     requires room { at + size_of kind ≤ length out.old }

@@ -179,12 +179,12 @@ impl Reader {
 fn text_field(word: &[u8]) -> Option<(&[u8], u8)>
     ensures { option_map (λ f. record { name = f.0.now; kind = kind.Char f.1 }) result ≡ text_field_of word.now }
 {
-    let place = len_before(b'[', word);
-    if place == word.len() {
+    let offset = len_before(b'[', word);
+    if offset == word.len() {
         return None;
     }
-    match bracketed_length(&word[place + 1..]) {
-        Some(length) => Some((&word[..place], length)),
+    match bracketed_length(&word[offset + 1..]) {
+        Some(length) => Some((&word[..offset], length)),
         None => None,
     }
 }

@@ -9,7 +9,7 @@ use trace_lex::{blanks_len, is_blank, rest_of};
 /// A word or `;` of a text.
 #[derive(Clone, Copy)]
 pub(crate) struct Word<'a> {
-    /// The place of its first byte in the text.
+    /// The offset of its first byte in the text.
     pub(crate) at: usize,
     pub(crate) bytes: &'a [u8],
 }
@@ -36,7 +36,7 @@ fn more_len(first: u8, rest: &[u8]) -> usize
     if first == b';' { 0 } else { word_len(rest) }
 }
 
-/// The first word or `;` from a place on.
+/// The first word or `;` from an offset on.
 pub(crate) fn next_word(text: &[u8], from: usize) -> Option<Word<'_>>
     requires { from ≤ length text.now }
     ensures none { IfNone result (spots_from 0 from (drop from text.now) ≡ []) }

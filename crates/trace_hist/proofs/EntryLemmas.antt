@@ -24,26 +24,26 @@ taken-more hits i hit inside is = map_more hit_in hits i hit inside ∙ ap (λ h
 
 -- ---- a sum
 
-total-push : (place : ℕ) (rows : List Hit) (hit : Hit) → total_at place (rows ++ hit ∷ []) ≡ total_at place rows +ℤ sum_at hit.numbers place
-total-push place rows hit =
-    let number : Hit → ℤ = λ h. sum_at h.numbers place in
+total-push : (index : ℕ) (rows : List Hit) (hit : Hit) → total_at index (rows ++ hit ∷ []) ≡ total_at index rows +ℤ sum_at hit.numbers index
+total-push index rows hit =
+    let number : Hit → ℤ = λ h. sum_at h.numbers index in
     ap (fold ◌+ℤ◌ (pos 0)) (map-append number rows (hit ∷ [])) ∙ fold_push ◌+ℤ◌ (pos 0) (map number rows) (number hit)
 
-pub total-same : (place : ℕ) (key : List Datum) (hits : List StoredHit) (i : ℕ) (hit : StoredHit) → i < length hits → hit ≡ get_or hits i hit
+pub total-same : (index : ℕ) (key : List Datum) (hits : List StoredHit) (i : ℕ) (hit : StoredHit) → i < length hits → hit ≡ get_or hits i hit
     → same_key key (map datum_of hit.key.items) ≡ true
-    → total_at place (with_key key (map hit_in (take (i + 1) hits)))
-    ≡ total_at place (with_key key (map hit_in (take i hits))) +ℤ sum_at hit.numbers.items place
-total-same place key hits i hit inside is same =
+    → total_at index (with_key key (map hit_in (take (i + 1) hits)))
+    ≡ total_at index (with_key key (map hit_in (take i hits))) +ℤ sum_at hit.numbers.items index
+total-same index key hits i hit inside is same =
     let rows = map hit_in (take i hits) in
-    ap (λ l. total_at place (with_key key l)) (taken-more hits i hit inside is)
-    ∙ ap (total_at place) (with_key-same key rows (hit_in hit) same) ∙ total-push place (with_key key rows) (hit_in hit)
+    ap (λ l. total_at index (with_key key l)) (taken-more hits i hit inside is)
+    ∙ ap (total_at index) (with_key-same key rows (hit_in hit) same) ∙ total-push index (with_key key rows) (hit_in hit)
 
-pub total-other : (place : ℕ) (key : List Datum) (hits : List StoredHit) (i : ℕ) (hit : StoredHit) → i < length hits → hit ≡ get_or hits i hit
+pub total-other : (index : ℕ) (key : List Datum) (hits : List StoredHit) (i : ℕ) (hit : StoredHit) → i < length hits → hit ≡ get_or hits i hit
     → same_key key (map datum_of hit.key.items) ≡ false
-    → total_at place (with_key key (map hit_in (take (i + 1) hits))) ≡ total_at place (with_key key (map hit_in (take i hits)))
-total-other place key hits i hit inside is other =
-    ap (λ l. total_at place (with_key key l)) (taken-more hits i hit inside is)
-    ∙ ap (total_at place) (with_key-other key (map hit_in (take i hits)) (hit_in hit) other)
+    → total_at index (with_key key (map hit_in (take (i + 1) hits))) ≡ total_at index (with_key key (map hit_in (take i hits)))
+total-other index key hits i hit inside is other =
+    ap (λ l. total_at index (with_key key l)) (taken-more hits i hit inside is)
+    ∙ ap (total_at index) (with_key-other key (map hit_in (take i hits)) (hit_in hit) other)
 
 -- ---- the sums of an entry
 
@@ -69,14 +69,14 @@ summed-at sums (hit ∷ rows) k h =
     summed-at (added sums hit.numbers) rows k (omega (arith, h, length-added sums hit.numbers))
     ∙ ap (λ sum. fold ◌+ℤ◌ sum (map (λ (hit : Hit). sum_at hit.numbers k) rows)) (added-at sums hit.numbers k h)
 
--- sums that were added up place by place
-pub sums-are : (width : ℕ) (rows : List Hit) (sums : List ℤ) → sums ≡ map (λ place. total_at place rows) (range_with_len 0 width)
+-- sums that were added up index by index
+pub sums-are : (width : ℕ) (rows : List Hit) (sums : List ℤ) → sums ≡ map (λ index. total_at index rows) (range_with_len 0 width)
     → sums ≡ summed (replicate width (pos 0)) rows
 sums-are width rows sums e =
     let zeros = replicate width (pos 0) in
     let wide : length zeros ≡ width = length-replicate width (pos 0) in
     e
-    ∙ sym (fill_by_all (λ place. total_at place rows) (summed zeros rows) width (pos 0) (length-summed zeros rows ∙ wide) (λ k h.
+    ∙ sym (fill_by_all (λ index. total_at index rows) (summed zeros rows) width (pos 0) (length-summed zeros rows ∙ wide) (λ k h.
     summed-at zeros rows k (omega (arith, h, wide))
     ∙ ap (λ sum. fold ◌+ℤ◌ sum (map (λ (hit : Hit). sum_at hit.numbers k) rows)) (get_or-replicate width k (pos 0) (pos 0) h)))
 

@@ -35,10 +35,10 @@ cell_in_range (Number t) (Bytes bytes) h = absurd h
 cell_in_range (Char n) (Whole z) h = absurd h
 cell_in_range (Char n) (Bytes bytes) h = none_in_range
 
-pub row_in_range : (kinds : List Kind) (values : List Datum) (place : ℕ) → AllZip Holds kinds values
-    → IsFieldNumber (number_of (field_cell values place))
-row_in_range [] [] place h = none_in_range
-row_in_range [] (value ∷ values) place h = absurd h
-row_in_range (kind ∷ kinds) [] place h = none_in_range
+pub row_in_range : (kinds : List Kind) (values : List Datum) (index : ℕ) → AllZip Holds kinds values
+    → IsFieldNumber (number_of (field_cell values index))
+row_in_range [] [] index h = none_in_range
+row_in_range [] (value ∷ values) index h = absurd h
+row_in_range (kind ∷ kinds) [] index h = none_in_range
 row_in_range (kind ∷ kinds) (value ∷ values) zero h = cell_in_range kind value h.0
-row_in_range (kind ∷ kinds) (value ∷ values) (suc place) h = row_in_range kinds values place h.1
+row_in_range (kind ∷ kinds) (value ∷ values) (suc index) h = row_in_range kinds values index h.1

@@ -26,14 +26,14 @@ datum_cmp (Whole m) (Bytes c) = Less
 datum_cmp (Bytes b) (Whole n) = Greater
 datum_cmp (Bytes b) (Bytes c) = slice_cmp nat_cmp b c
 
--- the sum at a place. (An entry has one for each value; elsewhere 0 stands for it.)
+-- the sum at an index. (An entry has one for each value; elsewhere 0 stands for it.)
 abbrev pub sum_at : List ℤ → ℕ → ℤ
-sum_at sums place = unwrap_or (slice_get sums place) (pos 0)
+sum_at sums index = unwrap_or (slice_get sums index) (pos 0)
 
 -- what an entry is sorted by: the cell of a key, a value's sum, or its hitcount
 abbrev pub sort_cell : SortSource → Entry → Datum
-sort_cell (Key place) entry = field_cell entry.key place
-sort_cell (Value place) entry = Whole (sum_at entry.sums place)
+sort_cell (Key index) entry = field_cell entry.key index
+sort_cell (Value index) entry = Whole (sum_at entry.sums index)
 sort_cell Hitcount entry = Whole (pos entry.hitcount)
 
 abbrev pub directed : Bool → SortSource → Entry → Entry → Ordering

@@ -19,25 +19,25 @@ use std::alloc::{AllocError, Global};
 use trace_format::Value;
 use trace_trigger::HistSpec;
 
-/// The number at a place, or 0 where there is none.
-fn number_at(numbers: &[Number], place: usize) -> i128
-    ensures value { result ≡ order.sum_at numbers.now place }
+/// The number at an index, or 0 where there is none.
+fn number_at(numbers: &[Number], index: usize) -> i128
+    ensures value { result ≡ order.sum_at numbers.now index }
     ensures range { IsFieldNumber result }
 {
-    match numbers.get(place) {
+    match numbers.get(index) {
         Some(number) => number.value(),
         None => 0,
     }
 }
 
-/// The sum of the numbers at a place, over the rows with a key.
-fn sum_of(hits: &[StoredHit], key: &[Value], place: usize) -> i128
-    ensures { result ≡ total_at place (groups.with_key (map datum_of key.now) (map hit_in hits.now)) }
+/// The sum of the numbers at an index, over the rows with a key.
+fn sum_of(hits: &[StoredHit], key: &[Value], index: usize) -> i128
+    ensures { result ≡ total_at index (groups.with_key (map datum_of key.now) (map hit_in hits.now)) }
 {
     let mut sum = 0;
     for hit in hits {
         if is_same_key(key, &hit.key) {
-            sum += number_at(&hit.numbers, place);
+            sum += number_at(&hit.numbers, index);
         }
     }
     sum
@@ -69,10 +69,10 @@ fn sums_of(
     key: &[Value],
 ) -> Result<Vec<i128>, AllocError>
     ensures { IfOk result (λ sums. sums.items
-        ≡ map (λ place. total_at place (groups.with_key (map datum_of key.now) (map hit_in hits.now))) (range_with_len 0 width)) }
+        ≡ map (λ index. total_at index (groups.with_key (map datum_of key.now) (map hit_in hits.now))) (range_with_len 0 width)) }
 {
     (0..width)
-        .map(|place| sum_of(hits, key, place))
+        .map(|index| sum_of(hits, key, index))
         .collect(alloc)
 }
 

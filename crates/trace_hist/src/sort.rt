@@ -23,20 +23,20 @@ fn compare_cells(left: &Cell, right: &Cell) -> Ordering
 }
 
 /// The cell of a key, where 0 stands for one that isn't there.
-fn compare_keys(left: &[Cell], right: &[Cell], place: usize) -> Ordering
-    ensures { result ≡ order.datum_cmp (field_cell (map datum_of left.now) place)
-        (field_cell (map datum_of right.now) place) }
+fn compare_keys(left: &[Cell], right: &[Cell], index: usize) -> Ordering
+    ensures { result ≡ order.datum_cmp (field_cell (map datum_of left.now) index)
+        (field_cell (map datum_of right.now) index) }
 {
     let none = Cell::Num(0);
-    let left = left.get(place).unwrap_or(&none);
-    let right = right.get(place).unwrap_or(&none);
+    let left = left.get(index).unwrap_or(&none);
+    let right = right.get(index).unwrap_or(&none);
     compare_cells(left, right)
 }
 
-fn sum_at(sums: &[i128], place: usize) -> i128
-    ensures { result ≡ order.sum_at sums.now place }
+fn sum_at(sums: &[i128], index: usize) -> i128
+    ensures { result ≡ order.sum_at sums.now index }
 {
-    match sums.get(place) {
+    match sums.get(index) {
         Some(sum) => *sum,
         None => 0,
     }
@@ -46,8 +46,8 @@ fn compare_by(source: SortSource, left: &HistRow, right: &HistRow) -> Ordering
     ensures { result ≡ order.directed false source (order.row_in left.now) (order.row_in right.now) }
 {
     match source {
-        SortSource::Key(place) => compare_keys(&left.keys, &right.keys, place),
-        SortSource::Value(place) => sum_at(&left.sums, place).cmp(&sum_at(&right.sums, place)),
+        SortSource::Key(index) => compare_keys(&left.keys, &right.keys, index),
+        SortSource::Value(index) => sum_at(&left.sums, index).cmp(&sum_at(&right.sums, index)),
         SortSource::Hitcount => left.hitcount.cmp(&right.hitcount),
     }
 }

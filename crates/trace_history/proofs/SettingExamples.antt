@@ -15,7 +15,7 @@ use Rattle.trace_filter.specs.Values.{holds_of}
 use Rattle.trace_text.specs.BufferText.{taken_lines, pipe_text, trace_text}
 use Rattle.trace_text.specs.DeclarationText.{declaration_text}
 use Rattle.trace_text.specs.FieldText.{field_text}
-use Rattle.trace_text.specs.FormatText.{place_line, field_line, common_pid_line, format_text}
+use Rattle.trace_text.specs.FormatText.{layout_line, field_line, common_pid_line, format_text}
 use Rattle.trace_text.specs.RecordText.{line_start, cell_text, row_line, record_line}
 use Rattle.trace_text.specs.StatsText.{stats_line, stats_text}
 use Rattle.trace_text.specs.TraceText.{lost_line, trace_title, trace_head}
@@ -39,7 +39,7 @@ pub record AreAnswered : Type 0 where
 
 pub examples-are_answered : AreAnswered
 unfolding head_bytes head_of timestamp account readings_of stats_of cut merged step definition_of value_of row_of answer_of operand_named filter_step
-    piece_of holds_of taken_lines pipe_text trace_text declaration_text field_text place_line field_line common_pid_line
+    piece_of holds_of taken_lines pipe_text trace_text declaration_text field_text layout_line field_line common_pid_line
     format_text line_start cell_text row_line record_line stats_line stats_text
     lost_line trace_title trace_head top_file option_file events_file system_file cpu_file event_file mount_point below_mount_point address_of
     instance_of emission_answer declaration_answer switch_answer filter_answer filter_of_all_answer option_answer tracing_answer flag_text

@@ -51,9 +51,9 @@ hist_refused : (definition : Definition) (text : List ℕ) → IsRefusedAs defin
 hist_refused definition text (inl (at, same, is)) = cc
 hist_refused definition text (inr is) = by is.refusal
   where
-    value : (name : List ℕ) (place : ℕ) → CannotBeValue definition name place faults.Memory → ⊥
-    value name place (inl h) = let same : faults.Memory ≡ faults.NoSuchField place = h.1 in cc
-    value name place (inr h) = let same : faults.Memory ≡ faults.WrongOperator place = h.3 in cc
+    value : (name : List ℕ) (offset : ℕ) → CannotBeValue definition name offset faults.Memory → ⊥
+    value name offset (inl h) = let same : faults.Memory ≡ faults.NoSuchField offset = h.1 in cc
+    value name offset (inr h) = let same : faults.Memory ≡ faults.WrongOperator offset = h.3 in cc
 
     condition : (filter : List ℕ) (before : ℕ) (told : FilterFault) → IsRefused definition filter told → faults.Memory ≡ moved before told → ⊥
     condition filter before filters.TooMany is same = cc
@@ -64,8 +64,8 @@ hist_refused definition text (inr is) = by is.refusal
 
     by : {settings : List Setting} {only_if : Option (List ℕ)} → IsRefusal definition text settings only_if faults.Memory → ⊥
     by (ForMany over same) = cc
-    by (ForKey within place is same) = cc
-    by (ForValue within keys is) = value is.name is.place is.wrong
+    by (ForKey within offset is same) = cc
+    by (ForValue within keys is) = value is.name is.offset is.wrong
     by (ForSize within keys values size same) = cc
     by (ForFilter within keys values size sized filter at told refused same) = condition filter _ told refused same
 

@@ -1,4 +1,4 @@
-pub mod PlaceLemmas
+pub mod LayoutLemmas
 pub mod RecordLemmas
 pub mod ProcessLemmas
 pub mod FrontLemmas

@@ -6,17 +6,17 @@ use Rattle.trace_format.specs.Cells.{Datum, Whole, Bytes}
 use Rattle.trace_hist.specs.Groups.{Entry}
 use Rattle.trace_trigger.specs.declared.key.Key.{Key}
 
--- the blanks (32) that fill up a string to so many places; none for a longer string, since `-` stops at 0
+-- the blanks (32) that fill up a string to so many columns; none for a longer string, since `-` stops at 0
 abbrev pub fill : ℕ → List ℕ → List ℕ
-fill places text = replicate (places - length text) 32
+fill columns text = replicate (columns - length text) 32
 
 abbrev pub on_the_right : ℕ → List ℕ → List ℕ
-on_the_right places text = fill places text ++ text
+on_the_right columns text = fill columns text ++ text
 
 abbrev pub on_the_left : ℕ → List ℕ → List ℕ
-on_the_left places text = text ++ fill places text
+on_the_left columns text = text ++ fill columns text
 
--- numbers on the right of 10 places, strings on the left of 16
+-- numbers on the right of 10 columns, strings on the left of 16
 abbrev pub key_value : Datum → List ℕ
 key_value (Whole n) = on_the_right 10 (signed_decimal n)
 key_value (Bytes bytes) = on_the_left 16 bytes

@@ -11,20 +11,20 @@ use Rattle.trace_text.specs.FieldText.{field_text}
 abbrev pub signed_text : Bool → List ℕ
 signed_text signed = if signed then codes "1" else codes "0"
 
--- the place of a field's first byte in a record, how many bytes it takes, and whether it is signed
-abbrev pub place_text : ℕ → ℕ → Bool → List ℕ
-place_text offset size signed =
+-- the offset of a field's first byte in a record, how many bytes it takes, and whether it is signed
+abbrev pub layout_text : ℕ → ℕ → Bool → List ℕ
+layout_text offset size signed =
     codes ";\toffset:" ++ decimal offset
     ++ codes ";\tsize:" ++ decimal size
     ++ codes ";\tsigned:" ++ signed_text signed
     ++ codes ";\n"
 
--- a field with its place
-unfoldable pub place_line : List ℕ → ℕ → ℕ → Bool → List ℕ
-place_line declared offset size signed = codes "\tfield:" ++ declared ++ place_text offset size signed
+-- a field with its layout
+unfoldable pub layout_line : List ℕ → ℕ → ℕ → Bool → List ℕ
+layout_line declared offset size signed = codes "\tfield:" ++ declared ++ layout_text offset size signed
 
 unfoldable pub field_line : ℕ → Field → List ℕ
-field_line offset field = place_line (field_text field) offset (size_of field.kind) (is_signed_kind field.kind)
+field_line offset field = layout_line (field_text field) offset (size_of field.kind) (is_signed_kind field.kind)
 
 -- fields one behind the other, from an offset on
 abbrev pub field_lines : ℕ → List Field → List ℕ
@@ -33,7 +33,7 @@ field_lines offset (field ∷ fields) = field_line offset field ++ field_lines (
 
 -- the pid stands in each record's head
 unfoldable pub common_pid_line : List ℕ
-common_pid_line = place_line (codes "s32 common_pid") 8 4 true
+common_pid_line = layout_line (codes "s32 common_pid") 8 4 true
 
 -- the event's name and number, the pid, an empty line, and the fields behind the head, which has 16 bytes
 unfoldable pub format_text : ℕ → Definition → List ℕ

@@ -21,7 +21,7 @@ fn push_blanks(out: &mut Vec<u8>, count: usize) -> Result<(), AllocError>
     Ok(())
 }
 
-/// Appends a number on the right of 10 places.
+/// Appends a number on the right of 10 columns.
 fn push_number_on_the_right<N: Integer>(out: &mut Vec<u8>, n: N) -> Result<(), AllocError>
     ensures { OnOk result (out.new.items ≡ out.old.items ++ texts.on_the_right 10 (N.text n)) }
 {

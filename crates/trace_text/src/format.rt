@@ -24,8 +24,8 @@ fn push_sign(out: &mut Vec<u8>, signed: bool) -> Result<(), AllocError>
 }
 
 /// Appends where a field lies in a record, and how: its first byte, its bytes, and whether it is signed.
-fn push_place(out: &mut Vec<u8>, offset: u128, size: usize, signed: bool) -> Result<(), AllocError>
-    ensures { OnOk result (out.new.items ≡ out.old.items ++ texts.place_text offset size signed) }
+fn push_layout(out: &mut Vec<u8>, offset: u128, size: usize, signed: bool) -> Result<(), AllocError>
+    ensures { OnOk result (out.new.items ≡ out.old.items ++ texts.layout_text offset size signed) }
 {
     out.extend_from_slice(b";\toffset:".as_slice())?;
     push_number(out, offset)?;
@@ -37,13 +37,13 @@ fn push_place(out: &mut Vec<u8>, offset: u128, size: usize, signed: bool) -> Res
 }
 
 /// Appends the line of a field whose first byte is at an offset.
-#[tactic(auto, unfolding(crate::specs::FormatText::field_line, crate::specs::FormatText::place_line))]
+#[tactic(auto, unfolding(crate::specs::FormatText::field_line, crate::specs::FormatText::layout_line))]
 fn push_field_line(out: &mut Vec<u8>, offset: u128, field: &Field) -> Result<(), AllocError>
     ensures { OnOk result (out.new.items ≡ out.old.items ++ texts.field_line offset field.now) }
 {
     out.extend_from_slice(b"\tfield:".as_slice())?;
     push_field(out, field)?;
-    push_place(out, offset, field.kind.size(), field.kind.is_signed())
+    push_layout(out, offset, field.kind.size(), field.kind.is_signed())
 }
 
 /// Appends the lines of fields that lie one behind the other in a record.
@@ -59,17 +59,17 @@ fn push_field_lines(out: &mut Vec<u8>, fields: &[Field]) -> Result<(), AllocErro
 }
 
 /// Appends the line of the pid, which stands in each record's head.
-#[tactic(auto, unfolding(crate::specs::FormatText::common_pid_line, crate::specs::FormatText::place_line))]
+#[tactic(auto, unfolding(crate::specs::FormatText::common_pid_line, crate::specs::FormatText::layout_line))]
 fn push_common_pid_line(out: &mut Vec<u8>) -> Result<(), AllocError>
     ensures { OnOk result (out.new.items ≡ out.old.items ++ texts.common_pid_line) }
 {
     out.extend_from_slice(b"\tfield:".as_slice())?;
     out.extend_from_slice(b"s32 common_pid".as_slice())?;
-    push_place(out, 8, 4, true)
+    push_layout(out, 8, 4, true)
 }
 
 /// Appends the text of `events/synthetic/NAME/format` ("Event formats" of events.rst): the event's name and number, then a line for the pid
-/// and one for each field. A line has the field as it is declared, the place of its first byte in a record and its size, both in bytes, and
+/// and one for each field. A line has the field as it is declared, the offset of its first byte in a record and its size, both in bytes, and
 /// 1 where it holds numbers below 0, else 0.
 ///
 /// It is refused only if it runs out of memory, and `out` is then as it was.

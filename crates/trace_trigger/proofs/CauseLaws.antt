@@ -16,14 +16,14 @@ use Rattle.trace_trigger.specs.declared.piece.Piece.{Piece}
 use Rattle.trace_trigger.specs.HistSizes.{rounded_size}
 use Rattle.trace_trigger.specs.HistParts.{attributes_of, tail_of, condition_of}
 use Rattle.trace_trigger.specs.HistLists.{Lists, lists_of, names_of, summed_items, sort_keys, sort_key_of}
-use Rattle.trace_trigger.specs.HistPlaces.{wrong_places}
+use Rattle.trace_trigger.specs.HistOffsets.{wrong_offsets}
 use Rattle.trace_trigger.specs.TriggerAnswers.{◌>>=◌}
 use Rattle.trace_trigger.specs.HistMeanings.{summed_len, is_too_many, few, each, key_in, value_source, told_size, size_of, sort_rule}
 use Rattle.trace_trigger.specs.HistSpecs.{SpecSeen, key_names}
 use Rattle.trace_trigger.specs.Frames.{moved, filter_of}
 use Rattle.trace_trigger.specs.HistTexts.{IsHistText, spec_from, spec_of}
 use Rattle.trace_trigger.specs.HistGrammar.{Setting, Values, Sort, Size, subject_of, IsSet, summed_names, IsValueOf}
-use Rattle.trace_trigger.specs.HistFaultPlaces.{Cut}
+use Rattle.trace_trigger.specs.HistFaultOffsets.{Cut}
 use Rattle.trace_trigger.specs.HistRefusals.{IsOver, CanBeKey, CanBeValue, HaveKeys, HaveValues, IsSized, IsRefusal, ForMany, ForKey, ForValue, ForSize, ForFilter, IsRefusedAs}
 use Rattle.trace_trigger.proofs.WrongLemmas.{from_pairs}
 use Rattle.trace_trigger.proofs.ListLaws.{Once}
@@ -227,7 +227,7 @@ module _ (definition : Definition) (text : List ℕ) (settings : List Setting) (
       at_values keys have (inr passed) = at_size keys passed.found have (values_right passed.found passed.is) (refused (size_of lists.size) (λ size. after_size keys passed.found size) fault passed.after)
 
       at_keys : (each (key_in definition.fields) lists.keys ≡ Err fault) ⊎ IsPassed (each (key_in definition.fields) lists.keys) (λ keys. after_keys keys) fault → Cause fault
-      at_keys (inl f) = let it = key_fault definition text cut fault f in ForKey within it.place it.is it.same
+      at_keys (inl f) = let it = key_fault definition text cut fault f in ForKey within it.offset it.is it.same
       at_keys (inr passed) =
           at_values passed.found (keys_right passed.found passed.is)
           (refused (each (value_source definition.fields) (summed_items lists.values)) (λ values. after_values passed.found values) fault passed.after)
@@ -255,8 +255,8 @@ module _ (definition : Definition) (text : List ℕ) (settings : List Setting) (
   pub cause_told : (fault : TriggerFault) → Cause fault → from_lists ≡ Err fault
   cause_told fault (ForMany many same) =
       ap (λ (b : Bool). (if b then Err TooMany else Ok lists) >>= λ ls. spec_from definition text ls) (too_many many) ∙ ap (λ (f : TriggerFault). Err f) (sym same)
-  cause_told fault (ForKey within place is same) =
-      few_so (few_enough within) ∙ ap (λ (r : Result (List Key) TriggerFault). r >>= λ keys. after_keys keys) (fault_key definition text place is) ∙ ap (λ (f : TriggerFault). Err f) (sym same)
+  cause_told fault (ForKey within offset is same) =
+      few_so (few_enough within) ∙ ap (λ (r : Result (List Key) TriggerFault). r >>= λ keys. after_keys keys) (fault_key definition text offset is) ∙ ap (λ (f : TriggerFault). Err f) (sym same)
   cause_told fault (ForValue within have is) =
       with_keys fault within have (ap (λ (r : Result (List Operand) TriggerFault). r >>= λ values. after_values (right_keys have).0 values) (fault_value definition text fault is))
   cause_told fault (ForSize within have right is same) =
@@ -276,7 +276,7 @@ refusal_is_as_written definition text fault hist = (λ e. by e (syntax_or_right 
     wrong : spec_of definition text ≡ Err fault → (at : ℕ) → spec_of definition text ≡ Err (HistSyntax at) → IsRefusedAs definition text fault
     wrong e at f = let same : fault ≡ HistSyntax at = cc in inl (at, same, (syntax_is_leftmost definition text at hist).0 f)
 
-    written : spec_of definition text ≡ Err fault → wrong_places text ≡ [] → IsSomehowWritten text → IsRefusedAs definition text fault
+    written : spec_of definition text ≡ Err fault → wrong_offsets text ≡ [] → IsSomehowWritten text → IsRefusedAs definition text fault
     written e none is =
         let finds = written_finds text is.settings is.condition is.written in
         inr (record {
@@ -286,7 +286,7 @@ refusal_is_as_written definition text fault hist = (λ e. by e (syntax_or_right 
           refusal = cause_of definition text is.settings is.condition finds (cut_of definition text (parts_of text hist)) fault (sym (of_right definition text none) ∙ e);
         })
 
-    by : spec_of definition text ≡ Err fault → ((at : ℕ) × (spec_of definition text ≡ Err (HistSyntax at))) ⊎ (wrong_places text ≡ []) → IsRefusedAs definition text fault
+    by : spec_of definition text ≡ Err fault → ((at : ℕ) × (spec_of definition text ≡ Err (HistSyntax at))) ⊎ (wrong_offsets text ≡ []) → IsRefusedAs definition text fault
     by e (inl is) = wrong e is.0 is.1
     by e (inr none) = written e none (right_written text (parts_of text hist) none)
 

@@ -1,4 +1,4 @@
--- A text is cut in one way: what `pieces_of` finds are its parts, each at its place.
+-- A text is cut in one way: what `pieces_of` finds are its parts, each at its offset.
 use Rattle.std.proofs.Common.{◌≡◌, ◌≢◌, refl, ℕ, suc, ◌+◌, ◌<◌, Bool, true, false, not, ◌==◌, if◌then◌else◌, List, [], ◌∷◌, ◌++◌, length, take, drop, ap, sym, ◌∙◌, arith, append-nil}
 use Rattle.std.specs.List.{All, AllPass, join_with_byte, prefix_len}
 use Rattle.std.proofs.Math.Seq.{take-append_seam}
@@ -18,9 +18,9 @@ abbrev pub IsFree : ℕ → List ℕ → Type 0
 IsFree byte part = All (λ b. b ≢ byte) part
 
 -- parts one after another, with one byte between them
-abbrev pub placed : ℕ → List (List ℕ) → List Piece
-placed at [] = []
-placed at (part ∷ parts) = record { at = at; bytes = part } ∷ placed (at + 1 + length part) parts
+abbrev pub located : ℕ → List (List ℕ) → List Piece
+located at [] = []
+located at (part ∷ parts) = record { at = at; bytes = part } ∷ located (at + 1 + length part) parts
 
 module _ (byte : ℕ) where
   pub other_passes : (b : ℕ) → b ≢ byte → is_not byte b ≡ true
@@ -53,7 +53,7 @@ module _ (byte : ℕ) where
       drop_past [] = refl
       drop_past (b ∷ bs) = drop_past bs
 
-  pub cut_is_found : (parts : List (List ℕ)) (at : ℕ) → 0 < length parts → All (IsFree byte) parts → pieces_of byte at (join_with_byte byte parts) ≡ placed at parts
+  pub cut_is_found : (parts : List (List ℕ)) (at : ℕ) → 0 < length parts → All (IsFree byte) parts → pieces_of byte at (join_with_byte byte parts) ≡ located at parts
   cut_is_found [] at some free = absurd (omega (arith, some))
   cut_is_found (part ∷ []) at some free = one_part at part (All-head (IsFree byte) part [] free)
   cut_is_found (part ∷ next ∷ parts) at some free =
@@ -89,12 +89,12 @@ module _ (byte : ℕ) where
 
   -- ---- so both are the same
 
-  pub cut_pieces : (at : ℕ) (text : List ℕ) (parts : List (List ℕ)) → IsCut byte text parts → pieces_of byte at text ≡ placed at parts
+  pub cut_pieces : (at : ℕ) (text : List ℕ) (parts : List (List ℕ)) → IsCut byte text parts → pieces_of byte at text ≡ located at parts
   cut_pieces at text parts is = ap (pieces_of byte at) is.whole ∙ cut_is_found parts at is.some is.free
 
-  pub names_of-placed : (at : ℕ) (parts : List (List ℕ)) → names_of (placed at parts) ≡ parts
-  names_of-placed at [] = refl
-  names_of-placed at (part ∷ parts) = ap (λ (names : List (List ℕ)). part ∷ names) (names_of-placed (at + 1 + length part) parts)
+  pub names_of-located : (at : ℕ) (parts : List (List ℕ)) → names_of (located at parts) ≡ parts
+  names_of-located at [] = refl
+  names_of-located at (part ∷ parts) = ap (λ (names : List (List ℕ)). part ∷ names) (names_of-located (at + 1 + length part) parts)
 
   pub cut_names : (at : ℕ) (text : List ℕ) (parts : List (List ℕ)) → IsCut byte text parts → names_of (pieces_of byte at text) ≡ parts
-  cut_names at text parts is = ap names_of (cut_pieces at text parts is) ∙ names_of-placed at parts
+  cut_names at text parts is = ap names_of (cut_pieces at text parts is) ∙ names_of-located at parts

@@ -6,7 +6,7 @@ use Rattle.trace_filter.specs.Syntax.{step as filter_step}
 use Rattle.trace_filter.specs.Tokens.{piece_of}
 use Rattle.trace_trigger.specs.HistParts.{attributes_of, tail_of}
 use Rattle.trace_trigger.specs.HistLists.{lists_of}
-use Rattle.trace_trigger.specs.HistPlaces.{attribute_places, key_places, value_places, sort_places, wrong_places}
+use Rattle.trace_trigger.specs.HistOffsets.{attribute_offsets, key_offsets, value_offsets, sort_offsets, wrong_offsets}
 use Rattle.trace_trigger.specs.Frames.{filter_of}
 use Rattle.trace_trigger.specs.HistTexts.{read_of, spec_from, spec_of}
 use Rattle.trace_trigger.specs.HistExamples.{tick, move, AreRead, accepted, accepted_of_move, wrong_attributes, wrong_items, too_many, wrong_names, wrong_values_of_move}
@@ -21,7 +21,7 @@ pub record AreAllRead : Type 0 where
   pub values : AreRead move wrong_values_of_move
 
 pub examples-are_read : AreAllRead
-unfolding answer_of operand_named filter_step piece_of attributes_of tail_of lists_of attribute_places key_places value_places sort_places wrong_places
+unfolding answer_of operand_named filter_step piece_of attributes_of tail_of lists_of attribute_offsets key_offsets value_offsets sort_offsets wrong_offsets
     read_of filter_of spec_from spec_of
 examples-are_read = record {
   accepted = refl;

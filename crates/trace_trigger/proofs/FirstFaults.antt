@@ -1,4 +1,4 @@
--- The first item of a list that is refused, at its place.
+-- The first item of a list that is refused, at its offset.
 use Rattle.std.proofs.Common.{◌≡◌, ◌⊎◌, inl, inr, refl, ℕ, ◌+◌, Bool, true, false, not, if◌then◌else◌, cond, bytes_eq, codes, List, [], ◌∷◌, ◌++◌, length, filter, Option, Some, None, Result, Ok, Err, ap, sym, ◌∙◌, arith}
 use Rattle.std.specs.List.{AllByRecursion, AllZip}
 use Rattle.std.proofs.lemmas.Slice.Eq.{bytes_eq-Decides}
@@ -12,9 +12,9 @@ use Rattle.trace_trigger.specs.TriggerAnswers.{◌>>=◌}
 use Rattle.trace_trigger.specs.HistMeanings.{each, key_meant, value_meant}
 use Rattle.trace_trigger.specs.HistGrammar.{summed_names, IsValueOf}
 use Rattle.trace_trigger.specs.HistRefusals.{CanBeValue, CannotBeValue}
-use Rattle.trace_trigger.proofs.CutLemmas.{placed}
+use Rattle.trace_trigger.proofs.CutLemmas.{located}
 use Rattle.trace_trigger.proofs.MeaningLaws.{bound, as_number}
-use Rattle.trace_trigger.proofs.PlaceLemmas.{size, size_first}
+use Rattle.trace_trigger.proofs.OffsetLemmas.{size, size_first}
 
 -- ---- results
 
@@ -38,10 +38,10 @@ module _ {B : Type 0} (read : Piece → Result B TriggerFault) (keep : Piece →
     pub kept : keep (record { at = start + size 44 before; bytes = item }) ≡ true
     pub fault_there : read (record { at = start + size 44 before; bytes = item }) ≡ Err fault
     pub values : List B
-    pub first : each read (filter keep (placed start before)) ≡ Ok values
+    pub first : each read (filter keep (located start before)) ≡ Ok values
 
   abbrev those : ℕ → List (List ℕ) → List Piece
-  those start items = filter keep (placed start items)
+  those start items = filter keep (located start items)
 
   none_yet : (start : ℕ) (item : List ℕ) (rest : List (List ℕ)) (fault : TriggerFault) → keep (record { at = start; bytes = item }) ≡ true → read (record { at = start; bytes = item }) ≡ Err fault → IsFirstFault start (item ∷ rest) fault
   none_yet start item rest fault e f =
@@ -58,7 +58,7 @@ module _ {B : Type 0} (read : Piece → Result B TriggerFault) (keep : Piece →
       }
 
   further : (start : ℕ) (item : List ℕ) (rest : List (List ℕ)) (fault : TriggerFault) (values : List B)
-      → (is : IsFirstFault (start + 1 + length item) rest fault) → each read (filter keep (placed start (item ∷ is.before))) ≡ Ok values → IsFirstFault start (item ∷ rest) fault
+      → (is : IsFirstFault (start + 1 + length item) rest fault) → each read (filter keep (located start (item ∷ is.before))) ≡ Ok values → IsFirstFault start (item ∷ rest) fault
   further start item rest fault values is first =
       let there : start + 1 + length item + size 44 is.before ≡ start + size 44 (item ∷ is.before) = omega (arith, size_first 44 item is.before) in
       record {
@@ -72,7 +72,7 @@ module _ {B : Type 0} (read : Piece → Result B TriggerFault) (keep : Piece →
         first = first;
       }
 
-  pub first_fault : (start : ℕ) (items : List (List ℕ)) (fault : TriggerFault) → each read (filter keep (placed start items)) ≡ Err fault → IsFirstFault start items fault
+  pub first_fault : (start : ℕ) (items : List (List ℕ)) (fault : TriggerFault) → each read (filter keep (located start items)) ≡ Err fault → IsFirstFault start items fault
   first_fault start [] fault e = absurd (cc)
   first_fault start (item ∷ rest) fault e = by (keep (record { at = start; bytes = item })) refl e (first_fault (start + 1 + length item) rest fault)
     where
@@ -102,7 +102,7 @@ module _ {B : Type 0} (read : Piece → Result B TriggerFault) (keep : Piece →
   -- and there it is told
   pub fault_first : (start : ℕ) (before : List (List ℕ)) (item : List ℕ) (after : List (List ℕ)) (fault : TriggerFault) (values : List B)
       → keep (record { at = start + size 44 before; bytes = item }) ≡ true → read (record { at = start + size 44 before; bytes = item }) ≡ Err fault
-      → each read (filter keep (placed start before)) ≡ Ok values → each read (filter keep (placed start (before ++ item ∷ after))) ≡ Err fault
+      → each read (filter keep (located start before)) ≡ Ok values → each read (filter keep (located start (before ++ item ∷ after))) ≡ Err fault
   fault_first start [] item after fault values e f first =
       let here : start + size 44 [] ≡ start = omega arith in
       let kept : keep (record { at = start; bytes = item }) ≡ true = ap (λ n. keep (record { at = n; bytes = item })) (sym here) ∙ e in
@@ -119,7 +119,7 @@ module _ {B : Type 0} (read : Piece → Result B TriggerFault) (keep : Piece →
       by : (b : Bool) → keep (record { at = start; bytes = other }) ≡ b
           → each read (cond b (record { at = start; bytes = other } ∷ those (start + 1 + length other) before) (those (start + 1 + length other) before)) ≡ Ok values
           → ((ys : List B) → each read (those (start + 1 + length other) before) ≡ Ok ys → each read (those (start + 1 + length other) (before ++ item ∷ after)) ≡ Err fault)
-          → each read (filter keep (placed start ((other ∷ before) ++ item ∷ after))) ≡ Err fault
+          → each read (filter keep (located start ((other ∷ before) ++ item ∷ after))) ≡ Err fault
       by true g h next =
           let head = bound (read (record { at = start; bytes = other })) (λ y. each read (those (start + 1 + length other) before) >>= λ ys. Ok (y ∷ ys)) values h in
           let tail = bound (each read (those (start + 1 + length other) before)) (λ ys. Ok (head.found ∷ ys)) values head.after in

@@ -4,7 +4,7 @@ use Rattle.trace_format.specs.Definitions.{Definition}
 use Rattle.trace_trigger.specs.declared.fault.TriggerFault.{TriggerFault}
 use Rattle.trace_trigger.specs.HistParts.{attributes_of}
 use Rattle.trace_trigger.specs.HistLists.{Lists, lists_of}
-use Rattle.trace_trigger.specs.HistPlaces.{wrong_places}
+use Rattle.trace_trigger.specs.HistOffsets.{wrong_offsets}
 use Rattle.trace_trigger.specs.TriggerAnswers.{◌>>=◌}
 use Rattle.trace_trigger.specs.HistMeanings.{few}
 use Rattle.trace_trigger.specs.HistSpecs.{SpecSeen}
@@ -17,11 +17,11 @@ use Rattle.trace_trigger.proofs.SaysLaws.{said_settings, said_limits, said_fits,
 
 module _ (definition : Definition) (text : List ℕ) where
   -- once the text is read
-  pub of_right : wrong_places text ≡ [] → spec_of definition text ≡ (few (lists_of (attributes_of text)) >>= λ lists. spec_from definition text lists)
+  pub of_right : wrong_offsets text ≡ [] → spec_of definition text ≡ (few (lists_of (attributes_of text)) >>= λ lists. spec_from definition text lists)
   unfolding spec_of
   of_right none = ap (λ (r : Result Lists TriggerFault). r >>= λ lists. few lists >>= λ lists. spec_from definition text lists) (read_right text none)
 
-  right_of : (spec : SpecSeen) → spec_of definition text ≡ Ok spec → wrong_places text ≡ []
+  right_of : (spec : SpecSeen) → spec_of definition text ≡ Ok spec → wrong_offsets text ≡ []
   unfolding spec_of
   right_of spec e =
       let read = bound (read_of text) (λ lists. few lists >>= λ lists. spec_from definition text lists) spec e in

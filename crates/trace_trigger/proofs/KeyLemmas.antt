@@ -1,4 +1,4 @@
--- Keys, their names and their places.
+-- Keys, their names and their offsets.
 use Rattle.std.proofs.Common.{◌≡◌, ℕ, ◌+◌, Bool, true, false, not, nat_lt, cond, bytes_eq, List, [], ◌∷◌, length, map, Option, Some, None, refl, ap}
 use Rattle.std.specs.List.{position, position_or_len}
 use Rattle.std.proofs.lemmas.List.{length-map}

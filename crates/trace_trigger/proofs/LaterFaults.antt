@@ -13,7 +13,7 @@ use Rattle.trace_trigger.specs.Frames.{moved, filter_read, filter_of}
 use Rattle.trace_trigger.specs.TriggerAnswers.{◌>>=◌}
 use Rattle.trace_trigger.specs.HistParts.{attributes_of, tail_of, condition_of}
 use Rattle.trace_trigger.specs.HistLists.{Lists, lists_of, summed_items}
-use Rattle.trace_trigger.specs.HistPlaces.{wrong_places, least}
+use Rattle.trace_trigger.specs.HistOffsets.{wrong_offsets, least}
 use Rattle.trace_trigger.specs.HistMeanings.{is_too_many, few, each, key_meant, key_in, value_meant, value_source, told_size, size_of}
 use Rattle.trace_trigger.specs.HistSpecs.{SpecSeen}
 use Rattle.trace_trigger.specs.HistTexts.{unless_wrong, read_of, spec_from, spec_of}
@@ -98,8 +98,8 @@ read_is_later definition text lists = then_later (few lists) (λ lists. spec_fro
 -- no text of a hist trigger is refused as no trigger's text at all
 pub never_bad : (definition : Definition) (text : List ℕ) → spec_of definition text ≡ Err BadText → ⊥
 unfolding spec_of read_of
-never_bad definition text e = by (least (wrong_places text)) e
+never_bad definition text e = by (least (wrong_offsets text)) e
   where
-    by : (place : Option ℕ) → (unless_wrong place (lists_of (attributes_of text)) >>= λ lists. few lists >>= λ lists. spec_from definition text lists) ≡ Err BadText → ⊥
+    by : (offset : Option ℕ) → (unless_wrong offset (lists_of (attributes_of text)) >>= λ lists. few lists >>= λ lists. spec_from definition text lists) ≡ Err BadText → ⊥
     by None f = let P : Result SpecSeen TriggerFault → Type 0 = λ answer. IsAnyLater answer in subst P f (read_is_later definition text (lists_of (attributes_of text)))
     by (Some at) f = cc

@@ -13,7 +13,7 @@ use Rattle.trace_trigger.specs.declared.attribute.Topic.TheVariants as topic
 use Rattle.trace_trigger.specs.declared.attribute.Attribute.{Attribute}
 use Rattle.trace_trigger.specs.declared.piece.Piece.{Piece}
 use Rattle.trace_trigger.specs.HistLists.{is_same_topic, first_about, items_of, items_in, lists_of, names_of, is_listed, is_hitcount, sort_key_of, is_sortable}
-use Rattle.trace_trigger.specs.HistPlaces.{wrong_after, is_unknown, is_repeated, is_bad_size, is_wrong_attribute, attribute_places, is_wrong_name, key_places, value_places, is_wrong_sort, sort_places, keyless_places}
+use Rattle.trace_trigger.specs.HistOffsets.{wrong_after, is_unknown, is_repeated, is_bad_size, is_wrong_attribute, attribute_offsets, is_wrong_name, key_offsets, value_offsets, is_wrong_sort, sort_offsets, keyless_offsets}
 use Rattle.trace_trigger.specs.HistGrammar.{Setting, Keys, Values, Sort, Size, Asks, subject_of, IsListed, AreLawful, IsSet}
 use Rattle.trace_trigger.proofs.WrongLemmas.{Apart, pairs_from, each_weaker, NoneWrong, none_from, none_each, none_left, none_right, Unlike, unlike_each_other}
 use Rattle.trace_trigger.proofs.ItemLaws.{names_right, sorts_right, sort_keys_are}
@@ -86,7 +86,7 @@ map-nil f (x ∷ xs) e = absurd (cc)
 
 module _ (attributes : List Attribute) (end : ℕ) (right : AreAllRight attributes end) where
   none_wrong : NoneWrong is_wrong_attribute [] attributes
-  unfolding attribute_places
+  unfolding attribute_offsets
   none_wrong = none_from is_wrong_attribute [] attributes (map-nil (λ (a : Attribute). a.at) (wrong_after is_wrong_attribute [] attributes) right.attributes)
 
   known : AllByRecursion (λ (a : Attribute). is_unknown a.topic ≡ false) attributes
@@ -103,15 +103,15 @@ module _ (attributes : List Attribute) (end : ℕ) (right : AreAllRight attribut
   sizes = none_each is_bad_size [] attributes (none_right (λ before a. is_unknown a.topic || is_repeated before a) (λ _ a. is_bad_size a) [] attributes none_wrong)
 
   keys_items : (a : Attribute) → first_about topic.Keys attributes ≡ Some a → wrong_after is_wrong_name [] (items_of a) ≡ []
-  unfolding lists_of key_places
-  keys_items a first = map-nil (λ (item : Piece). item.at) (wrong_after is_wrong_name [] (items_of a)) (sym (ap (λ (o : Option Attribute). key_places (items_in o)) first) ∙ right.keys)
+  unfolding lists_of key_offsets
+  keys_items a first = map-nil (λ (item : Piece). item.at) (wrong_after is_wrong_name [] (items_of a)) (sym (ap (λ (o : Option Attribute). key_offsets (items_in o)) first) ∙ right.keys)
 
   values_items : (a : Attribute) → first_about topic.Values attributes ≡ Some a → wrong_after is_wrong_name [] (items_of a) ≡ []
-  unfolding lists_of value_places
-  values_items a first = map-nil (λ (item : Piece). item.at) (wrong_after is_wrong_name [] (items_of a)) (sym (ap (λ (o : Option Attribute). value_places (items_in o)) first) ∙ right.values)
+  unfolding lists_of value_offsets
+  values_items a first = map-nil (λ (item : Piece). item.at) (wrong_after is_wrong_name [] (items_of a)) (sym (ap (λ (o : Option Attribute). value_offsets (items_in o)) first) ∙ right.values)
 
   sort_items : (a : Attribute) → first_about topic.Sort attributes ≡ Some a → wrong_after (is_wrong_sort (lists_of attributes)) [] (items_of a) ≡ []
-  unfolding lists_of sort_places
+  unfolding lists_of sort_offsets
   sort_items a first =
       map-nil (λ (item : Piece). item.at) (wrong_after (is_wrong_sort (lists_of attributes)) [] (items_of a))
       (sym (ap (λ (o : Option Attribute). map (λ (item : Piece). item.at) (wrong_after (is_wrong_sort (lists_of attributes)) [] (items_in o))) first) ∙ right.sort)
@@ -168,7 +168,7 @@ module _ (attributes : List Attribute) (end : ℕ) (right : AreAllRight attribut
           of (Size entries) e is = absurd (cc)
           of (Asks action) e is = absurd (cc)
       by (inr missing) =
-          let none : keyless_places end (items_in (first_about topic.Keys attributes)) ≡ end ∷ [] = ap (λ (a : Option Attribute). keyless_places end (items_in a)) missing.first in
+          let none : keyless_offsets end (items_in (first_about topic.Keys attributes)) ≡ end ∷ [] = ap (λ (a : Option Attribute). keyless_offsets end (items_in a)) missing.first in
           let keyed = right.keyed in
           absurd (cc)
 

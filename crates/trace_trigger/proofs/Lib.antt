@@ -1,4 +1,4 @@
-pub mod FaultPlaces
+pub mod FaultOffsets
 pub mod Cuts
 pub mod WordLaws
 pub mod TailLaws
@@ -20,8 +20,8 @@ pub mod ListLaws
 pub mod MeaningLaws
 pub mod PartLaws
 pub mod PieceLemmas
-pub mod PlaceLemmas
-pub mod Placed
+pub mod OffsetLemmas
+pub mod Located
 pub mod RefusalLaws
 pub mod RightLaws
 pub mod SaysLaws
@@ -35,4 +35,4 @@ pub mod HistTextLaws
 pub mod WordLemmas
 pub mod WrongLaws
 pub mod WrongLemmas
-pub mod WrongPlaces
+pub mod WrongOffsets

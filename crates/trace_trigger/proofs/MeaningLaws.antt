@@ -168,59 +168,59 @@ told (Some m) n e = let same : m ≡ n = cc in ap Some same
 
 -- ---- where a name is in a list
 
-pub record IsPlace (name : List ℕ) (names : List (List ℕ)) (place : ℕ) : Type 0 where
-  pub first : position_or_len (bytes_eq name) names ≡ place
-  pub within : place < length names
-  pub there : slice_get names place ≡ Some name
+pub record IsIndex (name : List ℕ) (names : List (List ℕ)) (index : ℕ) : Type 0 where
+  pub first : position_or_len (bytes_eq name) names ≡ index
+  pub within : index < length names
+  pub there : slice_get names index ≡ Some name
 
-place_here : (name other : List ℕ) (names : List (List ℕ)) → name ≡ other → IsPlace name (other ∷ names) 0
-place_here name other names same =
+index_here : (name other : List ℕ) (names : List (List ℕ)) → name ≡ other → IsIndex name (other ∷ names) 0
+index_here name other names same =
     let equal : bytes_eq name other ≡ true = (bytes_eq-Decides name other).1 same in
     record { first = ap (λ b. cond (not b) (1 + position_or_len (bytes_eq name) names) 0) equal; within = omega arith; there = ap Some (sym same) }
 
-place_later : (name other : List ℕ) (names : List (List ℕ)) (place : ℕ) → bytes_eq name other ≡ false → IsPlace name names place → IsPlace name (other ∷ names) (suc place)
-place_later name other names place differ is =
-    let up : 1 + position_or_len (bytes_eq name) names ≡ suc place = omega (arith, is.first) in
+index_later : (name other : List ℕ) (names : List (List ℕ)) (index : ℕ) → bytes_eq name other ≡ false → IsIndex name names index → IsIndex name (other ∷ names) (suc index)
+index_later name other names index differ is =
+    let up : 1 + position_or_len (bytes_eq name) names ≡ suc index = omega (arith, is.first) in
     record {
       first = ap (λ b. cond (not b) (1 + position_or_len (bytes_eq name) names) 0) differ ∙ up;
       within = omega (arith, is.within);
       there = is.there;
     }
 
--- the place of an element of a list of names of which none is there twice
-none_there : (name other : List ℕ) (names : List (List ℕ)) (place : ℕ) → AllByRecursion (λ later. other ≢ later) names → slice_get names place ≡ Some name → other ≢ name
-none_there name other [] place all e = absurd (cc)
+-- the index of an element of a list of names of which none is there twice
+none_there : (name other : List ℕ) (names : List (List ℕ)) (index : ℕ) → AllByRecursion (λ later. other ≢ later) names → slice_get names index ≡ Some name → other ≢ name
+none_there name other [] index all e = absurd (cc)
 none_there name other (first ∷ names) zero all e = λ same. let here : first ≡ name = cc in all.0 (same ∙ sym here)
-none_there name other (first ∷ names) (suc place) all e = none_there name other names place all.1 e
+none_there name other (first ∷ names) (suc index) all e = none_there name other names index all.1 e
 
-pub place_of : (name : List ℕ) (names : List (List ℕ)) (place : ℕ) → Apart (λ one later. one ≢ later) names → slice_get names place ≡ Some name → IsPlace name names place
-place_of name [] place apart e = absurd (cc)
-place_of name (other ∷ names) zero apart e = let same : name ≡ other = cc in place_here name other names same
-place_of name (other ∷ names) (suc place) apart e =
-    let differ : bytes_eq name other ≡ false = false_from_ne_true (bytes_eq name other) (λ equal. none_there name other names place apart.0 e (sym ((bytes_eq-Decides name other).0 equal))) in
-    place_later name other names place differ (place_of name names place apart.1 e)
+pub index_of : (name : List ℕ) (names : List (List ℕ)) (index : ℕ) → Apart (λ one later. one ≢ later) names → slice_get names index ≡ Some name → IsIndex name names index
+index_of name [] index apart e = absurd (cc)
+index_of name (other ∷ names) zero apart e = let same : name ≡ other = cc in index_here name other names same
+index_of name (other ∷ names) (suc index) apart e =
+    let differ : bytes_eq name other ≡ false = false_from_ne_true (bytes_eq name other) (λ equal. none_there name other names index apart.0 e (sym ((bytes_eq-Decides name other).0 equal))) in
+    index_later name other names index differ (index_of name names index apart.1 e)
 
-pub record HasPlace (name : List ℕ) (names : List (List ℕ)) : Type 0 where
-  pub place : ℕ
-  pub is : IsPlace name names place
+pub record HasIndex (name : List ℕ) (names : List (List ℕ)) : Type 0 where
+  pub index : ℕ
+  pub is : IsIndex name names index
 
-pub member_place : (name : List ℕ) (names : List (List ℕ)) → Member name names → HasPlace name names
-member_place name [] is = absurd is
-member_place name (other ∷ names) is = by (bytes_eq name other) refl is (member_place name names)
+pub member_index : (name : List ℕ) (names : List (List ℕ)) → Member name names → HasIndex name names
+member_index name [] is = absurd is
+member_index name (other ∷ names) is = by (bytes_eq name other) refl is (member_index name names)
   where
-    by : (b : Bool) → bytes_eq name other ≡ b → Member name (other ∷ names) → (Member name names → HasPlace name names) → HasPlace name (other ∷ names)
-    by true e is next = record { place = 0; is = place_here name other names ((bytes_eq-Decides name other).0 e) }
+    by : (b : Bool) → bytes_eq name other ≡ b → Member name (other ∷ names) → (Member name names → HasIndex name names) → HasIndex name (other ∷ names)
+    by true e is next = record { index = 0; is = index_here name other names ((bytes_eq-Decides name other).0 e) }
     by false e (inl same) next = let equal : bytes_eq name other ≡ true = (bytes_eq-Decides name other).1 same in absurd (cc)
-    by false e (inr is) next = let rest = next is in record { place = suc rest.place; is = place_later name other names rest.place e rest.is }
+    by false e (inr is) next = let rest = next is in record { index = suc rest.index; is = index_later name other names rest.index e rest.is }
 
-pub place_found : (name : List ℕ) (names : List (List ℕ)) (place : ℕ) → IsPlace name names place → position (bytes_eq name) names ≡ Some place
-place_found name names place is =
+pub index_found : (name : List ℕ) (names : List (List ℕ)) (index : ℕ) → IsIndex name names index → position (bytes_eq name) names ≡ Some index
+index_found name names index is =
     let test : nat_lt (position_or_len (bytes_eq name) names) (length names) ≡ true = lt-ltb (position_or_len (bytes_eq name) names) (length names) (omega (arith, is.first, is.within)) in
     ap (λ b. cond b (Some (position_or_len (bytes_eq name) names)) None) test ∙ ap Some is.first
 
-place_at : (name : List ℕ) (names : List (List ℕ)) → position_or_len (bytes_eq name) names < length names → slice_get names (position_or_len (bytes_eq name) names) ≡ Some name
-place_at name [] more = absurd (omega (arith, more))
-place_at name (other ∷ names) more = by (bytes_eq name other) refl more (place_at name names)
+index_at : (name : List ℕ) (names : List (List ℕ)) → position_or_len (bytes_eq name) names < length names → slice_get names (position_or_len (bytes_eq name) names) ≡ Some name
+index_at name [] more = absurd (omega (arith, more))
+index_at name (other ∷ names) more = by (bytes_eq name other) refl more (index_at name names)
   where
     by : (b : Bool) → bytes_eq name other ≡ b → cond (not b) (1 + position_or_len (bytes_eq name) names) 0 < length (other ∷ names)
         → (position_or_len (bytes_eq name) names < length names → slice_get names (position_or_len (bytes_eq name) names) ≡ Some name)
@@ -230,26 +230,26 @@ place_at name (other ∷ names) more = by (bytes_eq name other) refl more (place
         let up : 1 + position_or_len (bytes_eq name) names ≡ suc (position_or_len (bytes_eq name) names) = omega arith in
         ap (slice_get (other ∷ names)) up ∙ next (omega (arith, l))
 
-pub place_there : (name : List ℕ) (names : List (List ℕ)) (place : ℕ) → position (bytes_eq name) names ≡ Some place → slice_get names place ≡ Some name
-place_there name names place e = by (nat_lt (position_or_len (bytes_eq name) names) (length names)) refl e
+pub index_there : (name : List ℕ) (names : List (List ℕ)) (index : ℕ) → position (bytes_eq name) names ≡ Some index → slice_get names index ≡ Some name
+index_there name names index e = by (nat_lt (position_or_len (bytes_eq name) names) (length names)) refl e
   where
-    by : (b : Bool) → nat_lt (position_or_len (bytes_eq name) names) (length names) ≡ b → cond b (Some (position_or_len (bytes_eq name) names)) None ≡ Some place → slice_get names place ≡ Some name
+    by : (b : Bool) → nat_lt (position_or_len (bytes_eq name) names) (length names) ≡ b → cond b (Some (position_or_len (bytes_eq name) names)) None ≡ Some index → slice_get names index ≡ Some name
     by true f g =
-        let same : position_or_len (bytes_eq name) names ≡ place = cc in
-        ap (slice_get names) (sym same) ∙ place_at name names (ltb-true (position_or_len (bytes_eq name) names) (length names) f)
+        let same : position_or_len (bytes_eq name) names ≡ index = cc in
+        ap (slice_get names) (sym same) ∙ index_at name names (ltb-true (position_or_len (bytes_eq name) names) (length names) f)
     by false f g = absurd (cc)
 
 -- and where it is in none
-never_place : (name : List ℕ) (names : List (List ℕ)) → (Member name names → ⊥) → length names ≤ position_or_len (bytes_eq name) names
-never_place name [] none = omega arith
-never_place name (other ∷ names) none =
+never_index : (name : List ℕ) (names : List (List ℕ)) → (Member name names → ⊥) → length names ≤ position_or_len (bytes_eq name) names
+never_index name [] none = omega arith
+never_index name (other ∷ names) none =
     let differ : bytes_eq name other ≡ false = false_from_ne_true (bytes_eq name other) (λ equal. none (inl ((bytes_eq-Decides name other).0 equal))) in
-    let rest = never_place name names (λ is. none (inr is)) in
+    let rest = never_index name names (λ is. none (inr is)) in
     omega (arith, ap (λ b. cond (not b) (1 + position_or_len (bytes_eq name) names) 0) differ, rest)
 
-pub place_missing : (name : List ℕ) (names : List (List ℕ)) → (Member name names → ⊥) → position (bytes_eq name) names ≡ None
-place_missing name names none =
-    ap (λ b. cond b (Some (position_or_len (bytes_eq name) names)) None) (le-ltb (position_or_len (bytes_eq name) names) (length names) (never_place name names none))
+pub index_missing : (name : List ℕ) (names : List (List ℕ)) → (Member name names → ⊥) → position (bytes_eq name) names ≡ None
+index_missing name names none =
+    ap (λ b. cond b (Some (position_or_len (bytes_eq name) names)) None) (le-ltb (position_or_len (bytes_eq name) names) (length names) (never_index name names none))
 
 -- ---- what is sorted by
 
@@ -261,32 +261,32 @@ module _ (keys values : List (List ℕ)) where
   module _ (keys_apart : Apart (λ one later. one ≢ later) keys) (values_apart : Apart (λ one later. one ≢ later) values) (no_count : Member (codes "hitcount") values → ⊥) where
     pub by_is : (name : List ℕ) (source : SortSource) → IsSortedBy keys values name source → source ≡ sort_source keys values name
     by_is name sorted.Hitcount is =
-        let none : position (bytes_eq name) values ≡ None = place_missing name values (λ member. no_count (subst (λ (n : List ℕ). Member n values) is member)) in
+        let none : position (bytes_eq name) values ≡ None = index_missing name values (λ member. no_count (subst (λ (n : List ℕ). Member n values) is member)) in
         sym (source_by name None true none ((bytes_eq-Decides name (codes "hitcount")).1 is))
-    by_is name (sorted.Value place) is =
-        let found : position (bytes_eq name) values ≡ Some place = place_found name values place (place_of name values place values_apart is) in
-        sym (source_by name (Some place) (is_hitcount name) found refl)
-    by_is name (sorted.Key place) is =
-        let none : position (bytes_eq name) values ≡ None = place_missing name values (λ member. is.1 (from_member name values member)) in
+    by_is name (sorted.Value index) is =
+        let found : position (bytes_eq name) values ≡ Some index = index_found name values index (index_of name values index values_apart is) in
+        sym (source_by name (Some index) (is_hitcount name) found refl)
+    by_is name (sorted.Key index) is =
+        let none : position (bytes_eq name) values ≡ None = index_missing name values (λ member. is.1 (from_member name values member)) in
         let other : is_hitcount name ≡ false = false_from_ne_true (is_hitcount name) (λ equal. is.0 ((bytes_eq-Decides name (codes "hitcount")).0 equal)) in
-        let place_is : position (bytes_eq name) keys ≡ Some place = place_found name keys place (place_of name keys place keys_apart is.2) in
-        sym (source_by name None false none other ∙ ap (λ (o : Option ℕ). sorted.Key (unwrap_or o 0)) place_is)
+        let index_is : position (bytes_eq name) keys ≡ Some index = index_found name keys index (index_of name keys index keys_apart is.2) in
+        sym (source_by name None false none other ∙ ap (λ (o : Option ℕ). sorted.Key (unwrap_or o 0)) index_is)
 
     pub is_by : (name : List ℕ) → (name ≡ codes "hitcount") ⊎ (Member name keys ⊎ Member name values) → IsSortedBy keys values name (sort_source keys values name)
     is_by name lent = by (position (bytes_eq name) values) (is_hitcount name) refl refl lent
       where
-        key_place : (e : position (bytes_eq name) values ≡ None) → is_hitcount name ≡ false → Member name keys → IsSortedBy keys values name (sorted.Key (unwrap_or (position (bytes_eq name) keys) 0))
-        key_place e f member =
-            let it = member_place name keys member in (
+        key_index : (e : position (bytes_eq name) values ≡ None) → is_hitcount name ≡ false → Member name keys → IsSortedBy keys values name (sorted.Key (unwrap_or (position (bytes_eq name) keys) 0))
+        key_index e f member =
+            let it = member_index name keys member in (
               λ same. let equal : is_hitcount name ≡ true = (bytes_eq-Decides name (codes "hitcount")).1 same in let no = f in cc,
-              λ contains. let at = member_place name values (member_from name values contains) in let found = place_found name values at.place at.is in cc,
-              subst (λ (o : Option ℕ). slice_get keys (unwrap_or o 0) ≡ Some name) (sym (place_found name keys it.place it.is)) it.is.there,
+              λ contains. let at = member_index name values (member_from name values contains) in let found = index_found name values at.index at.is in cc,
+              subst (λ (o : Option ℕ). slice_get keys (unwrap_or o 0) ≡ Some name) (sym (index_found name keys it.index it.is)) it.is.there,
             )
 
         by : (found : Option ℕ) (is_count : Bool) → position (bytes_eq name) values ≡ found → is_hitcount name ≡ is_count → (name ≡ codes "hitcount") ⊎ (Member name keys ⊎ Member name values)
             → IsSortedBy keys values name (sort_source keys values name)
-        by (Some place) is_count e f lent = subst (IsSortedBy keys values name) (sym (source_by name (Some place) is_count e f)) (place_there name values place e)
+        by (Some index) is_count e f lent = subst (IsSortedBy keys values name) (sym (source_by name (Some index) is_count e f)) (index_there name values index e)
         by None true e f lent = subst (IsSortedBy keys values name) (sym (source_by name None true e f)) ((bytes_eq-Decides name (codes "hitcount")).0 f)
         by None false e f (inl same) = let equal : is_hitcount name ≡ true = (bytes_eq-Decides name (codes "hitcount")).1 same in absurd (cc)
-        by None false e f (inr (inl member)) = subst (IsSortedBy keys values name) (sym (source_by name None false e f)) (key_place e f member)
-        by None false e f (inr (inr member)) = let at = member_place name values member in let found = place_found name values at.place at.is in absurd (cc)
+        by None false e f (inr (inl member)) = subst (IsSortedBy keys values name) (sym (source_by name None false e f)) (key_index e f member)
+        by None false e f (inr (inr member)) = let at = member_index name values member in let found = index_found name values at.index at.is in absurd (cc)

@@ -20,11 +20,11 @@ use Rattle.trace_trigger.specs.declared.piece.Piece.{Piece}
 use Rattle.trace_trigger.specs.HistAttributes.{attribute_of, attributes_at}
 use Rattle.trace_trigger.specs.HistPieces.{pieces_of}
 use Rattle.trace_trigger.specs.HistLists.{names_of}
-use Rattle.trace_trigger.specs.HistParts.{start_of, body_of, word_len, attributes_of, end_of, tail_of, is_condition, condition_of, place_in}
-use Rattle.trace_trigger.specs.HistPlaces.{tail_places}
+use Rattle.trace_trigger.specs.HistParts.{start_of, body_of, word_len, attributes_of, end_of, tail_of, is_condition, condition_of, offset_in}
+use Rattle.trace_trigger.specs.HistOffsets.{tail_offsets}
 use Rattle.trace_trigger.specs.HistTexts.{IsHistText}
 use Rattle.trace_trigger.specs.HistGrammar.{IsCut, Setting, Keys, Values, Sort, Size, Asks, Subject, OfKeys, OfValues, OfSort, OfSize, OfAction, IsHead, HasValue, IsWordFor, IsDirected, IsSortItem, WritesNames, Writes}
-use Rattle.trace_trigger.proofs.CutLemmas.{placed, cut_pieces}
+use Rattle.trace_trigger.proofs.CutLemmas.{located, cut_pieces}
 use Rattle.trace_trigger.proofs.WordLemmas.{run_taken, run_dropped, name_passes}
 use Rattle.trace_trigger.proofs.WrongLemmas.{each_weaker}
 use Rattle.trace_trigger.proofs.AttributeLaws.{IsRead, written_is_read, read_is_written}
@@ -131,12 +131,12 @@ all_blank bs all = ap (λ (cs : List ℕ). after_blanks cs) (sym (append-nil bs)
 -- what is written so is a condition
 pub record IsFound (tail : List ℕ) (condition : Option (List ℕ)) : Type 0 where
   pub found : condition_of (after_blanks tail) ≡ condition
-  pub right : (text : List ℕ) → tail_places text (after_blanks tail) ≡ []
+  pub right : (text : List ℕ) → tail_offsets text (after_blanks tail) ≡ []
 
 pub tail_found : (tail : List ℕ) (condition : Option (List ℕ)) → IsTail tail condition → IsFound tail condition
 tail_found tail None is =
     let none : after_blanks tail ≡ [] = all_blank tail is in
-    record { found = ap condition_of none; right = λ text. ap (tail_places text) none }
+    record { found = ap condition_of none; right = λ text. ap (tail_offsets text) none }
 tail_found tail (Some filter) is =
     let rest : List ℕ = is.between ++ filter in
     let found : after_blanks tail ≡ codes "if" ++ rest = ap after_blanks is.cut ∙ run_dropped is_blank is.front (codes "if" ++ rest) is.before refl in
@@ -146,13 +146,13 @@ tail_found tail (Some filter) is =
     let holds : is_condition (codes "if" ++ rest) ≡ true = (λ i. blanks i && some i) in
     record {
       found = ap condition_of found ∙ ap (λ (b : Bool). if b then Some (after_blanks rest) else None) holds ∙ ap (λ (bs : List ℕ). Some bs) left;
-      right = λ text. ap (tail_places text) found ∙ ap (λ (b : Bool). if nat_lt 0 (length (codes "if" ++ rest)) && not b then place_in text (codes "if" ++ rest) ∷ [] else []) holds ∙ never text (codes "if" ++ rest);
+      right = λ text. ap (tail_offsets text) found ∙ ap (λ (b : Bool). if nat_lt 0 (length (codes "if" ++ rest)) && not b then offset_in text (codes "if" ++ rest) ∷ [] else []) holds ∙ never text (codes "if" ++ rest);
     }
   where
-    never : (text tail : List ℕ) → (if nat_lt 0 (length tail) && false then place_in text tail ∷ [] else []) ≡ []
+    never : (text tail : List ℕ) → (if nat_lt 0 (length tail) && false then offset_in text tail ∷ [] else []) ≡ []
     never text tail = by (nat_lt 0 (length tail))
       where
-        by : (b : Bool) → (if b && false then place_in text tail ∷ [] else []) ≡ []
+        by : (b : Bool) → (if b && false then offset_in text tail ∷ [] else []) ≡ []
         by true = refl
         by false = refl
 
@@ -202,11 +202,11 @@ blank_or_more (b ∷ bs) e = by (is_blank b) refl e (blank_or_more bs)
         subst (λ n. 0 < length (drop n (b ∷ bs))) (sym shift) (next g)
     by false f g next = omega arith
 
-pub tail_written : (text tail : List ℕ) → BeginsNot is_unblank tail → tail_places text (after_blanks tail) ≡ [] → IsTail tail (condition_of (after_blanks tail))
+pub tail_written : (text tail : List ℕ) → BeginsNot is_unblank tail → tail_offsets text (after_blanks tail) ≡ [] → IsTail tail (condition_of (after_blanks tail))
 tail_written text tail stops right = by (list_all is_blank tail) refl
   where
     more : list_all is_blank tail ≡ false → (b : Bool) → is_condition (after_blanks tail) ≡ b → (c : Bool) → nat_lt 0 (length (after_blanks tail)) ≡ c
-        → (if c && not b then place_in text (after_blanks tail) ∷ [] else []) ≡ [] → IsTail tail (if b then Some (after_blanks (drop 2 (after_blanks tail))) else None)
+        → (if c && not b then offset_in text (after_blanks tail) ∷ [] else []) ≡ [] → IsTail tail (if b then Some (after_blanks (drop 2 (after_blanks tail))) else None)
     more e true f c g h = conditional tail e stops f
     more e false f true g h = absurd (cc)
     more e false f false g h = absurd (omega (arith, ltb-false 0 (length (after_blanks tail)) g, blank_or_more tail e))
@@ -325,15 +325,15 @@ written_passes word attributes settings cut each =
 
 -- ---- attributes that are written are read, and the other way round
 
-placed_read : (at : ℕ) (attributes : List (List ℕ)) (settings : List Setting) → AllZip Writes attributes settings → AllZip IsRead (map attribute_of (placed at attributes)) settings
-placed_read at [] [] each = tt
-placed_read at [] (setting ∷ settings) each = absurd each
-placed_read at (attribute ∷ attributes) [] each = absurd each
-placed_read at (attribute ∷ attributes) (setting ∷ settings) each = (written_is_read at attribute setting each.0, placed_read (at + 1 + length attribute) attributes settings each.1)
+located_read : (at : ℕ) (attributes : List (List ℕ)) (settings : List Setting) → AllZip Writes attributes settings → AllZip IsRead (map attribute_of (located at attributes)) settings
+located_read at [] [] each = tt
+located_read at [] (setting ∷ settings) each = absurd each
+located_read at (attribute ∷ attributes) [] each = absurd each
+located_read at (attribute ∷ attributes) (setting ∷ settings) each = (written_is_read at attribute setting each.0, located_read (at + 1 + length attribute) attributes settings each.1)
 
 pub attributes_read : (at : ℕ) (word : List ℕ) (attributes : List (List ℕ)) (settings : List Setting) → IsCut 58 word attributes → AllZip Writes attributes settings → AllZip IsRead (attributes_at at word) settings
 attributes_read at word attributes settings cut each =
-    subst (λ (pieces : List Piece). AllZip IsRead (map attribute_of pieces) settings) (sym (cut_pieces 58 at word attributes cut)) (placed_read at attributes settings each)
+    subst (λ (pieces : List Piece). AllZip IsRead (map attribute_of pieces) settings) (sym (cut_pieces 58 at word attributes cut)) (located_read at attributes settings each)
 
 pieces_written : (pieces : List Piece) (settings : List Setting) → AllZip IsRead (map attribute_of pieces) settings → AllZip Writes (names_of pieces) settings
 pieces_written [] [] each = tt

@@ -12,7 +12,7 @@ use Rattle.trace_trigger.specs.declared.attribute.Topic.TheVariants as topic
 use Rattle.trace_trigger.specs.declared.attribute.Attribute.{Attribute}
 use Rattle.trace_trigger.specs.declared.piece.Piece.{Piece}
 use Rattle.trace_trigger.specs.HistLists.{is_same_topic, first_about, items_of, items_in, lists_of, is_listed, is_hitcount, is_sortable}
-use Rattle.trace_trigger.specs.HistPlaces.{wrong_after, is_unknown, is_repeated, is_bad_size, is_wrong_attribute, attribute_places, is_wrong_name, key_places, value_places, is_wrong_sort, sort_places, keyless_places}
+use Rattle.trace_trigger.specs.HistOffsets.{wrong_after, is_unknown, is_repeated, is_bad_size, is_wrong_attribute, attribute_offsets, is_wrong_name, key_offsets, value_offsets, is_wrong_sort, sort_offsets, keyless_offsets}
 use Rattle.trace_trigger.specs.HistGrammar.{Setting, Keys, Values, Sort, Size, Asks, subject_of, IsListed, AreLawful}
 use Rattle.trace_trigger.proofs.WrongLemmas.{Apart, from_pairs, each_weaker, from_none, each_none, none_or, Unlike, none_alike}
 use Rattle.trace_trigger.proofs.ItemLaws.{AreRight, right_names, right_sorts}
@@ -22,11 +22,11 @@ use Rattle.trace_trigger.proofs.SettingLaws.{member_listed, some_items, keyed, g
 
 -- nothing is wrong with the attributes, whose word ends there
 pub record AreAllRight (found : List Attribute) (end : ℕ) : Type 0 where
-  pub attributes : attribute_places found ≡ []
-  pub keys : key_places (lists_of found).keys ≡ []
-  pub values : value_places (lists_of found).values ≡ []
-  pub sort : sort_places (lists_of found) ≡ []
-  pub keyed : keyless_places end (lists_of found).keys ≡ []
+  pub attributes : attribute_offsets found ≡ []
+  pub keys : key_offsets (lists_of found).keys ≡ []
+  pub values : value_offsets (lists_of found).values ≡ []
+  pub sort : sort_offsets (lists_of found) ≡ []
+  pub keyed : keyless_offsets end (lists_of found).keys ≡ []
 
 abbrev pub same_topics : Attribute → Attribute → Bool
 same_topics other attribute = is_same_topic other.topic attribute.topic
@@ -81,8 +81,8 @@ module _ (attributes : List Attribute) (settings : List Setting) (zip : AllZip I
   once : Once settings
   once = from_pairs (λ one other. subject_of one ≢ subject_of other) settings lawful.once
 
-  attributes_right : attribute_places attributes ≡ []
-  unfolding attribute_places
+  attributes_right : attribute_offsets attributes ≡ []
+  unfolding attribute_offsets
   attributes_right =
       let none : wrong_after is_wrong_attribute [] attributes ≡ [] =
       from_none is_wrong_attribute [] attributes
@@ -97,35 +97,35 @@ module _ (attributes : List Attribute) (settings : List Setting) (zip : AllZip I
       let right : AreRight names = record { named = are.named; apart = are.apart } in
       ap (map (λ (item : Piece). item.at)) (right_names (items_of attribute) (subst AreRight (sym are.items) right))
 
-  keys_right : key_places (lists_of attributes).keys ≡ []
-  unfolding lists_of key_places
+  keys_right : key_offsets (lists_of attributes).keys ≡ []
+  unfolding lists_of key_offsets
   keys_right = by (found_or_missing topic.Keys attributes settings zip)
     where
-      by : IsFound topic.Keys attributes settings ⊎ IsMissing topic.Keys attributes settings → key_places (items_in (first_about topic.Keys attributes)) ≡ []
+      by : IsFound topic.Keys attributes settings ⊎ IsMissing topic.Keys attributes settings → key_offsets (items_in (first_about topic.Keys attributes)) ≡ []
       by (inl found) = of found.setting found.same found.read
         where
-          of : (s : Setting) → is_same_topic topic.Keys (topic_of_setting s) ≡ true → IsRead found.attribute s → key_places (items_in (first_about topic.Keys attributes)) ≡ []
-          of (Keys names) e read = ap (λ (a : Option Attribute). key_places (items_in a)) found.first ∙ items_right found.attribute names read.holds
+          of : (s : Setting) → is_same_topic topic.Keys (topic_of_setting s) ≡ true → IsRead found.attribute s → key_offsets (items_in (first_about topic.Keys attributes)) ≡ []
+          of (Keys names) e read = ap (λ (a : Option Attribute). key_offsets (items_in a)) found.first ∙ items_right found.attribute names read.holds
           of (Values names) e read = absurd (cc)
           of (Sort keys) e read = absurd (cc)
           of (Size entries) e read = absurd (cc)
           of (Asks action) e read = absurd (cc)
-      by (inr missing) = ap (λ (a : Option Attribute). key_places (items_in a)) missing.first
+      by (inr missing) = ap (λ (a : Option Attribute). key_offsets (items_in a)) missing.first
 
-  values_right : value_places (lists_of attributes).values ≡ []
-  unfolding lists_of value_places
+  values_right : value_offsets (lists_of attributes).values ≡ []
+  unfolding lists_of value_offsets
   values_right = by (found_or_missing topic.Values attributes settings zip)
     where
-      by : IsFound topic.Values attributes settings ⊎ IsMissing topic.Values attributes settings → value_places (items_in (first_about topic.Values attributes)) ≡ []
+      by : IsFound topic.Values attributes settings ⊎ IsMissing topic.Values attributes settings → value_offsets (items_in (first_about topic.Values attributes)) ≡ []
       by (inl found) = of found.setting found.same found.read
         where
-          of : (s : Setting) → is_same_topic topic.Values (topic_of_setting s) ≡ true → IsRead found.attribute s → value_places (items_in (first_about topic.Values attributes)) ≡ []
+          of : (s : Setting) → is_same_topic topic.Values (topic_of_setting s) ≡ true → IsRead found.attribute s → value_offsets (items_in (first_about topic.Values attributes)) ≡ []
           of (Keys names) e read = absurd (cc)
-          of (Values names) e read = ap (λ (a : Option Attribute). value_places (items_in a)) found.first ∙ items_right found.attribute names read.holds
+          of (Values names) e read = ap (λ (a : Option Attribute). value_offsets (items_in a)) found.first ∙ items_right found.attribute names read.holds
           of (Sort keys) e read = absurd (cc)
           of (Size entries) e read = absurd (cc)
           of (Asks action) e read = absurd (cc)
-      by (inr missing) = ap (λ (a : Option Attribute). value_places (items_in a)) missing.first
+      by (inr missing) = ap (λ (a : Option Attribute). value_offsets (items_in a)) missing.first
 
   -- ---- a name of the keys or of the values can be sorted by
 
@@ -169,8 +169,8 @@ module _ (attributes : List Attribute) (settings : List Setting) (zip : AllZip I
       (recursion_from_All (λ (key : SortKey). (key.name ≡ codes "hitcount") ⊎ IsListed settings key.name) keys (lawful.sort keys set)) in
       right_sorts (lists_of attributes) (items_of attribute) keys (record { each = are.each; apart = are.apart; sortable = all })
 
-  sort_right : sort_places (lists_of attributes) ≡ []
-  unfolding lists_of sort_places
+  sort_right : sort_offsets (lists_of attributes) ≡ []
+  unfolding lists_of sort_offsets
   sort_right = by (found_or_missing topic.Sort attributes settings zip)
     where
       by : IsFound topic.Sort attributes settings ⊎ IsMissing topic.Sort attributes settings → map (λ (item : Piece). item.at) (wrong_after (is_wrong_sort (lists_of attributes)) [] (items_in (first_about topic.Sort attributes))) ≡ []
@@ -187,11 +187,11 @@ module _ (attributes : List Attribute) (settings : List Setting) (zip : AllZip I
           of (Asks action) e is read = absurd (cc)
       by (inr missing) = ap (λ (a : Option Attribute). map (λ (item : Piece). item.at) (wrong_after (is_wrong_sort (lists_of attributes)) [] (items_in a))) missing.first
 
-  keyed_right : (end : ℕ) → keyless_places end (lists_of attributes).keys ≡ []
+  keyed_right : (end : ℕ) → keyless_offsets end (lists_of attributes).keys ≡ []
   unfolding lists_of
   keyed_right end =
       let it = given attributes settings zip once (Keys lawful.keys.0) (member_from (Keys lawful.keys.0) settings lawful.keys.1) in
-      ap (λ (a : Option Attribute). keyless_places end (items_in a)) it.first ∙ keyed end (items_of it.attribute) (some_items it.attribute)
+      ap (λ (a : Option Attribute). keyless_offsets end (items_in a)) it.first ∙ keyed end (items_of it.attribute) (some_items it.attribute)
 
   pub all_right : (end : ℕ) → AreAllRight attributes end
   all_right end = record { attributes = attributes_right; keys = keys_right; values = values_right; sort = sort_right; keyed = keyed_right end }

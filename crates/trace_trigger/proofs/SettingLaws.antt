@@ -11,7 +11,7 @@ use Rattle.trace_trigger.specs.declared.attribute.Attribute.{Attribute}
 use Rattle.trace_trigger.specs.declared.piece.Piece.{Piece}
 use Rattle.trace_trigger.specs.HistSizes.{rounded_size}
 use Rattle.trace_trigger.specs.HistLists.{is_same_topic, first_about, items_of, items_in, asked_for, action_in, Lists, lists_of, names_of, is_listed, sort_key_of, sort_keys}
-use Rattle.trace_trigger.specs.HistPlaces.{keyless_places}
+use Rattle.trace_trigger.specs.HistOffsets.{keyless_offsets}
 use Rattle.trace_trigger.specs.HistMeanings.{size_of, told_size}
 use Rattle.trace_trigger.specs.HistGrammar.{Setting, Keys, Values, Sort, Size, Asks, IsSet}
 use Rattle.trace_trigger.proofs.CutLemmas.{found_is_cut}
@@ -43,7 +43,7 @@ pub sort_keys-some : (items : List Piece) → 0 < length (names_of items) → so
 sort_keys-some [] some = absurd (omega (arith, some))
 sort_keys-some (item ∷ items) some = refl
 
-pub keyed : (end : ℕ) (keys : List Piece) → 0 < length (names_of keys) → keyless_places end keys ≡ []
+pub keyed : (end : ℕ) (keys : List Piece) → 0 < length (names_of keys) → keyless_offsets end keys ≡ []
 keyed end [] some = absurd (omega (arith, some))
 keyed end (key ∷ keys) some = refl
 

@@ -14,7 +14,7 @@ use Rattle.trace_trigger.specs.HistAttributes.{attributes_at}
 use Rattle.trace_trigger.specs.HistPieces.{pieces_of}
 use Rattle.trace_trigger.specs.HistParts.{attributes_of, end_of, tail_of, condition_of}
 use Rattle.trace_trigger.specs.HistLists.{Lists, lists_of, names_of, summed_items, sort_keys}
-use Rattle.trace_trigger.specs.HistPlaces.{attribute_places, key_places, value_places, sort_places, list_places, keyless_places, tail_places, wrong_places, earlier, least}
+use Rattle.trace_trigger.specs.HistOffsets.{attribute_offsets, key_offsets, value_offsets, sort_offsets, list_offsets, keyless_offsets, tail_offsets, wrong_offsets, earlier, least}
 use Rattle.trace_trigger.specs.TriggerAnswers.{◌>>=◌}
 use Rattle.trace_trigger.specs.HistMeanings.{is_too_many, few, each, key_in, value_source, size_of, sort_rule}
 use Rattle.trace_trigger.specs.HistSpecs.{SpecSeen, key_names}
@@ -33,10 +33,10 @@ pub record Finds (text : List ℕ) (settings : List Setting) (condition : Option
   pub read : AllZip IsRead (attributes_of text) settings
   pub lawful : AreLawful settings
   pub found : condition_of (tail_of text) ≡ condition
-  pub none : wrong_places text ≡ []
+  pub none : wrong_offsets text ≡ []
 
-none_wrong : (text : List ℕ) → AreAllRight (attributes_of text) (end_of text) → tail_places text (tail_of text) ≡ [] → wrong_places text ≡ []
-unfolding wrong_places
+none_wrong : (text : List ℕ) → AreAllRight (attributes_of text) (end_of text) → tail_offsets text (tail_of text) ≡ [] → wrong_offsets text ≡ []
+unfolding wrong_offsets
 none_wrong text right tail = (λ i. right.attributes i ++ (right.keys i ++ right.values i ++ right.sort i) ++ right.keyed i ++ tail i)
 
 pub written_finds : (text : List ℕ) (settings : List Setting) (condition : Option (List ℕ)) → IsWritten text settings condition → Finds text settings condition
@@ -61,7 +61,7 @@ written_finds text settings condition is = subst (λ (t : List ℕ). Finds t set
           found = ap condition_of tail_same ∙ tail.found;
           none = none_wrong (text_of is.removes is.word is.tail)
               (all_right (attributes_of (text_of is.removes is.word is.tail)) settings read is.lawful (end_of (text_of is.removes is.word is.tail)))
-              (ap (tail_places (text_of is.removes is.word is.tail)) tail_same ∙ tail.right (text_of is.removes is.word is.tail));
+              (ap (tail_offsets (text_of is.removes is.word is.tail)) tail_same ∙ tail.right (text_of is.removes is.word is.tail));
         }
 
 -- ---- a text with nothing wrong is written so
@@ -72,18 +72,18 @@ both_nil (x ∷ xs) ys e = absurd (cc)
 
 pub record IsRight (text : List ℕ) : Type 0 where
   pub attributes : AreAllRight (attributes_of text) (end_of text)
-  pub tail : tail_places text (tail_of text) ≡ []
+  pub tail : tail_offsets text (tail_of text) ≡ []
 
-pub right_parts : (text : List ℕ) → wrong_places text ≡ [] → IsRight text
-unfolding wrong_places
+pub right_parts : (text : List ℕ) → wrong_offsets text ≡ [] → IsRight text
+unfolding wrong_offsets
 right_parts text none =
     let lists : Lists = lists_of (attributes_of text) in
-    let end : List ℕ = keyless_places (end_of text) lists.keys in
-    let first = both_nil (attribute_places (attributes_of text) ++ list_places lists ++ end) (tail_places text (tail_of text)) none in
-    let second = both_nil (attribute_places (attributes_of text) ++ list_places lists) end first.0 in
-    let third = both_nil (attribute_places (attributes_of text)) (list_places lists) second.0 in
-    let items = both_nil (key_places lists.keys ++ value_places lists.values) (sort_places lists) third.1 in
-    let more = both_nil (key_places lists.keys) (value_places lists.values) items.0 in
+    let end : List ℕ = keyless_offsets (end_of text) lists.keys in
+    let first = both_nil (attribute_offsets (attributes_of text) ++ list_offsets lists ++ end) (tail_offsets text (tail_of text)) none in
+    let second = both_nil (attribute_offsets (attributes_of text) ++ list_offsets lists) end first.0 in
+    let third = both_nil (attribute_offsets (attributes_of text)) (list_offsets lists) second.0 in
+    let items = both_nil (key_offsets lists.keys ++ value_offsets lists.values) (sort_offsets lists) third.1 in
+    let more = both_nil (key_offsets lists.keys) (value_offsets lists.values) items.0 in
     record { attributes = record { attributes = third.0; keys = more.0; values = more.1; sort = items.1; keyed = second.1 }; tail = first.1 }
 
 pub record IsSomehowWritten (text : List ℕ) : Type 0 where
@@ -91,8 +91,8 @@ pub record IsSomehowWritten (text : List ℕ) : Type 0 where
   pub condition : Option (List ℕ)
   pub written : IsWritten text settings condition
 
-pub right_written : (text : List ℕ) → HasParts text → wrong_places text ≡ [] → IsSomehowWritten text
-right_written text parts none = subst IsSomehowWritten (sym parts.cut) (whole (right_parts (text_of parts.removes parts.word parts.tail) (sym (ap wrong_places parts.cut) ∙ none)))
+pub right_written : (text : List ℕ) → HasParts text → wrong_offsets text ≡ [] → IsSomehowWritten text
+right_written text parts none = subst IsSomehowWritten (sym parts.cut) (whole (right_parts (text_of parts.removes parts.word parts.tail) (sym (ap wrong_offsets parts.cut) ∙ none)))
   where
     whole : IsRight (text_of parts.removes parts.word parts.tail) → IsSomehowWritten (text_of parts.removes parts.word parts.tail)
     whole right =
@@ -115,30 +115,30 @@ right_written text parts none = subst IsSomehowWritten (sym parts.cut) (whole (r
             parts = found_is_cut 58 start parts.word;
             each = attributes_written start parts.word settings there;
             lawful = settings_lawful (attributes_of text) (end_of text) right.attributes;
-            conditional = tail_written text parts.tail parts.stops (sym (ap (tail_places text) tail_same) ∙ right.tail);
+            conditional = tail_written text parts.tail parts.stops (sym (ap (tail_offsets text) tail_same) ∙ right.tail);
           };
         }
 
 -- ---- what is read
 
-pub read_right : (text : List ℕ) → wrong_places text ≡ [] → read_of text ≡ Ok (lists_of (attributes_of text))
+pub read_right : (text : List ℕ) → wrong_offsets text ≡ [] → read_of text ≡ Ok (lists_of (attributes_of text))
 unfolding read_of
-read_right text none = ap (λ (places : List ℕ). unless_wrong (least places) (lists_of (attributes_of text))) none
+read_right text none = ap (λ (offsets : List ℕ). unless_wrong (least offsets) (lists_of (attributes_of text))) none
 
--- the first place that is found is one
-some_least : (place : ℕ) (rest : Option ℕ) → (at : ℕ) × (earlier (Some place) rest ≡ Some at)
-some_least place None = (place, refl)
-some_least place (Some other) = (min place other, refl)
+-- the first offset that is found is one
+some_least : (offset : ℕ) (rest : Option ℕ) → (at : ℕ) × (earlier (Some offset) rest ≡ Some at)
+some_least offset None = (offset, refl)
+some_least offset (Some other) = (min offset other, refl)
 
-pub read_wrong : (text : List ℕ) (lists : Lists) → read_of text ≡ Ok lists → wrong_places text ≡ []
+pub read_wrong : (text : List ℕ) (lists : Lists) → read_of text ≡ Ok lists → wrong_offsets text ≡ []
 unfolding read_of
-read_wrong text lists e = by (wrong_places text) refl e
+read_wrong text lists e = by (wrong_offsets text) refl e
   where
-    by : (places : List ℕ) → wrong_places text ≡ places → unless_wrong (least places) (lists_of (attributes_of text)) ≡ Ok lists → wrong_places text ≡ []
+    by : (offsets : List ℕ) → wrong_offsets text ≡ offsets → unless_wrong (least offsets) (lists_of (attributes_of text)) ≡ Ok lists → wrong_offsets text ≡ []
     by [] f g = f
-    by (place ∷ places) f g =
-        let at = some_least place (least places) in
-        let bad : unless_wrong (least (place ∷ places)) (lists_of (attributes_of text)) ≡ Err (HistSyntax at.0) = ap (λ (o : Option ℕ). unless_wrong o (lists_of (attributes_of text))) at.1 in
+    by (offset ∷ offsets) f g =
+        let at = some_least offset (least offsets) in
+        let bad : unless_wrong (least (offset ∷ offsets)) (lists_of (attributes_of text)) ≡ Err (HistSyntax at.0) = ap (λ (o : Option ℕ). unless_wrong o (lists_of (attributes_of text))) at.1 in
         absurd (cc)
 
 -- ---- what a text says, step by step

@@ -11,13 +11,13 @@ use Rattle.trace_trigger.specs.declared.attribute.Topic.TheVariants as topic
 use Rattle.trace_trigger.specs.declared.attribute.Attribute.{Attribute}
 use Rattle.trace_trigger.specs.HistAttributes.{head_len, attribute_of}
 use Rattle.trace_trigger.specs.HistLists.{is_same_topic, first_about}
-use Rattle.trace_trigger.specs.HistPlaces.{is_unknown, is_repeated, is_bad_size, is_wrong_attribute}
+use Rattle.trace_trigger.specs.HistOffsets.{is_unknown, is_repeated, is_bad_size, is_wrong_attribute}
 use Rattle.trace_trigger.specs.HistGrammar.{Subject, OfKeys, OfValues, OfSort, OfSize, OfAction}
-use Rattle.trace_trigger.specs.HistFaultPlaces.{IsAbout, IsUnknown, IsNoSize, IsRepeated}
-use Rattle.trace_trigger.proofs.CutLemmas.{placed}
+use Rattle.trace_trigger.specs.HistFaultOffsets.{IsAbout, IsUnknown, IsNoSize, IsRepeated}
+use Rattle.trace_trigger.proofs.CutLemmas.{located}
 use Rattle.trace_trigger.proofs.HeadLemmas.{topic_in, value_in, topic_for, value_read, action_read, read_value, read_action}
 use Rattle.trace_trigger.proofs.ListLaws.{Member, member_from, from_member}
-use Rattle.trace_trigger.proofs.PlaceLemmas.{size, size_first}
+use Rattle.trace_trigger.proofs.OffsetLemmas.{size, size_first}
 
 -- ---- topics
 
@@ -182,25 +182,25 @@ module _ (attribute : List ℕ) where
   abbrev SameTopic : List ℕ → Type 0
   SameTopic other = is_same_topic (topic_in other) (topic_in attribute) ≡ true
 
-  among : (start : ℕ) (before : List (List ℕ)) → list_any (λ (other : Attribute). is_same_topic other.topic (topic_in attribute)) (map attribute_of (placed start before)) ≡ true → HasSome SameTopic before
+  among : (start : ℕ) (before : List (List ℕ)) → list_any (λ (other : Attribute). is_same_topic other.topic (topic_in attribute)) (map attribute_of (located start before)) ≡ true → HasSome SameTopic before
   among start [] e = absurd (cc)
   among start (other ∷ before) e =
-      by (or_cases (is_same_topic (topic_in other) (topic_in attribute)) (list_any (λ (a : Attribute). is_same_topic a.topic (topic_in attribute)) (map attribute_of (placed (start + 1 + length other) before))) e)
+      by (or_cases (is_same_topic (topic_in other) (topic_in attribute)) (list_any (λ (a : Attribute). is_same_topic a.topic (topic_in attribute)) (map attribute_of (located (start + 1 + length other) before))) e)
       (among (start + 1 + length other) before)
     where
-      by : (is_same_topic (topic_in other) (topic_in attribute) ≡ true) ⊎ (list_any (λ (a : Attribute). is_same_topic a.topic (topic_in attribute)) (map attribute_of (placed (start + 1 + length other) before)) ≡ true)
-          → (list_any (λ (a : Attribute). is_same_topic a.topic (topic_in attribute)) (map attribute_of (placed (start + 1 + length other) before)) ≡ true → HasSome SameTopic before) → HasSome SameTopic (other ∷ before)
+      by : (is_same_topic (topic_in other) (topic_in attribute) ≡ true) ⊎ (list_any (λ (a : Attribute). is_same_topic a.topic (topic_in attribute)) (map attribute_of (located (start + 1 + length other) before)) ≡ true)
+          → (list_any (λ (a : Attribute). is_same_topic a.topic (topic_in attribute)) (map attribute_of (located (start + 1 + length other) before)) ≡ true → HasSome SameTopic before) → HasSome SameTopic (other ∷ before)
       by (inl f) next = record { element = other; member = inl refl; holds = f }
       by (inr f) next = let rest = next f in record { element = rest.element; member = inr rest.member; holds = rest.holds }
 
   to_any : (start : ℕ) (before : List (List ℕ)) (other : List ℕ) → Member other before → SameTopic other
-      → list_any (λ (a : Attribute). is_same_topic a.topic (topic_in attribute)) (map attribute_of (placed start before)) ≡ true
+      → list_any (λ (a : Attribute). is_same_topic a.topic (topic_in attribute)) (map attribute_of (located start before)) ≡ true
   to_any start [] other is same = absurd is
   to_any start (first ∷ before) other (inl e) same =
-      or_left (is_same_topic (topic_in first) (topic_in attribute)) (list_any (λ (a : Attribute). is_same_topic a.topic (topic_in attribute)) (map attribute_of (placed (start + 1 + length first) before)))
+      or_left (is_same_topic (topic_in first) (topic_in attribute)) (list_any (λ (a : Attribute). is_same_topic a.topic (topic_in attribute)) (map attribute_of (located (start + 1 + length first) before)))
       (ap (λ (w : List ℕ). is_same_topic (topic_in w) (topic_in attribute)) (sym e) ∙ same)
   to_any start (first ∷ before) other (inr is) same =
-      or_right (is_same_topic (topic_in first) (topic_in attribute)) (list_any (λ (a : Attribute). is_same_topic a.topic (topic_in attribute)) (map attribute_of (placed (start + 1 + length first) before)))
+      or_right (is_same_topic (topic_in first) (topic_in attribute)) (list_any (λ (a : Attribute). is_same_topic a.topic (topic_in attribute)) (map attribute_of (located (start + 1 + length first) before)))
       (to_any (start + 1 + length first) before other is same)
 
   abbrev pub IsWrong : List (List ℕ) → Type 0
@@ -215,14 +215,14 @@ module _ (attribute : List ℕ) where
         other = some_any (IsAbout it.0) before (record { element = is.element; member = is.member; holds = topic_about it.0 is.element it.1 });
       }
 
-  abbrev placed_at : ℕ → Attribute
-  placed_at place = attribute_of (record { at = place; bytes = attribute })
+  abbrev located_at : ℕ → Attribute
+  located_at offset = attribute_of (record { at = offset; bytes = attribute })
 
   unknown_is : is_unknown (topic_in attribute) ≡ true → IsUnknown attribute
   unknown_is e = λ subject about. let yes_it_is = about_topic subject attribute about in let other = unknown_other subject (topic_in attribute) e in cc
 
-  no_size_is : (place : ℕ) → is_bad_size (placed_at place) ≡ true → IsNoSize attribute
-  no_size_is place e =
+  no_size_is : (offset : ℕ) → is_bad_size (located_at offset) ≡ true → IsNoSize attribute
+  no_size_is offset e =
       let parts = and_parts (is_same_topic topic.Size (topic_in attribute)) (is_none (decimal_number (value_in attribute))) e in
       record { head = take (head_len attribute) attribute; value = value_in attribute; has = read_value OfSize attribute (is_size (topic_in attribute) parts.0); none = none_is (decimal_number (value_in attribute)) parts.1 }
     where
@@ -230,16 +230,16 @@ module _ (attribute : List ℕ) where
       none_is None e = refl
       none_is (Some n) e = absurd (cc)
 
-  pub wrong_is : (start place : ℕ) (before : List (List ℕ)) → is_wrong_attribute (map attribute_of (placed start before)) (placed_at place) ≡ true → IsWrong before
-  wrong_is start place before e = by (or_cases (is_unknown (topic_in attribute) || is_repeated (map attribute_of (placed start before)) (placed_at place)) (is_bad_size (placed_at place)) e)
+  pub wrong_is : (start offset : ℕ) (before : List (List ℕ)) → is_wrong_attribute (map attribute_of (located start before)) (located_at offset) ≡ true → IsWrong before
+  wrong_is start offset before e = by (or_cases (is_unknown (topic_in attribute) || is_repeated (map attribute_of (located start before)) (located_at offset)) (is_bad_size (located_at offset)) e)
     where
-      first : (is_unknown (topic_in attribute) ≡ true) ⊎ (is_repeated (map attribute_of (placed start before)) (placed_at place) ≡ true) → IsWrong before
+      first : (is_unknown (topic_in attribute) ≡ true) ⊎ (is_repeated (map attribute_of (located start before)) (located_at offset) ≡ true) → IsWrong before
       first (inl f) = inl (unknown_is f)
       first (inr f) = inr (inl (repeated before (among start before f)))
 
-      by : ((is_unknown (topic_in attribute) || is_repeated (map attribute_of (placed start before)) (placed_at place)) ≡ true) ⊎ (is_bad_size (placed_at place) ≡ true) → IsWrong before
-      by (inl f) = first (or_cases (is_unknown (topic_in attribute)) (is_repeated (map attribute_of (placed start before)) (placed_at place)) f)
-      by (inr f) = inr (inr (no_size_is place f))
+      by : ((is_unknown (topic_in attribute) || is_repeated (map attribute_of (located start before)) (located_at offset)) ≡ true) ⊎ (is_bad_size (located_at offset) ≡ true) → IsWrong before
+      by (inl f) = first (or_cases (is_unknown (topic_in attribute)) (is_repeated (map attribute_of (located start before)) (located_at offset)) f)
+      by (inr f) = inr (inr (no_size_is offset f))
 
   is_unknown_so : IsUnknown attribute → is_unknown (topic_in attribute) ≡ true
   is_unknown_so none = by (is_unknown (topic_in attribute)) refl
@@ -248,32 +248,32 @@ module _ (attribute : List ℕ) where
       by true e = e
       by false e = let it = some_subject (topic_in attribute) e in absurd (none it.0 (topic_about it.0 attribute it.1))
 
-  is_repeated_so : (start place : ℕ) (before : List (List ℕ)) → IsRepeated before attribute → is_repeated (map attribute_of (placed start before)) (placed_at place) ≡ true
-  is_repeated_so start place before is =
+  is_repeated_so : (start offset : ℕ) (before : List (List ℕ)) → IsRepeated before attribute → is_repeated (map attribute_of (located start before)) (located_at offset) ≡ true
+  is_repeated_so start offset before is =
       let other = any_some (IsAbout is.subject) before is.other in
       let same : SameTopic other.element = about_both is.subject (topic_in other.element) (topic_in attribute) (about_topic is.subject other.element other.holds) (about_topic is.subject attribute is.about) in
       to_any start before other.element other.member same
 
-  is_no_size_so : (place : ℕ) → IsNoSize attribute → is_bad_size (placed_at place) ≡ true
-  is_no_size_so place is =
+  is_no_size_so : (offset : ℕ) → IsNoSize attribute → is_bad_size (located_at offset) ≡ true
+  is_no_size_so offset is =
       let read = value_read OfSize attribute is.head is.value is.has in
       and_from (is_same_topic topic.Size (topic_in attribute)) (is_none (decimal_number (value_in attribute))) (ap (is_same_topic topic.Size) read.topic)
       (ap (λ (v : List ℕ). is_none (decimal_number v)) read.found ∙ ap is_none is.none)
 
-  pub is_wrong : (start place : ℕ) (before : List (List ℕ)) → IsWrong before → is_wrong_attribute (map attribute_of (placed start before)) (placed_at place) ≡ true
-  is_wrong start place before (inl is) =
-      or_left (is_unknown (topic_in attribute) || is_repeated (map attribute_of (placed start before)) (placed_at place)) (is_bad_size (placed_at place))
-      (or_left (is_unknown (topic_in attribute)) (is_repeated (map attribute_of (placed start before)) (placed_at place)) (is_unknown_so is))
-  is_wrong start place before (inr (inl is)) =
-      or_left (is_unknown (topic_in attribute) || is_repeated (map attribute_of (placed start before)) (placed_at place)) (is_bad_size (placed_at place))
-      (or_right (is_unknown (topic_in attribute)) (is_repeated (map attribute_of (placed start before)) (placed_at place)) (is_repeated_so start place before is))
-  is_wrong start place before (inr (inr is)) =
-      or_right (is_unknown (topic_in attribute) || is_repeated (map attribute_of (placed start before)) (placed_at place)) (is_bad_size (placed_at place)) (is_no_size_so place is)
+  pub is_wrong : (start offset : ℕ) (before : List (List ℕ)) → IsWrong before → is_wrong_attribute (map attribute_of (located start before)) (located_at offset) ≡ true
+  is_wrong start offset before (inl is) =
+      or_left (is_unknown (topic_in attribute) || is_repeated (map attribute_of (located start before)) (located_at offset)) (is_bad_size (located_at offset))
+      (or_left (is_unknown (topic_in attribute)) (is_repeated (map attribute_of (located start before)) (located_at offset)) (is_unknown_so is))
+  is_wrong start offset before (inr (inl is)) =
+      or_left (is_unknown (topic_in attribute) || is_repeated (map attribute_of (located start before)) (located_at offset)) (is_bad_size (located_at offset))
+      (or_right (is_unknown (topic_in attribute)) (is_repeated (map attribute_of (located start before)) (located_at offset)) (is_repeated_so start offset before is))
+  is_wrong start offset before (inr (inr is)) =
+      or_right (is_unknown (topic_in attribute) || is_repeated (map attribute_of (located start before)) (located_at offset)) (is_bad_size (located_at offset)) (is_no_size_so offset is)
 
 -- ---- the first attribute about something
 
-abbrev pub placed_attributes : ℕ → List (List ℕ) → List Attribute
-placed_attributes start parts = map attribute_of (placed start parts)
+abbrev pub located_attributes : ℕ → List (List ℕ) → List Attribute
+located_attributes start parts = map attribute_of (located start parts)
 
 pub record FirstIs (subject : Subject) (start : ℕ) (parts : List (List ℕ)) : Type 0 where
   pub before : List (List ℕ)
@@ -282,34 +282,34 @@ pub record FirstIs (subject : Subject) (start : ℕ) (parts : List (List ℕ)) :
   pub cut : parts ≡ before ++ attribute ∷ after
   pub others : AllByRecursion (λ other. IsAbout subject other → ⊥) before
   pub about : IsAbout subject attribute
-  pub first : first_about (topic_for subject) (placed_attributes start parts) ≡ Some (attribute_of (record { at = start + size 58 before; bytes = attribute }))
+  pub first : first_about (topic_for subject) (located_attributes start parts) ≡ Some (attribute_of (record { at = start + size 58 before; bytes = attribute }))
 
 pub record FirstIsNone (subject : Subject) (start : ℕ) (parts : List (List ℕ)) : Type 0 where
   pub others : AllByRecursion (λ other. IsAbout subject other → ⊥) parts
-  pub first : first_about (topic_for subject) (placed_attributes start parts) ≡ None
+  pub first : first_about (topic_for subject) (located_attributes start parts) ≡ None
 
 not_about : (subject : Subject) (attribute : List ℕ) → is_same_topic (topic_for subject) (topic_in attribute) ≡ false → IsAbout subject attribute → ⊥
 not_about subject attribute e about = let f = about_topic subject attribute about in cc
 
 module _ (subject : Subject) where
   pub first_at : (start : ℕ) (before : List (List ℕ)) (attribute : List ℕ) (after : List (List ℕ)) → AllByRecursion (λ other. IsAbout subject other → ⊥) before → IsAbout subject attribute
-      → first_about (topic_for subject) (placed_attributes start (before ++ attribute ∷ after)) ≡ Some (attribute_of (record { at = start + size 58 before; bytes = attribute }))
+      → first_about (topic_for subject) (located_attributes start (before ++ attribute ∷ after)) ≡ Some (attribute_of (record { at = start + size 58 before; bytes = attribute }))
   first_at start [] attribute after others about =
       let here : start ≡ start + size 58 [] = omega arith in
-      ap (λ b. cond b (Some (attribute_of (record { at = start; bytes = attribute }))) (first_about (topic_for subject) (placed_attributes (start + 1 + length attribute) after))) (about_topic subject attribute about)
+      ap (λ b. cond b (Some (attribute_of (record { at = start; bytes = attribute }))) (first_about (topic_for subject) (located_attributes (start + 1 + length attribute) after))) (about_topic subject attribute about)
       ∙ ap (λ n. Some (attribute_of (record { at = n; bytes = attribute }))) here
   first_at start (other ∷ before) attribute after others about =
       let no : is_same_topic (topic_for subject) (topic_in other) ≡ false = false_from_ne_true (is_same_topic (topic_for subject) (topic_in other)) (λ same. others.0 (topic_about subject other same)) in
       let there : start + 1 + length other + size 58 before ≡ start + size 58 (other ∷ before) = omega (arith, size_first 58 other before) in
-      ap (λ b. cond b (Some (attribute_of (record { at = start; bytes = other }))) (first_about (topic_for subject) (placed_attributes (start + 1 + length other) (before ++ attribute ∷ after)))) no
+      ap (λ b. cond b (Some (attribute_of (record { at = start; bytes = other }))) (first_about (topic_for subject) (located_attributes (start + 1 + length other) (before ++ attribute ∷ after)))) no
       ∙ first_at (start + 1 + length other) before attribute after others.1 about
       ∙ ap (λ n. Some (attribute_of (record { at = n; bytes = attribute }))) there
 
-  none_at : (start : ℕ) (parts : List (List ℕ)) → AllByRecursion (λ other. IsAbout subject other → ⊥) parts → first_about (topic_for subject) (placed_attributes start parts) ≡ None
+  none_at : (start : ℕ) (parts : List (List ℕ)) → AllByRecursion (λ other. IsAbout subject other → ⊥) parts → first_about (topic_for subject) (located_attributes start parts) ≡ None
   none_at start [] others = refl
   none_at start (other ∷ parts) others =
       let no : is_same_topic (topic_for subject) (topic_in other) ≡ false = false_from_ne_true (is_same_topic (topic_for subject) (topic_in other)) (λ same. others.0 (topic_about subject other same)) in
-      ap (λ b. cond b (Some (attribute_of (record { at = start; bytes = other }))) (first_about (topic_for subject) (placed_attributes (start + 1 + length other) parts))) no
+      ap (λ b. cond b (Some (attribute_of (record { at = start; bytes = other }))) (first_about (topic_for subject) (located_attributes (start + 1 + length other) parts))) no
       ∙ none_at (start + 1 + length other) parts others.1
 
   record Split (parts : List (List ℕ)) : Type 0 where
@@ -341,6 +341,6 @@ module _ (subject : Subject) where
         cut = is.cut;
         others = is.others;
         about = is.about;
-        first = ap (λ (ps : List (List ℕ)). first_about (topic_for subject) (placed_attributes start ps)) is.cut ∙ first_at start is.before is.attribute is.after is.others is.about;
+        first = ap (λ (ps : List (List ℕ)). first_about (topic_for subject) (located_attributes start ps)) is.cut ∙ first_at start is.before is.attribute is.after is.others is.about;
       })
       by (inr none) = inr (record { others = none; first = none_at start parts none })

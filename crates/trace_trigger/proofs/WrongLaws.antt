@@ -1,4 +1,4 @@
--- The places that are found wrong in a whole text are those that are wrong in it.
+-- The offsets that are found wrong in a whole text are those that are wrong in it.
 use Rattle.std.proofs.Common.{◌≡◌, ◌⊎◌, inl, inr, refl, ℕ, ◌+◌, ◌-◌, ◌<◌, Bool, true, false, not, ◌&&◌, nat_lt, if◌then◌else◌, codes, List, [], ◌∷◌, ◌++◌, length, take, map, ap, sym, ◌∙◌, subst, arith, ltb-true}
 use Rattle.std.specs.List.{AllByRecursion, AllPass, prefix_len}
 use Rattle.std.proofs.lemmas.Bool.{and_parts}
@@ -11,30 +11,30 @@ use Rattle.trace_trigger.specs.Frames.{mark, is_unblank, after_blanks}
 use Rattle.trace_trigger.specs.declared.attribute.Attribute.{Attribute}
 use Rattle.trace_trigger.specs.declared.piece.Piece.{Piece}
 use Rattle.trace_trigger.specs.HistAttributes.{attribute_of}
-use Rattle.trace_trigger.specs.HistParts.{attributes_of, end_of, tail_of, is_condition, condition_of, place_in}
+use Rattle.trace_trigger.specs.HistParts.{attributes_of, end_of, tail_of, is_condition, condition_of, offset_in}
 use Rattle.trace_trigger.specs.HistLists.{first_about, items_in, Lists, lists_of}
-use Rattle.trace_trigger.specs.HistPlaces.{wrong_after, attribute_places, is_wrong_name, key_places, value_places, is_wrong_sort, sort_places, list_places, keyless_places, tail_places, wrong_places}
+use Rattle.trace_trigger.specs.HistOffsets.{wrong_after, attribute_offsets, is_wrong_name, key_offsets, value_offsets, is_wrong_sort, sort_offsets, list_offsets, keyless_offsets, tail_offsets, wrong_offsets}
 use Rattle.trace_trigger.specs.HistGrammar.{Subject, OfKeys, OfValues, OfSort, OfSize, OfAction}
-use Rattle.trace_trigger.specs.HistFaultPlaces.{Cut, BeginsBlank, IsAt, IsAbout, IsList, IsWrongItem, WrongItem, WrongTail, IsWrongAt}
-use Rattle.trace_trigger.proofs.CutLemmas.{placed, cut_pieces}
+use Rattle.trace_trigger.specs.HistFaultOffsets.{Cut, BeginsBlank, IsAt, IsAbout, IsList, IsWrongItem, WrongItem, WrongTail, IsWrongAt}
+use Rattle.trace_trigger.proofs.CutLemmas.{located, cut_pieces}
 use Rattle.trace_trigger.proofs.WordLemmas.{run_dropped}
 use Rattle.trace_trigger.proofs.HeadLemmas.{topic_for}
 use Rattle.trace_trigger.proofs.ListLaws.{Member}
 use Rattle.trace_trigger.proofs.PartLaws.{start_for, attributes_are, tail_is, end_is, run_passes, run_stops, begins_unblank, begins_not, tail_found, tail_written}
-use Rattle.trace_trigger.proofs.PlaceLemmas.{size, places, member_left, member_right, member_cases}
-use Rattle.trace_trigger.proofs.SubjectLaws.{placed_attributes}
+use Rattle.trace_trigger.proofs.OffsetLemmas.{size, offsets, member_left, member_right, member_cases}
+use Rattle.trace_trigger.proofs.SubjectLaws.{located_attributes}
 use Rattle.trace_trigger.proofs.FaultLaws.{attributes_sound, attributes_complete, FoundList, NoList, items_are, keys_list, values_list, sort_list, items_sound, items_complete, item_wrong, wrong_item, sort_wrong, wrong_sort}
 
 -- ---- attributes and their items
 
 module _ (begin : ℕ) (parts : List (List ℕ)) where
   abbrev found : List Attribute
-  found = placed_attributes begin parts
+  found = located_attributes begin parts
 
   abbrev lists : Lists
-  lists = lists_of (placed_attributes begin parts)
+  lists = lists_of (located_attributes begin parts)
 
-  pub record WrongItemAt (place : ℕ) : Type 0 where
+  pub record WrongItemAt (offset : ℕ) : Type 0 where
     pub subject : Subject
     pub attributes_before : List (List ℕ)
     pub attribute : List ℕ
@@ -43,16 +43,16 @@ module _ (begin : ℕ) (parts : List (List ℕ)) where
     pub list : IsList subject parts attributes_before attribute head items
     pub before : List (List ℕ)
     pub item : List ℕ
-    pub is_at : IsAt 44 (begin + size 58 attributes_before + length head) items before item place
+    pub is_at : IsAt 44 (begin + size 58 attributes_before + length head) items before item offset
     pub wrong : IsWrongItem subject parts before item
 
-  keys_sound : (place : ℕ) → Member place (key_places lists.keys) → WrongItemAt place
-  unfolding lists_of key_places
-  keys_sound place is = by (keys_list begin parts)
+  keys_sound : (offset : ℕ) → Member offset (key_offsets lists.keys) → WrongItemAt offset
+  unfolding lists_of key_offsets
+  keys_sound offset is = by (keys_list begin parts)
     where
-      by : FoundList begin parts OfKeys ⊎ NoList begin parts OfKeys → WrongItemAt place
+      by : FoundList begin parts OfKeys ⊎ NoList begin parts OfKeys → WrongItemAt offset
       by (inl list) =
-          let it = items_sound begin parts is_wrong_name OfKeys place list is in
+          let it = items_sound begin parts is_wrong_name OfKeys offset list is in
           record {
             subject = OfKeys;
             attributes_before = list.before;
@@ -63,17 +63,17 @@ module _ (begin : ℕ) (parts : List (List ℕ)) where
             before = it.before;
             item = it.part;
             is_at = it.is_at;
-            wrong = item_wrong (begin + size 58 list.before + length list.head) place it.before it.part it.wrong_there;
+            wrong = item_wrong (begin + size 58 list.before + length list.head) offset it.before it.part it.wrong_there;
           }
-      by (inr none) = absurd (subst (λ (pieces : List Piece). Member place (places (wrong_after is_wrong_name [] pieces))) none.none is)
+      by (inr none) = absurd (subst (λ (pieces : List Piece). Member offset (offsets (wrong_after is_wrong_name [] pieces))) none.none is)
 
-  values_sound : (place : ℕ) → Member place (value_places lists.values) → WrongItemAt place
-  unfolding lists_of value_places
-  values_sound place is = by (values_list begin parts)
+  values_sound : (offset : ℕ) → Member offset (value_offsets lists.values) → WrongItemAt offset
+  unfolding lists_of value_offsets
+  values_sound offset is = by (values_list begin parts)
     where
-      by : FoundList begin parts OfValues ⊎ NoList begin parts OfValues → WrongItemAt place
+      by : FoundList begin parts OfValues ⊎ NoList begin parts OfValues → WrongItemAt offset
       by (inl list) =
-          let it = items_sound begin parts is_wrong_name OfValues place list is in
+          let it = items_sound begin parts is_wrong_name OfValues offset list is in
           record {
             subject = OfValues;
             attributes_before = list.before;
@@ -84,17 +84,17 @@ module _ (begin : ℕ) (parts : List (List ℕ)) where
             before = it.before;
             item = it.part;
             is_at = it.is_at;
-            wrong = item_wrong (begin + size 58 list.before + length list.head) place it.before it.part it.wrong_there;
+            wrong = item_wrong (begin + size 58 list.before + length list.head) offset it.before it.part it.wrong_there;
           }
-      by (inr none) = absurd (subst (λ (pieces : List Piece). Member place (places (wrong_after is_wrong_name [] pieces))) none.none is)
+      by (inr none) = absurd (subst (λ (pieces : List Piece). Member offset (offsets (wrong_after is_wrong_name [] pieces))) none.none is)
 
-  sort_sound : (place : ℕ) → Member place (sort_places lists) → WrongItemAt place
-  unfolding lists_of sort_places
-  sort_sound place is = by (sort_list begin parts)
+  sort_sound : (offset : ℕ) → Member offset (sort_offsets lists) → WrongItemAt offset
+  unfolding lists_of sort_offsets
+  sort_sound offset is = by (sort_list begin parts)
     where
-      by : FoundList begin parts OfSort ⊎ NoList begin parts OfSort → WrongItemAt place
+      by : FoundList begin parts OfSort ⊎ NoList begin parts OfSort → WrongItemAt offset
       by (inl list) =
-          let it = items_sound begin parts (is_wrong_sort (lists_of (placed_attributes begin parts))) OfSort place list is in
+          let it = items_sound begin parts (is_wrong_sort (lists_of (located_attributes begin parts))) OfSort offset list is in
           record {
             subject = OfSort;
             attributes_before = list.before;
@@ -105,90 +105,90 @@ module _ (begin : ℕ) (parts : List (List ℕ)) where
             before = it.before;
             item = it.part;
             is_at = it.is_at;
-            wrong = sort_wrong begin parts (begin + size 58 list.before + length list.head) place it.before it.part it.wrong_there;
+            wrong = sort_wrong begin parts (begin + size 58 list.before + length list.head) offset it.before it.part it.wrong_there;
           }
-      by (inr none) = absurd (subst (λ (pieces : List Piece). Member place (places (wrong_after (is_wrong_sort (lists_of (placed_attributes begin parts))) [] pieces))) none.none is)
+      by (inr none) = absurd (subst (λ (pieces : List Piece). Member offset (offsets (wrong_after (is_wrong_sort (lists_of (located_attributes begin parts))) [] pieces))) none.none is)
 
-  lists_sound : (place : ℕ) → Member place (list_places lists) → WrongItemAt place
-  lists_sound place is = by (member_cases place (key_places lists.keys ++ value_places lists.values) (sort_places lists) is)
+  lists_sound : (offset : ℕ) → Member offset (list_offsets lists) → WrongItemAt offset
+  lists_sound offset is = by (member_cases offset (key_offsets lists.keys ++ value_offsets lists.values) (sort_offsets lists) is)
     where
-      first : Member place (key_places lists.keys) ⊎ Member place (value_places lists.values) → WrongItemAt place
-      first (inl is) = keys_sound place is
-      first (inr is) = values_sound place is
+      first : Member offset (key_offsets lists.keys) ⊎ Member offset (value_offsets lists.values) → WrongItemAt offset
+      first (inl is) = keys_sound offset is
+      first (inr is) = values_sound offset is
 
-      by : Member place (key_places lists.keys ++ value_places lists.values) ⊎ Member place (sort_places lists) → WrongItemAt place
-      by (inl is) = first (member_cases place (key_places lists.keys) (value_places lists.values) is)
-      by (inr is) = sort_sound place is
+      by : Member offset (key_offsets lists.keys ++ value_offsets lists.values) ⊎ Member offset (sort_offsets lists) → WrongItemAt offset
+      by (inl is) = first (member_cases offset (key_offsets lists.keys) (value_offsets lists.values) is)
+      by (inr is) = sort_sound offset is
 
   -- ---- the other way round
 
-  keys_complete : (place : ℕ) (attributes items before : List (List ℕ)) (attribute head item : List ℕ) → IsList OfKeys parts attributes attribute head items
-      → IsAt 44 (begin + size 58 attributes + length head) items before item place → IsWrongItem OfKeys parts before item → Member place (key_places lists.keys)
-  unfolding lists_of key_places
-  keys_complete place attributes items before attribute head item list is_at wrong =
-      items_complete begin parts is_wrong_name OfKeys place attribute head attributes items before item (head, list.value, list.has) list is_at
-      (wrong_item (begin + size 58 attributes + length head) place before item wrong)
+  keys_complete : (offset : ℕ) (attributes items before : List (List ℕ)) (attribute head item : List ℕ) → IsList OfKeys parts attributes attribute head items
+      → IsAt 44 (begin + size 58 attributes + length head) items before item offset → IsWrongItem OfKeys parts before item → Member offset (key_offsets lists.keys)
+  unfolding lists_of key_offsets
+  keys_complete offset attributes items before attribute head item list is_at wrong =
+      items_complete begin parts is_wrong_name OfKeys offset attribute head attributes items before item (head, list.value, list.has) list is_at
+      (wrong_item (begin + size 58 attributes + length head) offset before item wrong)
 
-  values_complete : (place : ℕ) (attributes items before : List (List ℕ)) (attribute head item : List ℕ) → IsList OfValues parts attributes attribute head items
-      → IsAt 44 (begin + size 58 attributes + length head) items before item place → IsWrongItem OfValues parts before item → Member place (value_places lists.values)
-  unfolding lists_of value_places
-  values_complete place attributes items before attribute head item list is_at wrong =
-      items_complete begin parts is_wrong_name OfValues place attribute head attributes items before item (head, list.value, list.has) list is_at
-      (wrong_item (begin + size 58 attributes + length head) place before item wrong)
+  values_complete : (offset : ℕ) (attributes items before : List (List ℕ)) (attribute head item : List ℕ) → IsList OfValues parts attributes attribute head items
+      → IsAt 44 (begin + size 58 attributes + length head) items before item offset → IsWrongItem OfValues parts before item → Member offset (value_offsets lists.values)
+  unfolding lists_of value_offsets
+  values_complete offset attributes items before attribute head item list is_at wrong =
+      items_complete begin parts is_wrong_name OfValues offset attribute head attributes items before item (head, list.value, list.has) list is_at
+      (wrong_item (begin + size 58 attributes + length head) offset before item wrong)
 
-  sort_complete : (place : ℕ) (attributes items before : List (List ℕ)) (attribute head item : List ℕ) → IsList OfSort parts attributes attribute head items
-      → IsAt 44 (begin + size 58 attributes + length head) items before item place → IsWrongItem OfSort parts before item → Member place (sort_places lists)
-  unfolding lists_of sort_places
-  sort_complete place attributes items before attribute head item list is_at wrong =
-      items_complete begin parts (is_wrong_sort (lists_of (placed_attributes begin parts))) OfSort place attribute head attributes items before item (head, list.value, list.has) list is_at
-      (wrong_sort begin parts (begin + size 58 attributes + length head) place before item wrong)
+  sort_complete : (offset : ℕ) (attributes items before : List (List ℕ)) (attribute head item : List ℕ) → IsList OfSort parts attributes attribute head items
+      → IsAt 44 (begin + size 58 attributes + length head) items before item offset → IsWrongItem OfSort parts before item → Member offset (sort_offsets lists)
+  unfolding lists_of sort_offsets
+  sort_complete offset attributes items before attribute head item list is_at wrong =
+      items_complete begin parts (is_wrong_sort (lists_of (located_attributes begin parts))) OfSort offset attribute head attributes items before item (head, list.value, list.has) list is_at
+      (wrong_sort begin parts (begin + size 58 attributes + length head) offset before item wrong)
 
-  lists_complete : (place : ℕ) → WrongItemAt place → Member place (list_places lists)
-  lists_complete place is = by is.subject is.list is.wrong
+  lists_complete : (offset : ℕ) → WrongItemAt offset → Member offset (list_offsets lists)
+  lists_complete offset is = by is.subject is.list is.wrong
     where
-      by : (subject : Subject) → IsList subject parts is.attributes_before is.attribute is.head is.items → IsWrongItem subject parts is.before is.item → Member place (list_places lists)
+      by : (subject : Subject) → IsList subject parts is.attributes_before is.attribute is.head is.items → IsWrongItem subject parts is.before is.item → Member offset (list_offsets lists)
       by OfKeys list wrong =
-          member_left place (key_places lists.keys ++ value_places lists.values) (sort_places lists)
-          (member_left place (key_places lists.keys) (value_places lists.values) (keys_complete place is.attributes_before is.items is.before is.attribute is.head is.item list is.is_at wrong))
+          member_left offset (key_offsets lists.keys ++ value_offsets lists.values) (sort_offsets lists)
+          (member_left offset (key_offsets lists.keys) (value_offsets lists.values) (keys_complete offset is.attributes_before is.items is.before is.attribute is.head is.item list is.is_at wrong))
       by OfValues list wrong =
-          member_left place (key_places lists.keys ++ value_places lists.values) (sort_places lists)
-          (member_right place (key_places lists.keys) (value_places lists.values) (values_complete place is.attributes_before is.items is.before is.attribute is.head is.item list is.is_at wrong))
+          member_left offset (key_offsets lists.keys ++ value_offsets lists.values) (sort_offsets lists)
+          (member_right offset (key_offsets lists.keys) (value_offsets lists.values) (values_complete offset is.attributes_before is.items is.before is.attribute is.head is.item list is.is_at wrong))
       by OfSort list wrong =
-          member_right place (key_places lists.keys ++ value_places lists.values) (sort_places lists) (sort_complete place is.attributes_before is.items is.before is.attribute is.head is.item list is.is_at wrong)
+          member_right offset (key_offsets lists.keys ++ value_offsets lists.values) (sort_offsets lists) (sort_complete offset is.attributes_before is.items is.before is.attribute is.head is.item list is.is_at wrong)
       by OfSize list wrong = absurd wrong
       by OfAction list wrong = absurd wrong
 
   -- ---- keys
 
-  some_placed : (end at : ℕ) (items : List (List ℕ)) → 0 < length items → keyless_places end (placed at items) ≡ []
-  some_placed end at [] some = absurd (omega (arith, some))
-  some_placed end at (item ∷ items) some = refl
+  some_located : (end at : ℕ) (items : List (List ℕ)) → 0 < length items → keyless_offsets end (located at items) ≡ []
+  some_located end at [] some = absurd (omega (arith, some))
+  some_located end at (item ∷ items) some = refl
 
-  keyless_sound : (end place : ℕ) → Member place (keyless_places end lists.keys) → AllByRecursion (λ attribute. IsAbout OfKeys attribute → ⊥) parts × (place ≡ end)
+  keyless_sound : (end offset : ℕ) → Member offset (keyless_offsets end lists.keys) → AllByRecursion (λ attribute. IsAbout OfKeys attribute → ⊥) parts × (offset ≡ end)
   unfolding lists_of
-  keyless_sound end place is = by (keys_list begin parts)
+  keyless_sound end offset is = by (keys_list begin parts)
     where
-      by : FoundList begin parts OfKeys ⊎ NoList begin parts OfKeys → AllByRecursion (λ attribute. IsAbout OfKeys attribute → ⊥) parts × (place ≡ end)
+      by : FoundList begin parts OfKeys ⊎ NoList begin parts OfKeys → AllByRecursion (λ attribute. IsAbout OfKeys attribute → ⊥) parts × (offset ≡ end)
       by (inl list) =
           let are = items_are begin parts OfKeys list.before list.attribute list.head list.items list.about list.list in
-          absurd (subst (Member place) (ap (keyless_places end) are.are ∙ some_placed end (begin + size 58 list.before + length list.head) list.items list.list.listed.some) is)
-      by (inr none) = (none.others, here (subst (Member place) (ap (keyless_places end) none.none) is))
+          absurd (subst (Member offset) (ap (keyless_offsets end) are.are ∙ some_located end (begin + size 58 list.before + length list.head) list.items list.list.listed.some) is)
+      by (inr none) = (none.others, here (subst (Member offset) (ap (keyless_offsets end) none.none) is))
         where
-          here : Member place (end ∷ []) → place ≡ end
+          here : Member offset (end ∷ []) → offset ≡ end
           here (inl same) = same
           here (inr never) = absurd never
 
-  keyless_complete : (end place : ℕ) → AllByRecursion (λ attribute. IsAbout OfKeys attribute → ⊥) parts → place ≡ end → Member place (keyless_places end lists.keys)
+  keyless_complete : (end offset : ℕ) → AllByRecursion (λ attribute. IsAbout OfKeys attribute → ⊥) parts → offset ≡ end → Member offset (keyless_offsets end lists.keys)
   unfolding lists_of
-  keyless_complete end place others same = by (keys_list begin parts)
+  keyless_complete end offset others same = by (keys_list begin parts)
     where
       never : (attributes : List (List ℕ)) (attribute : List ℕ) (after : List (List ℕ)) → AllByRecursion (λ a. IsAbout OfKeys a → ⊥) (attributes ++ attribute ∷ after) → IsAbout OfKeys attribute → ⊥
       never [] attribute after all about = all.0 about
       never (first ∷ attributes) attribute after all about = never attributes attribute after all.1 about
 
-      by : FoundList begin parts OfKeys ⊎ NoList begin parts OfKeys → Member place (keyless_places end (items_in (first_about (topic_for OfKeys) (placed_attributes begin parts))))
+      by : FoundList begin parts OfKeys ⊎ NoList begin parts OfKeys → Member offset (keyless_offsets end (items_in (first_about (topic_for OfKeys) (located_attributes begin parts))))
       by (inl list) = absurd (never list.before list.attribute list.list.after (subst (AllByRecursion (λ a. IsAbout OfKeys a → ⊥)) list.list.cut others) list.about)
-      by (inr none) = subst (Member place) (sym (ap (keyless_places end) none.none)) (inl same)
+      by (inr none) = subst (Member offset) (sym (ap (keyless_offsets end) none.none)) (inl same)
 
 -- ---- whole texts
 
@@ -207,7 +207,7 @@ module _ (text : List ℕ) (cut : Cut text) where
   start = start_for cut.removes
 
   abbrev there : List Attribute
-  there = placed_attributes start cut.attributes
+  there = located_attributes start cut.attributes
 
   pub attributes_there : attributes_of text ≡ there
   attributes_there =
@@ -220,13 +220,13 @@ module _ (text : List ℕ) (cut : Cut text) where
   end_there : end_of text ≡ start + length cut.word
   end_there = ap end_of cut.cut ∙ end_is cut.removes cut.word cut.tail passes stops
 
-  abbrev all_places : List ℕ
-  all_places = attribute_places there ++ list_places (lists_of there) ++ keyless_places (start + length cut.word) (lists_of there).keys ++ tail_places text (after_blanks cut.tail)
+  abbrev all_offsets : List ℕ
+  all_offsets = attribute_offsets there ++ list_offsets (lists_of there) ++ keyless_offsets (start + length cut.word) (lists_of there).keys ++ tail_offsets text (after_blanks cut.tail)
 
-  places_are : wrong_places text ≡ all_places
-  unfolding wrong_places
-  places_are =
-      (λ i. attribute_places (attributes_there i) ++ list_places (lists_of (attributes_there i)) ++ keyless_places (end_there i) (lists_of (attributes_there i)).keys ++ tail_places text (tail_there i))
+  offsets_are : wrong_offsets text ≡ all_offsets
+  unfolding wrong_offsets
+  offsets_are =
+      (λ i. attribute_offsets (attributes_there i) ++ list_offsets (lists_of (attributes_there i)) ++ keyless_offsets (end_there i) (lists_of (attributes_there i)).keys ++ tail_offsets text (tail_there i))
 
   -- ---- what follows the word
 
@@ -234,19 +234,19 @@ module _ (text : List ℕ) (cut : Cut text) where
   whole_length =
       omega (arith, ap length cut.cut, length-append (mark cut.removes ++ codes "hist:" ++ cut.word) cut.tail, length-append (mark cut.removes ++ codes "hist:") cut.word)
 
-  tail_sound : (place : ℕ) → Member place (tail_places text (after_blanks cut.tail)) → WrongTail cut place
-  tail_sound place is = by (nat_lt 0 (length (after_blanks cut.tail)) && not (is_condition (after_blanks cut.tail))) refl is
+  tail_sound : (offset : ℕ) → Member offset (tail_offsets text (after_blanks cut.tail)) → WrongTail cut offset
+  tail_sound offset is = by (nat_lt 0 (length (after_blanks cut.tail)) && not (is_condition (after_blanks cut.tail))) refl is
     where
-      here : (p : ℕ) → Member place (p ∷ []) → place ≡ p
+      here : (p : ℕ) → Member offset (p ∷ []) → offset ≡ p
       here p (inl same) = same
       here p (inr never) = absurd never
 
-      by : (b : Bool) → (nat_lt 0 (length (after_blanks cut.tail)) && not (is_condition (after_blanks cut.tail))) ≡ b → Member place (if b then place_in text (after_blanks cut.tail) ∷ [] else []) → WrongTail cut place
+      by : (b : Bool) → (nat_lt 0 (length (after_blanks cut.tail)) && not (is_condition (after_blanks cut.tail))) ≡ b → Member offset (if b then offset_in text (after_blanks cut.tail) ∷ [] else []) → WrongTail cut offset
       by false e is = absurd is
       by true e member =
           let both = and_parts (nat_lt 0 (length (after_blanks cut.tail))) (not (is_condition (after_blanks cut.tail))) e in
           let split : cut.tail ≡ take (prefix_len is_blank cut.tail) cut.tail ++ after_blanks cut.tail = sym (take-append-drop (prefix_len is_blank cut.tail) cut.tail) in
-          let at : place ≡ length text - length (after_blanks cut.tail) = here (place_in text (after_blanks cut.tail)) member in
+          let at : offset ≡ length text - length (after_blanks cut.tail) = here (offset_in text (after_blanks cut.tail)) member in
           let lengths : length cut.tail ≡ length (take (prefix_len is_blank cut.tail) cut.tail) + length (after_blanks cut.tail) = ap length split ∙ length-append (take (prefix_len is_blank cut.tail) cut.tail) (after_blanks cut.tail) in
           record {
             front = take (prefix_len is_blank cut.tail) cut.tail;
@@ -254,29 +254,29 @@ module _ (text : List ℕ) (cut : Cut text) where
             tail = split;
             blanks = AllPass-from_list_all is_blank (take (prefix_len is_blank cut.tail) cut.tail) (run_passes is_blank cut.tail);
             begins = begins_unblank (after_blanks cut.tail) (run_stops is_blank cut.tail) (ltb-true 0 (length (after_blanks cut.tail)) both.0);
-            wrong = λ condition written. subst (Member place) ((tail_found cut.tail condition written).right text) is;
+            wrong = λ condition written. subst (Member offset) ((tail_found cut.tail condition written).right text) is;
             is_at = omega (arith, at, whole_length, lengths);
           }
 
-  tail_complete : (place : ℕ) → WrongTail cut place → Member place (tail_places text (after_blanks cut.tail))
-  tail_complete place is = by (nat_lt 0 (length (after_blanks cut.tail)) && not (is_condition (after_blanks cut.tail))) refl
+  tail_complete : (offset : ℕ) → WrongTail cut offset → Member offset (tail_offsets text (after_blanks cut.tail))
+  tail_complete offset is = by (nat_lt 0 (length (after_blanks cut.tail)) && not (is_condition (after_blanks cut.tail))) refl
     where
       rest_is : after_blanks cut.tail ≡ is.rest
       rest_is = ap after_blanks is.tail ∙ run_dropped is_blank is.front is.rest is.blanks (begins_not is.rest is.begins)
 
-      by : (b : Bool) → (nat_lt 0 (length (after_blanks cut.tail)) && not (is_condition (after_blanks cut.tail))) ≡ b → Member place (tail_places text (after_blanks cut.tail))
+      by : (b : Bool) → (nat_lt 0 (length (after_blanks cut.tail)) && not (is_condition (after_blanks cut.tail))) ≡ b → Member offset (tail_offsets text (after_blanks cut.tail))
       by true e =
           let lengths : length cut.tail ≡ length is.front + length is.rest = ap length is.tail ∙ length-append is.front is.rest in
-          let at : place ≡ place_in text (after_blanks cut.tail) = omega (arith, is.is_at, whole_length, lengths, ap length rest_is) in
-          subst (Member place) (sym (ap (λ (b : Bool). if b then place_in text (after_blanks cut.tail) ∷ [] else []) e)) (inl at)
+          let at : offset ≡ offset_in text (after_blanks cut.tail) = omega (arith, is.is_at, whole_length, lengths, ap length rest_is) in
+          subst (Member offset) (sym (ap (λ (b : Bool). if b then offset_in text (after_blanks cut.tail) ∷ [] else []) e)) (inl at)
       by false e =
-          let none : tail_places text (after_blanks cut.tail) ≡ [] = ap (λ (b : Bool). if b then place_in text (after_blanks cut.tail) ∷ [] else []) e in
+          let none : tail_offsets text (after_blanks cut.tail) ≡ [] = ap (λ (b : Bool). if b then offset_in text (after_blanks cut.tail) ∷ [] else []) e in
           absurd (is.wrong (condition_of (after_blanks cut.tail)) (tail_written text cut.tail stops none))
 
   -- ---- all of it
 
-  item_at : (place : ℕ) → WrongItemAt start cut.attributes place → WrongItem cut place
-  item_at place is = record {
+  item_at : (offset : ℕ) → WrongItemAt start cut.attributes offset → WrongItem cut offset
+  item_at offset is = record {
     subject = is.subject;
     attributes_before = is.attributes_before;
     attribute = is.attribute;
@@ -289,8 +289,8 @@ module _ (text : List ℕ) (cut : Cut text) where
     wrong = is.wrong;
   }
 
-  at_item : (place : ℕ) → WrongItem cut place → WrongItemAt start cut.attributes place
-  at_item place is = record {
+  at_item : (offset : ℕ) → WrongItem cut offset → WrongItemAt start cut.attributes offset
+  at_item offset is = record {
     subject = is.subject;
     attributes_before = is.attributes_before;
     attribute = is.attribute;
@@ -303,39 +303,39 @@ module _ (text : List ℕ) (cut : Cut text) where
     wrong = is.wrong;
   }
 
-  pub wrong_sound : (place : ℕ) → Member place (wrong_places text) → IsWrongAt cut place
-  wrong_sound place is = last (member_cases place (attribute_places there ++ list_places (lists_of there) ++ keyless_places (start + length cut.word) (lists_of there).keys) (tail_places text (after_blanks cut.tail)) (subst (Member place) places_are is))
+  pub wrong_sound : (offset : ℕ) → Member offset (wrong_offsets text) → IsWrongAt cut offset
+  wrong_sound offset is = last (member_cases offset (attribute_offsets there ++ list_offsets (lists_of there) ++ keyless_offsets (start + length cut.word) (lists_of there).keys) (tail_offsets text (after_blanks cut.tail)) (subst (Member offset) offsets_are is))
     where
-      first : Member place (attribute_places there) ⊎ Member place (list_places (lists_of there)) → IsWrongAt cut place
-      first (inl is) = let it = attributes_sound start cut.attributes place is in inl (record { before = it.before; attribute = it.attribute; is_at = it.is_at; wrong = it.wrong })
-      first (inr is) = inr (inl (item_at place (lists_sound start cut.attributes place is)))
+      first : Member offset (attribute_offsets there) ⊎ Member offset (list_offsets (lists_of there)) → IsWrongAt cut offset
+      first (inl is) = let it = attributes_sound start cut.attributes offset is in inl (record { before = it.before; attribute = it.attribute; is_at = it.is_at; wrong = it.wrong })
+      first (inr is) = inr (inl (item_at offset (lists_sound start cut.attributes offset is)))
 
-      second : Member place (attribute_places there ++ list_places (lists_of there)) ⊎ Member place (keyless_places (start + length cut.word) (lists_of there).keys) → IsWrongAt cut place
-      second (inl is) = first (member_cases place (attribute_places there) (list_places (lists_of there)) is)
+      second : Member offset (attribute_offsets there ++ list_offsets (lists_of there)) ⊎ Member offset (keyless_offsets (start + length cut.word) (lists_of there).keys) → IsWrongAt cut offset
+      second (inl is) = first (member_cases offset (attribute_offsets there) (list_offsets (lists_of there)) is)
       second (inr is) =
-          let it = keyless_sound start cut.attributes (start + length cut.word) place is in
+          let it = keyless_sound start cut.attributes (start + length cut.word) offset is in
           inr (inr (inl (record { none = All-from_recursion (λ attribute. IsAbout OfKeys attribute → ⊥) cut.attributes it.0; is_at = it.1 })))
 
-      last : Member place (attribute_places there ++ list_places (lists_of there) ++ keyless_places (start + length cut.word) (lists_of there).keys) ⊎ Member place (tail_places text (after_blanks cut.tail)) → IsWrongAt cut place
-      last (inl is) = second (member_cases place (attribute_places there ++ list_places (lists_of there)) (keyless_places (start + length cut.word) (lists_of there).keys) is)
-      last (inr is) = inr (inr (inr (tail_sound place is)))
+      last : Member offset (attribute_offsets there ++ list_offsets (lists_of there) ++ keyless_offsets (start + length cut.word) (lists_of there).keys) ⊎ Member offset (tail_offsets text (after_blanks cut.tail)) → IsWrongAt cut offset
+      last (inl is) = second (member_cases offset (attribute_offsets there ++ list_offsets (lists_of there)) (keyless_offsets (start + length cut.word) (lists_of there).keys) is)
+      last (inr is) = inr (inr (inr (tail_sound offset is)))
 
-  pub wrong_complete : (place : ℕ) → IsWrongAt cut place → Member place (wrong_places text)
-  wrong_complete place is = subst (Member place) (sym places_are) (by is)
+  pub wrong_complete : (offset : ℕ) → IsWrongAt cut offset → Member offset (wrong_offsets text)
+  wrong_complete offset is = subst (Member offset) (sym offsets_are) (by is)
     where
-      before_tail : Member place (attribute_places there ++ list_places (lists_of there) ++ keyless_places (start + length cut.word) (lists_of there).keys) → Member place all_places
-      before_tail member = member_left place (attribute_places there ++ list_places (lists_of there) ++ keyless_places (start + length cut.word) (lists_of there).keys) (tail_places text (after_blanks cut.tail)) member
+      before_tail : Member offset (attribute_offsets there ++ list_offsets (lists_of there) ++ keyless_offsets (start + length cut.word) (lists_of there).keys) → Member offset all_offsets
+      before_tail member = member_left offset (attribute_offsets there ++ list_offsets (lists_of there) ++ keyless_offsets (start + length cut.word) (lists_of there).keys) (tail_offsets text (after_blanks cut.tail)) member
 
-      before_keys : Member place (attribute_places there ++ list_places (lists_of there)) → Member place all_places
-      before_keys member = before_tail (member_left place (attribute_places there ++ list_places (lists_of there)) (keyless_places (start + length cut.word) (lists_of there).keys) member)
+      before_keys : Member offset (attribute_offsets there ++ list_offsets (lists_of there)) → Member offset all_offsets
+      before_keys member = before_tail (member_left offset (attribute_offsets there ++ list_offsets (lists_of there)) (keyless_offsets (start + length cut.word) (lists_of there).keys) member)
 
-      by : IsWrongAt cut place → Member place all_places
+      by : IsWrongAt cut offset → Member offset all_offsets
       by (inl is) =
-          before_keys (member_left place (attribute_places there) (list_places (lists_of there))
-          (attributes_complete start cut.attributes place (record { before = is.before; attribute = is.attribute; is_at = is.is_at; wrong = is.wrong })))
-      by (inr (inl is)) = before_keys (member_right place (attribute_places there) (list_places (lists_of there)) (lists_complete start cut.attributes place (at_item place is)))
+          before_keys (member_left offset (attribute_offsets there) (list_offsets (lists_of there))
+          (attributes_complete start cut.attributes offset (record { before = is.before; attribute = is.attribute; is_at = is.is_at; wrong = is.wrong })))
+      by (inr (inl is)) = before_keys (member_right offset (attribute_offsets there) (list_offsets (lists_of there)) (lists_complete start cut.attributes offset (at_item offset is)))
       by (inr (inr (inl is))) =
-          before_tail (member_right place (attribute_places there ++ list_places (lists_of there)) (keyless_places (start + length cut.word) (lists_of there).keys)
-          (keyless_complete start cut.attributes (start + length cut.word) place (recursion_from_All (λ attribute. IsAbout OfKeys attribute → ⊥) cut.attributes is.none) is.is_at))
+          before_tail (member_right offset (attribute_offsets there ++ list_offsets (lists_of there)) (keyless_offsets (start + length cut.word) (lists_of there).keys)
+          (keyless_complete start cut.attributes (start + length cut.word) offset (recursion_from_All (λ attribute. IsAbout OfKeys attribute → ⊥) cut.attributes is.none) is.is_at))
       by (inr (inr (inr is))) =
-          member_right place (attribute_places there ++ list_places (lists_of there) ++ keyless_places (start + length cut.word) (lists_of there).keys) (tail_places text (after_blanks cut.tail)) (tail_complete place is)
+          member_right offset (attribute_offsets there ++ list_offsets (lists_of there) ++ keyless_offsets (start + length cut.word) (lists_of there).keys) (tail_offsets text (after_blanks cut.tail)) (tail_complete offset is)

@@ -46,7 +46,7 @@ IsReadAs definition None (Some filter) = ⊥
 IsReadAs definition (Some condition) None = ⊥
 IsReadAs definition (Some condition) (Some filter) = IsFilter definition condition × (filter ≡ parsed_of definition condition)
 
--- a filter's fault, at places that count from so many bytes before the filter
+-- a filter's fault, at offsets that count from so many bytes before the filter
 abbrev pub moved : ℕ → FilterFault → TriggerFault
 moved before filter.TooMany = TooMany
 moved before (filter.FilterSyntax at) = FilterSyntax (before + at)
@@ -63,7 +63,7 @@ unfoldable pub filter_of : Definition → List ℕ → Option (List ℕ) → Res
 filter_of definition text None = Ok None
 filter_of definition text (Some condition) = filter_read (length text - length condition) (answer_of definition condition)
 
--- a filter's fault has its place in a text of this length
+-- a filter's fault has its offset in a text of this length
 abbrev pub IsWithin : ℕ → FilterFault → Type 0
 IsWithin len filter.TooMany = Unit {0}
 IsWithin len (filter.FilterSyntax at) = at ≤ len

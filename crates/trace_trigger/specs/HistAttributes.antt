@@ -33,7 +33,7 @@ topic_of head = if bytes_eq head (codes "keys=") || bytes_eq head (codes "key=")
     else if bytes_eq head (codes "size=") then Size
     else asked_by head
 
--- an attribute is at the place of its first byte; its value is what follows the head
+-- an attribute is at the offset of its first byte; its value is what follows the head
 abbrev pub attribute_of : Piece → Attribute
 attribute_of piece = record {
   at = piece.at;
@@ -42,10 +42,10 @@ attribute_of piece = record {
   value = drop (head_len piece.bytes) piece.bytes;
 }
 
--- the attributes of a string that begins at a place, separated by `:` (58)
+-- the attributes of a string that begins at an offset, separated by `:` (58)
 abbrev pub attributes_at : ℕ → List ℕ → List Attribute
 attributes_at at text = map attribute_of (pieces_of 58 at text)
 
--- an attribute's value ends at a place of the program
-abbrev pub IsPlaced : Attribute → Type 0
-IsPlaced attribute = attribute.at + attribute.skip + length attribute.value < 2 ^ 64
+-- an attribute's value ends at an offset of the program
+abbrev pub IsLocated : Attribute → Type 0
+IsLocated attribute = attribute.at + attribute.skip + length attribute.value < 2 ^ 64

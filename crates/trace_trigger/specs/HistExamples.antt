@@ -123,7 +123,7 @@ accepted_of_move =
 
 -- ---- what is refused
 
--- a string is refused at the leftmost place where it breaks the grammar, the first word's end among them if there are no keys
+-- a string is refused at the leftmost offset where it breaks the grammar, the first word's end among them if there are no keys
 abbrev pub wrong_attributes : List Case
 wrong_attributes =
     codes "hist:" gives Err (HistSyntax 5)

@@ -177,8 +177,8 @@ IsValueOf definition name operand = (operand_named definition.fields name ≡ So
 -- what a name to sort by means: the hitcount, a value, or else a key
 abbrev pub IsSortedBy : List (List ℕ) → List (List ℕ) → List ℕ → SortSource → Type 0
 IsSortedBy keys values name sorted.Hitcount = name ≡ codes "hitcount"
-IsSortedBy keys values name (sorted.Value place) = slice_get values place ≡ Some name
-IsSortedBy keys values name (sorted.Key place) = (name ≢ codes "hitcount") × (Contains values name → ⊥) × (slice_get keys place ≡ Some name)
+IsSortedBy keys values name (sorted.Value offset) = slice_get values offset ≡ Some name
+IsSortedBy keys values name (sorted.Key offset) = (name ≢ codes "hitcount") × (Contains values name → ⊥) × (slice_get keys offset ≡ Some name)
 
 abbrev pub IsRuleOf : SpecSeen → SortKey → SortRule → Type 0
 IsRuleOf spec key rule = IsSortedBy (key_names spec.keys) spec.values key.name rule.source × (rule.descending ≡ key.descending)

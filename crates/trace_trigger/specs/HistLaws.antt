@@ -6,7 +6,7 @@ use Rattle.trace_trigger.specs.declared.fault.TriggerFault.TheVariants.{HistSynt
 use Rattle.trace_trigger.specs.HistSpecs.{SpecSeen}
 use Rattle.trace_trigger.specs.HistTexts.{IsHistText, spec_of}
 use Rattle.trace_trigger.specs.HistGrammar.{Setting, IsWritten, Says}
-use Rattle.trace_trigger.specs.HistFaultPlaces.{IsLeftmostWrong}
+use Rattle.trace_trigger.specs.HistFaultOffsets.{IsLeftmostWrong}
 use Rattle.trace_trigger.specs.HistRefusals.{IsRefusedAs}
 
 -- a string that begins as that of a hist trigger says this of one exactly if it is written so: lawful settings that come to this, within the
@@ -14,7 +14,7 @@ use Rattle.trace_trigger.specs.HistRefusals.{IsRefusedAs}
 abbrev pub OkIsWritten : Type 0
 OkIsWritten = (definition : Definition) → (text : List ℕ) → (spec : SpecSeen) → IsHistText text → (spec_of definition text ≡ Ok spec) ↔ Says definition text spec
 
--- it is refused for its syntax at a place exactly if that is the leftmost place where it is wrong, whatever the event
+-- it is refused for its syntax at an offset exactly if that is the leftmost offset where it is wrong, whatever the event
 abbrev pub SyntaxIsLeftmost : Type 0
 SyntaxIsLeftmost = (definition : Definition) → (text : List ℕ) → (at : ℕ) → IsHistText text → (spec_of definition text ≡ Err (HistSyntax at)) ↔ IsLeftmostWrong text at
 
@@ -22,11 +22,11 @@ SyntaxIsLeftmost = (definition : Definition) → (text : List ℕ) → (at : ℕ
 abbrev pub IsUnwritten : List ℕ → Type 0
 IsUnwritten text = (settings : List Setting) → (condition : Option (List ℕ)) → IsWritten text settings condition → ⊥
 
--- it is refused for its syntax, at some place, exactly if it cannot be written
+-- it is refused for its syntax, at some offset, exactly if it cannot be written
 abbrev pub SyntaxIsUnwritten : Type 0
 SyntaxIsUnwritten = (definition : Definition) → (text : List ℕ) → IsHistText text → ((at : ℕ) × (spec_of definition text ≡ Err (HistSyntax at))) ↔ IsUnwritten text
 
--- and it is refused for a fault, of whatever kind, exactly if the fault is this one: of the syntax, at the leftmost place; or else, of a string that
+-- and it is refused for a fault, of whatever kind, exactly if the fault is this one: of the syntax, at the leftmost offset; or else, of a string that
 -- is written so, the first that there is cause for
 abbrev pub RefusalIsAsWritten : Type 0
 RefusalIsAsWritten = (definition : Definition) → (text : List ℕ) → (fault : TriggerFault) → IsHistText text → (spec_of definition text ≡ Err fault) ↔ IsRefusedAs definition text fault

@@ -27,7 +27,7 @@ is_same_topic left right = false
 abbrev pub first_about : Topic → List Attribute → Option Attribute
 first_about topic attributes = find (λ (attribute : Attribute). is_same_topic topic attribute.topic) attributes
 
--- the items of a list, separated by `,` (44), each with its place
+-- the items of a list, separated by `,` (44), each with its offset
 abbrev pub items_of : Attribute → List Piece
 items_of attribute = pieces_of 44 (attribute.at + attribute.skip) attribute.value
 

@@ -71,17 +71,17 @@ size_of (Some digits) = told_size (size_written digits)
 
 -- ---- sort keys
 
-abbrev pub place_of : List (List ℕ) → List ℕ → Option ℕ
-place_of names name = position (bytes_eq name) names
+abbrev pub index_of : List (List ℕ) → List ℕ → Option ℕ
+index_of names name = position (bytes_eq name) names
 
--- by the place among the values, whether it is `hitcount`, and the place among the keys
+-- by the index among the values, whether it is `hitcount`, and the index among the keys
 abbrev pub sort_found : Option ℕ → Bool → Option ℕ → SortSource
-sort_found (Some place) is_count key = sorted.Value place
+sort_found (Some index) is_count key = sorted.Value index
 sort_found None is_count key = if is_count then sorted.Hitcount else sorted.Key (unwrap_or key 0)
 
 -- a name that is a value means the value; another is `hitcount` or a key
 abbrev pub sort_source : List (List ℕ) → List (List ℕ) → List ℕ → SortSource
-sort_source keys values name = sort_found (place_of values name) (is_hitcount name) (place_of keys name)
+sort_source keys values name = sort_found (index_of values name) (is_hitcount name) (index_of keys name)
 
 abbrev pub sort_rule : List (List ℕ) → List (List ℕ) → SortKey → SortRule
 sort_rule keys values key = record { source = sort_source keys values key.name; descending = key.descending }

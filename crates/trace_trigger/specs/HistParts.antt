@@ -7,7 +7,7 @@ use Rattle.trace_trigger.specs.Frames.{is_unblank, after_blanks}
 use Rattle.trace_trigger.specs.declared.attribute.Attribute.{Attribute}
 use Rattle.trace_trigger.specs.HistAttributes.{attributes_at}
 
--- the place of what follows `hist:` or `!hist:`
+-- the offset of what follows `hist:` or `!hist:`
 abbrev pub start_of : List ℕ → ℕ
 start_of text = if bytes_eq (take 1 text) (codes "!") then 6 else 5
 
@@ -24,7 +24,7 @@ word_of text = take (word_len (body_of text)) (body_of text)
 unfoldable pub attributes_of : List ℕ → List Attribute
 attributes_of text = attributes_at (start_of text) (word_of text)
 
--- the place of the first word's end
+-- the offset of the first word's end
 abbrev pub end_of : List ℕ → ℕ
 end_of text = start_of text + word_len (body_of text)
 
@@ -41,6 +41,6 @@ is_condition tail = (bytes_eq (take 2 tail) (codes "if") && nat_lt 0 (prefix_len
 abbrev pub condition_of : List ℕ → Option (List ℕ)
 condition_of tail = if is_condition tail then Some (after_blanks (drop 2 tail)) else None
 
--- the place at which a string's end begins
-abbrev pub place_in : List ℕ → List ℕ → ℕ
-place_in text end = length text - length end
+-- the offset at which a string's end begins
+abbrev pub offset_in : List ℕ → List ℕ → ℕ
+offset_in text end = length text - length end

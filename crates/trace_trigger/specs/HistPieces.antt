@@ -1,4 +1,4 @@
--- Strings that are cut at a byte, with the place of each part (histogram.rst, "hist triggers": attributes are separated by `:`, the names of a list
+-- Strings that are cut at a byte, with the offset of each part (histogram.rst, "hist triggers": attributes are separated by `:`, the names of a list
 -- by `,`).
 use Rattle.std.specs.Prelude.{ℕ, ◌+◌, ◌==◌, if◌then◌else◌, List, [], ◌∷◌}
 use Rattle.trace_trigger.specs.declared.piece.Piece.{Piece}
@@ -8,7 +8,7 @@ abbrev pub lengthened : ℕ → ℕ → List Piece → List Piece
 lengthened at byte [] = []
 lengthened at byte (piece ∷ pieces) = record { at = at; bytes = byte ∷ piece.bytes } ∷ pieces
 
--- the parts of a string that begins at a place: a separator ends one part and begins the next
+-- the parts of a string that begins at an offset: a separator ends one part and begins the next
 abbrev pub pieces_of : ℕ → ℕ → List ℕ → List Piece
 pieces_of separator at [] = record { at = at; bytes = [] } ∷ []
 pieces_of separator at (byte ∷ bytes) = if byte == separator

@@ -13,7 +13,7 @@ use Rattle.trace_trigger.specs.declared.spec.SortKey.{SortKey}
 use Rattle.trace_trigger.specs.HistSizes.{rounded_size}
 use Rattle.trace_trigger.specs.Frames.{moved}
 use Rattle.trace_trigger.specs.HistGrammar.{Setting, Keys, Values, Sort, Size, Subject, OfKeys, OfValues, IsWritten, IsSet, summed_names, IsValueOf}
-use Rattle.trace_trigger.specs.HistFaultPlaces.{Cut, IsAt, IsList, items_place, IsLeftmostWrong}
+use Rattle.trace_trigger.specs.HistFaultOffsets.{Cut, IsAt, IsList, items_offset, IsLeftmostWrong}
 
 -- ---- over the limits
 
@@ -25,14 +25,14 @@ IsOver settings = ((keys : List (List ℕ)) × Contains settings (Keys keys) × 
 
 -- ---- names that the event does not have
 
--- an item of the first attribute about this, at a place, after these items
-pub record IsItemAt {text : List ℕ} (cut : Cut text) (subject : Subject) (before : List (List ℕ)) (item : List ℕ) (place : ℕ) : Type 0 where
+-- an item of the first attribute about this, at an offset, after these items
+pub record IsItemAt {text : List ℕ} (cut : Cut text) (subject : Subject) (before : List (List ℕ)) (item : List ℕ) (offset : ℕ) : Type 0 where
   pub attributes_before : List (List ℕ)
   pub attribute : List ℕ
   pub head : List ℕ
   pub items : List (List ℕ)
   pub list : IsList subject cut.attributes attributes_before attribute head items
-  pub is_at : IsAt 44 (items_place cut attributes_before head) items before item place
+  pub is_at : IsAt 44 (items_offset cut attributes_before head) items before item offset
 
 -- a key means something, and one in a list of values means something as a value
 abbrev pub CanBeKey : Definition → List ℕ → Type 0
@@ -41,29 +41,29 @@ CanBeKey definition name = (operand : Operand) × (operand_named definition.fiel
 abbrev pub CanBeValue : Definition → List ℕ → Type 0
 CanBeValue definition name = (name ≡ codes "hitcount") ⊎ ((operand : Operand) × IsValueOf definition name operand)
 
--- the first key that means nothing is at this place
-pub record IsUnknownKey (definition : Definition) (text : List ℕ) (place : ℕ) : Type 0 where
+-- the first key that means nothing is at this offset
+pub record IsUnknownKey (definition : Definition) (text : List ℕ) (offset : ℕ) : Type 0 where
   pub cut : Cut text
   pub before : List (List ℕ)
   pub name : List ℕ
-  pub is_at : IsItemAt cut OfKeys before name place
+  pub is_at : IsItemAt cut OfKeys before name offset
   pub unknown : operand_named definition.fields name ≡ None
   pub first : All (CanBeKey definition) before
 
 -- a value means nothing, or it is a string
 abbrev pub CannotBeValue : Definition → List ℕ → ℕ → TriggerFault → Type 0
-CannotBeValue definition name place fault = ((operand_named definition.fields name ≡ None) × (fault ≡ NoSuchField place))
-    ⊎ ((operand : Operand) × (operand_named definition.fields name ≡ Some operand) × (is_text operand ≡ true) × (fault ≡ WrongOperator place))
+CannotBeValue definition name offset fault = ((operand_named definition.fields name ≡ None) × (fault ≡ NoSuchField offset))
+    ⊎ ((operand : Operand) × (operand_named definition.fields name ≡ Some operand) × (is_text operand ≡ true) × (fault ≡ WrongOperator offset))
 
 -- the first value that cannot be one has this fault
 pub record IsWrongValue (definition : Definition) (text : List ℕ) (fault : TriggerFault) : Type 0 where
   pub cut : Cut text
   pub before : List (List ℕ)
   pub name : List ℕ
-  pub place : ℕ
-  pub is_at : IsItemAt cut OfValues before name place
+  pub offset : ℕ
+  pub is_at : IsItemAt cut OfValues before name offset
   pub summed : name ≢ codes "hitcount"
-  pub wrong : CannotBeValue definition name place fault
+  pub wrong : CannotBeValue definition name offset fault
   pub first : All (CanBeValue definition) before
 
 -- ---- what is right
@@ -82,7 +82,7 @@ IsSized settings size = (entries : ℕ) × IsSet settings Size 2048 entries × (
 
 pub data IsRefusal (definition : Definition) (text : List ℕ) (settings : List Setting) (condition : Option (List ℕ)) (fault : TriggerFault) : Type 0 where
   ForMany : IsOver settings → fault ≡ TooMany → IsRefusal definition text settings condition fault
-  ForKey : (IsOver settings → ⊥) → (place : ℕ) → IsUnknownKey definition text place → fault ≡ NoSuchField place → IsRefusal definition text settings condition fault
+  ForKey : (IsOver settings → ⊥) → (offset : ℕ) → IsUnknownKey definition text offset → fault ≡ NoSuchField offset → IsRefusal definition text settings condition fault
   ForValue : (IsOver settings → ⊥) → HaveKeys definition settings → IsWrongValue definition text fault → IsRefusal definition text settings condition fault
   ForSize : (IsOver settings → ⊥) → HaveKeys definition settings → HaveValues definition settings → IsSized settings None → fault ≡ BadSize
       → IsRefusal definition text settings condition fault

@@ -8,7 +8,7 @@ use Rattle.trace_trigger.specs.Frames.{filter_of}
 use Rattle.trace_trigger.specs.TriggerAnswers.{◌>>=◌}
 use Rattle.trace_trigger.specs.HistParts.{attributes_of, tail_of, condition_of}
 use Rattle.trace_trigger.specs.HistLists.{Lists, lists_of, names_of, summed_items, sort_keys}
-use Rattle.trace_trigger.specs.HistPlaces.{wrong_places, least}
+use Rattle.trace_trigger.specs.HistOffsets.{wrong_offsets, least}
 use Rattle.trace_trigger.specs.HistMeanings.{few, each, key_in, value_source, size_of, sort_rule}
 
 -- a string that says something of a hist trigger
@@ -23,7 +23,7 @@ unless_wrong (Some at) lists = Err (HistSyntax at)
 
 -- what the attributes say, unless the string breaks the grammar
 unfoldable pub read_of : List ℕ → Result Lists TriggerFault
-read_of text = unless_wrong (least (wrong_places text)) (lists_of (attributes_of text))
+read_of text = unless_wrong (least (wrong_offsets text)) (lists_of (attributes_of text))
 
 -- ---- the whole string
 

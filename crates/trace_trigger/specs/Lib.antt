@@ -5,14 +5,14 @@ pub mod TriggerGrammar
 pub mod Laws
 pub mod HistAttributes
 pub mod HistExamples
-pub mod HistFaultPlaces
+pub mod HistFaultOffsets
 pub mod HistGrammar
 pub mod HistLaws
 pub mod HistLists
 pub mod HistMeanings
 pub mod HistParts
 pub mod HistPieces
-pub mod HistPlaces
+pub mod HistOffsets
 pub mod HistRefusals
 pub mod HistSizes
 pub mod HistSpecs

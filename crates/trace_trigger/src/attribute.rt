@@ -23,7 +23,7 @@ pub(crate) enum Topic {
     Unknown,
 }
 
-/// An attribute: its place, what it is about, how many bytes come before its value, and the value.
+/// An attribute: its offset, what it is about, how many bytes come before its value, and the value.
 #[derive(Drop)]
 pub(crate) struct Attribute {
     pub(crate) at: usize,
@@ -92,7 +92,7 @@ fn attribute_of(alloc: Global, piece: &Piece) -> Result<Attribute, AllocError>
     })
 }
 
-/// The attributes of a string that begins at a place.
+/// The attributes of a string that begins at an offset.
 pub(crate) fn attributes_at(
     alloc: Global,
     at: usize,
@@ -100,7 +100,7 @@ pub(crate) fn attributes_at(
 ) -> Result<Vec<Attribute>, AllocError>
     requires { at + length text.now < 2 ^ 64 }
     ensures value { IfOk result (λ found. found.items ≡ attributes.attributes_at at text.now) }
-    ensures placed { IfOk result (λ found. All attributes.IsPlaced found.items) }
+    ensures located { IfOk result (λ found. All attributes.IsLocated found.items) }
 {
     let pieces = cut_at(alloc, b':', at, text)?;
     let mut found = Vec::with_capacity(alloc, pieces.len())?;

@@ -10,12 +10,12 @@ use std::fmt;
 use std::fmt::{Display, Formatter};
 use trace_filter::FilterFault;
 
-/// Why a text was refused as a trigger. Places count bytes from 0 in the whole text.
+/// Why a text was refused as a trigger. Offsets count bytes from 0 in the whole text.
 #[derive(Debug, Drop)]
 pub enum TriggerFault {
     /// No trigger is written so.
     BadText,
-    /// The filter has over 1,024 bytes without the blanks at both ends, or over 16 `!` and `(` are open at one place; or a hist trigger has over
+    /// The filter has over 1,024 bytes without the blanks at both ends, or over 16 `!` and `(` are open at one offset; or a hist trigger has over
     /// three keys, three values or two sort keys.
     TooMany,
     /// The first token with which no filter goes on, the end of a text where more was to come, or a value that is no number.
@@ -24,7 +24,7 @@ pub enum TriggerFault {
     NoSuchField { at: usize },
     /// The filter compares a field as it can't be, or a hist trigger's value is a string, which can't be summed.
     WrongOperator { at: usize },
-    /// The leftmost place at which a hist trigger's text breaks the grammar: an attribute, an item of a list, the end of the first word if there
+    /// The leftmost offset at which a hist trigger's text breaks the grammar: an attribute, an item of a list, the end of the first word if there
     /// are no keys, or what follows that word and is no condition.
     HistSyntax { at: usize },
     /// A histogram may have 128 to 131,072 entries; other sizes are rounded up to a power of two first.

@@ -5,7 +5,7 @@ ghost use Rattle.trace_trigger.specs.HistExamples.{tick, move, AreRead, accepted
 
 /// A string says this of a hist trigger of an event exactly if it can be written so: attributes that each set something, in any order, each at
 /// most once, the keys always; within the limits, with names of the event, and with a filter of it, if with any. It is refused for its syntax
-/// exactly if it cannot be written so, whatever the event, at the leftmost place where it is wrong: an attribute, an item of a list, the first
+/// exactly if it cannot be written so, whatever the event, at the leftmost offset where it is wrong: an attribute, an item of a list, the first
 /// word's end without keys, or what follows the word. If it can be written so, it is refused exactly for the first cause that there is: too many
 /// names, the first key that the event does not have, the first value that is none or a string, the size, the filter.
 pub fn hist_triggers_are_as_written()

@@ -8,7 +8,7 @@ ghost use Rattle.trace_trigger.specs.HistParts as parts;
 use crate::parts::{after_blanks, cut_word};
 use trace_lex::{blanks_len, rest_of};
 
-/// The place of what follows `hist:` or `!hist:`.
+/// The offset of what follows `hist:` or `!hist:`.
 pub(crate) fn start_of(text: &[u8]) -> usize
     requires { IsHistText text.now }
     ensures value { result ≡ parts.start_of text.now }

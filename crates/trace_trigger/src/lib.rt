@@ -11,7 +11,7 @@ pub mod laws;
 mod meaning;
 mod parts;
 mod piece;
-mod place;
+mod offset;
 mod read;
 mod size;
 mod sort_rule;

@@ -183,15 +183,15 @@ pub(crate) fn sort_keys(alloc: Global, items: &[Piece]) -> Result<Vec<SortKey>, 
     Ok(keys)
 }
 
-/// The place of a name among others, if it is one of them.
-fn place_of(names: &[Text], name: &[u8]) -> Option<usize>
-    ensures { result ≡ meanings.place_of names.now name.now }
+/// The index of a name among others, if it is one of them.
+fn index_of(names: &[Text], name: &[u8]) -> Option<usize>
+    ensures { result ≡ meanings.index_of names.now name.now }
 {
     names.iter().position(|other| name == other.as_bytes())
 }
 
-/// The place of the key of a name, if one has it.
-fn place_of_key(keys: &[Key], name: &[u8]) -> Option<usize>
+/// The index of the key of a name, if one has it.
+fn index_of_key(keys: &[Key], name: &[u8]) -> Option<usize>
     ensures { result ≡ position (λ (key : KeySeen). bytes_eq name.now key.name) keys.now }
 {
     keys.iter().position(|key| name == key.name.as_bytes())
@@ -202,12 +202,12 @@ fn place_of_key(keys: &[Key], name: &[u8]) -> Option<usize>
 fn sort_source(keys: &[Key], values: &[Text], name: &[u8]) -> SortSource
     ensures { result ≡ meanings.sort_source (key_names keys.now) values.now name.now }
 {
-    if let Some(place) = place_of(values, name) {
-        SortSource::Value(place)
+    if let Some(index) = index_of(values, name) {
+        SortSource::Value(index)
     } else if is_hitcount(name) {
         SortSource::Hitcount
     } else {
-        SortSource::Key(place_of_key(keys, name).unwrap_or(0))
+        SortSource::Key(index_of_key(keys, name).unwrap_or(0))
     }
 }
 

@@ -1,4 +1,4 @@
-//! Strings that are cut at a byte, with the place of each part.
+//! Strings that are cut at a byte, with the offset of each part.
 
 ghost use Rattle.std.specs.Prelude.{◌≡◌, ◌<◌, ◌+◌, ◌^◌, IfOk, length};
 ghost use Rattle.trace_trigger.specs.HistPieces.{pieces_of};
@@ -7,14 +7,14 @@ use std::alloc::{AllocError, Global};
 use trace_format::Text;
 use trace_lex::{len_before, rest_of};
 
-/// A part of a string, and the place of its first byte in the whole text.
+/// A part of a string, and the offset of its first byte in the whole text.
 #[derive(Drop)]
 pub(crate) struct Piece {
     pub(crate) at: usize,
     pub(crate) bytes: Text,
 }
 
-/// The parts of a string that begins at a place, between the bytes that separate them. There is one part more than separators.
+/// The parts of a string that begins at an offset, between the bytes that separate them. There is one part more than separators.
 pub(crate) fn cut_at(
     alloc: Global,
     separator: u8,

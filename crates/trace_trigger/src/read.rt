@@ -12,7 +12,7 @@ use crate::condition::read_filter;
 use crate::fault::TriggerFault;
 use crate::hist_parts::start_of;
 use crate::meaning::{keys_of, names_of, size_of, sort_keys, sort_rules, summed, value_sources};
-use crate::place::wrong_place;
+use crate::offset::wrong_offset;
 use crate::spec::HistSpec;
 use crate::written::Written;
 use std::alloc::Global;
@@ -20,7 +20,7 @@ use trace_format::EventDef;
 
 /// What the attributes of a string say, unless the string breaks the grammar. They are cut out already, and so is the tail, which is what follows
 /// the first word and blanks.
-#[tactic(auto, unfolding(crate::specs::HistTexts::read_of, crate::specs::HistPlaces::wrong_places, crate::specs::HistParts::attributes_of))]
+#[tactic(auto, unfolding(crate::specs::HistTexts::read_of, crate::specs::HistOffsets::wrong_offsets, crate::specs::HistParts::attributes_of))]
 pub(crate) fn read_written(
     alloc: Global,
     text: &[u8],
@@ -38,7 +38,7 @@ pub(crate) fn read_written(
     let start = start_of(text);
     let attributes = attributes_at(alloc, start, word)?;
     let written = Written::of(alloc, &attributes)?;
-    match wrong_place(text, start + word.len(), tail, &attributes, &written) {
+    match wrong_offset(text, start + word.len(), tail, &attributes, &written) {
         Some(at) => Err(TriggerFault::HistSyntax { at }),
         None => Ok(written),
     }

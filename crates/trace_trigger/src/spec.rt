@@ -74,7 +74,7 @@ impl Model for HistSpec {
 
 impl HistSpec {
     /// What a string says of a hist trigger of an event: `hist:` or `!hist:`, attributes joined by `:`, and after them perhaps `if` and a filter.
-    /// One that breaks the grammar is refused for that, at the leftmost place where it does. Then come too many names, the first wrong key, the
+    /// One that breaks the grammar is refused for that, at the leftmost offset where it does. Then come too many names, the first wrong key, the
     /// first wrong value, the size, and last the filter.
     #[tactic(auto, unfolding(crate::specs::HistTexts::spec_of))]
     pub fn parse(alloc: Global, text: &[u8], event: &EventDef) -> Result<HistSpec, TriggerFault>

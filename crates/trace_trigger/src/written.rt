@@ -3,7 +3,7 @@
 ghost use Rattle.std.specs.Prelude.{◌≡◌, IfOk, IfSome};
 ghost use Rattle.std.specs.List.{All};
 ghost use Rattle.std.specs.Option.{option_copied};
-ghost use Rattle.trace_trigger.specs.HistAttributes.{IsPlaced};
+ghost use Rattle.trace_trigger.specs.HistAttributes.{IsLocated};
 ghost use Rattle.trace_trigger.specs.HistLists as lists;
 
 use crate::attribute::{Attribute, Topic};
@@ -42,7 +42,7 @@ impl Written {
     /// What attributes say.
     #[tactic(auto, unfolding(crate::specs::HistLists::lists_of))]
     pub(crate) fn of(alloc: Global, attributes: &[Attribute]) -> Result<Written, AllocError>
-        requires { All IsPlaced attributes.now }
+        requires { All IsLocated attributes.now }
         ensures { IfOk result (λ written. written ≡ lists.lists_of attributes.now) }
     {
         Ok(Written {
@@ -80,7 +80,7 @@ pub(crate) fn is_same_topic(left: Topic, right: Topic) -> bool
 /// The first attribute on a topic.
 fn first_about(topic: Topic, attributes: &[Attribute]) -> Option<&Attribute>
     ensures value { option_copied result ≡ lists.first_about topic attributes.now }
-    ensures placed { All IsPlaced attributes.now → IfSome result (λ attribute. IsPlaced attribute.now) }
+    ensures located { All IsLocated attributes.now → IfSome result (λ attribute. IsLocated attribute.now) }
 {
     attributes
         .iter()
@@ -93,7 +93,7 @@ fn items_about(
     topic: Topic,
     attributes: &[Attribute],
 ) -> Result<Vec<Piece>, AllocError>
-    requires { All IsPlaced attributes.now }
+    requires { All IsLocated attributes.now }
     ensures { IfOk result (λ items. items.items ≡ lists.items_in (lists.first_about topic attributes.now)) }
 {
     match first_about(topic, attributes) {

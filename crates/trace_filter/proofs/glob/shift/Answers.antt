@@ -6,8 +6,8 @@ use Rattle.trace_filter.proofs.glob.shift.Goals as goal
 
 pub returns : goal.returns
 returns c =
-    let end : c.loop-place.place ≡ length c.args.text.now = omega arith in
-    let same : length c.loop-place.row ≡ length c.args.text.now + 1 = omega (arith, c.loop-place.auto.row, c.requires) in
-    shift_end (class_of c.args.class) c.loop-place.row c.args.text.now c.loop-place.carry same
-    ∙ ap (λ k. take k c.loop-place.row ++ shift (class_of c.args.class) c.loop-place.carry (drop k c.loop-place.row) (drop k c.args.text.now)) (sym end)
-    ∙ c.loop-place.invariant
+    let end : c.loop-offset.offset ≡ length c.args.text.now = omega arith in
+    let same : length c.loop-offset.row ≡ length c.args.text.now + 1 = omega (arith, c.loop-offset.auto.row, c.requires) in
+    shift_end (class_of c.args.class) c.loop-offset.row c.args.text.now c.loop-offset.carry same
+    ∙ ap (λ k. take k c.loop-offset.row ++ shift (class_of c.args.class) c.loop-offset.carry (drop k c.loop-offset.row) (drop k c.args.text.now)) (sym end)
+    ∙ c.loop-offset.invariant

@@ -3,5 +3,5 @@ use Rattle.trace_filter.specs.Marks.{shift}
 use Rattle.trace_filter.specs.SeenGlobs.{class_of}
 use Rattle.trace_filter.proofs.glob.shift.Given as goal
 
-abbrev pub invariant-loop-place : goal.invariant-loop-place
-invariant-loop-place l = take l.place l.row ++ shift (class_of l.class) l.carry (drop l.place l.row) (drop l.place l.text) ≡ shift (class_of l.class) false l.fn.row l.text
+abbrev pub invariant-loop-offset : goal.invariant-loop-offset
+invariant-loop-offset l = take l.offset l.row ++ shift (class_of l.class) l.carry (drop l.offset l.row) (drop l.offset l.text) ≡ shift (class_of l.class) false l.fn.row l.text

@@ -18,5 +18,5 @@ pub returns : goal.returns
 returns c =
     let rows = with_key (map datum_of c.args.key.now) (map hit_in c.args.hits.now) in
     let key : map datum_of c.in_ok-keys.keys.items ≡ map datum_of c.args.key.now = search rules in
-    let totals : c.in_ok-sums.sums.items ≡ map (λ place. total_at place rows) (range_with_len 0 c.args.width) = search rules in
+    let totals : c.in_ok-sums.sums.items ≡ map (λ index. total_at index rows) (range_with_len 0 c.args.width) = search rules in
     same_entry _ _ _ _ _ _ key c.count_of.ensures (sums-are c.args.width rows c.in_ok-sums.sums.items totals)

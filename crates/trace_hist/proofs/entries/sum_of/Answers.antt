@@ -14,14 +14,14 @@ loop-hit-preserved c =
     c.is_same_key.ensures ∙ ap (λ l. same_key key (map datum_of l)) c.deref.ensures.value in
     elim c.if-is_same_key.branch [
       | then-is_same_key w ↦
-          let number : w.number_at-sum.result ≡ sum_at c.hit-item.result.numbers.items c.args.place =
-          w.number_at-sum.ensures.value ∙ ap (λ l. sum_at l c.args.place) w.deref-then-is_same_key.ensures.value in
-          let step = total-same c.args.place key c.args.hits.now c.loop-hit.hit-index c.hit-item.result c.loop-hit-test.true c.hit-item.is
+          let number : w.number_at-sum.result ≡ sum_at c.hit-item.result.numbers.items c.args.index =
+          w.number_at-sum.ensures.value ∙ ap (λ l. sum_at l c.args.index) w.deref-then-is_same_key.ensures.value in
+          let step = total-same c.args.index key c.args.hits.now c.loop-hit.hit-index c.hit-item.result c.loop-hit-test.true c.hit-item.is
           (sym same ∙ w.if-is_same_key.true) in
           let range = w.number_at-sum.ensures.range in
           record { total = omega (arith, ints); low = omega (arith, ints); high = omega (arith, ints) }
       | else-is_same_key w ↦
-          let step = total-other c.args.place key c.args.hits.now c.loop-hit.hit-index c.hit-item.result c.loop-hit-test.true c.hit-item.is
+          let step = total-other c.args.index key c.args.hits.now c.loop-hit.hit-index c.hit-item.result c.loop-hit-test.true c.hit-item.is
           (sym same ∙ w.if-is_same_key.false) in
           record { total = omega (arith, ints); low = omega (arith, ints); high = omega (arith, ints) }
     ]

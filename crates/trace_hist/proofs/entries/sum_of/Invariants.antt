@@ -7,7 +7,7 @@ use Rattle.trace_hist.proofs.entries.sum_of.Given as goal
 
 abbrev pub invariant-loop-hit : goal.invariant-loop-hit
 invariant-loop-hit l = record {
-  total : l.sum ≡ total_at l.place (with_key (map datum_of l.key) (map hit_in (take l.hit-index l.hits)));
+  total : l.sum ≡ total_at l.index (with_key (map datum_of l.key) (map hit_in (take l.hit-index l.hits)));
   low : neg_ℤ (pos (2 ^ 63 * l.hit-index)) ≤ℤ l.sum;
   high : l.sum ≤ℤ pos ((2 ^ 64 - 1) * l.hit-index);
 }

@@ -1,4 +1,4 @@
-use Rattle.trace_text.proofs.PlaceLemmas.{line_has_offset, value_lies_at_offset, value_has_its_size}
+use Rattle.trace_text.proofs.LayoutLemmas.{line_has_offset, value_lies_at_offset, value_has_its_size}
 use Rattle.trace_text.proofs.laws.format_tells_where_fields_lie.Goals as goal
 
 pub returns-clause-line : goal.returns-clause-line

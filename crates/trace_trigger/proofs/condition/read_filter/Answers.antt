@@ -1,5 +1,5 @@
 use Rattle.std.proofs.Common.{◌≤◌, ◌-◌, length, arith}
-use Rattle.trace_trigger.proofs.FaultPlaces.{told_within, within_longer}
+use Rattle.trace_trigger.proofs.FaultOffsets.{told_within, within_longer}
 use Rattle.trace_trigger.proofs.condition.read_filter.Goals as goal
 
 pub of_filter-requires : goal.of_filter-requires

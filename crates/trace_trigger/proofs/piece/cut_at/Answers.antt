@@ -24,12 +24,12 @@ loop-pieces-preserved c =
     let grown : c.push.new.self.items ≡ c.loop-pieces.pieces.items ++ record { at = c.args.at + c.loop-pieces.from; bytes = take c.len_before-len.result c.rest_of-rest.result.now } ∷ [] =
     c.in_ok-push.ensures.items ∙ ap (λ b. c.loop-pieces.pieces.items ++ record { at = c.args.at + c.loop-pieces.from; bytes = b } ∷ []) c.in_ok-bytes.ensures in
     let more = pieces-more c.args.separator _ _ _ _ c.rest_of-rest.result.now _ whole (sym c.len_before-len.ensures.value) fewer grown in
-    let place : c.args.at + c.loop-pieces.from + 1 + c.len_before-len.result ≡ c.args.at + (c.loop-pieces.from + (c.len_before-len.result + 1)) = omega arith in
+    let offset : c.args.at + c.loop-pieces.from + 1 + c.len_before-len.result ≡ c.args.at + (c.loop-pieces.from + (c.len_before-len.result + 1)) = omega arith in
     let one : suc c.len_before-len.result ≡ c.len_before-len.result + 1 = omega arith in
     let rest : drop (suc c.len_before-len.result) c.rest_of-rest.result.now ≡ drop (c.loop-pieces.from + (c.len_before-len.result + 1)) c.args.text.now =
     ap (λ n. drop n c.rest_of-rest.result.now) one ∙ ap (λ r. drop (c.len_before-len.result + 1) r) c.rest_of-rest.ensures
     ∙ drop-drop (c.len_before-len.result + 1) c.loop-pieces.from c.args.text.now in
     let moved : c.push.new.self.items ++ pieces_of c.args.separator (c.args.at + c.loop-pieces.from + 1 + c.len_before-len.result) (drop (suc c.len_before-len.result) c.rest_of-rest.result.now)
     ≡ c.push.new.self.items ++ pieces_of c.args.separator (c.args.at + (c.loop-pieces.from + (c.len_before-len.result + 1))) (drop (c.loop-pieces.from + (c.len_before-len.result + 1)) c.args.text.now) =
-    (λ i. c.push.new.self.items ++ pieces_of c.args.separator (place i) (rest i)) in
+    (λ i. c.push.new.self.items ++ pieces_of c.args.separator (offset i) (rest i)) in
     (omega (arith, fewer, within), sym moved ∙ more)

@@ -6,8 +6,8 @@ use Rattle.trace_format.proofs.catalog.Catalog.def.Goals as goal
 
 event_is : (c : goal.In_ok-_name) → ◌≡◌ {A = Option Definition} (Some c.in_ok-_name.def.now) (event_of c.args.self.now c.args.id)
 event_is c =
-    let id : suc c.in_ok-place.place ≡ c.args.id = omega arith in
-    ap (option_map (λ (e : Entry). e.1)) c.in_ok-_name.ensures.entry ∙ sym (event_at c.self.inside.events.entries c.in_ok-place.place)
+    let id : suc c.in_ok-index.index ≡ c.args.id = omega arith in
+    ap (option_map (λ (e : Entry). e.1)) c.in_ok-_name.ensures.entry ∙ sym (event_at c.self.inside.events.entries c.in_ok-index.index)
     ∙ (λ i. event_of (c.self.view_is i) (id i))
 
 found : (c : goal.In_ok-_name) → IsFound c.args.self.now c.args.id c.in_ok-_name.def.now

@@ -1,8 +1,8 @@
--- The least of the places where a list is wrong, looked for from its front.
+-- The least of the offsets where a list is wrong, looked for from its front.
 use Rattle.std.proofs.Common.{◌≡◌, ℕ, ◌+◌, ◌<◌, ◌≤◌, Bool, true, false, List, [], ◌∷◌, ◌++◌, length, map, take, drop, get_or, min, refl, sym, ap, ◌∙◌, arith}
 use Rattle.std.proofs.lemmas.List.{at_drop_more, take_more, drop_all}
 use Rattle.std.specs.Prelude.{Option, Some, None, if◌then◌else◌}
-use Rattle.trace_trigger.specs.HistPlaces.{wrong_after, earlier, least}
+use Rattle.trace_trigger.specs.HistOffsets.{wrong_after, earlier, least}
 
 pub earlier-assoc : (a b c : Option ℕ) → earlier (earlier a b) c ≡ earlier a (earlier b c)
 earlier-assoc None b c = refl
@@ -18,20 +18,20 @@ pub least_append : (xs ys : List ℕ) → least (xs ++ ys) ≡ earlier (least xs
 least_append [] ys = refl
 least_append (x ∷ xs) ys = ap (earlier (Some x)) (least_append xs ys) ∙ sym (earlier-assoc (Some x) (least xs) (least ys))
 
-module _ {X : Type 0} (place : X → ℕ) (is_wrong : List X → X → Bool) where
-  -- the least place of a list with some before it
+module _ {X : Type 0} (offset : X → ℕ) (is_wrong : List X → X → Bool) where
+  -- the least offset of a list with some before it
   abbrev pub least_after : List X → List X → Option ℕ
-  least_after before xs = least (map place (wrong_after is_wrong before xs))
+  least_after before xs = least (map offset (wrong_after is_wrong before xs))
 
   -- from an element on
   abbrev pub least_from : List X → ℕ → Option ℕ
   least_from xs i = least_after (take i xs) (drop i xs)
 
   told : Bool → X → Option ℕ → Option ℕ
-  told true x later = earlier (Some (place x)) later
+  told true x later = earlier (Some (offset x)) later
   told false x later = later
 
-  told-least : (wrong : Bool) (x : X) (ys : List X) → least (map place (if wrong then x ∷ ys else ys)) ≡ told wrong x (least (map place ys))
+  told-least : (wrong : Bool) (x : X) (ys : List X) → least (map offset (if wrong then x ∷ ys else ys)) ≡ told wrong x (least (map offset ys))
   unfolding told
   told-least true x ys = refl
   told-least false x ys = refl
@@ -46,10 +46,10 @@ module _ {X : Type 0} (place : X → ℕ) (is_wrong : List X → X → Bool) whe
 
   -- what is found up to an element, and what comes from there on
   pub from_wrong : (xs : List X) (i : ℕ) (x : X) (found whole : Option ℕ) → i < length xs → x ≡ get_or xs i x → is_wrong (take i xs) x ≡ true
-      → earlier found (least_from xs i) ≡ whole → earlier (earlier found (Some (place x))) (least_from xs (i + 1)) ≡ whole
+      → earlier found (least_from xs i) ≡ whole → earlier (earlier found (Some (offset x))) (least_from xs (i + 1)) ≡ whole
   unfolding told
   from_wrong xs i x found whole within is wrong so_far =
-      earlier-assoc found (Some (place x)) (least_from xs (i + 1))
+      earlier-assoc found (Some (offset x)) (least_from xs (i + 1))
       ∙ ap (earlier found) (sym (from-step xs i x within is ∙ ap (λ b. told b x (least_from xs (i + 1))) wrong))
       ∙ so_far
 

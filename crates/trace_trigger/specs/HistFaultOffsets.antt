@@ -1,4 +1,4 @@
--- Where the text of a hist trigger is wrong, whatever its event (histogram.rst, "hist triggers"): each place with which such a text cannot go on. Nothing
+-- Where the text of a hist trigger is wrong, whatever its event (histogram.rst, "hist triggers"): each offset with which such a text cannot go on. Nothing
 -- in this file goes over the text. That `HistTexts` tells the leftmost of them is stated in `HistLaws`.
 use Rattle.std.specs.Prelude.{◌≡◌, ◌⊎◌, ℕ, ◌+◌, ◌≤◌, Bool, IsTrue, false, codes, List, [], ◌∷◌, ◌++◌, length, flat_map, Option, None}
 use Rattle.std.specs.List.{All, Any, Contains}
@@ -27,15 +27,15 @@ pub record Cut (text : List ℕ) : Type 0 where
   pub ends : BeginsBlank tail
   pub parts : IsCut 58 word attributes
 
--- one of the parts, after these, where the first part begins at one place and this one at another
-pub record IsAt (byte start : ℕ) (parts before : List (List ℕ)) (part : List ℕ) (place : ℕ) : Type 0 where
+-- one of the parts, after these, where the first part begins at one offset and this one at another
+pub record IsAt (byte start : ℕ) (parts before : List (List ℕ)) (part : List ℕ) (offset : ℕ) : Type 0 where
   pub after : List (List ℕ)
   pub cut : parts ≡ before ++ part ∷ after
-  pub is_there : place ≡ start + length (flat_map (λ (other : List ℕ). other ++ byte ∷ []) before)
+  pub is_there : offset ≡ start + length (flat_map (λ (other : List ℕ). other ++ byte ∷ []) before)
 
 -- where the first attribute begins
-abbrev pub first_place : {text : List ℕ} → Cut text → ℕ
-first_place text = length (mark text.removes ++ codes "hist:")
+abbrev pub first_offset : {text : List ℕ} → Cut text → ℕ
+first_offset text = length (mark text.removes ++ codes "hist:")
 
 -- ---- wrong attributes
 
@@ -64,10 +64,10 @@ pub record IsRepeated (before : List (List ℕ)) (attribute : List ℕ) : Type 0
   pub about : IsAbout subject attribute
   pub other : Any (IsAbout subject) before
 
-pub record WrongAttribute {text : List ℕ} (cut : Cut text) (place : ℕ) : Type 0 where
+pub record WrongAttribute {text : List ℕ} (cut : Cut text) (offset : ℕ) : Type 0 where
   pub before : List (List ℕ)
   pub attribute : List ℕ
-  pub is_at : IsAt 58 (first_place cut) cut.attributes before attribute place
+  pub is_at : IsAt 58 (first_offset cut) cut.attributes before attribute offset
   pub wrong : IsUnknown attribute ⊎ (IsRepeated before attribute ⊎ IsNoSize attribute)
 
 -- ---- wrong items of lists
@@ -122,10 +122,10 @@ IsWrongItem OfSize attributes before item = ⊥
 IsWrongItem OfAction attributes before item = ⊥
 
 -- how many bytes come before the first item of an attribute after these
-abbrev pub items_place : {text : List ℕ} → Cut text → List (List ℕ) → List ℕ → ℕ
-items_place cut before head = first_place cut + length (flat_map (λ (other : List ℕ). other ++ 58 ∷ []) before) + length head
+abbrev pub items_offset : {text : List ℕ} → Cut text → List (List ℕ) → List ℕ → ℕ
+items_offset cut before head = first_offset cut + length (flat_map (λ (other : List ℕ). other ++ 58 ∷ []) before) + length head
 
-pub record WrongItem {text : List ℕ} (cut : Cut text) (place : ℕ) : Type 0 where
+pub record WrongItem {text : List ℕ} (cut : Cut text) (offset : ℕ) : Type 0 where
   pub subject : Subject
   pub attributes_before : List (List ℕ)
   pub attribute : List ℕ
@@ -134,33 +134,33 @@ pub record WrongItem {text : List ℕ} (cut : Cut text) (place : ℕ) : Type 0 w
   pub list : IsList subject cut.attributes attributes_before attribute head items
   pub before : List (List ℕ)
   pub item : List ℕ
-  pub is_at : IsAt 44 (items_place cut attributes_before head) items before item place
+  pub is_at : IsAt 44 (items_offset cut attributes_before head) items before item offset
   pub wrong : IsWrongItem subject cut.attributes before item
 
 -- ---- the end of the first word, and what follows it
 
--- no attribute is about keys, and the place is the word's end
-pub record LacksKeys {text : List ℕ} (cut : Cut text) (place : ℕ) : Type 0 where
+-- no attribute is about keys, and the offset is the word's end
+pub record LacksKeys {text : List ℕ} (cut : Cut text) (offset : ℕ) : Type 0 where
   pub none : All (λ attribute. IsAbout OfKeys attribute → ⊥) cut.attributes
-  pub is_at : place ≡ first_place cut + length cut.word
+  pub is_at : offset ≡ first_offset cut + length cut.word
 
--- the place is the first after the word that is not blank, and no filter's text can be read there
-pub record WrongTail {text : List ℕ} (cut : Cut text) (place : ℕ) : Type 0 where
+-- the offset is the first after the word that is not blank, and no filter's text can be read there
+pub record WrongTail {text : List ℕ} (cut : Cut text) (offset : ℕ) : Type 0 where
   pub front : List ℕ
   pub rest : List ℕ
   pub tail : cut.tail ≡ front ++ rest
   pub blanks : AreBlanks front
   pub begins : BeginsUnblank rest
   pub wrong : (condition : Option (List ℕ)) → IsTail cut.tail condition → ⊥
-  pub is_at : place ≡ first_place cut + length cut.word + length front
+  pub is_at : offset ≡ first_offset cut + length cut.word + length front
 
 -- ---- all of it
 
 abbrev pub IsWrongAt : {text : List ℕ} → Cut text → ℕ → Type 0
-IsWrongAt cut place = WrongAttribute cut place ⊎ (WrongItem cut place ⊎ (LacksKeys cut place ⊎ WrongTail cut place))
+IsWrongAt cut offset = WrongAttribute cut offset ⊎ (WrongItem cut offset ⊎ (LacksKeys cut offset ⊎ WrongTail cut offset))
 
--- the leftmost place where a text is wrong
-pub record IsLeftmostWrong (text : List ℕ) (place : ℕ) : Type 0 where
+-- the leftmost offset where a text is wrong
+pub record IsLeftmostWrong (text : List ℕ) (offset : ℕ) : Type 0 where
   pub cut : Cut text
-  pub wrong : IsWrongAt cut place
-  pub leftmost : (other : ℕ) → IsWrongAt cut other → place ≤ other
+  pub wrong : IsWrongAt cut offset
+  pub leftmost : (other : ℕ) → IsWrongAt cut other → offset ≤ other

@@ -1,4 +1,4 @@
--- The places at which a trigger string breaks the grammar (histogram.rst, "hist triggers"). The least of them is told.
+-- The offsets at which a trigger string breaks the grammar (histogram.rst, "hist triggers"). The least of them is told.
 use Rattle.std.specs.Prelude.{ℕ, Bool, true, false, not, ◌&&◌, ◌||◌, nat_lt, if◌then◌else◌, List, [], ◌∷◌, ◌++◌, bytes_eq, length, map, min, Option, None, Some}
 use Rattle.std.specs.Option.{is_none}
 use Rattle.std.specs.List.{list_any}
@@ -8,7 +8,7 @@ use Rattle.trace_trigger.specs.declared.attribute.Topic.{Topic}
 use Rattle.trace_trigger.specs.declared.attribute.Topic.TheVariants.{Size, Unknown}
 use Rattle.trace_trigger.specs.declared.attribute.Attribute.{Attribute}
 use Rattle.trace_trigger.specs.declared.piece.Piece.{Piece}
-use Rattle.trace_trigger.specs.HistParts.{attributes_of, end_of, tail_of, is_condition, place_in}
+use Rattle.trace_trigger.specs.HistParts.{attributes_of, end_of, tail_of, is_condition, offset_in}
 use Rattle.trace_trigger.specs.HistLists.{Lists, lists_of, is_same_topic, is_listed, is_sortable, sort_name, sort_suffix, is_direction}
 
 -- the elements of a list that are wrong, each judged by those before it and by itself
@@ -35,8 +35,8 @@ is_bad_size attribute = is_same_topic Size attribute.topic && is_none (decimal_n
 abbrev pub is_wrong_attribute : List Attribute → Attribute → Bool
 is_wrong_attribute before attribute = (is_unknown attribute.topic || is_repeated before attribute) || is_bad_size attribute
 
-unfoldable pub attribute_places : List Attribute → List ℕ
-attribute_places attributes = map (λ (attribute : Attribute). attribute.at) (wrong_after is_wrong_attribute [] attributes)
+unfoldable pub attribute_offsets : List Attribute → List ℕ
+attribute_offsets attributes = map (λ (attribute : Attribute). attribute.at) (wrong_after is_wrong_attribute [] attributes)
 
 -- ---- items
 
@@ -48,15 +48,15 @@ is_wrong_name before item = not (is_name item.bytes) || is_listed before item.by
 abbrev pub is_wrong_key : List Piece → Piece → Bool
 is_wrong_key before item = is_wrong_name before item
 
-unfoldable pub key_places : List Piece → List ℕ
-key_places keys = map (λ (item : Piece). item.at) (wrong_after is_wrong_key [] keys)
+unfoldable pub key_offsets : List Piece → List ℕ
+key_offsets keys = map (λ (item : Piece). item.at) (wrong_after is_wrong_key [] keys)
 
 -- and so is a value
 abbrev pub is_wrong_value : List Piece → Piece → Bool
 is_wrong_value before item = is_wrong_name before item
 
-unfoldable pub value_places : List Piece → List ℕ
-value_places values = map (λ (item : Piece). item.at) (wrong_after is_wrong_value [] values)
+unfoldable pub value_offsets : List Piece → List ℕ
+value_offsets values = map (λ (item : Piece). item.at) (wrong_after is_wrong_value [] values)
 
 -- whether a sort key has this name
 abbrev pub is_sorted_by : List Piece → List ℕ → Bool
@@ -67,30 +67,30 @@ abbrev pub is_wrong_sort : Lists → List Piece → Piece → Bool
 is_wrong_sort lists before item = (not (is_sortable lists (sort_name item.bytes)) || not (is_direction (sort_suffix item.bytes)))
     || is_sorted_by before (sort_name item.bytes)
 
-unfoldable pub sort_places : Lists → List ℕ
-sort_places lists = map (λ (item : Piece). item.at) (wrong_after (is_wrong_sort lists) [] lists.sort)
+unfoldable pub sort_offsets : Lists → List ℕ
+sort_offsets lists = map (λ (item : Piece). item.at) (wrong_after (is_wrong_sort lists) [] lists.sort)
 
 -- ---- the whole string
 
 -- without keys the string goes wrong where its first word ends
-abbrev pub keyless_places : ℕ → List Piece → List ℕ
-keyless_places end [] = end ∷ []
-keyless_places end (key ∷ keys) = []
+abbrev pub keyless_offsets : ℕ → List Piece → List ℕ
+keyless_offsets end [] = end ∷ []
+keyless_offsets end (key ∷ keys) = []
 
 -- after the word: what is no condition, at its first byte
-abbrev pub tail_places : List ℕ → List ℕ → List ℕ
-tail_places text tail = if nat_lt 0 (length tail) && not (is_condition tail) then place_in text tail ∷ [] else []
+abbrev pub tail_offsets : List ℕ → List ℕ → List ℕ
+tail_offsets text tail = if nat_lt 0 (length tail) && not (is_condition tail) then offset_in text tail ∷ [] else []
 
-abbrev pub list_places : Lists → List ℕ
-list_places lists = key_places lists.keys ++ value_places lists.values ++ sort_places lists
+abbrev pub list_offsets : Lists → List ℕ
+list_offsets lists = key_offsets lists.keys ++ value_offsets lists.values ++ sort_offsets lists
 
-unfoldable pub wrong_places : List ℕ → List ℕ
-wrong_places text = attribute_places (attributes_of text)
-    ++ list_places (lists_of (attributes_of text))
-    ++ keyless_places (end_of text) (lists_of (attributes_of text)).keys
-    ++ tail_places text (tail_of text)
+unfoldable pub wrong_offsets : List ℕ → List ℕ
+wrong_offsets text = attribute_offsets (attributes_of text)
+    ++ list_offsets (lists_of (attributes_of text))
+    ++ keyless_offsets (end_of text) (lists_of (attributes_of text)).keys
+    ++ tail_offsets text (tail_of text)
 
--- ---- the least place
+-- ---- the least offset
 
 abbrev pub earlier : Option ℕ → Option ℕ → Option ℕ
 earlier None right = right
@@ -99,4 +99,4 @@ earlier (Some left) (Some right) = Some (min left right)
 
 abbrev pub least : List ℕ → Option ℕ
 least [] = None
-least (place ∷ places) = earlier (Some place) (least places)
+least (offset ∷ offsets) = earlier (Some offset) (least offsets)

@@ -1,4 +1,4 @@
--- The places of a filter's faults are in the filter's text.
+-- The offsets of a filter's faults are in the filter's text.
 use Rattle.std.proofs.Common.{◌≡◌, ℕ, zero, suc, ◌+◌, ◌-◌, ◌≤◌, Bool, true, false, if◌then◌else◌, List, [], ◌∷◌, ◌++◌, length, reverse, Option, Some, None, ◌⊎◌, inl, inr, subst, arith}
 use Rattle.std.specs.List.{prefix_len, AllByRecursion}
 use Rattle.std.proofs.lemmas.List.{length-take}
@@ -120,7 +120,7 @@ module _ (definition : Definition) (text : List ℕ) where
   syntax_within at (inl is) = wrong_within at is.1
   syntax_within at (inr is) = found_within (FilterSyntax at) is.2
 
-  -- a filter is refused at a place in its text
+  -- a filter is refused at an offset in its text
   pub told_within : (fault : FilterFault) → IsTold definition text fault → IsWithin (length text) fault
   told_within TooMany is = tt
   told_within (FilterSyntax at) is = syntax_within at is

@@ -8,12 +8,12 @@ use Rattle.std.proofs.lemmas.List.Sums.{prefix_len-le-length}
 use Rattle.trace_lex.specs.Prefixes.{is_not}
 use Rattle.trace_trigger.specs.declared.piece.Piece.{Piece}
 use Rattle.trace_trigger.specs.HistPieces.{lengthened, pieces_of}
-use Rattle.trace_trigger.specs.HistAttributes.{head_len, attribute_of, attributes_at, IsPlaced}
+use Rattle.trace_trigger.specs.HistAttributes.{head_len, attribute_of, attributes_at, IsLocated}
 
 abbrev IsWithin : ℕ → Piece → Type 0
 IsWithin end piece = piece.at + length piece.bytes ≤ end
 
--- the first of the parts begins at a place
+-- the first of the parts begins at an offset
 abbrev BeginAt : ℕ → ℕ → List Piece → Type 0
 BeginAt end at [] = Unit {0}
 BeginAt end at (piece ∷ pieces) = (piece.at ≡ at) × (at + length piece.bytes ≤ end) × All (IsWithin end) pieces
@@ -39,13 +39,13 @@ pub pieces_within : (separator end at : ℕ) (bytes : List ℕ) → at + length 
 pieces_within separator end at bytes h = all_within end at (pieces_of separator at bytes) (pieces_begin separator end at bytes h)
 
 -- an attribute's value ends where the attribute ends
-placed : (piece : Piece) → IsWithin (2 ^ 64 - 1) piece → IsPlaced (attribute_of piece)
-placed piece h = omega (arith, h, length-drop (head_len piece.bytes) piece.bytes, head_within piece.bytes)
+located : (piece : Piece) → IsWithin (2 ^ 64 - 1) piece → IsLocated (attribute_of piece)
+located piece h = omega (arith, h, length-drop (head_len piece.bytes) piece.bytes, head_within piece.bytes)
   where
     head_within : (written : List ℕ) → head_len written ≤ length written
     head_within written = grind (arith, nat_tests, prefix_len-le-length (is_not 61) written)
 
-pub attributes_placed : (at : ℕ) (text : List ℕ) → at + length text < 2 ^ 64 → All IsPlaced (attributes_at at text)
-attributes_placed at text h =
+pub attributes_located : (at : ℕ) (text : List ℕ) → at + length text < 2 ^ 64 → All IsLocated (attributes_at at text)
+attributes_located at text h =
     let within : All (IsWithin (2 ^ 64 - 1)) (pieces_of 58 at text) = pieces_within 58 (2 ^ 64 - 1) at text (omega (arith, h)) in
-    All-map IsPlaced attribute_of (pieces_of 58 at text) (λ k d inside. placed _ (within k d inside))
+    All-map IsLocated attribute_of (pieces_of 58 at text) (λ k d inside. located _ (within k d inside))

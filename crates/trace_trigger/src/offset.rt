@@ -1,0 +1,202 @@
+//! Where a trigger string breaks the grammar.
+
+ghost use Rattle.std.specs.Prelude.{◌≡◌, ◌≤◌, ◌++◌, length};
+ghost use Rattle.std.specs.Option.{is_some};
+ghost use Rattle.trace_lex.specs.Decimals as decimals;
+ghost use Rattle.trace_trigger.specs.HistOffsets as offsets;
+
+use crate::attribute::{Attribute, Topic};
+use crate::hist_parts::condition_of;
+use crate::piece::Piece;
+use crate::written::{Written, is_direction, is_listed, is_same_topic, sort_name, sort_suffix};
+use trace_lex::{all_digits, is_name};
+
+/// The earlier of two offsets, if there are any.
+fn earlier(left: Option<usize>, right: Option<usize>) -> Option<usize>
+    ensures { result ≡ offsets.earlier left right }
+{
+    match (left, right) {
+        (Some(left), Some(right)) => Some(left.min(right)),
+        (Some(left), None) => Some(left),
+        (None, right) => right,
+    }
+}
+
+fn is_unknown(topic: Topic) -> bool
+    ensures { result ≡ offsets.is_unknown topic }
+{
+    matches!(topic, Topic::Unknown)
+}
+
+/// Whether an attribute before this one is on the same topic.
+fn is_repeated(before: &[Attribute], attribute: &Attribute) -> bool
+    ensures { result ≡ offsets.is_repeated before.now attribute.now }
+{
+    before
+        .iter()
+        .any(|other| is_same_topic(other.topic, attribute.topic))
+}
+
+/// Whether a string is decimal digits, one at least.
+fn is_decimal(text: &[u8]) -> bool
+    ensures { result ≡ is_some (decimals.decimal_number text.now) }
+{
+    !text.is_empty() && all_digits(text)
+}
+
+/// Whether an attribute is a size that is not written in decimal digits.
+fn is_bad_size(attribute: &Attribute) -> bool
+    ensures { result ≡ offsets.is_bad_size attribute.now }
+{
+    is_same_topic(Topic::Size, attribute.topic) && !is_decimal(attribute.value.as_bytes())
+}
+
+fn is_wrong_attribute(before: &[Attribute], attribute: &Attribute) -> bool
+    ensures { result ≡ offsets.is_wrong_attribute before.now attribute.now }
+{
+    is_unknown(attribute.topic) || is_repeated(before, attribute) || is_bad_size(attribute)
+}
+
+/// The first offset of an attribute that is wrong.
+#[tactic(auto, using(crate::proofs::WrongOffsets::from_wrong, crate::proofs::WrongOffsets::from_right, crate::proofs::WrongOffsets::from_end), unfolding(crate::specs::HistOffsets::attribute_offsets))]
+fn attribute_offset(attributes: &[Attribute]) -> Option<usize>
+    ensures { result ≡ offsets.least (offsets.attribute_offsets attributes.now) }
+{
+    let mut offset = None;
+    for (index, attribute) in attributes.iter().enumerate() {
+        if is_wrong_attribute(&attributes[..index], attribute) {
+            offset = earlier(offset, Some(attribute.at));
+        }
+    }
+    offset
+}
+
+/// Whether an item is no name, or one that stands in the list before.
+fn is_wrong_name(before: &[Piece], item: &Piece) -> bool
+    ensures { result ≡ offsets.is_wrong_name before.now item.now }
+{
+    let name = item.bytes.as_bytes();
+    !is_name(name) || is_listed(before, name)
+}
+
+/// A key is a name.
+fn is_wrong_key(before: &[Piece], item: &Piece) -> bool
+    ensures { result ≡ offsets.is_wrong_key before.now item.now }
+{
+    is_wrong_name(before, item)
+}
+
+/// The first offset of a key that is wrong.
+#[tactic(auto, using(crate::proofs::WrongOffsets::from_wrong, crate::proofs::WrongOffsets::from_right, crate::proofs::WrongOffsets::from_end), unfolding(crate::specs::HistOffsets::key_offsets))]
+fn key_offset(keys: &[Piece]) -> Option<usize>
+    ensures { result ≡ offsets.least (offsets.key_offsets keys.now) }
+{
+    let mut offset = None;
+    for (index, item) in keys.iter().enumerate() {
+        if is_wrong_key(&keys[..index], item) {
+            offset = earlier(offset, Some(item.at));
+        }
+    }
+    offset
+}
+
+/// A value is a name.
+fn is_wrong_value(before: &[Piece], item: &Piece) -> bool
+    ensures { result ≡ offsets.is_wrong_value before.now item.now }
+{
+    is_wrong_name(before, item)
+}
+
+/// The first offset of a value that is wrong.
+#[tactic(auto, using(crate::proofs::WrongOffsets::from_wrong, crate::proofs::WrongOffsets::from_right, crate::proofs::WrongOffsets::from_end), unfolding(crate::specs::HistOffsets::value_offsets))]
+fn value_offset(values: &[Piece]) -> Option<usize>
+    ensures { result ≡ offsets.least (offsets.value_offsets values.now) }
+{
+    let mut offset = None;
+    for (index, item) in values.iter().enumerate() {
+        if is_wrong_value(&values[..index], item) {
+            offset = earlier(offset, Some(item.at));
+        }
+    }
+    offset
+}
+
+/// Whether a sort key of this name is among these.
+fn is_sorted_by(items: &[Piece], name: &[u8]) -> bool
+    ensures { result ≡ offsets.is_sorted_by items.now name.now }
+{
+    items
+        .iter()
+        .any(|item| name == sort_name(item.bytes.as_bytes()))
+}
+
+/// Whether a sort key can't be sorted by, has another suffix than a direction, or has a name that stands in the list before.
+fn is_wrong_sort(written: &Written, before: &[Piece], item: &Piece) -> bool
+    ensures { result ≡ offsets.is_wrong_sort written.now before.now item.now }
+{
+    let name = sort_name(item.bytes.as_bytes());
+    !written.is_sortable(name)
+        || !is_direction(sort_suffix(item.bytes.as_bytes()))
+        || is_sorted_by(before, name)
+}
+
+/// The first offset of a sort key that is wrong.
+#[tactic(auto, using(crate::proofs::WrongOffsets::from_wrong, crate::proofs::WrongOffsets::from_right, crate::proofs::WrongOffsets::from_end), unfolding(crate::specs::HistOffsets::sort_offsets))]
+fn sort_offset(written: &Written) -> Option<usize>
+    ensures { result ≡ offsets.least (offsets.sort_offsets written.now) }
+{
+    let mut offset = None;
+    for (index, item) in written.sort.iter().enumerate() {
+        if is_wrong_sort(written, &written.sort[..index], item) {
+            offset = earlier(offset, Some(item.at));
+        }
+    }
+    offset
+}
+
+/// The first offset of an item that is wrong.
+#[tactic(auto, using(crate::proofs::WrongOffsets::least_append))]
+fn list_offset(written: &Written) -> Option<usize>
+    ensures { result ≡ offsets.least (offsets.list_offsets written.now) }
+{
+    let names = earlier(key_offset(&written.keys), value_offset(&written.values));
+    earlier(names, sort_offset(written))
+}
+
+/// The offset of the first word's end, if there are no keys.
+fn keyless_offset(end: usize, keys: &[Piece]) -> Option<usize>
+    ensures { result ≡ offsets.least (offsets.keyless_offsets end keys.now) }
+{
+    if keys.is_empty() { Some(end) } else { None }
+}
+
+/// The offset of what follows the first word, unless it is a condition or there is nothing.
+fn tail_offset(text: &[u8], tail: &[u8]) -> Option<usize>
+    requires { length tail.now ≤ length text.now }
+    ensures { result ≡ offsets.least (offsets.tail_offsets text.now tail.now) }
+{
+    if !tail.is_empty() && condition_of(tail).is_none() {
+        Some(text.len() - tail.len())
+    } else {
+        None
+    }
+}
+
+/// The first offset at which a string breaks the grammar, if it does: given where its first word ends, what follows that and blanks, and the
+/// attributes with what they say.
+#[tactic(auto, using(crate::proofs::WrongOffsets::least_append))]
+pub(crate) fn wrong_offset(
+    text: &[u8],
+    end: usize,
+    tail: &[u8],
+    attributes: &[Attribute],
+    written: &Written,
+) -> Option<usize>
+    requires { length tail.now ≤ length text.now }
+    ensures { result ≡ offsets.least (offsets.attribute_offsets attributes.now ++ offsets.list_offsets written.now
+        ++ offsets.keyless_offsets end written.now.keys ++ offsets.tail_offsets text.now tail.now) }
+{
+    let listed = earlier(attribute_offset(attributes), list_offset(written));
+    let worded = earlier(listed, keyless_offset(end, &written.keys));
+    earlier(worded, tail_offset(text, tail))
+}
