@@ -3,7 +3,7 @@ use Rattle.std.proofs.Common.{◌≡◌, ℕ, zero, suc, ◌+◌, ◌≤◌, ◌
 use Rattle.std.specs.List.{prefix_len}
 use Rattle.std.specs.Bool.{passes}
 use Rattle.std.proofs.lemmas.Bool.{cond-true, cond-false, cond_both, and_parts, le-ltb, ltb-false}
-use Rattle.trace_filter.specs.declared.glob.PartPiece as pieces
+use Rattle.trace_filter.specs.declared.glob.ReadElement as pieces
 use Rattle.trace_lex.specs.Prefixes.{is_not}
 use Rattle.trace_filter.specs.Globs.{OneByte, itself, class_from, class_piece, part_of}
 use Rattle.trace_filter.specs.SeenGlobs.{IsPartPiece}
@@ -77,7 +77,7 @@ unclosed (b ∷ bs) h n = by (b == 33) refl n h
     by false e zero h = first_itself b bs (from_unclosed false 0 b bs h)
     by false e (suc n) h = all_itself (drop n bs) (none_behind n bs (from_unclosed false 0 b bs h))
 
-module _ (rest others : List ℕ) (first : ℕ) (found : pieces.PartPiece) (cut : rest ≡ first ∷ others) (is : IsPartPiece (part_of first others) found (length others)) where
+module _ (rest others : List ℕ) (first : ℕ) (found : pieces.ReadElement) (cut : rest ≡ first ∷ others) (is : IsPartPiece (part_of first others) found (length others)) where
   same_rest : (n : ℕ) → drop (suc (found.more + n)) rest ≡ drop n (drop found.more others)
   same_rest n = ap (drop (suc (found.more + n))) cut ∙ sym (drop-drop n found.more others)
 

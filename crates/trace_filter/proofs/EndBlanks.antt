@@ -11,10 +11,10 @@ use Rattle.trace_lex.proofs.Lists.{AllByRecursion-push}
 use Rattle.trace_lex.specs.Names.{is_name, is_name_byte}
 use Rattle.trace_lex.specs.Blanks.{is_blank, without_end}
 use Rattle.trace_lex.specs.Prefixes.{is_not}
-use Rattle.trace_filter.specs.Tokens.{Word, Quoted, Token, Name, Value, Illegible, is_quote, is_word_byte, begins_with, Piece, quoted_piece, word_piece, name_piece, longest, symbol_piece, piece_of, is_comparison, Spot, spots_from}
+use Rattle.trace_filter.specs.Tokens.{Word, Quoted, Token, Name, Value, Illegible, is_quote, is_word_byte, begins_with, ReadToken, quoted_piece, word_piece, name_piece, longest, symbol_piece, piece_of, is_comparison, Spot, spots_from}
 use Rattle.trace_filter.proofs.Ends.{other}
 
-abbrev pub sized : Token → ℕ → Piece
+abbrev pub sized : Token → ℕ → ReadToken
 sized token more = record { token = token; more = more }
 
 abbrev pub AllBlank : List ℕ → Type 0
@@ -49,7 +49,7 @@ begins_before x f [] [] h = refl
 begins_before x f [] (e ∷ ends) h = other e x (λ same. no_both (is_blank x) (ap is_blank (sym same) ∙ h.0) f)
 begins_before x f (b ∷ bs) ends h = refl
 
-if_same : (p : Bool) {x y s t : Piece} → (p ≡ true → x ≡ s) → y ≡ t → (if p then x else y) ≡ (if p then s else t)
+if_same : (p : Bool) {x y s t : ReadToken} → (p ≡ true → x ≡ s) → y ≡ t → (if p then x else y) ≡ (if p then s else t)
 if_same true f g = f refl
 if_same false f g = g
 
@@ -126,7 +126,7 @@ spots_before due zero at [] ends h = only_blanks due 0 at ends h
 spots_before due (suc skip) at [] ends h = only_blanks due (suc skip) at ends h
 spots_before due (suc skip) at (b ∷ bs) ends h = spots_before due skip (at + 1) bs ends h
 spots_before due zero at (b ∷ bs) ends h =
-    ap (λ (p : Piece). if is_blank b then spots_from due 0 (at + 1) (bs ++ ends) else (record { at = at; token = p.token } ∷ spots_from (is_comparison p.token) p.more (at + 1) (bs ++ ends))) (piece_before bs ends h due b)
+    ap (λ (p : ReadToken). if is_blank b then spots_from due 0 (at + 1) (bs ++ ends) else (record { at = at; token = p.token } ∷ spots_from (is_comparison p.token) p.more (at + 1) (bs ++ ends))) (piece_before bs ends h due b)
     ∙ by (is_blank b) (spots_before due 0 (at + 1) bs ends h)
     (ap (λ spots. record { at = at; token = (piece_of due b bs).token } ∷ spots) (spots_before (is_comparison (piece_of due b bs).token) (piece_of due b bs).more (at + 1) bs ends h))
   where

@@ -5,7 +5,7 @@ use Rattle.std.proofs.lemmas.Bool.{cond-true, cond-false, eqb-true, lt-ltb}
 use Rattle.std.proofs.Math.Seq.{take-append_seam, drop-append_seam}
 use Rattle.trace_lex.specs.Prefixes.{is_not}
 use Rattle.trace_filter.proofs.Ends.{differs, other, EndsAt, ends, end_len}
-use Rattle.trace_filter.specs.Globs.{Part, OneByte, PartPiece, itself, class_from, class_piece, part_of, parts_from, parts_of}
+use Rattle.trace_filter.specs.Globs.{Element, OneByte, ReadElement, itself, class_from, class_piece, part_of, parts_from, parts_of}
 use Rattle.trace_filter.specs.GlobGrammar.{GlobPiece, Star, Question, Bracketed, Plain, IsClass, class_text, BeginsClass, IsPieceBefore, piece_text, piece_part, IsPattern, IsWrittenGlob}
 
 -- to skip bytes is to drop them
@@ -16,10 +16,10 @@ skipped (suc n) (b ∷ bs) = skipped n bs
 
 -- ---- classes
 
-abbrev class_part : Bool → ℕ → List ℕ → Part
+abbrev class_part : Bool → ℕ → List ℕ → Element
 class_part negated first others = OneByte (record { negated = negated; members = first ∷ others })
 
-abbrev sized : Part → ℕ → PartPiece
+abbrev sized : Element → ℕ → ReadElement
 sized part more = record { part = part; more = more }
 
 from_read : (negated : Bool) (before first : ℕ) (others rest : List ℕ) → AllByRecursion (λ b. b ≢ 93) others
@@ -79,7 +79,7 @@ class_or_not (b ∷ bs) = by (b == 33) refl bs
 
 -- not both
 class_not_itself : (bytes : List ℕ) → class_piece bytes ≡ itself 91 → BeginsClass bytes → ⊥
-class_not_itself bytes e c = none c.negated c.first c.others (ap (λ (p : PartPiece). p.more) (sym (class_read c.negated c.first c.others c.rest c.lawful) ∙ (ap class_piece c.text ∙ e)))
+class_not_itself bytes e c = none c.negated c.first c.others (ap (λ (p : ReadElement). p.more) (sym (class_read c.negated c.first c.others c.rest c.lawful) ∙ (ap class_piece c.text ∙ e)))
   where
     none : (negated : Bool) (first : ℕ) (others : List ℕ) → length (class_text negated first others) ≡ 0 → ⊥
     none true first others h = omega (arith, h)
@@ -87,9 +87,9 @@ class_not_itself bytes e c = none c.negated c.first c.others (ap (λ (p : PartPi
 
 -- ---- what is written is read
 
-part_led : (b : ℕ) (front rest : List ℕ) (part : Part) → part_of b (front ++ rest) ≡ sized part (length front) → parts_from 0 (b ∷ front ++ rest) ≡ part ∷ parts_from 0 rest
+part_led : (b : ℕ) (front rest : List ℕ) (part : Element) → part_of b (front ++ rest) ≡ sized part (length front) → parts_from 0 (b ∷ front ++ rest) ≡ part ∷ parts_from 0 rest
 part_led b front rest part e =
-    ap (λ (p : PartPiece). p.part ∷ parts_from p.more (front ++ rest)) e ∙ ap (λ ps. part ∷ ps) (skipped (length front) (front ++ rest) ∙ ap (parts_from 0) (drop-append_seam front rest))
+    ap (λ (p : ReadElement). p.part ∷ parts_from p.more (front ++ rest)) e ∙ ap (λ ps. part ∷ ps) (skipped (length front) (front ++ rest) ∙ ap (parts_from 0) (drop-append_seam front rest))
 
 plain_part : (b : ℕ) (rest : List ℕ) → IsPieceBefore rest (Plain b) → part_of b rest ≡ itself b
 unfolding part_of
@@ -145,7 +145,7 @@ spelled (suc limit) (b ∷ bs) h =
     let others = spelled limit p.1 (omega (arith, h, size, has_a_byte p.0)) in
     (p.0 ∷ others.0, (subst (λ bytes. IsPieceBefore bytes p.0) (sym others.2) p.2, others.1), ap (λ bytes. piece_text p.0 ++ bytes) others.2 ∙ p.3)
 
-pub globs_are_as_written : (pattern : List ℕ) (parts : List Part) → IsWrittenGlob pattern parts ↔ (parts ≡ parts_of pattern)
+pub globs_are_as_written : (pattern : List ℕ) (parts : List Element) → IsWrittenGlob pattern parts ↔ (parts ≡ parts_of pattern)
 globs_are_as_written pattern parts = (
   (λ w. sym w.meaning ∙ (pattern_read w.pieces w.lawful ∙ ap parts_of w.text)),
   (λ e.

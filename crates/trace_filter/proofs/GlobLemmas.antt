@@ -1,11 +1,11 @@
 -- The marks say what a glob matches.
 use Rattle.std.proofs.Common.{◌≡◌, ◌⊎◌, ◌↔◌, ℕ, Bool, true, false, ◌||◌, ◌&&◌, List, [], ◌∷◌, ◌++◌, length, map, refl, sym, ap, subst, inl, inr}
 use Rattle.std.proofs.lemmas.Bool.{and_parts, and_from}
-use Rattle.trace_filter.specs.Globs.{Class, is_in_class, Part, AnyBytes, OneByte, Matches}
+use Rattle.trace_filter.specs.Globs.{Class, is_in_class, Element, AnyBytes, OneByte, Matches}
 use Rattle.trace_filter.specs.Marks.{spread, shift, advance, advance_all, mark_at, first_row, is_match}
 
 -- some marked front of the text has behind it what the parts match
-abbrev Reaches : List Part → List Bool → List ℕ → Type 0
+abbrev Reaches : List Element → List Bool → List ℕ → Type 0
 Reaches parts [] text = ⊥
 Reaches parts (b ∷ row) [] = (b ≡ true) × Matches parts []
 Reaches parts (b ∷ row) (t ∷ text) = ((b ≡ true) × Matches parts (t ∷ text)) ⊎ Reaches parts row text
@@ -17,17 +17,17 @@ Fits (b ∷ row) [] = row ≡ []
 Fits (b ∷ row) (t ∷ text) = Fits row text
 
 -- `*` before parts: they match the text, or `*` before them what is behind its first byte
-any_here : (parts : List Part) (text : List ℕ) → Matches parts text → Matches (AnyBytes ∷ parts) text
+any_here : (parts : List Element) (text : List ℕ) → Matches parts text → Matches (AnyBytes ∷ parts) text
 any_here parts text m = ([], text, refl, m)
 
-any_later : (parts : List Part) (t : ℕ) (text : List ℕ) → Matches (AnyBytes ∷ parts) text → Matches (AnyBytes ∷ parts) (t ∷ text)
+any_later : (parts : List Element) (t : ℕ) (text : List ℕ) → Matches (AnyBytes ∷ parts) text → Matches (AnyBytes ∷ parts) (t ∷ text)
 any_later parts t text (front, rest, cut, m) = (t ∷ front, rest, ap (λ bytes. t ∷ bytes) cut, m)
 
-any_end : (parts : List Part) → Matches (AnyBytes ∷ parts) [] → Matches parts []
+any_end : (parts : List Element) → Matches (AnyBytes ∷ parts) [] → Matches parts []
 any_end parts ([], rest, cut, m) = subst (Matches parts) (sym cut) m
 any_end parts (f ∷ front, rest, cut, m) = absurd (cc)
 
-any_cases : (parts : List Part) (t : ℕ) (text : List ℕ) → Matches (AnyBytes ∷ parts) (t ∷ text) → Matches parts (t ∷ text) ⊎ Matches (AnyBytes ∷ parts) text
+any_cases : (parts : List Element) (t : ℕ) (text : List ℕ) → Matches (AnyBytes ∷ parts) (t ∷ text) → Matches parts (t ∷ text) ⊎ Matches (AnyBytes ∷ parts) text
 any_cases parts t text ([], rest, cut, m) = inl (subst (Matches parts) (sym cut) m)
 any_cases parts t text (f ∷ front, rest, cut, m) =
     let tail : text ≡ front ++ rest = cc in
@@ -47,7 +47,7 @@ or_right false b h = h
 
 -- ---- `*`
 
-spread_to : (parts : List Part) (seen : Bool) (row : List Bool) (text : List ℕ) → Fits row text
+spread_to : (parts : List Element) (seen : Bool) (row : List Bool) (text : List ℕ) → Fits row text
     → ((seen ≡ true) × Matches (AnyBytes ∷ parts) text) ⊎ Reaches (AnyBytes ∷ parts) row text → Reaches parts (spread seen row) text
 spread_to parts seen [] text fits h = fits
 spread_to parts seen (b ∷ row) [] fits (inl h) = (or_left seen b h.0, any_end parts h.1)
@@ -64,7 +64,7 @@ spread_to parts seen (b ∷ row) (t ∷ text) fits (inr (inl h)) =
     ]
 spread_to parts seen (b ∷ row) (t ∷ text) fits (inr (inr h)) = inr (spread_to parts (seen || b) row text fits (inr h))
 
-spread_from : (parts : List Part) (seen : Bool) (row : List Bool) (text : List ℕ) → Reaches parts (spread seen row) text
+spread_from : (parts : List Element) (seen : Bool) (row : List Bool) (text : List ℕ) → Reaches parts (spread seen row) text
     → ((seen ≡ true) × Matches (AnyBytes ∷ parts) text) ⊎ Reaches (AnyBytes ∷ parts) row text
 spread_from parts seen [] text h = absurd h
 spread_from parts seen (b ∷ row) [] h =
@@ -85,7 +85,7 @@ spread_from parts seen (b ∷ row) (t ∷ text) (inr h) = by (spread_from parts 
 
 -- ---- a class
 
-module _ (parts : List Part) (class : Class) where
+module _ (parts : List Element) (class : Class) where
   one_cases : (t : ℕ) (text : List ℕ) → Matches (OneByte class ∷ parts) (t ∷ text) → (is_in_class class t ≡ true) × Matches parts text
   one_cases t text (first, rest, cut, found, m) =
       let head : first ≡ t = cc in
@@ -134,13 +134,13 @@ shift_fits class carry (b ∷ row) (t ∷ text) fits = shift_fits class (b && is
 not_false : false ≡ true → ⊥
 not_false h = cc
 
-advance_reaches : (part : Part) (parts : List Part) (row : List Bool) (text : List ℕ) → Fits row text → Reaches (part ∷ parts) row text ↔ Reaches parts (advance part row text) text
+advance_reaches : (part : Element) (parts : List Element) (row : List Bool) (text : List ℕ) → Fits row text → Reaches (part ∷ parts) row text ↔ Reaches parts (advance part row text) text
 advance_reaches AnyBytes parts row text fits =
     ((λ h. spread_to parts false row text fits (inr h)), (λ h. elim (spread_from parts false row text h) [ inl s ↦ absurd (not_false s.0) | inr s ↦ s ]))
 advance_reaches (OneByte class) parts row text fits =
     ((λ h. shift_to parts class false row text fits (inr h)), (λ h. elim (shift_from parts class false row text h) [ inl s ↦ absurd (not_false s.0) | inr s ↦ s ]))
 
-advance_fits : (part : Part) (row : List Bool) (text : List ℕ) → Fits row text → Fits (advance part row text) text
+advance_fits : (part : Element) (row : List Bool) (text : List ℕ) → Fits row text → Fits (advance part row text) text
 advance_fits AnyBytes row text fits = spread_fits false row text fits
 advance_fits (OneByte class) row text fits = shift_fits class false row text fits
 
@@ -153,7 +153,7 @@ nothing_left (b ∷ row) (t ∷ text) fits =
     cons_nil : (t ∷ text) ≡ [] → ⊥
     cons_nil h = cc
 
-all_reach : (parts : List Part) (row : List Bool) (text : List ℕ) → Fits row text → Reaches parts row text ↔ (mark_at (length text) (advance_all parts row text) ≡ true)
+all_reach : (parts : List Element) (row : List Bool) (text : List ℕ) → Fits row text → Reaches parts row text ↔ (mark_at (length text) (advance_all parts row text) ≡ true)
 all_reach [] row text fits = nothing_left row text fits
 all_reach (part ∷ parts) row text fits =
     let one = advance_reaches part parts row text fits in
@@ -164,17 +164,17 @@ first_fits : (b : Bool) (text : List ℕ) → Fits (b ∷ map (λ c. false) text
 first_fits b [] = refl
 first_fits b (t ∷ text) = first_fits false text
 
-no_marks : (parts : List Part) (text : List ℕ) → Reaches parts (false ∷ map (λ b. false) text) text → ⊥
+no_marks : (parts : List Element) (text : List ℕ) → Reaches parts (false ∷ map (λ b. false) text) text → ⊥
 no_marks parts [] h = not_false h.0
 no_marks parts (t ∷ text) (inl h) = not_false h.0
 no_marks parts (t ∷ text) (inr h) = no_marks parts text h
 
-first_reaches : (parts : List Part) (text : List ℕ) → Matches parts text ↔ Reaches parts (first_row text) text
+first_reaches : (parts : List Element) (text : List ℕ) → Matches parts text ↔ Reaches parts (first_row text) text
 first_reaches parts [] = ((λ m. (refl, m)), (λ h. h.1))
 first_reaches parts (t ∷ text) = ((λ m. inl (refl, m)), (λ h. elim h [ inl s ↦ s.1 | inr s ↦ absurd (no_marks parts text s) ]))
 
 -- the last mark tells whether the parts match the text
-pub is_match-Decides : (parts : List Part) (text : List ℕ) → (is_match parts text ≡ true) ↔ Matches parts text
+pub is_match-Decides : (parts : List Element) (text : List ℕ) → (is_match parts text ≡ true) ↔ Matches parts text
 is_match-Decides parts text =
     let first = first_reaches parts text in
     let all = all_reach parts (first_row text) text (first_fits true text) in

@@ -1,7 +1,7 @@
 -- Rows of marks as the program moves them.
 use Rattle.std.proofs.Common.{◌≡◌, ℕ, zero, suc, ◌+◌, ◌-◌, ◌<◌, ◌≤◌, Bool, true, false, ◌||◌, ◌&&◌, List, [], ◌∷◌, ◌++◌, length, length-drop, map, take, drop, replicate, get_or, refl, sym, ap, ◌∙◌, add-one, arith}
 use Rattle.std.proofs.Math.ListN.{set}
-use Rattle.trace_filter.specs.declared.glob.PartPiece as pieces
+use Rattle.trace_filter.specs.declared.glob.ReadElement as pieces
 use Rattle.trace_filter.specs.Globs.{Class, is_in_class, parts_from, part_of}
 use Rattle.trace_filter.specs.Marks.{spread, shift, advance, advance_all, mark_at, first_row}
 use Rattle.trace_filter.specs.SeenGlobs.{glob_part_of, IsPartPiece}
@@ -59,7 +59,7 @@ skipped zero bs = refl
 skipped (suc n) [] = refl
 skipped (suc n) (b ∷ bs) = skipped n bs
 
-pub part_step : (rest others : List ℕ) (first : ℕ) (row moved : List Bool) (text : List ℕ) (found : pieces.PartPiece) → rest ≡ first ∷ others → IsPartPiece (part_of first others) found (length others)
+pub part_step : (rest others : List ℕ) (first : ℕ) (row moved : List Bool) (text : List ℕ) (found : pieces.ReadElement) → rest ≡ first ∷ others → IsPartPiece (part_of first others) found (length others)
     → moved ≡ advance (glob_part_of found.part) row text → advance_all (parts_from 0 (drop found.more others)) moved text ≡ advance_all (parts_from 0 rest) row text
 part_step rest others first row moved text found cut is is_moved =
     ap (λ m. advance_all (parts_from 0 (drop found.more others)) m text) is_moved

@@ -2,7 +2,7 @@
 use Rattle.std.proofs.Common.{◌≡◌, ℕ, zero, suc, ◌+◌, ◌-◌, ◌≤◌, Bool, false, List, [], ◌∷◌, length, drop, refl, sym, ap, ◌∙◌, subst, add-zero, one-add, arith, length-drop, drop-drop}
 use Rattle.std.specs.List.{prefix_len}
 use Rattle.std.proofs.lemmas.Bool.{cond-true, cond-false, cond_both}
-use Rattle.trace_filter.specs.declared.token.Piece as pieces
+use Rattle.trace_filter.specs.declared.token.ReadToken as pieces
 use Rattle.trace_lex.specs.Blanks.{is_blank}
 use Rattle.trace_filter.specs.Tokens.{piece_of, is_comparison, Token, Spot, spots_from}
 use Rattle.trace_filter.specs.Seen.{token_of, IsPiece, IsNextToken}
@@ -46,7 +46,7 @@ module _ (text : List ℕ) (value_due : Bool) (start n : ℕ) (n_is : n ≡ pref
   no_token none = from_token ∙ ap (spots_from value_due 0 (start + n)) none
 
   -- else a token begins there
-  pub next_token_at : (b : ℕ) (bs : List ℕ) (found : pieces.Piece) → drop (start + n) text ≡ b ∷ bs → IsPiece (piece_of value_due b bs) found bs → start + n ≤ length text
+  pub next_token_at : (b : ℕ) (bs : List ℕ) (found : pieces.ReadToken) → drop (start + n) text ≡ b ∷ bs → IsPiece (piece_of value_due b bs) found bs → start + n ≤ length text
       → IsNextToken text start value_due (record { at = start + n; end = start + n + 1 + found.more; token = found.token })
   next_token_at b bs found rest is within =
       let at = start + n in

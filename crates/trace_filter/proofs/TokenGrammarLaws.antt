@@ -8,7 +8,7 @@ use Rattle.trace_lex.specs.Names.{is_name, is_name_byte}
 use Rattle.trace_filter.specs.declared.token.Comparison.TheVariants as comparison
 use Rattle.trace_lex.specs.Blanks.{is_blank}
 use Rattle.trace_lex.specs.Prefixes.{is_not}
-use Rattle.trace_filter.specs.Tokens.{Word, Quoted, Token, Name, Value, Illegible, is_quote, is_word_byte, begins_with, Piece, quoted_piece, symbol_piece, piece_of, is_comparison, Spot, spots_from, spots_of}
+use Rattle.trace_filter.specs.Tokens.{Word, Quoted, Token, Name, Value, Illegible, is_quote, is_word_byte, begins_with, ReadToken, quoted_piece, symbol_piece, piece_of, is_comparison, Spot, spots_from, spots_of}
 use Rattle.trace_filter.specs.TokenGrammar.{Sign, Opening, Closing, Negation, Conjunction, Disjunction, Comparing, sign_text, sign_token, IsLongest, first_is, IsRun, Lexeme, Gap, Signed, Run, Bare, Within, lexeme_text, IsLexemeBefore, BeginsLexeme, TextPart, Legible, Stray, IsTextPart, part_text, part_tokens, due_behind, IsText, part_spots, IsWrittenText}
 use Rattle.trace_filter.proofs.Ends.{ends, end_len}
 use Rattle.trace_filter.proofs.SpotLemmas.{skipped}
@@ -78,7 +78,7 @@ led_read due at text rest token l =
     let size : at + 1 + length l.front ≡ at + length text = omega (arith, ap length l.begins) in
     ap (λ bs. spots_from due 0 at (bs ++ rest)) l.begins
     ∙ (cond-false (is_blank l.first) _ _ l.unblank
-    ∙ (ap (λ (p : Piece). located at p.token ∷ spots_from (is_comparison p.token) p.more (at + 1) (l.front ++ rest)) l.piece
+    ∙ (ap (λ (p : ReadToken). located at p.token ∷ spots_from (is_comparison p.token) p.more (at + 1) (l.front ++ rest)) l.piece
     ∙ ap (λ spots. located at token ∷ spots)
     (skipped (is_comparison token) (length l.front) (at + 1) (l.front ++ rest)
     ∙ (ap (spots_from (is_comparison token) 0 (at + 1 + length l.front)) (drop-append_seam l.front rest) ∙ ap (λ k. spots_from (is_comparison token) 0 k rest) size))))
@@ -87,7 +87,7 @@ led_token : (due : Bool) (b : ℕ) (bs text rest : List ℕ) (token : Token) →
 led_token due b bs text rest token l e =
     let whole : l.first ∷ l.front ++ rest ≡ b ∷ bs = ap (λ xs. xs ++ rest) (sym l.begins) ∙ e in
     ap (λ x. (piece_of due x bs).token) (sym (same_first l.first b (l.front ++ rest) bs whole))
-    ∙ (ap (λ xs. (piece_of due l.first xs).token) (sym (same_rest l.first b (l.front ++ rest) bs whole)) ∙ ap (λ (p : Piece). p.token) l.piece)
+    ∙ (ap (λ xs. (piece_of due l.first xs).token) (sym (same_rest l.first b (l.front ++ rest) bs whole)) ∙ ap (λ (p : ReadToken). p.token) l.piece)
 
 -- ---- signs
 
@@ -131,19 +131,19 @@ sign_leads false sign rest h =
     record { first = s.first; front = s.front; unblank = s.unblank; begins = s.text; piece = cond-false (is_name_byte s.first) _ _ s.unnamed ∙ s.piece }
 
 -- a sign begins, or its piece fits nothing
-data Found (b : ℕ) (bs : List ℕ) (piece : Piece) : Type 0 where
+data Found (b : ℕ) (bs : List ℕ) (piece : ReadToken) : Type 0 where
   a_sign : (sign : Sign) (rest : List ℕ) → IsLongest sign rest → sign_text sign ++ rest ≡ b ∷ bs → Found b bs piece
   no_sign : piece ≡ sized Illegible 0 → Found b bs piece
 
 module _ (b : ℕ) (bs : List ℕ) where
-  test : (p : Bool) (then_piece else_piece : Piece) → (p ≡ true → Found b bs then_piece) → (p ≡ false → Found b bs else_piece) → Found b bs (if p then then_piece else else_piece)
+  test : (p : Bool) (then_piece else_piece : ReadToken) → (p ≡ true → Found b bs then_piece) → (p ≡ false → Found b bs else_piece) → Found b bs (if p then then_piece else else_piece)
   test true then_piece else_piece f g = f refl
   test false then_piece else_piece f g = g refl
 
-  one : (piece : Piece) (sign : Sign) (x : ℕ) → IsLongest sign bs → sign_text sign ≡ x ∷ [] → (b == x) ≡ true → Found b bs piece
+  one : (piece : ReadToken) (sign : Sign) (x : ℕ) → IsLongest sign bs → sign_text sign ≡ x ∷ [] → (b == x) ≡ true → Found b bs piece
   one piece sign x h t e = a_sign sign bs h (ap (λ front. front ++ bs) t ∙ ap (λ c. c ∷ bs) (sym (eqb-true b x e)))
 
-  two : (piece : Piece) (sign : Sign) (x y : ℕ) → ((rest : List ℕ) → IsLongest sign rest) → sign_text sign ≡ x ∷ y ∷ [] → (b == x) ≡ true → begins_with y bs ≡ true → Found b bs piece
+  two : (piece : ReadToken) (sign : Sign) (x y : ℕ) → ((rest : List ℕ) → IsLongest sign rest) → sign_text sign ≡ x ∷ y ∷ [] → (b == x) ≡ true → begins_with y bs ≡ true → Found b bs piece
   two piece sign x y h t e f =
       let r = behind bs f in
       a_sign sign r.0 (h r.0) (ap (λ front. front ++ r.0) t ∙ (ap (λ xs. x ∷ xs) r.1 ∙ ap (λ c. c ∷ bs) (sym (eqb-true b x e))))
@@ -284,7 +284,7 @@ stray_reads_not : (due : Bool) (b : ℕ) (bs : List ℕ) → IsStray due b bs �
 stray_reads_not due b bs s r = none due s r.lexeme r.lawful r.text
   where
     misfit : (due : Bool) (text : List ℕ) (token : Token) → IsStray due b bs → Leads due text r.rest token → text ++ r.rest ≡ b ∷ bs → token ≡ Illegible
-    misfit due text token s l e = sym (led_token due b bs text r.rest token l e) ∙ ap (λ (p : Piece). p.token) s.piece
+    misfit due text token s l e = sym (led_token due b bs text r.rest token l e) ∙ ap (λ (p : ReadToken). p.token) s.piece
 
     none : (due : Bool) → IsStray due b bs → (lexeme : Lexeme) → IsLexemeBefore due r.rest lexeme → lexeme_text lexeme ++ r.rest ≡ b ∷ bs → ⊥
     none due s (Gap blank) h e = no_both (is_blank b) (ap is_blank (sym (same_first blank b r.rest bs e)) ∙ h) s.unblank

@@ -1,7 +1,7 @@
 -- The grammar of patterns: what they are written of, and which parts that means.
 use Rattle.std.specs.Prelude.{◌≡◌, ◌≢◌, ℕ, Bool, true, false, List, [], ◌∷◌, ◌++◌, map}
 use Rattle.std.specs.List.{flat_map, AllByRecursion}
-use Rattle.trace_filter.specs.Globs.{Part, AnyBytes, OneByte}
+use Rattle.trace_filter.specs.Globs.{Element, AnyBytes, OneByte}
 
 -- a piece of a pattern: `*`, `?`, a class with one byte or more between its brackets, or a byte that stands for itself
 pub data GlobPiece : Type 0 where
@@ -45,7 +45,7 @@ piece_text (Bracketed negated first others) = 91 ∷ class_text negated first ot
 piece_text (Plain byte) = byte ∷ []
 
 -- the part that a piece means: `?` is the class of all bytes, a byte that stands for itself is a class of one
-abbrev pub piece_part : GlobPiece → Part
+abbrev pub piece_part : GlobPiece → Element
 piece_part Star = AnyBytes
 piece_part Question = OneByte (record { negated = true; members = [] })
 piece_part (Bracketed negated first others) = OneByte (record { negated = negated; members = first ∷ others })
@@ -57,7 +57,7 @@ IsPattern [] = Unit {0}
 IsPattern (piece ∷ pieces) = IsPieceBefore (flat_map piece_text pieces) piece × IsPattern pieces
 
 -- a pattern can be written of pieces that mean these parts
-pub record IsWrittenGlob (pattern : List ℕ) (parts : List Part) : Type 0 where
+pub record IsWrittenGlob (pattern : List ℕ) (parts : List Element) : Type 0 where
   pub pieces : List GlobPiece
   pub lawful : IsPattern pieces
   pub text : flat_map piece_text pieces ≡ pattern

@@ -9,7 +9,7 @@ use Rattle.trace_filter.specs.Tokens.{Token, Spot, spots_of, tokens_of, shifted_
 use Rattle.trace_filter.specs.TokenGrammar.{IsWrittenText}
 use Rattle.trace_filter.specs.Grammar.{Expr, Spells, depth_of, depth}
 use Rattle.trace_filter.specs.Fits.{tests_of, EachTestFits, test_offsets, IsFirstMisfit}
-use Rattle.trace_filter.specs.Globs.{Class, is_in_class, Part, parts_of}
+use Rattle.trace_filter.specs.Globs.{Class, is_in_class, Element, parts_of}
 use Rattle.trace_filter.specs.GlobGrammar.{IsWrittenGlob}
 use Rattle.trace_filter.specs.ClassGrammar.{Member, AreWrittenOf, ClassHolds}
 use Rattle.trace_format.specs.Operands.{Emission}
@@ -53,7 +53,7 @@ TokensAreAsWritten = (text : List ℕ) → (spots : List Spot) → IsWrittenText
 
 -- a pattern can be written of pieces that mean these parts exactly where they are those that `parts_of` finds
 abbrev pub GlobsAreAsWritten : Type 0
-GlobsAreAsWritten = (pattern : List ℕ) → (parts : List Part) → IsWrittenGlob pattern parts ↔ (parts ≡ parts_of pattern)
+GlobsAreAsWritten = (pattern : List ℕ) → (parts : List Element) → IsWrittenGlob pattern parts ↔ (parts ≡ parts_of pattern)
 
 -- any bytes can be written of the members of a class
 abbrev pub ClassIsWritten : Type 0

@@ -4,9 +4,9 @@ use Rattle.trace_filter.specs.declared.token.Literal as literal
 use Rattle.trace_filter.specs.declared.token.Literal.TheVariants as literals
 use Rattle.trace_filter.specs.declared.token.Token as token
 use Rattle.trace_filter.specs.declared.token.Token.TheVariants as tokens
-use Rattle.trace_filter.specs.declared.token.Piece as pieces
+use Rattle.trace_filter.specs.declared.token.ReadToken as pieces
 use Rattle.trace_filter.specs.declared.token.Spot as spots
-use Rattle.trace_filter.specs.Tokens.{Literal, Word, Quoted, Token, Open, Close, Bang, AndAnd, OrOr, Compare, Name, Value, Illegible, Piece, is_comparison, spots_from}
+use Rattle.trace_filter.specs.Tokens.{Literal, Word, Quoted, Token, Open, Close, Bang, AndAnd, OrOr, Compare, Name, Value, Illegible, ReadToken, is_comparison, spots_from}
 
 abbrev pub literal_of : literal.Literal → Literal
 literal_of (literals.Word bytes) = Word bytes.now
@@ -24,7 +24,7 @@ token_of (tokens.Value literal) = Value (literal_of literal)
 token_of tokens.Illegible = Illegible
 
 -- the program's piece is the piece, and ends within the bytes
-pub record IsPiece (piece : Piece) (found : pieces.Piece) (rest : List ℕ) : Type 0 where
+pub record IsPiece (piece : ReadToken) (found : pieces.ReadToken) (rest : List ℕ) : Type 0 where
   pub token : token_of found.token ≡ piece.token
   pub more : found.more ≡ piece.more
   pub within : piece.more ≤ length rest

@@ -38,28 +38,28 @@ begins_with b [] = false
 begins_with b (c ∷ cs) = c == b
 
 -- a token, and how many bytes behind its first it takes
-pub record Piece : Type 0 where
+pub record ReadToken : Type 0 where
   pub token : Token
   pub more : ℕ
 
 -- what begins with a quote: the bytes up to the next one like it, if there is one
-abbrev pub quoted_piece : ℕ → List ℕ → Piece
+abbrev pub quoted_piece : ℕ → List ℕ → ReadToken
 quoted_piece quote bs = if nat_lt (prefix_len (is_not quote) bs) (length bs) then record { token = Value (Quoted (take (prefix_len (is_not quote) bs) bs)); more = prefix_len (is_not quote) bs + 1 } else record { token = Illegible; more = 0 }
 
 -- a bare word: the longest run of its bytes
-abbrev pub word_piece : ℕ → List ℕ → Piece
+abbrev pub word_piece : ℕ → List ℕ → ReadToken
 word_piece b bs = record { token = Value (Word (b ∷ take (prefix_len is_word_byte bs) bs)); more = prefix_len is_word_byte bs }
 
 -- as many bytes of a name as stand together: a name, if they make one
-abbrev pub name_piece : ℕ → List ℕ → Piece
+abbrev pub name_piece : ℕ → List ℕ → ReadToken
 name_piece b bs = record { token = if is_name (b ∷ take (prefix_len is_name_byte bs) bs) then Name (b ∷ take (prefix_len is_name_byte bs) bs) else Illegible; more = prefix_len is_name_byte bs }
 
 -- one of two tokens: the longer, where the byte follows
-abbrev pub longest : ℕ → List ℕ → Token → Token → Piece
+abbrev pub longest : ℕ → List ℕ → Token → Token → ReadToken
 longest b bs long short = if begins_with b bs then record { token = long; more = 1 } else record { token = short; more = 0 }
 
 -- parentheses and operators, read longest first: `!` or `!=` (33), `&` or `&&` (38), `<` (60), `=` (61), `>` (62), `||` (124), `~` (126)
-abbrev pub symbol_piece : ℕ → List ℕ → Piece
+abbrev pub symbol_piece : ℕ → List ℕ → ReadToken
 symbol_piece b bs = if b == 40 then record { token = Open; more = 0 }
     else if b == 41 then record { token = Close; more = 0 }
     else if b == 33 then longest 61 bs (Compare comparison.Ne) Bang
@@ -72,7 +72,7 @@ symbol_piece b bs = if b == 40 then record { token = Open; more = 0 }
     else record { token = Illegible; more = 0 }
 
 -- the token that begins with the byte b before bs; a value is read only where one is due
-unfoldable pub piece_of : Bool → ℕ → List ℕ → Piece
+unfoldable pub piece_of : Bool → ℕ → List ℕ → ReadToken
 piece_of true b bs = if is_quote b then quoted_piece b bs else if is_word_byte b then word_piece b bs else symbol_piece b bs
 piece_of false b bs = if is_name_byte b then name_piece b bs else symbol_piece b bs
 

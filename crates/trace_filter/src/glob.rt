@@ -19,7 +19,7 @@ pub(crate) struct Class<'a> {
 }
 
 #[derive(Clone, Copy)]
-pub(crate) enum Part<'a> {
+pub(crate) enum Element<'a> {
     /// `*`.
     AnyBytes,
     OneByte(Class<'a>),
@@ -27,8 +27,8 @@ pub(crate) enum Part<'a> {
 
 /// A part, and how many bytes behind its first it takes.
 #[derive(Clone, Copy)]
-pub(crate) struct PartPiece<'a> {
-    part: Part<'a>,
+pub(crate) struct ReadElement<'a> {
+    part: Element<'a>,
     more: usize,
 }
 
@@ -67,12 +67,12 @@ impl Class<'_> {
 }
 
 /// The piece of a byte that stands for itself.
-fn itself(first: u8, byte: &[u8]) -> PartPiece<'_>
+fn itself(first: u8, byte: &[u8]) -> ReadElement<'_>
     requires { byte.now ≡ first ∷ [] }
     ensures { IsPartPiece (spec_itself first) result 0 }
 {
-    PartPiece {
-        part: Part::OneByte(Class {
+    ReadElement {
+        part: Element::OneByte(Class {
             negated: false,
             members: byte,
         }),
@@ -81,7 +81,7 @@ fn itself(first: u8, byte: &[u8]) -> PartPiece<'_>
 }
 
 /// The class whose members begin the bytes, which stand so many bytes behind the `[`.
-fn class_from(negated: bool, before: usize, bytes: &[u8]) -> PartPiece<'_>
+fn class_from(negated: bool, before: usize, bytes: &[u8]) -> ReadElement<'_>
     requires { before ≤ 1 }
     ensures { IsPartPiece (spec_class_from negated before bytes.now) result (before + length bytes.now) }
 {
@@ -92,8 +92,8 @@ fn class_from(negated: bool, before: usize, bytes: &[u8]) -> PartPiece<'_>
     if size == rest.len() {
         return itself(b'[', b"[");
     }
-    PartPiece {
-        part: Part::OneByte(Class {
+    ReadElement {
+        part: Element::OneByte(Class {
             negated,
             members: &bytes[..1 + size],
         }),
@@ -102,7 +102,7 @@ fn class_from(negated: bool, before: usize, bytes: &[u8]) -> PartPiece<'_>
 }
 
 /// What begins with a `[`.
-fn class_piece(rest: &[u8]) -> PartPiece<'_>
+fn class_piece(rest: &[u8]) -> ReadElement<'_>
     ensures { IsPartPiece (spec_class_piece rest.now) result (length rest.now) }
 {
     match rest {
@@ -113,17 +113,17 @@ fn class_piece(rest: &[u8]) -> PartPiece<'_>
 
 /// The part that begins with a byte.
 #[tactic(auto, unfolding(crate::specs::Globs::part_of))]
-fn first_part<'a>(bytes: &'a [u8], first: u8, rest: &'a [u8]) -> PartPiece<'a>
+fn first_part<'a>(bytes: &'a [u8], first: u8, rest: &'a [u8]) -> ReadElement<'a>
     requires { bytes.now ≡ first ∷ rest.now }
     ensures { IsPartPiece (part_of first rest.now) result (length rest.now) }
 {
     match first {
-        b'*' => PartPiece {
-            part: Part::AnyBytes,
+        b'*' => ReadElement {
+            part: Element::AnyBytes,
             more: 0,
         },
-        b'?' => PartPiece {
-            part: Part::OneByte(Class {
+        b'?' => ReadElement {
+            part: Element::OneByte(Class {
                 negated: true,
                 members: b"",
             }),
@@ -160,19 +160,19 @@ fn shift(class: Class, row: &mut [bool], text: &[u8])
 }
 
 /// Moves the marks over one part.
-fn advance(part: Part, row: &mut [bool], text: &[u8])
+fn advance(part: Element, row: &mut [bool], text: &[u8])
     requires { length row.old ≡ length text.now + 1 }
     ensures { row.new ≡ spec_advance (glob_part_of part.entry) row.old text.now }
 {
     match part {
-        Part::AnyBytes => spread(row),
-        Part::OneByte(class) => shift(class, row, text),
+        Element::AnyBytes => spread(row),
+        Element::OneByte(class) => shift(class, row, text),
     }
 }
 
 /// The part that begins with a byte. Once a `[` was found without its `]`, no later one has one, and none is looked for.
 #[tactic(auto, unfolding(crate::specs::Globs::part_of))]
-fn next_part<'a>(bytes: &'a [u8], first: u8, rest: &'a [u8], may_close: bool) -> PartPiece<'a>
+fn next_part<'a>(bytes: &'a [u8], first: u8, rest: &'a [u8], may_close: bool) -> ReadElement<'a>
     requires cut { bytes.now ≡ first ∷ rest.now }
     requires closed { may_close ≡ false → spec_class_piece rest.now ≡ spec_itself 91 }
     ensures { IsPartPiece (part_of first rest.now) result (length rest.now) }

@@ -66,7 +66,7 @@ pub(crate) struct Spot<'a> {
 
 /// A token, and how many bytes behind its first it takes.
 #[derive(Clone, Copy)]
-pub(crate) struct Piece<'a> {
+pub(crate) struct ReadToken<'a> {
     token: Token<'a>,
     more: usize,
 }
@@ -111,40 +111,40 @@ fn begins_with(byte: u8, text: &[u8]) -> bool
     }
 }
 
-fn quoted_piece(quote: u8, rest: &[u8]) -> Piece<'_>
+fn quoted_piece(quote: u8, rest: &[u8]) -> ReadToken<'_>
     ensures { IsPiece (spec_quoted_piece quote rest.now) result rest.now }
 {
     let size = len_before(quote, rest);
     if size < rest.len() {
-        Piece {
+        ReadToken {
             token: Token::Value(Literal::Quoted(&rest[..size])),
             more: size + 1,
         }
     } else {
-        Piece {
+        ReadToken {
             token: Token::Illegible,
             more: 0,
         }
     }
 }
 
-fn word_piece<'a>(bytes: &'a [u8], first: u8, rest: &'a [u8]) -> Piece<'a>
+fn word_piece<'a>(bytes: &'a [u8], first: u8, rest: &'a [u8]) -> ReadToken<'a>
     requires { bytes.now ≡ first ∷ rest.now }
     ensures { IsPiece (spec_word_piece first rest.now) result rest.now }
 {
     let more = word_len(rest);
-    Piece {
+    ReadToken {
         token: Token::Value(Literal::Word(&bytes[..1 + more])),
         more,
     }
 }
 
-fn name_piece<'a>(bytes: &'a [u8], first: u8, rest: &'a [u8]) -> Piece<'a>
+fn name_piece<'a>(bytes: &'a [u8], first: u8, rest: &'a [u8]) -> ReadToken<'a>
     requires { bytes.now ≡ first ∷ rest.now }
     ensures { IsPiece (spec_name_piece first rest.now) result rest.now }
 {
     let more = name_len(rest);
-    Piece {
+    ReadToken {
         token: name_token(&bytes[..1 + more]),
         more,
     }
@@ -162,27 +162,27 @@ fn name_token(run: &[u8]) -> Token<'_>
 }
 
 /// One of two tokens: the longer, where the byte follows.
-fn longest<'a>(byte: u8, rest: &[u8], long: Token<'a>, short: Token<'a>) -> Piece<'a>
+fn longest<'a>(byte: u8, rest: &[u8], long: Token<'a>, short: Token<'a>) -> ReadToken<'a>
     ensures { IsPiece (spec_longest byte rest.now (token_of long.entry) (token_of short.entry)) result rest.now }
 {
     if begins_with(byte, rest) {
-        Piece {
+        ReadToken {
             token: long,
             more: 1,
         }
     } else {
-        Piece {
+        ReadToken {
             token: short,
             more: 0,
         }
     }
 }
 
-fn symbol_piece(first: u8, rest: &[u8]) -> Piece<'static>
+fn symbol_piece(first: u8, rest: &[u8]) -> ReadToken<'static>
     ensures { IsPiece (spec_symbol_piece first rest.now) result rest.now }
 {
     let compare = Token::Compare;
-    let single = |token| Piece { token, more: 0 };
+    let single = |token| ReadToken { token, more: 0 };
     match first {
         b'(' => single(Token::Open),
         b')' => single(Token::Close),
@@ -199,7 +199,7 @@ fn symbol_piece(first: u8, rest: &[u8]) -> Piece<'static>
 
 /// The token that begins with a byte.
 #[tactic(auto, unfolding(crate::specs::Tokens::piece_of))]
-fn first_piece<'a>(value_due: bool, bytes: &'a [u8], first: u8, rest: &'a [u8]) -> Piece<'a>
+fn first_piece<'a>(value_due: bool, bytes: &'a [u8], first: u8, rest: &'a [u8]) -> ReadToken<'a>
     requires { bytes.now ≡ first ∷ rest.now }
     ensures { IsPiece (piece_of value_due first rest.now) result rest.now }
 {

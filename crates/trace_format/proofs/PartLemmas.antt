@@ -7,7 +7,7 @@ use Rattle.std.proofs.lemmas.List.Elements.{All-nil, All-cons, All-head, All-tai
 use Rattle.std.specs.List.{AllPass}
 use Rattle.trace_lex.specs.Blanks.{is_blank}
 use Rattle.trace_format.specs.Words.{Spot, is_word_byte, semicolon, more_of, spots_from, spots_of}
-use Rattle.trace_format.specs.WordParts.{Part, Blank, Semicolon, Word, MayPrecede, AreParts, part_text, parts_spots, IsWritten}
+use Rattle.trace_format.specs.WordParts.{TextPart, Blank, Semicolon, Word, MayPrecede, AreParts, part_text, parts_spots, IsWritten}
 use Rattle.trace_lex.proofs.Lists.{BeginsNot, run_ends}
 use Rattle.trace_format.proofs.WordLemmas.{skipped}
 
@@ -18,7 +18,7 @@ abbrev IsWordByte : ℕ → Type 0
 IsWordByte b = is_word_byte b ≡ true
 
 -- what may stand behind a word begins no word
-behind_word : (bytes : List ℕ) (parts : List Part) → AreParts parts → MayPrecede (Word bytes) parts → BeginsNot is_word_byte (flat_map part_text parts)
+behind_word : (bytes : List ℕ) (parts : List TextPart) → AreParts parts → MayPrecede (Word bytes) parts → BeginsNot is_word_byte (flat_map part_text parts)
 behind_word bytes [] are may = tt
 behind_word bytes (Blank byte ∷ parts) are may = ap (λ t. not (t || (byte == 59))) are.0
 behind_word bytes (Semicolon ∷ parts) are may = refl
@@ -53,7 +53,7 @@ one_more : (before : List ℕ) (b : ℕ) → length before + 1 ≡ length (befor
 one_more before b = omega (arith, length-append before (b ∷ []))
 
 -- from the offset behind the text before them, the words of parts are found
-parts_found : (before : List ℕ) (parts : List Part) → AreParts parts → spots_from 0 (length before) (flat_map part_text parts) ≡ parts_spots before parts
+parts_found : (before : List ℕ) (parts : List TextPart) → AreParts parts → spots_from 0 (length before) (flat_map part_text parts) ≡ parts_spots before parts
 parts_found before [] are = refl
 parts_found before (Blank byte ∷ parts) are =
     cond-true _ _ _ are.0 ∙ ap (λ n. spots_from 0 n (flat_map part_text parts)) (one_more before byte) ∙ parts_found (before ++ byte ∷ []) parts are.2
@@ -68,14 +68,14 @@ parts_found before (Word bytes ∷ parts) are =
 
 -- parts that are written as the text
 record HasParts (text : List ℕ) : Type 0 where
-  parts : List Part
+  parts : List TextPart
   lawful : AreParts parts
   written : flat_map part_text parts ≡ text
 
 blank_first : (b : ℕ) (bs : List ℕ) → is_blank b ≡ true → HasParts bs → HasParts (b ∷ bs)
 blank_first b bs is rest = record { parts = Blank b ∷ rest.parts; lawful = (is, free rest.parts, rest.lawful); written = ap (λ (text : List ℕ). b ∷ text) rest.written }
   where
-    free : (parts : List Part) → MayPrecede (Blank b) parts
+    free : (parts : List TextPart) → MayPrecede (Blank b) parts
     free [] = tt
     free (Blank byte ∷ parts) = tt
     free (Semicolon ∷ parts) = tt
@@ -84,14 +84,14 @@ blank_first b bs is rest = record { parts = Blank b ∷ rest.parts; lawful = (is
 semicolon_first : (bs : List ℕ) → HasParts bs → HasParts (59 ∷ bs)
 semicolon_first bs rest = record { parts = Semicolon ∷ rest.parts; lawful = (tt, free rest.parts, rest.lawful); written = ap (λ (text : List ℕ). 59 ∷ text) rest.written }
   where
-    free : (parts : List Part) → MayPrecede Semicolon parts
+    free : (parts : List TextPart) → MayPrecede Semicolon parts
     free [] = tt
     free (Blank byte ∷ parts) = tt
     free (Semicolon ∷ parts) = tt
     free (Word bytes ∷ parts) = tt
 
 -- a byte of a word joins the word behind it, if there is one
-word_byte_first : (b : ℕ) (bs : List ℕ) (parts : List Part) → is_word_byte b ≡ true → AreParts parts → flat_map part_text parts ≡ bs → HasParts (b ∷ bs)
+word_byte_first : (b : ℕ) (bs : List ℕ) (parts : List TextPart) → is_word_byte b ≡ true → AreParts parts → flat_map part_text parts ≡ bs → HasParts (b ∷ bs)
 word_byte_first b bs [] is are e = record { parts = Word (b ∷ []) ∷ []; lawful = ((omega arith, All-cons IsWordByte b [] is (All-nil IsWordByte)), tt, tt); written = ap (λ (text : List ℕ). b ∷ text) e }
 word_byte_first b bs (Blank byte ∷ parts) is are e =
     record { parts = Word (b ∷ []) ∷ Blank byte ∷ parts; lawful = ((omega arith, All-cons IsWordByte b [] is (All-nil IsWordByte)), tt, are); written = ap (λ (text : List ℕ). b ∷ text) e }
@@ -100,7 +100,7 @@ word_byte_first b bs (Semicolon ∷ parts) is are e =
 word_byte_first b bs (Word bytes ∷ parts) is are e =
     record { parts = Word (b ∷ bytes) ∷ parts; lawful = ((omega arith, All-cons IsWordByte b bytes is are.0.1), longer parts are.1, are.2); written = ap (λ (text : List ℕ). b ∷ text) e }
   where
-    longer : (parts : List Part) → MayPrecede (Word bytes) parts → MayPrecede (Word (b ∷ bytes)) parts
+    longer : (parts : List TextPart) → MayPrecede (Word bytes) parts → MayPrecede (Word (b ∷ bytes)) parts
     longer [] may = tt
     longer (Blank byte ∷ parts) may = tt
     longer (Semicolon ∷ parts) may = tt

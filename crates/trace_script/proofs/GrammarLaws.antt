@@ -6,7 +6,7 @@ use Rattle.std.proofs.lemmas.Bool.Decides.{nat_tests}
 use Rattle.std.specs.List.{flat_map, AllByRecursion}
 use Rattle.trace_lex.specs.Blanks.{is_blank}
 use Rattle.trace_script.specs.Tokens.{Place, Between, Arrow, InWord, InQuotes, is_quote, is_end, place_of, plain, behind, tokens_from, tokens_of}
-use Rattle.trace_script.specs.Grammar.{Piece, Plain, Quoted, IsPiece, piece_text, piece_value, Part, Gap, Redirection, Written, part_text, part_tokens, MayPrecede, IsLine, IsWritten}
+use Rattle.trace_script.specs.Grammar.{WordPiece, Plain, Quoted, IsWordPiece, piece_text, piece_value, LinePart, Gap, Redirection, Written, part_text, part_tokens, MayPrecede, IsLine, IsWritten}
 use Rattle.trace_script.specs.declared.token.Token.{Token}
 use Rattle.trace_script.specs.declared.token.Token.TheVariants.{Word, Redirect}
 
@@ -93,7 +93,7 @@ in_quotes quote w (b ∷ bs) rest h =
     ∙ (in_quotes quote (w ++ b ∷ []) bs rest h.1 ∙ ap (λ (v : List ℕ). tokens_from InWord v rest) (append_assoc w (b ∷ []) bs))
 
 -- a piece that goes on with a word
-piece_read : (piece : Piece) (w rest : List ℕ) → IsPiece piece → tokens_from InWord w (piece_text piece ++ rest) ≡ tokens_from InWord (w ++ piece_value piece) rest
+piece_read : (piece : WordPiece) (w rest : List ℕ) → IsWordPiece piece → tokens_from InWord w (piece_text piece ++ rest) ≡ tokens_from InWord (w ++ piece_value piece) rest
 piece_read (Plain b) w rest h =
     let l = plain_leads b h.0 h.1 in
     word_goes_on w b rest h.0 ∙ led w b rest InWord (b ∷ []) l.0 l.1
@@ -105,7 +105,7 @@ piece_read (Quoted quote inside) w rest h =
     ∙ (ap (λ (bs : List ℕ). tokens_from (InQuotes quote) w bs) (append_assoc inside (quote ∷ []) rest) ∙ in_quotes quote w inside rest h.1)))
 
 -- a word ends where the line does, at a blank or at a redirection
-word_done : (w : List ℕ) (first : Piece) (more : List Piece) (parts : List Part) → IsLine parts → MayPrecede (Written first more) parts
+word_done : (w : List ℕ) (first : WordPiece) (more : List WordPiece) (parts : List LinePart) → IsLine parts → MayPrecede (Written first more) parts
     → tokens_from InWord w (flat_map part_text parts) ≡ behind (Word w ∷ []) (tokens_from Between [] (flat_map part_text parts))
 word_done w first more [] l n = refl
 word_done w first more (Gap blank ∷ parts) l n = word_ends w blank (flat_map part_text parts) (ap (λ t. t || (blank == 62)) l.0)
@@ -114,7 +114,7 @@ word_done w first more (Redirection true ∷ parts) l n = refl
 word_done w first more (Written next others ∷ parts) l n = absurd n
 
 -- pieces that go on with a word
-pieces_read : (pieces : List Piece) (w rest : List ℕ) → AllByRecursion IsPiece pieces → tokens_from InWord w (flat_map piece_text pieces ++ rest) ≡ tokens_from InWord (w ++ flat_map piece_value pieces) rest
+pieces_read : (pieces : List WordPiece) (w rest : List ℕ) → AllByRecursion IsWordPiece pieces → tokens_from InWord w (flat_map piece_text pieces ++ rest) ≡ tokens_from InWord (w ++ flat_map piece_value pieces) rest
 pieces_read [] w rest h = ap (λ (v : List ℕ). tokens_from InWord v rest) (sym (append-nil w))
 pieces_read (piece ∷ pieces) w rest h =
     ap (λ (bs : List ℕ). tokens_from InWord w bs) (append_assoc (piece_text piece) (flat_map piece_text pieces) rest)
@@ -123,7 +123,7 @@ pieces_read (piece ∷ pieces) w rest h =
     ∙ ap (λ (v : List ℕ). tokens_from InWord v rest) (append_assoc w (piece_value piece) (flat_map piece_value pieces))))
 
 -- the first byte of a piece ends no word
-piece_begins : (piece : Piece) (rest : List ℕ) → IsPiece piece → tokens_from Between [] (piece_text piece ++ rest) ≡ tokens_from InWord [] (piece_text piece ++ rest)
+piece_begins : (piece : WordPiece) (rest : List ℕ) → IsWordPiece piece → tokens_from Between [] (piece_text piece ++ rest) ≡ tokens_from InWord [] (piece_text piece ++ rest)
 piece_begins (Plain b) rest h = word_begins b rest h.0
 piece_begins (Quoted quote inside) rest h = word_begins quote (inside ++ quote ∷ [] ++ rest) (quote_leads quote h.0).0
 
@@ -135,7 +135,7 @@ blank_no_arrow : (b : ℕ) → is_blank b ≡ true → (b == 62) ≡ false
 blank_no_arrow b e = grind (arith, nat_tests)
 
 -- a `>` by itself ends where the line does, at a blank or at a word
-arrow_done : (parts : List Part) → IsLine parts → MayPrecede (Redirection false) parts
+arrow_done : (parts : List LinePart) → IsLine parts → MayPrecede (Redirection false) parts
     → tokens_from Arrow [] (flat_map part_text parts) ≡ behind (Redirect false ∷ []) (tokens_from Between [] (flat_map part_text parts))
 arrow_done [] l n = refl
 arrow_done (Gap blank ∷ parts) l n = arrow_alone blank (flat_map part_text parts) (blank_no_arrow blank l.0)
@@ -144,7 +144,7 @@ arrow_done (Written (Plain b) more ∷ parts) l n = arrow_alone b (flat_map piec
 arrow_done (Written (Quoted quote inside) more ∷ parts) l n =
     arrow_alone quote (inside ++ quote ∷ [] ++ flat_map piece_text more ++ flat_map part_text parts) (no_arrow quote (quote_leads quote l.0.0.0).0)
 
-pub line_read : (parts : List Part) → IsLine parts → tokens_from Between [] (flat_map part_text parts) ≡ Some (flat_map part_tokens parts)
+pub line_read : (parts : List LinePart) → IsLine parts → tokens_from Between [] (flat_map part_text parts) ≡ Some (flat_map part_tokens parts)
 line_read [] l = refl
 line_read (Gap blank ∷ parts) l =
     let h = blank_leads blank l.0 in
@@ -168,9 +168,9 @@ written_read line tokens w = ap (tokens_from Between []) (sym w.text) ∙ (line_
 
 -- the rest of a line behind this much of a word: pieces that go on with it, and then parts that begin with no word
 pub record WordRest (w bs : List ℕ) (ts : List Token) : Type 0 where
-  pub pieces : List Piece
-  pub parts : List Part
-  pub right : AllByRecursion IsPiece pieces
+  pub pieces : List WordPiece
+  pub parts : List LinePart
+  pub right : AllByRecursion IsWordPiece pieces
   pub lawful : IsLine parts
   pub apart : MayPrecede (Written (Plain 0) []) parts
   pub text : flat_map piece_text pieces ++ flat_map part_text parts ≡ bs
@@ -199,7 +199,7 @@ behind_some xs None ts e = absurd (cc)
 behind_some xs (Some more) ts e = (more, refl, some_is (xs ++ more) ts e)
 
 -- a piece begins a word, or goes on with one
-word_first : (piece : Piece) (rest : List ℕ) (ts : List Token) → IsPiece piece → WordRest (piece_value piece) rest ts → IsWritten (piece_text piece ++ rest) ts
+word_first : (piece : WordPiece) (rest : List ℕ) (ts : List Token) → IsWordPiece piece → WordRest (piece_value piece) rest ts → IsWritten (piece_text piece ++ rest) ts
 word_first piece rest ts h r =
     record {
       parts = Written piece r.pieces ∷ r.parts;
@@ -208,13 +208,13 @@ word_first piece rest ts h r =
       meaning = r.meaning;
     }
   where
-    apart_any : (first : Piece) (more : List Piece) (parts : List Part) → MayPrecede (Written (Plain 0) []) parts → MayPrecede (Written first more) parts
+    apart_any : (first : WordPiece) (more : List WordPiece) (parts : List LinePart) → MayPrecede (Written (Plain 0) []) parts → MayPrecede (Written first more) parts
     apart_any first more [] n = tt
     apart_any first more (Gap blank ∷ parts) n = tt
     apart_any first more (Redirection append ∷ parts) n = tt
     apart_any first more (Written next others ∷ parts) n = absurd n
 
-word_more : (piece : Piece) (w rest : List ℕ) (ts : List Token) → IsPiece piece → WordRest (w ++ piece_value piece) rest ts → WordRest w (piece_text piece ++ rest) ts
+word_more : (piece : WordPiece) (w rest : List ℕ) (ts : List Token) → IsWordPiece piece → WordRest (w ++ piece_value piece) rest ts → WordRest w (piece_text piece ++ rest) ts
 word_more piece w rest ts h r =
     record {
       pieces = piece ∷ r.pieces;
@@ -230,7 +230,7 @@ gap_first : (blank : ℕ) (bs : List ℕ) (ts : List Token) → is_blank blank �
 gap_first blank bs ts h r =
     record { parts = Gap blank ∷ r.parts; lawful = (h, free r.parts, r.lawful); text = ap (λ (rest : List ℕ). blank ∷ rest) r.text; meaning = r.meaning }
   where
-    free : (parts : List Part) → MayPrecede (Gap blank) parts
+    free : (parts : List LinePart) → MayPrecede (Gap blank) parts
     free [] = tt
     free (Gap other ∷ parts) = tt
     free (Redirection append ∷ parts) = tt
@@ -267,12 +267,12 @@ module _ (b : ℕ) (bs : List ℕ) (ts : List Token) (rest : (place : Place) (w 
       ]
 
 -- the first byte of a piece ends no word
-first_of_piece : (piece : Piece) (more : List ℕ) (b : ℕ) (bs : List ℕ) → IsPiece piece → piece_text piece ++ more ≡ b ∷ bs → is_end b ≡ false
+first_of_piece : (piece : WordPiece) (more : List ℕ) (b : ℕ) (bs : List ℕ) → IsWordPiece piece → piece_text piece ++ more ≡ b ∷ bs → is_end b ≡ false
 first_of_piece (Plain x) more b bs h e = let f : x ≡ b = cc in subst (λ (y : ℕ). is_end y ≡ false) f h.0
 first_of_piece (Quoted quote inside) more b bs h e = let f : quote ≡ b = cc in subst (λ (y : ℕ). is_end y ≡ false) f (quote_leads quote h.0).0
 
 -- what begins with the end of a word begins with no word
-end_apart : (parts : List Part) (b : ℕ) (bs : List ℕ) → IsLine parts → flat_map part_text parts ≡ b ∷ bs → is_end b ≡ true → MayPrecede (Written (Plain 0) []) parts
+end_apart : (parts : List LinePart) (b : ℕ) (bs : List ℕ) → IsLine parts → flat_map part_text parts ≡ b ∷ bs → is_end b ≡ true → MayPrecede (Written (Plain 0) []) parts
 end_apart [] b bs l e n = tt
 end_apart (Gap blank ∷ parts) b bs l e n = tt
 end_apart (Redirection append ∷ parts) b bs l e n = tt
@@ -281,14 +281,14 @@ end_apart (Written first more ∷ parts) b bs l e n =
     absurd (cc)
 
 -- behind a `>>` anything may stand
-arrows_free : (parts : List Part) → MayPrecede (Redirection true) parts
+arrows_free : (parts : List LinePart) → MayPrecede (Redirection true) parts
 arrows_free [] = tt
 arrows_free (Gap blank ∷ parts) = tt
 arrows_free (Redirection append ∷ parts) = tt
 arrows_free (Written first more ∷ parts) = tt
 
 -- what begins with another byte than `>` begins with no redirection
-arrow_apart : (parts : List Part) (b : ℕ) (bs : List ℕ) → flat_map part_text parts ≡ b ∷ bs → (b == 62) ≡ false → MayPrecede (Redirection false) parts
+arrow_apart : (parts : List LinePart) (b : ℕ) (bs : List ℕ) → flat_map part_text parts ≡ b ∷ bs → (b == 62) ≡ false → MayPrecede (Redirection false) parts
 arrow_apart [] b bs e n = tt
 arrow_apart (Gap blank ∷ parts) b bs e n = tt
 arrow_apart (Redirection false ∷ parts) b bs e n = let f : 62 ≡ b = cc in absurd (grind (arith, nat_tests))

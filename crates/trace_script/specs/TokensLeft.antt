@@ -10,15 +10,15 @@ use Rattle.trace_script.specs.declared.line.Line.{Line}
 use Rattle.trace_script.specs.Tokens.{tokens_of}
 use Rattle.trace_script.specs.declared.token.Token.{Token}
 use Rattle.trace_script.specs.declared.token.Token.TheVariants as token
-use Rattle.trace_script.specs.declared.tokens.Piece.{Piece}
-use Rattle.trace_script.specs.declared.tokens.Piece.TheVariants.{Word, Redirect}
+use Rattle.trace_script.specs.declared.tokens.BorrowedToken.{BorrowedToken}
+use Rattle.trace_script.specs.declared.tokens.BorrowedToken.TheVariants.{Word, Redirect}
 
 -- the tokens of what is left of a line
 abbrev pub tokens_left : List ℕ → List Token
 tokens_left rest = unwrap_or (tokens_of rest) []
 
 -- a token that is shown by its bytes
-abbrev pub token_of : Piece → Token
+abbrev pub token_of : BorrowedToken → Token
 token_of (Word word) = token.Word word.now
 token_of (Redirect append) = token.Redirect append
 

@@ -14,7 +14,7 @@ ghost use Rattle.trace_script.specs.declared.fault.ScriptFault.TheVariants.{Wron
 
 use crate::fault::{LineError, ScriptFault};
 use crate::number::{cpu_number, process_id};
-use crate::tokens::{Piece, Tokens};
+use crate::tokens::{BorrowedToken, Tokens};
 use std::alloc::{AllocError, Global};
 use trace_command::{Command, Pairs};
 use trace_format::Pair;
@@ -46,8 +46,10 @@ fn pairs(alloc: Global, tokens: &mut Tokens<'_>) -> Result<Pairs, LineError>
     ensures { Gives (λ pairs. pairs) result (or_fault WrongWords (pairs_of tokens.old)) }
 {
     let word = match tokens.next() {
-        Some(Piece::Word(word)) => word,
-        Some(Piece::Redirect { .. }) => return Err(LineError::Fault(ScriptFault::WrongWords)),
+        Some(BorrowedToken::Word(word)) => word,
+        Some(BorrowedToken::Redirect { .. }) => return Err(LineError::Fault(
+            ScriptFault::WrongWords,
+        )),
         None => return Ok(Pairs::new(alloc)),
     };
     match pair(alloc, word) {
@@ -86,7 +88,7 @@ fn more_pairs(alloc: Global, first: Pair, tokens: &mut Tokens<'_>) -> Result<Pai
     let mut pairs = Vec::with_capacity(alloc, tokens.first_room().saturating_add(1))?;
     pairs.push_reserved(first);
     while let Some(token) = tokens.next() {
-        let Piece::Word(word) = token else {
+        let BorrowedToken::Word(word) = token else {
             return Err(LineError::Fault(ScriptFault::WrongWords));
         };
         push_pair(alloc, &mut pairs, word)?;
@@ -194,8 +196,8 @@ fn write(alloc: Global, tokens: &mut Tokens<'_>) -> Result<Command, LineError>
     let mut is_first = true;
     while let Some(token) = tokens.next() {
         match token {
-            Piece::Word(word) => append_word(&mut text, is_first, word)?,
-            Piece::Redirect { append } => {
+            BorrowedToken::Word(word) => append_word(&mut text, is_first, word)?,
+            BorrowedToken::Redirect { append } => {
                 return redirected(alloc, append, Text::from(text), tokens);
             }
         }

@@ -15,7 +15,7 @@ ghost use Rattle.trace_script.specs.declared.line.Line.{Line as LineValue};
 use crate::command::{command, emission, is_emit};
 use crate::fault::{LineError, ScriptFault};
 use crate::token::{is_quote, tokens};
-use crate::tokens::{Piece, Tokens};
+use crate::tokens::{BorrowedToken, Tokens};
 use std::alloc::Global;
 use trace_command::Command;
 use trace_lex::is_blank;
@@ -85,8 +85,8 @@ fn asked(alloc: Global, mut tokens: Tokens<'_>) -> Result<Line, LineError>
     ensures { Gives (λ line. line) result (asked_of tokens.entry) }
 {
     match tokens.next() {
-        Some(Piece::Word(name)) => named(alloc, name, tokens),
-        Some(Piece::Redirect { .. }) | None => {
+        Some(BorrowedToken::Word(name)) => named(alloc, name, tokens),
+        Some(BorrowedToken::Redirect { .. }) | None => {
             Err(LineError::Fault(ScriptFault::UnknownCommand))
         }
     }

@@ -15,7 +15,7 @@ use std::marker::Model;
 
 /// A token, whose bytes lie elsewhere.
 #[derive(Clone, Copy)]
-pub(crate) enum Piece<'a> {
+pub(crate) enum BorrowedToken<'a> {
     /// A word, without the quotes in it.
     Word(&'a [u8]),
     /// `>`, or to append `>>`, outside quotes.
@@ -57,7 +57,7 @@ impl Drop for Tokens<'_> {
 
 /// The first token of what is left of a line without quotes, and what follows it and the blanks after it.
 #[tactic(auto, using(crate::proofs::TakingLemmas::arrow_taken, crate::proofs::TakingLemmas::word_taken, crate::proofs::TakingLemmas::unquoted_drop, crate::proofs::TakingLemmas::no_quote, crate::proofs::WordLemmas::arrow_len, crate::proofs::WordLemmas::arrow_or_word))]
-fn first_piece(line: &[u8]) -> (Piece<'_>, &[u8])
+fn first_piece(line: &[u8]) -> (BorrowedToken<'_>, &[u8])
     requires unquoted { list_any is_quote line.now ≡ false }
     requires begins { BeginsToken line.now }
     ensures token { tokens_left line.entry.now ≡ token_of result.0 ∷ tokens_left result.1.now }
@@ -67,10 +67,10 @@ fn first_piece(line: &[u8]) -> (Piece<'_>, &[u8])
     if begins_with_arrow(line) {
         let (_, after) = line.split_at(1);
         let (append, rest) = redirection(after);
-        return (Piece::Redirect { append }, without_blanks(rest));
+        return (BorrowedToken::Redirect { append }, without_blanks(rest));
     }
     let (word, rest) = plain_part(line);
-    (Piece::Word(word), without_blanks(rest))
+    (BorrowedToken::Word(word), without_blanks(rest))
 }
 
 /// The number of `=` in a line, modulo 256. A count in a byte lets the loop take many bytes at once.
@@ -83,12 +83,12 @@ fn equals_in(line: &[u8]) -> u8 {
 }
 
 /// A token of a list, by its bytes.
-fn piece_of<'a>(token: &'a Token<'a>) -> Piece<'a>
+fn piece_of<'a>(token: &'a Token<'a>) -> BorrowedToken<'a>
     ensures { token_of result ≡ token.entry.now }
 {
     match token {
-        Token::Word(word) => Piece::Word(word.as_bytes()),
-        Token::Redirect { append } => Piece::Redirect { append: *append },
+        Token::Word(word) => BorrowedToken::Word(word.as_bytes()),
+        Token::Redirect { append } => BorrowedToken::Redirect { append: *append },
     }
 }
 
@@ -134,7 +134,7 @@ impl<'a> Tokens<'a> {
 
     /// Takes the next token, if one is left.
     #[tactic(auto, using(crate::proofs::TakingLemmas::no_byte_left))]
-    pub(crate) fn next(&mut self) -> Option<Piece<'a>>
+    pub(crate) fn next(&mut self) -> Option<BorrowedToken<'a>>
         ensures { MatchOption result (self.old ≡ []) (λ piece. self.old ≡ token_of piece ∷ self.new) }
     {
         match self.left {
@@ -157,8 +157,8 @@ impl<'a> Tokens<'a> {
         ensures { MatchOption result (begins_with_word self.old ≡ false) (λ word. self.old ≡ IsWord word.now ∷ self.new) }
     {
         match self.next() {
-            Some(Piece::Word(word)) => Some(word),
-            Some(Piece::Redirect { .. }) | None => None,
+            Some(BorrowedToken::Word(word)) => Some(word),
+            Some(BorrowedToken::Redirect { .. }) | None => None,
         }
     }
 }

@@ -12,7 +12,7 @@ use Rattle.trace_filter.proofs.FilterLemmas.{filter_or_refused}
 use Rattle.trace_trigger.specs.declared.fault.TriggerFault.{TriggerFault}
 use Rattle.trace_trigger.specs.declared.fault.TriggerFault.TheVariants.{HistSyntax, TooMany, BadSize}
 use Rattle.trace_trigger.specs.declared.key.Key.{Key}
-use Rattle.trace_trigger.specs.declared.piece.Piece.{Piece}
+use Rattle.trace_trigger.specs.declared.piece.ListItem.{ListItem}
 use Rattle.trace_trigger.specs.HistSizes.{rounded_size}
 use Rattle.trace_trigger.specs.HistParts.{attributes_of, tail_of, condition_of}
 use Rattle.trace_trigger.specs.HistLists.{Lists, lists_of, names_of, summed_items, sort_keys, sort_key_of}
@@ -51,10 +51,10 @@ module _ (definition : Definition) (text : List ℕ) (settings : List Setting) (
   -- ---- how many
 
   many_keys : nat_lt 3 (length lists.keys) ≡ true → IsOver settings
-  many_keys e = inl (names_of lists.keys, lists_here.keys, omega (arith, ltb-true 3 (length lists.keys) e, length-map lists.keys (λ (item : Piece). item.bytes)))
+  many_keys e = inl (names_of lists.keys, lists_here.keys, omega (arith, ltb-true 3 (length lists.keys) e, length-map lists.keys (λ (item : ListItem). item.bytes)))
 
-  summed_length : (items : List Piece) → length (summed_items items) ≡ length (summed_names (names_of items))
-  summed_length items = omega (arith, length-map (summed_items items) (λ (item : Piece). item.bytes), ap length (summed_are items))
+  summed_length : (items : List ListItem) → length (summed_items items) ≡ length (summed_names (names_of items))
+  summed_length items = omega (arith, length-map (summed_items items) (λ (item : ListItem). item.bytes), ap length (summed_are items))
 
   many_values : nat_lt 3 (summed_len lists.values) ≡ true → IsOver settings
   many_values e = by lists_here.values
@@ -63,11 +63,11 @@ module _ (definition : Definition) (text : List ℕ) (settings : List Setting) (
       by (inl set) = inr (inl (names_of lists.values, set, omega (arith, ltb-true 3 (length (summed_items lists.values)) e, summed_length lists.values)))
       by (inr none) = absurd (omega (arith, ltb-true 3 (length (summed_items lists.values)) e, summed_length lists.values, ap (λ (names : List (List ℕ)). length (summed_names names)) none.1))
 
-  sort_length : (items : List Piece) → 2 < length items → length (sort_keys items) ≡ length items
+  sort_length : (items : List ListItem) → 2 < length items → length (sort_keys items) ≡ length items
   sort_length [] more = absurd (omega (arith, more))
   sort_length (item ∷ items) more = length-map (item ∷ items) sort_key_of
 
-  length_sort : (items : List Piece) → 2 < length (sort_keys items) → 2 < length items
+  length_sort : (items : List ListItem) → 2 < length (sort_keys items) → 2 < length items
   length_sort [] more = absurd (omega (arith, more))
   length_sort (item ∷ items) more = omega (arith, more, length-map (item ∷ items) sort_key_of)
 
@@ -93,7 +93,7 @@ module _ (definition : Definition) (text : List ℕ) (settings : List Setting) (
   too_many (inl (keys, set, more)) =
       let same : names_of lists.keys ≡ keys = keys_are (attributes_of text) settings finds.read once keys set in
       or_left (nat_lt 3 (length lists.keys) || nat_lt 3 (summed_len lists.values)) (nat_lt 2 (length lists.sort))
-      (or_left (nat_lt 3 (length lists.keys)) (nat_lt 3 (summed_len lists.values)) (lt-ltb 3 (length lists.keys) (omega (arith, more, ap length same, length-map lists.keys (λ (item : Piece). item.bytes)))))
+      (or_left (nat_lt 3 (length lists.keys)) (nat_lt 3 (summed_len lists.values)) (lt-ltb 3 (length lists.keys) (omega (arith, more, ap length same, length-map lists.keys (λ (item : ListItem). item.bytes)))))
   too_many (inr (inl (listed, set, more))) =
       let same : names_of lists.values ≡ listed = values_are (attributes_of text) settings finds.read once listed set in
       or_left (nat_lt 3 (length lists.keys) || nat_lt 3 (summed_len lists.values)) (nat_lt 2 (length lists.sort))

@@ -7,7 +7,7 @@ use Rattle.std.proofs.lemmas.List.{length-append}
 use Rattle.std.proofs.lemmas.List.Elements.{All-nil, All-cons, All-head, All-tail, All-weaker}
 use Rattle.trace_lex.specs.Prefixes.{is_not}
 use Rattle.trace_lex.proofs.Lists.{run_ends}
-use Rattle.trace_trigger.specs.declared.piece.Piece.{Piece}
+use Rattle.trace_trigger.specs.declared.piece.ListItem.{ListItem}
 use Rattle.trace_trigger.specs.HistPieces.{lengthened, pieces_of}
 use Rattle.trace_trigger.specs.HistLists.{names_of}
 use Rattle.trace_trigger.specs.HistGrammar.{IsCut}
@@ -18,7 +18,7 @@ abbrev pub IsFree : ℕ → List ℕ → Type 0
 IsFree byte part = All (λ b. b ≢ byte) part
 
 -- parts one after another, with one byte between them
-abbrev pub located : ℕ → List (List ℕ) → List Piece
+abbrev pub located : ℕ → List (List ℕ) → List ListItem
 located at [] = []
 located at (part ∷ parts) = record { at = at; bytes = part } ∷ located (at + 1 + length part) parts
 
@@ -58,11 +58,11 @@ module _ (byte : ℕ) where
   cut_is_found (part ∷ []) at some free = one_part at part (All-head (IsFree byte) part [] free)
   cut_is_found (part ∷ next ∷ parts) at some free =
       first_part at part (join_with_byte byte (next ∷ parts)) (All-head (IsFree byte) part (next ∷ parts) free)
-      ∙ ap (λ (found : List Piece). record { at = at; bytes = part } ∷ found) (cut_is_found (next ∷ parts) (at + 1 + length part) (omega arith) (All-tail (IsFree byte) part (next ∷ parts) free))
+      ∙ ap (λ (found : List ListItem). record { at = at; bytes = part } ∷ found) (cut_is_found (next ∷ parts) (at + 1 + length part) (omega arith) (All-tail (IsFree byte) part (next ∷ parts) free))
 
   -- ---- and what is found are parts of the text
 
-  grown : (at b : ℕ) (same : Bool) (rest : List Piece) (bs : List ℕ) → (b == byte) ≡ same → IsCut byte bs (names_of rest)
+  grown : (at b : ℕ) (same : Bool) (rest : List ListItem) (bs : List ℕ) → (b == byte) ≡ same → IsCut byte bs (names_of rest)
       → IsCut byte (b ∷ bs) (names_of (if same then record { at = at; bytes = [] } ∷ rest else lengthened at b rest))
   grown at b same [] bs e is = absurd (omega (arith, is.some))
   grown at b true (piece ∷ rest) bs e is = record {
@@ -79,7 +79,7 @@ module _ (byte : ℕ) where
         (All-tail (IsFree byte) piece.bytes (names_of rest) is.free);
   }
     where
-      by : (pieces : List Piece) → b ∷ join_with_byte byte (piece.bytes ∷ names_of pieces) ≡ join_with_byte byte ((b ∷ piece.bytes) ∷ names_of pieces)
+      by : (pieces : List ListItem) → b ∷ join_with_byte byte (piece.bytes ∷ names_of pieces) ≡ join_with_byte byte ((b ∷ piece.bytes) ∷ names_of pieces)
       by [] = refl
       by (next ∷ pieces) = refl
 

@@ -10,7 +10,7 @@ use Rattle.trace_lex.specs.Prefixes.{is_not}
 use Rattle.trace_lex.proofs.Lists.{BeginsNot}
 use Rattle.trace_trigger.specs.declared.spec.SortKey.{SortKey}
 use Rattle.trace_trigger.specs.declared.attribute.Attribute.{Attribute}
-use Rattle.trace_trigger.specs.declared.piece.Piece.{Piece}
+use Rattle.trace_trigger.specs.declared.piece.ListItem.{ListItem}
 use Rattle.trace_trigger.specs.HistAttributes.{head_len, attribute_of}
 use Rattle.trace_trigger.specs.HistPieces.{pieces_of}
 use Rattle.trace_trigger.specs.HistLists.{first_about, items_in, Lists, lists_of, names_of, is_listed, is_hitcount, sort_name, sort_suffix, is_direction, is_sortable}
@@ -33,10 +33,10 @@ map-push f [] x = refl
 map-push f (y ∷ xs) x = ap (λ (ys : List _). f y ∷ ys) (map-push f xs x)
 
 -- attributes are judged by their pieces
-abbrev judged : List Piece → Piece → Bool
+abbrev judged : List ListItem → ListItem → Bool
 judged before piece = is_wrong_attribute (map attribute_of before) (attribute_of piece)
 
-attribute_pieces : (before pieces : List Piece) → map (λ (a : Attribute). a.at) (wrong_after is_wrong_attribute (map attribute_of before) (map attribute_of pieces)) ≡ offsets (wrong_after judged before pieces)
+attribute_pieces : (before pieces : List ListItem) → map (λ (a : Attribute). a.at) (wrong_after is_wrong_attribute (map attribute_of before) (map attribute_of pieces)) ≡ offsets (wrong_after judged before pieces)
 attribute_pieces before [] = refl
 attribute_pieces before (piece ∷ pieces) = by (judged before piece) (ap (λ (those : List Attribute). map (λ (a : Attribute). a.at) (wrong_after is_wrong_attribute those (map attribute_of pieces))) (sym (map-push attribute_of before piece)) ∙ attribute_pieces (before ++ piece ∷ []) pieces)
   where
@@ -141,19 +141,19 @@ module _ (start : ℕ) (parts : List (List ℕ)) where
       by (inl is) = inl (first_list OfSort is (is_sort (topic_in is.attribute) (about_topic OfSort is.attribute is.about)))
       by (inr none) = inr (no_list OfSort none)
 
-  pub items_sound : (wrong : List Piece → Piece → Bool) (subject : Subject) (offset : ℕ) → (is : FoundList subject) → Member offset (offsets (wrong_after wrong [] (items_in (first_about (topic_for subject) (located_attributes start parts)))))
+  pub items_sound : (wrong : List ListItem → ListItem → Bool) (subject : Subject) (offset : ℕ) → (is : FoundList subject) → Member offset (offsets (wrong_after wrong [] (items_in (first_about (topic_for subject) (located_attributes start parts)))))
       → IsWrongThere 44 (items_start is.before is.head) wrong is.items offset
   items_sound wrong subject offset is member =
       let are = items_are subject is.before is.attribute is.head is.items is.about is.list in
-      sound 44 (items_start is.before is.head) wrong is.items offset (subst (λ (pieces : List Piece). Member offset (offsets (wrong_after wrong [] pieces))) are.are member)
+      sound 44 (items_start is.before is.head) wrong is.items offset (subst (λ (pieces : List ListItem). Member offset (offsets (wrong_after wrong [] pieces))) are.are member)
 
-  pub items_complete : (wrong : List Piece → Piece → Bool) (subject : Subject) (offset : ℕ) (attribute head : List ℕ) (attributes items before : List (List ℕ)) (item : List ℕ)
+  pub items_complete : (wrong : List ListItem → ListItem → Bool) (subject : Subject) (offset : ℕ) (attribute head : List ℕ) (attributes items before : List (List ℕ)) (item : List ℕ)
       → IsAbout subject attribute → IsList subject parts attributes attribute head items → IsAt 44 (items_start attributes head) items before item offset
       → wrong (located (items_start attributes head) before) (record { at = offset; bytes = item }) ≡ true
       → Member offset (offsets (wrong_after wrong [] (items_in (first_about (topic_for subject) (located_attributes start parts)))))
   items_complete wrong subject offset attribute head attributes items before item about list is_at is =
       let are = items_are subject attributes attribute head items about list in
-      subst (λ (pieces : List Piece). Member offset (offsets (wrong_after wrong [] pieces))) (sym are.are)
+      subst (λ (pieces : List ListItem). Member offset (offsets (wrong_after wrong [] pieces))) (sym are.are)
       (complete 44 (items_start attributes head) wrong items before item offset is_at is)
 
 -- ---- items of keys and of values
@@ -222,15 +222,15 @@ module _ (begin : ℕ) (parts : List (List ℕ)) where
   lent_by subject name (inl is) e =
       let are = items_are begin parts subject is.before is.attribute is.head is.items is.about is.list in
       let member : Member name (names_of (located (items_start begin parts is.before is.head) is.items)) =
-      listed_member name (located (items_start begin parts is.before is.head) is.items) (ap (λ (pieces : List Piece). is_listed pieces name) (sym are.are) ∙ e) in
+      listed_member name (located (items_start begin parts is.before is.head) is.items) (ap (λ (pieces : List ListItem). is_listed pieces name) (sym are.are) ∙ e) in
       record { before = is.before; attribute = is.attribute; head = is.head; items = is.items; list = is.list; among = from_member name is.items (subst (Member name) (names_of-located 44 (items_start begin parts is.before is.head) is.items) member) }
-  lent_by subject name (inr none) e = let no : is_listed (items_in (first_about (topic_for subject) (located_attributes begin parts))) name ≡ false = ap (λ (pieces : List Piece). is_listed pieces name) none.none in absurd (cc)
+  lent_by subject name (inr none) e = let no : is_listed (items_in (first_about (topic_for subject) (located_attributes begin parts))) name ≡ false = ap (λ (pieces : List ListItem). is_listed pieces name) none.none in absurd (cc)
 
   by_lent : (subject : Subject) (name : List ℕ) → (is : IsLentBy subject parts name) → IsAbout subject is.attribute
       → is_listed (items_in (first_about (topic_for subject) (located_attributes begin parts))) name ≡ true
   by_lent subject name is about =
       let are = items_are begin parts subject is.before is.attribute is.head is.items about is.list in
-      ap (λ (pieces : List Piece). is_listed pieces name) are.are
+      ap (λ (pieces : List ListItem). is_listed pieces name) are.are
       ∙ member_listed name (located (items_start begin parts is.before is.head) is.items) (subst (Member name) (sym (names_of-located 44 (items_start begin parts is.before is.head) is.items)) (member_from name is.items is.among))
 
   lent_is : (name : List ℕ) → is_name name ≡ true → is_sortable lists name ≡ true → IsLent parts name
@@ -261,7 +261,7 @@ module _ (begin : ℕ) (parts : List (List ℕ)) where
   -- ---- wrong items
 
   module _ (start offset : ℕ) (before : List (List ℕ)) (item : List ℕ) where
-    abbrev there : Piece
+    abbrev there : ListItem
     there = record { at = offset; bytes = item }
 
     never_sort : (is_name (sort_name item) && is_direction (sort_suffix item)) ≡ false → (key : SortKey) → IsSortItem item key → ⊥

@@ -7,7 +7,7 @@ use Rattle.trace_format.specs.declared.operand.Operand.{Operand}
 use Rattle.trace_format.specs.Operands.{operand_named, is_text}
 use Rattle.trace_trigger.specs.declared.fault.TriggerFault.{TriggerFault}
 use Rattle.trace_trigger.specs.declared.fault.TriggerFault.TheVariants.{NoSuchField, WrongOperator}
-use Rattle.trace_trigger.specs.declared.piece.Piece.{Piece}
+use Rattle.trace_trigger.specs.declared.piece.ListItem.{ListItem}
 use Rattle.trace_trigger.specs.TriggerAnswers.{◌>>=◌}
 use Rattle.trace_trigger.specs.HistMeanings.{each, key_meant, value_meant}
 use Rattle.trace_trigger.specs.HistGrammar.{summed_names, IsValueOf}
@@ -29,7 +29,7 @@ refused (Err other) next fault e = let same : other ≡ fault = cc in inl (ap (�
 
 -- ---- the first of the items that are kept
 
-module _ {B : Type 0} (read : Piece → Result B TriggerFault) (keep : Piece → Bool) where
+module _ {B : Type 0} (read : ListItem → Result B TriggerFault) (keep : ListItem → Bool) where
   pub record IsFirstFault (start : ℕ) (items : List (List ℕ)) (fault : TriggerFault) : Type 0 where
     pub before : List (List ℕ)
     pub item : List ℕ
@@ -40,7 +40,7 @@ module _ {B : Type 0} (read : Piece → Result B TriggerFault) (keep : Piece →
     pub values : List B
     pub first : each read (filter keep (located start before)) ≡ Ok values
 
-  abbrev those : ℕ → List (List ℕ) → List Piece
+  abbrev those : ℕ → List (List ℕ) → List ListItem
   those start items = filter keep (located start items)
 
   none_yet : (start : ℕ) (item : List ℕ) (rest : List (List ℕ)) (fault : TriggerFault) → keep (record { at = start; bytes = item }) ≡ true → read (record { at = start; bytes = item }) ≡ Err fault → IsFirstFault start (item ∷ rest) fault
@@ -136,7 +136,7 @@ pub filter_all : {X : Type 0} (xs : List X) → filter (λ _. true) xs ≡ xs
 filter_all [] = refl
 filter_all (x ∷ xs) = ap (λ (ys : List _). x ∷ ys) (filter_all xs)
 
-pub key_refused : (item : Piece) (named : Option Operand) (fault : TriggerFault) → key_meant item named ≡ Err fault → (named ≡ None) × (fault ≡ NoSuchField item.at)
+pub key_refused : (item : ListItem) (named : Option Operand) (fault : TriggerFault) → key_meant item named ≡ Err fault → (named ≡ None) × (fault ≡ NoSuchField item.at)
 key_refused item None fault e = let same : NoSuchField item.at ≡ fault = cc in (refl, sym same)
 key_refused item (Some named) fault e = absurd (cc)
 

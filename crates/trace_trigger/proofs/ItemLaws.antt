@@ -6,7 +6,7 @@ use Rattle.std.proofs.lemmas.List.Elements.{All-from_recursion, recursion_from_A
 use Rattle.std.proofs.lemmas.Slice.Eq.{bytes_eq-Decides}
 use Rattle.trace_lex.specs.Names.{is_name}
 use Rattle.trace_trigger.specs.declared.spec.SortKey.{SortKey}
-use Rattle.trace_trigger.specs.declared.piece.Piece.{Piece}
+use Rattle.trace_trigger.specs.declared.piece.ListItem.{ListItem}
 use Rattle.trace_trigger.specs.HistLists.{Lists, names_of, is_listed, is_hitcount, sort_name, sort_suffix, is_direction, sort_key_of, is_sortable}
 use Rattle.trace_trigger.specs.HistOffsets.{wrong_after, is_wrong_name, is_sorted_by, is_wrong_sort}
 use Rattle.trace_trigger.specs.HistGrammar.{IsSortItem}
@@ -23,17 +23,17 @@ bytes_other one other differ = false_from_ne_true (bytes_eq other one) (λ equal
 
 -- ---- names
 
-same_name : Piece → Piece → Bool
+same_name : ListItem → ListItem → Bool
 same_name other item = bytes_eq item.bytes other.bytes
 
-unnamed : Piece → Bool
+unnamed : ListItem → Bool
 unnamed item = not (is_name item.bytes)
 
 pub record AreRight (names : List (List ℕ)) : Type 0 where
   pub named : All (λ name. IsTrue (is_name name)) names
   pub apart : AllPairs (λ one other. one ≢ other) names
 
-pub names_right : (items : List Piece) → wrong_after is_wrong_name [] items ≡ [] → AreRight (names_of items)
+pub names_right : (items : List ListItem) → wrong_after is_wrong_name [] items ≡ [] → AreRight (names_of items)
 unfolding same_name unnamed
 names_right items e =
     let none : NoneWrong is_wrong_name [] items = none_from is_wrong_name [] items e in
@@ -45,32 +45,32 @@ names_right items e =
     let apart : Apart (Unlike same_name) items = unlike_each_other same_name items other in
     record {
       named = All-from_recursion (λ name. IsTrue (is_name name)) (names_of items)
-          (each_map (λ name. IsTrue (is_name name)) (λ (piece : Piece). piece.bytes) items (each_weaker (λ item. unnamed item ≡ false) (λ item. IsTrue (is_name item.bytes)) (λ item f. not-false (is_name item.bytes) f) items named));
+          (each_map (λ name. IsTrue (is_name name)) (λ (piece : ListItem). piece.bytes) items (each_weaker (λ item. unnamed item ≡ false) (λ item. IsTrue (is_name item.bytes)) (λ item f. not-false (is_name item.bytes) f) items named));
       apart = pairs_from (λ one later. one ≢ later) (names_of items)
-          (apart_map (λ one later. one ≢ later) (λ (piece : Piece). piece.bytes) items
+          (apart_map (λ one later. one ≢ later) (λ (piece : ListItem). piece.bytes) items
           (apart_weaker (Unlike same_name) (λ one later. one.bytes ≢ later.bytes) (λ one later f. other_bytes one.bytes later.bytes f) items apart));
     }
 
-pub right_names : (items : List Piece) → AreRight (names_of items) → wrong_after is_wrong_name [] items ≡ []
+pub right_names : (items : List ListItem) → AreRight (names_of items) → wrong_after is_wrong_name [] items ≡ []
 unfolding same_name unnamed
 right_names items right =
-    let named : AllByRecursion (λ (item : Piece). unnamed item ≡ false) items =
-    each_weaker (λ (item : Piece). IsTrue (is_name item.bytes)) (λ item. unnamed item ≡ false) (λ item f. not_from_true (is_name item.bytes) f) items
-    (each_unmap (λ name. IsTrue (is_name name)) (λ (piece : Piece). piece.bytes) items (recursion_from_All (λ name. IsTrue (is_name name)) (names_of items) right.named)) in
+    let named : AllByRecursion (λ (item : ListItem). unnamed item ≡ false) items =
+    each_weaker (λ (item : ListItem). IsTrue (is_name item.bytes)) (λ item. unnamed item ≡ false) (λ item f. not_from_true (is_name item.bytes) f) items
+    (each_unmap (λ name. IsTrue (is_name name)) (λ (piece : ListItem). piece.bytes) items (recursion_from_All (λ name. IsTrue (is_name name)) (names_of items) right.named)) in
     let apart : Apart (Unlike same_name) items =
-    apart_weaker (λ (one later : Piece). one.bytes ≢ later.bytes) (Unlike same_name) (λ one later f. bytes_other one.bytes later.bytes f) items
-    (apart_unmap (λ one later. one ≢ later) (λ (piece : Piece). piece.bytes) items (from_pairs (λ one later. one ≢ later) (names_of items) right.apart)) in
+    apart_weaker (λ (one later : ListItem). one.bytes ≢ later.bytes) (Unlike same_name) (λ one later f. bytes_other one.bytes later.bytes f) items
+    (apart_unmap (λ one later. one ≢ later) (λ (piece : ListItem). piece.bytes) items (from_pairs (λ one later. one ≢ later) (names_of items) right.apart)) in
     let other : NoneWrong (λ before item. is_listed before item.bytes) [] items =
     none_alike same_name items apart in
     from_none is_wrong_name [] items (none_or (λ _ item. unnamed item) (λ before item. is_listed before item.bytes) [] items (each_none unnamed [] items named) other)
 
 -- ---- names to sort by
 
-same_sort : Piece → Piece → Bool
+same_sort : ListItem → ListItem → Bool
 same_sort other item = bytes_eq (sort_name item.bytes) (sort_name other.bytes)
 
 module _ (lists : Lists) where
-  unsorted : Piece → Bool
+  unsorted : ListItem → Bool
   unsorted item = not (is_sortable lists (sort_name item.bytes)) || not (is_direction (sort_suffix item.bytes))
 
   pub record AreSorts (items : List (List ℕ)) (keys : List SortKey) : Type 0 where
@@ -86,14 +86,14 @@ module _ (lists : Lists) where
       by (inl f) = ap is_name ((bytes_eq-Decides name (codes "hitcount")).0 f)
       by (inr f) = (and_parts (is_name name) (is_listed lists.keys name || is_listed lists.values name) f).0
 
-  sorts_each : (items : List Piece) → AllByRecursion (λ (item : Piece). unsorted item ≡ false) items → AllZip IsSortItem (names_of items) (map sort_key_of items)
+  sorts_each : (items : List ListItem) → AllByRecursion (λ (item : ListItem). unsorted item ≡ false) items → AllZip IsSortItem (names_of items) (map sort_key_of items)
   unfolding unsorted
   sorts_each [] all = tt
   sorts_each (item ∷ items) all =
       let parts = or_parts (not (is_sortable lists (sort_name item.bytes))) (not (is_direction (sort_suffix item.bytes))) all.0 in
       (sort_written item.bytes (sortable_named (sort_name item.bytes) (not-false (is_sortable lists (sort_name item.bytes)) parts.0)) (not-false (is_direction (sort_suffix item.bytes)) parts.1), sorts_each items all.1)
 
-  pub sorts_right : (items : List Piece) → wrong_after (is_wrong_sort lists) [] items ≡ [] → AreSorts (names_of items) (map sort_key_of items)
+  pub sorts_right : (items : List ListItem) → wrong_after (is_wrong_sort lists) [] items ≡ [] → AreSorts (names_of items) (map sort_key_of items)
   unfolding unsorted same_sort
   sorts_right items e =
       let none : NoneWrong (is_wrong_sort lists) [] items = none_from (is_wrong_sort lists) [] items e in
@@ -114,14 +114,14 @@ module _ (lists : Lists) where
       }
 
   -- the keys of items are those that are read
-  pub sort_keys_are : (items : List Piece) (keys : List SortKey) → AllZip IsSortItem (names_of items) keys → map sort_key_of items ≡ keys
+  pub sort_keys_are : (items : List ListItem) (keys : List SortKey) → AllZip IsSortItem (names_of items) keys → map sort_key_of items ≡ keys
   sort_keys_are [] [] each = refl
   sort_keys_are [] (key ∷ keys) each = absurd each
   sort_keys_are (item ∷ items) [] each = absurd each
   sort_keys_are (item ∷ items) (key ∷ keys) each = (λ i. sort_key_is item.bytes key each.0 i ∷ sort_keys_are items keys each.1 i)
 
-  each_sorts : (items : List Piece) (keys : List SortKey) → AllZip IsSortItem (names_of items) keys → AllByRecursion (λ (key : SortKey). is_sortable lists key.name ≡ true) keys
-      → AllByRecursion (λ (item : Piece). unsorted item ≡ false) items
+  each_sorts : (items : List ListItem) (keys : List SortKey) → AllZip IsSortItem (names_of items) keys → AllByRecursion (λ (key : SortKey). is_sortable lists key.name ≡ true) keys
+      → AllByRecursion (λ (item : ListItem). unsorted item ≡ false) items
   unfolding unsorted
   each_sorts [] [] each all = tt
   each_sorts [] (key ∷ keys) each all = absurd each
@@ -133,14 +133,14 @@ module _ (lists : Lists) where
         each_sorts items keys each.1 all.1,
       )
 
-  pub right_sorts : (items : List Piece) (keys : List SortKey) → AreSorts (names_of items) keys → wrong_after (is_wrong_sort lists) [] items ≡ []
+  pub right_sorts : (items : List ListItem) (keys : List SortKey) → AreSorts (names_of items) keys → wrong_after (is_wrong_sort lists) [] items ≡ []
   unfolding unsorted same_sort
   right_sorts items keys right =
-      let sorted : AllByRecursion (λ (item : Piece). unsorted item ≡ false) items = each_sorts items keys right.each right.sortable in
+      let sorted : AllByRecursion (λ (item : ListItem). unsorted item ≡ false) items = each_sorts items keys right.each right.sortable in
       let pairs : AllPairs (λ (one later : SortKey). one.name ≢ later.name) (map sort_key_of items) =
       subst (AllPairs (λ (one later : SortKey). one.name ≢ later.name)) (sym (sort_keys_are items keys right.each)) right.apart in
       let apart : Apart (Unlike same_sort) items =
-      apart_weaker (λ (one later : Piece). sort_name one.bytes ≢ sort_name later.bytes) (Unlike same_sort) (λ one later f. bytes_other (sort_name one.bytes) (sort_name later.bytes) f) items
+      apart_weaker (λ (one later : ListItem). sort_name one.bytes ≢ sort_name later.bytes) (Unlike same_sort) (λ one later f. bytes_other (sort_name one.bytes) (sort_name later.bytes) f) items
       (apart_unmap (λ (one later : SortKey). one.name ≢ later.name) sort_key_of items (from_pairs (λ (one later : SortKey). one.name ≢ later.name) (map sort_key_of items) pairs)) in
       let other : NoneWrong (λ before item. is_sorted_by before (sort_name item.bytes)) [] items =
       none_alike same_sort items apart in

@@ -6,7 +6,7 @@ use Rattle.trace_format.specs.Operands.{operand_named, is_text}
 use Rattle.trace_filter.specs.declared.fault.FilterFault.{FilterFault}
 use Rattle.trace_filter.specs.declared.fault.FilterFault.TheVariants as filter
 use Rattle.trace_filter.specs.Filters.{Parsed, answer_of}
-use Rattle.trace_trigger.specs.declared.piece.Piece.{Piece}
+use Rattle.trace_trigger.specs.declared.piece.ListItem.{ListItem}
 use Rattle.trace_trigger.specs.declared.fault.TriggerFault.{TriggerFault}
 use Rattle.trace_trigger.specs.declared.fault.TriggerFault.TheVariants.{BadText, TooMany, FilterSyntax, NoSuchField, WrongOperator, HistSyntax, BadSize, Memory}
 use Rattle.trace_trigger.specs.Frames.{moved, filter_read, filter_of}
@@ -41,7 +41,7 @@ each_later : {A B : Type 0} (read : A → Result B TriggerFault) → ((x : A) �
 each_later read are [] = tt
 each_later read are (x ∷ xs) = then_later (read x) (λ y. each read xs >>= λ ys. Ok (y ∷ ys)) (are x) (λ y. then_later (each read xs) (λ ys. Ok (y ∷ ys)) (each_later read are xs) (λ ys. tt))
 
-key_later : (item : Piece) (named : Option Operand) → IsAnyLater (key_meant item named)
+key_later : (item : ListItem) (named : Option Operand) → IsAnyLater (key_meant item named)
 key_later item None = tt
 key_later item (Some named) = tt
 

@@ -11,7 +11,7 @@ use Rattle.trace_trigger.specs.declared.spec.SortKey.{SortKey}
 use Rattle.trace_trigger.specs.declared.attribute.Topic.{Topic}
 use Rattle.trace_trigger.specs.declared.attribute.Topic.TheVariants as topic
 use Rattle.trace_trigger.specs.declared.attribute.Attribute.{Attribute}
-use Rattle.trace_trigger.specs.declared.piece.Piece.{Piece}
+use Rattle.trace_trigger.specs.declared.piece.ListItem.{ListItem}
 use Rattle.trace_trigger.specs.HistLists.{is_same_topic, first_about, items_of, items_in, lists_of, names_of, is_listed, is_hitcount, sort_key_of, is_sortable}
 use Rattle.trace_trigger.specs.HistOffsets.{wrong_after, is_unknown, is_repeated, is_bad_size, is_wrong_attribute, attribute_offsets, is_wrong_name, key_offsets, value_offsets, is_wrong_sort, sort_offsets, keyless_offsets}
 use Rattle.trace_trigger.specs.HistGrammar.{Setting, Keys, Values, Sort, Size, Asks, subject_of, IsListed, AreLawful, IsSet}
@@ -104,17 +104,17 @@ module _ (attributes : List Attribute) (end : ℕ) (right : AreAllRight attribut
 
   keys_items : (a : Attribute) → first_about topic.Keys attributes ≡ Some a → wrong_after is_wrong_name [] (items_of a) ≡ []
   unfolding lists_of key_offsets
-  keys_items a first = map-nil (λ (item : Piece). item.at) (wrong_after is_wrong_name [] (items_of a)) (sym (ap (λ (o : Option Attribute). key_offsets (items_in o)) first) ∙ right.keys)
+  keys_items a first = map-nil (λ (item : ListItem). item.at) (wrong_after is_wrong_name [] (items_of a)) (sym (ap (λ (o : Option Attribute). key_offsets (items_in o)) first) ∙ right.keys)
 
   values_items : (a : Attribute) → first_about topic.Values attributes ≡ Some a → wrong_after is_wrong_name [] (items_of a) ≡ []
   unfolding lists_of value_offsets
-  values_items a first = map-nil (λ (item : Piece). item.at) (wrong_after is_wrong_name [] (items_of a)) (sym (ap (λ (o : Option Attribute). value_offsets (items_in o)) first) ∙ right.values)
+  values_items a first = map-nil (λ (item : ListItem). item.at) (wrong_after is_wrong_name [] (items_of a)) (sym (ap (λ (o : Option Attribute). value_offsets (items_in o)) first) ∙ right.values)
 
   sort_items : (a : Attribute) → first_about topic.Sort attributes ≡ Some a → wrong_after (is_wrong_sort (lists_of attributes)) [] (items_of a) ≡ []
   unfolding lists_of sort_offsets
   sort_items a first =
-      map-nil (λ (item : Piece). item.at) (wrong_after (is_wrong_sort (lists_of attributes)) [] (items_of a))
-      (sym (ap (λ (o : Option Attribute). map (λ (item : Piece). item.at) (wrong_after (is_wrong_sort (lists_of attributes)) [] (items_in o))) first) ∙ right.sort)
+      map-nil (λ (item : ListItem). item.at) (wrong_after (is_wrong_sort (lists_of attributes)) [] (items_of a))
+      (sym (ap (λ (o : Option Attribute). map (λ (item : ListItem). item.at) (wrong_after (is_wrong_sort (lists_of attributes)) [] (items_in o))) first) ∙ right.sort)
 
   names_held : (a : Attribute) → wrong_after is_wrong_name [] (items_of a) ≡ [] → AreNames a (names_of (items_of a))
   names_held a none = let are = names_right (items_of a) none in record { items = refl; named = are.named; apart = are.apart }

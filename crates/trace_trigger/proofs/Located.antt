@@ -6,23 +6,23 @@ use Rattle.std.proofs.lemmas.List.{length-drop}
 use Rattle.std.proofs.lemmas.List.Elements.{All-nil, All-cons, All-map}
 use Rattle.std.proofs.lemmas.List.Sums.{prefix_len-le-length}
 use Rattle.trace_lex.specs.Prefixes.{is_not}
-use Rattle.trace_trigger.specs.declared.piece.Piece.{Piece}
+use Rattle.trace_trigger.specs.declared.piece.ListItem.{ListItem}
 use Rattle.trace_trigger.specs.HistPieces.{lengthened, pieces_of}
 use Rattle.trace_trigger.specs.HistAttributes.{head_len, attribute_of, attributes_at, IsLocated}
 
-abbrev IsWithin : ℕ → Piece → Type 0
+abbrev IsWithin : ℕ → ListItem → Type 0
 IsWithin end piece = piece.at + length piece.bytes ≤ end
 
 -- the first of the parts begins at an offset
-abbrev BeginAt : ℕ → ℕ → List Piece → Type 0
+abbrev BeginAt : ℕ → ℕ → List ListItem → Type 0
 BeginAt end at [] = Unit {0}
 BeginAt end at (piece ∷ pieces) = (piece.at ≡ at) × (at + length piece.bytes ≤ end) × All (IsWithin end) pieces
 
-all_within : (end at : ℕ) (pieces : List Piece) → BeginAt end at pieces → All (IsWithin end) pieces
+all_within : (end at : ℕ) (pieces : List ListItem) → BeginAt end at pieces → All (IsWithin end) pieces
 all_within end at [] h = All-nil (IsWithin end)
 all_within end at (piece ∷ pieces) h = All-cons (IsWithin end) piece pieces (omega (arith, h.0, h.1)) h.2
 
-lengthened_within : (end at byte : ℕ) (pieces : List Piece) → BeginAt end (at + 1) pieces → BeginAt end at (lengthened at byte pieces)
+lengthened_within : (end at byte : ℕ) (pieces : List ListItem) → BeginAt end (at + 1) pieces → BeginAt end at (lengthened at byte pieces)
 lengthened_within end at byte [] h = tt
 lengthened_within end at byte (piece ∷ pieces) h = (refl, omega (arith, h.1), h.2)
 
@@ -39,7 +39,7 @@ pub pieces_within : (separator end at : ℕ) (bytes : List ℕ) → at + length 
 pieces_within separator end at bytes h = all_within end at (pieces_of separator at bytes) (pieces_begin separator end at bytes h)
 
 -- an attribute's value ends where the attribute ends
-located : (piece : Piece) → IsWithin (2 ^ 64 - 1) piece → IsLocated (attribute_of piece)
+located : (piece : ListItem) → IsWithin (2 ^ 64 - 1) piece → IsLocated (attribute_of piece)
 located piece h = omega (arith, h, length-drop (head_len piece.bytes) piece.bytes, head_within piece.bytes)
   where
     head_within : (written : List ℕ) → head_len written ≤ length written

@@ -11,7 +11,7 @@ use Rattle.trace_trigger.specs.declared.fault.TriggerFault.TheVariants.{WrongOpe
 use Rattle.trace_trigger.specs.declared.sort_rule.SortSource.{SortSource}
 use Rattle.trace_trigger.specs.declared.key.Key.{Key}
 use Rattle.trace_trigger.specs.declared.sort_rule.SortSource.TheVariants as sorted
-use Rattle.trace_trigger.specs.declared.piece.Piece.{Piece}
+use Rattle.trace_trigger.specs.declared.piece.ListItem.{ListItem}
 use Rattle.trace_trigger.specs.HistLists.{names_of, summed_items, is_hitcount}
 use Rattle.trace_trigger.specs.TriggerAnswers.{◌>>=◌}
 use Rattle.trace_trigger.specs.HistMeanings.{each, key_as, key_meant, key_in, value_meant, value_source, told_size, sort_found, sort_source}
@@ -47,20 +47,20 @@ as_number at operand b = if b then Err (WrongOperator at) else Ok operand
 
 module _ (definition : Definition) where
   -- what a key is read as
-  key_read : (item : Piece) (found : Option Operand) (key : Key) → key_meant item found ≡ Ok key → (operand : Operand) × (found ≡ Some operand) × (key_as item operand ≡ key)
+  key_read : (item : ListItem) (found : Option Operand) (key : Key) → key_meant item found ≡ Ok key → (operand : Operand) × (found ≡ Some operand) × (key_as item operand ≡ key)
   key_read item None key e = absurd (cc)
   key_read item (Some operand) key e = let same : key_as item operand ≡ key = cc in (operand, refl, same)
 
-  read_key : (item : Piece) (key : Key) → item.bytes ≡ key.written → IsKeyOf definition key → key_in definition.fields item ≡ Ok key
+  read_key : (item : ListItem) (key : Key) → item.bytes ≡ key.written → IsKeyOf definition key → key_in definition.fields item ≡ Ok key
   read_key item key written is =
       let name : item.bytes ≡ key.name = written ∙ sym is.name in
       ap (λ (bytes : List ℕ). key_meant item (operand_named definition.fields bytes)) name ∙ ap (key_meant item) is.means
       ∙ (λ i. Ok (record { written = written i; name = name i; operand = key.operand }))
 
-  abbrev pub AreRead : List Piece → List Key → Type 0
+  abbrev pub AreRead : List ListItem → List Key → Type 0
   AreRead items keys = AllZip (λ item key. key_in definition.fields item ≡ Ok key) items keys
 
-  pub keys_found : (items : List Piece) (keys : List Key) → each (key_in definition.fields) items ≡ Ok keys → AreRead items keys
+  pub keys_found : (items : List ListItem) (keys : List Key) → each (key_in definition.fields) items ≡ Ok keys → AreRead items keys
   keys_found [] [] e = tt
   keys_found [] (key ∷ keys) e = absurd (cc)
   keys_found (item ∷ items) keys e = by keys (bound (key_in definition.fields item) (λ y. each (key_in definition.fields) items >>= λ ys. Ok (y ∷ ys)) keys e) (keys_found items)
@@ -72,7 +72,7 @@ module _ (definition : Definition) where
           let same : is.found ∷ rest.found ≡ keys = let f = rest.after in cc in
           subst (AreRead (item ∷ items)) same (is.is, next rest.found rest.is)
 
-  pub keys_given : (items : List Piece) (keys : List Key) → AreRead items keys → each (key_in definition.fields) items ≡ Ok keys
+  pub keys_given : (items : List ListItem) (keys : List Key) → AreRead items keys → each (key_in definition.fields) items ≡ Ok keys
   keys_given [] [] zip = refl
   keys_given [] (key ∷ keys) zip = absurd zip
   keys_given (item ∷ items) [] zip = absurd zip
@@ -81,7 +81,7 @@ module _ (definition : Definition) where
       ∙ ap (λ (r : Result (List Key) TriggerFault). r >>= λ ys. Ok (key ∷ ys)) (keys_given items keys zip.1)
 
   -- such keys are written and named as the items are
-  pub keys_written : (items : List Piece) (keys : List Key) → AreRead items keys → names_of items ≡ written_of keys
+  pub keys_written : (items : List ListItem) (keys : List Key) → AreRead items keys → names_of items ≡ written_of keys
   keys_written [] [] zip = refl
   keys_written [] (key ∷ keys) zip = absurd zip
   keys_written (item ∷ items) [] zip = absurd zip
@@ -89,7 +89,7 @@ module _ (definition : Definition) where
       let is = key_read item (operand_named definition.fields item.bytes) key zip.0 in
       (λ i. (is.2 i).written ∷ keys_written items keys zip.1 i)
 
-  pub keys_named : (items : List Piece) (keys : List Key) → AreRead items keys → names_of items ≡ key_names keys
+  pub keys_named : (items : List ListItem) (keys : List Key) → AreRead items keys → names_of items ≡ key_names keys
   keys_named [] [] zip = refl
   keys_named [] (key ∷ keys) zip = absurd zip
   keys_named (item ∷ items) [] zip = absurd zip
@@ -98,7 +98,7 @@ module _ (definition : Definition) where
       (λ i. (is.2 i).name ∷ keys_named items keys zip.1 i)
 
   -- and are keys of the event
-  pub keys_of_event : (items : List Piece) (keys : List Key) → AreRead items keys → AllByRecursion (IsKeyOf definition) keys
+  pub keys_of_event : (items : List ListItem) (keys : List Key) → AreRead items keys → AllByRecursion (IsKeyOf definition) keys
   keys_of_event [] [] zip = tt
   keys_of_event [] (key ∷ keys) zip = absurd zip
   keys_of_event (item ∷ items) [] zip = absurd zip
@@ -106,7 +106,7 @@ module _ (definition : Definition) where
       let is = key_read item (operand_named definition.fields item.bytes) key zip.0 in
       (subst (IsKeyOf definition) is.2 (record { name = refl; means = is.1 }), keys_of_event items keys zip.1)
 
-  pub event_keys : (items : List Piece) (keys : List Key) → names_of items ≡ written_of keys → AllByRecursion (IsKeyOf definition) keys → AreRead items keys
+  pub event_keys : (items : List ListItem) (keys : List Key) → names_of items ≡ written_of keys → AllByRecursion (IsKeyOf definition) keys → AreRead items keys
   event_keys [] [] e all = tt
   event_keys [] (key ∷ keys) e all = absurd (cc)
   event_keys (item ∷ items) [] e all = absurd (cc)
@@ -116,20 +116,20 @@ module _ (definition : Definition) where
       (read_key item key written all.0, event_keys items keys rest all.1)
 
   -- what can be a key
-  pub keys_can : (items : List Piece) (keys : List Key) → AreRead items keys → AllByRecursion (CanBeKey definition) (names_of items)
+  pub keys_can : (items : List ListItem) (keys : List Key) → AreRead items keys → AllByRecursion (CanBeKey definition) (names_of items)
   keys_can [] keys zip = tt
   keys_can (item ∷ items) [] zip = absurd zip
   keys_can (item ∷ items) (key ∷ keys) zip =
       let is = key_read item (operand_named definition.fields item.bytes) key zip.0 in
       ((is.0, is.1), keys_can items keys zip.1)
 
-  pub can_keys : (items : List Piece) → AllByRecursion (CanBeKey definition) (names_of items) → (keys : List Key) × AreRead items keys
+  pub can_keys : (items : List ListItem) → AllByRecursion (CanBeKey definition) (names_of items) → (keys : List Key) × AreRead items keys
   can_keys [] all = ([], tt)
   can_keys (item ∷ items) all =
       let rest = can_keys items all.1 in
       (key_as item all.0.0 ∷ rest.0, (ap (key_meant item) all.0.1, rest.1))
 
-  pub values_found : (items : List Piece) (sources : List Operand) → each (value_source definition.fields) items ≡ Ok sources → AllZip (IsValueOf definition) (names_of items) sources
+  pub values_found : (items : List ListItem) (sources : List Operand) → each (value_source definition.fields) items ≡ Ok sources → AllZip (IsValueOf definition) (names_of items) sources
   values_found [] [] e = tt
   values_found [] (source ∷ sources) e = absurd (cc)
   values_found (item ∷ items) sources e = by sources (bound (value_source definition.fields item) (λ y. each (value_source definition.fields) items >>= λ ys. Ok (y ∷ ys)) sources e) (values_found items)
@@ -141,7 +141,7 @@ module _ (definition : Definition) where
           let same : is.found ∷ rest.found ≡ sources = let f = rest.after in cc in
           subst (AllZip (IsValueOf definition) (names_of (item ∷ items))) same (value_found item.at (operand_named definition.fields item.bytes) is.found is.is, next rest.found rest.is)
 
-  pub values_given : (items : List Piece) (sources : List Operand) → AllZip (IsValueOf definition) (names_of items) sources → each (value_source definition.fields) items ≡ Ok sources
+  pub values_given : (items : List ListItem) (sources : List Operand) → AllZip (IsValueOf definition) (names_of items) sources → each (value_source definition.fields) items ≡ Ok sources
   values_given [] [] zip = refl
   values_given [] (source ∷ sources) zip = absurd zip
   values_given (item ∷ items) [] zip = absurd zip
@@ -151,7 +151,7 @@ module _ (definition : Definition) where
       ∙ ap (λ (r : Result (List Operand) TriggerFault). r >>= λ ys. Ok (source ∷ ys)) (values_given items sources zip.1)
 
 -- the values that are summed, by their names
-pub summed_are : (items : List Piece) → names_of (summed_items items) ≡ summed_names (names_of items)
+pub summed_are : (items : List ListItem) → names_of (summed_items items) ≡ summed_names (names_of items)
 summed_are [] = refl
 summed_are (item ∷ items) = by (not (is_hitcount item.bytes)) (summed_are items)
   where

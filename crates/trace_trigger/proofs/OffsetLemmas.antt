@@ -2,7 +2,7 @@
 use Rattle.std.proofs.Common.{◌≡◌, ◌⊎◌, inl, inr, refl, ℕ, ◌+◌, ◌<◌, ◌≤◌, min, Bool, true, false, if◌then◌else◌, List, [], ◌∷◌, ◌++◌, length, flat_map, map, Option, Some, None, ap, sym, ◌∙◌, subst, arith, append-nil}
 use Rattle.std.proofs.lemmas.Bool.{cases_lt}
 use Rattle.std.proofs.lemmas.List.{append_assoc, length-append}
-use Rattle.trace_trigger.specs.declared.piece.Piece.{Piece}
+use Rattle.trace_trigger.specs.declared.piece.ListItem.{ListItem}
 use Rattle.trace_trigger.specs.HistOffsets.{wrong_after, earlier, least}
 use Rattle.trace_trigger.specs.HistFaultOffsets.{IsAt}
 use Rattle.trace_trigger.proofs.CutLemmas.{located}
@@ -24,13 +24,13 @@ located-push : (byte start : ℕ) (before : List (List ℕ)) (part : List ℕ) �
 located-push byte start [] part = let here : start ≡ start + size byte [] = omega arith in ap (λ n. record { at = n; bytes = part } ∷ []) here
 located-push byte start (first ∷ before) part =
     let there : start + 1 + length first + size byte before ≡ start + size byte (first ∷ before) = omega (arith, size_first byte first before) in
-    ap (λ (pieces : List Piece). record { at = start; bytes = first } ∷ pieces) (located-push byte (start + 1 + length first) before part)
+    ap (λ (pieces : List ListItem). record { at = start; bytes = first } ∷ pieces) (located-push byte (start + 1 + length first) before part)
     ∙ ap (λ n. record { at = start; bytes = first } ∷ (located (start + 1 + length first) before ++ record { at = n; bytes = part } ∷ [])) there
 
-abbrev pub offsets : List Piece → List ℕ
-offsets pieces = map (λ (piece : Piece). piece.at) pieces
+abbrev pub offsets : List ListItem → List ℕ
+offsets pieces = map (λ (piece : ListItem). piece.at) pieces
 
-module _ (byte start : ℕ) (wrong : List Piece → Piece → Bool) where
+module _ (byte start : ℕ) (wrong : List ListItem → ListItem → Bool) where
   pub record IsWrongThere (parts : List (List ℕ)) (offset : ℕ) : Type 0 where
     pub before : List (List ℕ)
     pub part : List ℕ
@@ -50,7 +50,7 @@ module _ (byte start : ℕ) (wrong : List Piece → Piece → Bool) where
   -- with one more part before them
   after_more : (before rest : List (List ℕ)) (part : List ℕ) (at : ℕ) → at ≡ start + size byte before
       → after_these (before ++ part ∷ []) rest (at + 1 + length part) ≡ offsets (wrong_after wrong (located start before ++ record { at = at; bytes = part } ∷ []) (located (at + 1 + length part) rest))
-  after_more before rest part at e = ap (λ (pieces : List Piece). offsets (wrong_after wrong pieces (located (at + 1 + length part) rest))) (now before part at e)
+  after_more before rest part at e = ap (λ (pieces : List ListItem). offsets (wrong_after wrong pieces (located (at + 1 + length part) rest))) (now before part at e)
 
   step : (before rest : List (List ℕ)) (part : List ℕ) (at : ℕ) → at ≡ start + size byte before → (b : Bool) → wrong (located start before) (record { at = at; bytes = part }) ≡ b
       → after_these before (part ∷ rest) at ≡ (if b then at ∷ after_these (before ++ part ∷ []) rest (at + 1 + length part) else after_these (before ++ part ∷ []) rest (at + 1 + length part))

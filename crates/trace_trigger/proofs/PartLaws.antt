@@ -16,7 +16,7 @@ use Rattle.trace_trigger.specs.Frames.{mark, is_unblank, after_blanks, IsConditi
 use Rattle.trace_trigger.specs.declared.spec.Action.{Action}
 use Rattle.trace_trigger.specs.declared.spec.Action.TheVariants.{Attach, Pause, Continue, Clear}
 use Rattle.trace_trigger.specs.declared.spec.SortKey.{SortKey}
-use Rattle.trace_trigger.specs.declared.piece.Piece.{Piece}
+use Rattle.trace_trigger.specs.declared.piece.ListItem.{ListItem}
 use Rattle.trace_trigger.specs.HistAttributes.{attribute_of, attributes_at}
 use Rattle.trace_trigger.specs.HistPieces.{pieces_of}
 use Rattle.trace_trigger.specs.HistLists.{names_of}
@@ -333,9 +333,9 @@ located_read at (attribute ∷ attributes) (setting ∷ settings) each = (writte
 
 pub attributes_read : (at : ℕ) (word : List ℕ) (attributes : List (List ℕ)) (settings : List Setting) → IsCut 58 word attributes → AllZip Writes attributes settings → AllZip IsRead (attributes_at at word) settings
 attributes_read at word attributes settings cut each =
-    subst (λ (pieces : List Piece). AllZip IsRead (map attribute_of pieces) settings) (sym (cut_pieces 58 at word attributes cut)) (located_read at attributes settings each)
+    subst (λ (pieces : List ListItem). AllZip IsRead (map attribute_of pieces) settings) (sym (cut_pieces 58 at word attributes cut)) (located_read at attributes settings each)
 
-pieces_written : (pieces : List Piece) (settings : List Setting) → AllZip IsRead (map attribute_of pieces) settings → AllZip Writes (names_of pieces) settings
+pieces_written : (pieces : List ListItem) (settings : List Setting) → AllZip IsRead (map attribute_of pieces) settings → AllZip Writes (names_of pieces) settings
 pieces_written [] [] each = tt
 pieces_written [] (setting ∷ settings) each = absurd each
 pieces_written (piece ∷ pieces) [] each = absurd each

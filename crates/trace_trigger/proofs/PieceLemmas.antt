@@ -3,7 +3,7 @@ use Rattle.std.proofs.Common.{◌≡◌, refl, ℕ, zero, suc, ◌+◌, ◌<◌,
 use Rattle.std.specs.List.{prefix_len}
 use Rattle.std.proofs.lemmas.List.{append_assoc}
 use Rattle.trace_lex.specs.Prefixes.{is_not}
-use Rattle.trace_trigger.specs.declared.piece.Piece.{Piece}
+use Rattle.trace_trigger.specs.declared.piece.ListItem.{ListItem}
 use Rattle.trace_trigger.specs.HistPieces.{lengthened, pieces_of}
 
 module _ (separator : ℕ) where
@@ -44,14 +44,14 @@ module _ (separator : ℕ) where
           ap (lengthened at b) (next (omega (arith, g))) ∙ ap (λ m. record { at = at; bytes = b ∷ take n bs } ∷ pieces_of separator m (drop (suc n) bs)) e
 
   -- the parts found are all, when the rest is one part
-  pub pieces-ended : (found now : List Piece) (at n : ℕ) (rest : List ℕ) (all : List Piece)
+  pub pieces-ended : (found now : List ListItem) (at n : ℕ) (rest : List ℕ) (all : List ListItem)
       → found ++ pieces_of separator at rest ≡ all → prefix_len (is_not separator) rest ≡ n → n ≡ length rest
       → now ≡ found ++ record { at = at; bytes = take n rest } ∷ [] → now ≡ all
   pieces-ended found now at n rest all h e k g =
       g ∙ ap (λ m. found ++ record { at = at; bytes = take m rest } ∷ []) k ∙ sym (ap (λ x. found ++ x) (pieces-last at rest (e ∙ k))) ∙ h
 
   -- and otherwise one more is found
-  pub pieces-more : (found now : List Piece) (at n : ℕ) (rest : List ℕ) (all : List Piece)
+  pub pieces-more : (found now : List ListItem) (at n : ℕ) (rest : List ℕ) (all : List ListItem)
       → found ++ pieces_of separator at rest ≡ all → prefix_len (is_not separator) rest ≡ n → n < length rest
       → now ≡ found ++ record { at = at; bytes = take n rest } ∷ [] → now ++ pieces_of separator (at + 1 + n) (drop (suc n) rest) ≡ all
   pieces-more found now at n rest all h e k g =

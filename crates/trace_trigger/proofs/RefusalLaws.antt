@@ -11,7 +11,7 @@ use Rattle.trace_trigger.specs.declared.fault.TriggerFault.{TriggerFault}
 use Rattle.trace_trigger.specs.declared.fault.TriggerFault.TheVariants.{NoSuchField}
 use Rattle.trace_trigger.specs.declared.key.Key.{Key}
 use Rattle.trace_trigger.specs.declared.attribute.Attribute.{Attribute}
-use Rattle.trace_trigger.specs.declared.piece.Piece.{Piece}
+use Rattle.trace_trigger.specs.declared.piece.ListItem.{ListItem}
 use Rattle.trace_trigger.specs.HistParts.{attributes_of}
 use Rattle.trace_trigger.specs.HistLists.{first_about, items_in, Lists, lists_of, names_of, summed_items, is_hitcount}
 use Rattle.trace_trigger.specs.HistMeanings.{each, key_meant, key_in, value_source}
@@ -31,7 +31,7 @@ use Rattle.trace_trigger.proofs.FirstFaults.{first_fault, fault_first, filter_al
 -- ---- the items of lists are at their offsets
 
 -- pieces are the items of the first attribute about this
-record ListAt {text : List ℕ} (cut : Cut text) (subject : Subject) (pieces : List Piece) : Type 0 where
+record ListAt {text : List ℕ} (cut : Cut text) (subject : Subject) (pieces : List ListItem) : Type 0 where
   before : List (List ℕ)
   attribute : List ℕ
   head : List ℕ
@@ -92,11 +92,11 @@ module _ (text : List ℕ) (cut : Cut text) where
 -- ---- the first wrong key
 
 module _ (definition : Definition) (text : List ℕ) where
-  abbrev all : Piece → Bool
+  abbrev all : ListItem → Bool
   all = λ _. true
 
-  abbrev summed : Piece → Bool
-  summed = λ (item : Piece). not (is_hitcount item.bytes)
+  abbrev summed : ListItem → Bool
+  summed = λ (item : ListItem). not (is_hitcount item.bytes)
 
   keys_before : (start : ℕ) (before : List (List ℕ)) (keys : List Key) → each (key_in definition.fields) (filter (λ _. true) (located start before)) ≡ Ok keys → All (CanBeKey definition) before
   keys_before start before keys e =
@@ -104,7 +104,7 @@ module _ (definition : Definition) (text : List ℕ) where
       All-from_recursion (CanBeKey definition) before
       (subst (AllByRecursion (CanBeKey definition)) (names_of-located 44 start before) (keys_can definition (located start before) keys read))
 
-  record SomeOk {B : Type 0} (pieces : List Piece) (read : Piece → Result B TriggerFault) : Type 0 where
+  record SomeOk {B : Type 0} (pieces : List ListItem) (read : ListItem → Result B TriggerFault) : Type 0 where
     found : List B
     is : each read pieces ≡ Ok found
 
@@ -189,8 +189,8 @@ module _ (definition : Definition) (text : List ℕ) where
       at : ListAt cut OfValues (lists_of (attributes_of text)).values → IsWrongValue definition text fault
       at list =
           let begin : ℕ = items_offset cut list.before list.head in
-          let first = first_fault (value_source definition.fields) (λ (item : Piece). not (is_hitcount item.bytes)) begin list.items fault
-          (ap (λ (pieces : List Piece). each (value_source definition.fields) (summed_items pieces)) (sym list.are) ∙ e) in
+          let first = first_fault (value_source definition.fields) (λ (item : ListItem). not (is_hitcount item.bytes)) begin list.items fault
+          (ap (λ (pieces : List ListItem). each (value_source definition.fields) (summed_items pieces)) (sym list.are) ∙ e) in
           record {
             cut = cut;
             before = first.before;
@@ -210,7 +210,7 @@ module _ (definition : Definition) (text : List ℕ) where
           }
 
       by : ((lists_of (attributes_of text)).values ≡ []) ⊎ ListAt cut OfValues (lists_of (attributes_of text)).values → IsWrongValue definition text fault
-      by (inl none) = let fine : each (value_source definition.fields) (summed_items (lists_of (attributes_of text)).values) ≡ Ok [] = ap (λ (pieces : List Piece). each (value_source definition.fields) (summed_items pieces)) none in absurd (cc)
+      by (inl none) = let fine : each (value_source definition.fields) (summed_items (lists_of (attributes_of text)).values) ≡ Ok [] = ap (λ (pieces : List ListItem). each (value_source definition.fields) (summed_items pieces)) none in absurd (cc)
       by (inr list) = at list
 
   pub fault_value : (fault : TriggerFault) → IsWrongValue definition text fault → each (value_source definition.fields) (summed_items lists.values) ≡ Err fault
@@ -222,5 +222,5 @@ module _ (definition : Definition) (text : List ℕ) where
       let other : is_hitcount is.name ≡ false = false_from_ne_true (is_hitcount is.name) (λ equal. is.summed ((bytes_eq-Decides is.name (codes "hitcount")).0 equal)) in
       let wrong : value_source definition.fields (record { at = begin + size 44 is.before; bytes = is.name }) ≡ Err fault =
       refused_value definition (begin + size 44 is.before) is.name fault (subst (λ n. CannotBeValue definition is.name n fault) same is.wrong) in
-      ap (λ (pieces : List Piece). each (value_source definition.fields) (summed_items pieces)) (values_of_item text is.cut is.before is.name is.offset at ∙ ap (located begin) at.is_at.cut)
-      ∙ fault_first (value_source definition.fields) (λ (item : Piece). not (is_hitcount item.bytes)) begin is.before is.name at.is_at.after fault before.found (not_from_false (is_hitcount is.name) other) wrong before.is
+      ap (λ (pieces : List ListItem). each (value_source definition.fields) (summed_items pieces)) (values_of_item text is.cut is.before is.name is.offset at ∙ ap (located begin) at.is_at.cut)
+      ∙ fault_first (value_source definition.fields) (λ (item : ListItem). not (is_hitcount item.bytes)) begin is.before is.name at.is_at.after fault before.found (not_from_false (is_hitcount is.name) other) wrong before.is

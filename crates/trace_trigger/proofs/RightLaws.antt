@@ -10,7 +10,7 @@ use Rattle.trace_lex.specs.Names.{is_name}
 use Rattle.trace_trigger.specs.declared.spec.SortKey.{SortKey}
 use Rattle.trace_trigger.specs.declared.attribute.Topic.TheVariants as topic
 use Rattle.trace_trigger.specs.declared.attribute.Attribute.{Attribute}
-use Rattle.trace_trigger.specs.declared.piece.Piece.{Piece}
+use Rattle.trace_trigger.specs.declared.piece.ListItem.{ListItem}
 use Rattle.trace_trigger.specs.HistLists.{is_same_topic, first_about, items_of, items_in, lists_of, is_listed, is_hitcount, is_sortable}
 use Rattle.trace_trigger.specs.HistOffsets.{wrong_after, is_unknown, is_repeated, is_bad_size, is_wrong_attribute, attribute_offsets, is_wrong_name, key_offsets, value_offsets, is_wrong_sort, sort_offsets, keyless_offsets}
 use Rattle.trace_trigger.specs.HistGrammar.{Setting, Keys, Values, Sort, Size, Asks, subject_of, IsListed, AreLawful}
@@ -92,10 +92,10 @@ module _ (attributes : List Attribute) (settings : List Setting) (zip : AllZip I
       (each_none is_bad_size [] attributes (each_sized attributes settings zip))) in
       ap (map (λ (a : Attribute). a.at)) none
 
-  items_right : (attribute : Attribute) (names : List (List ℕ)) → AreNames attribute names → map (λ (item : Piece). item.at) (wrong_after is_wrong_name [] (items_of attribute)) ≡ []
+  items_right : (attribute : Attribute) (names : List (List ℕ)) → AreNames attribute names → map (λ (item : ListItem). item.at) (wrong_after is_wrong_name [] (items_of attribute)) ≡ []
   items_right attribute names are =
       let right : AreRight names = record { named = are.named; apart = are.apart } in
-      ap (map (λ (item : Piece). item.at)) (right_names (items_of attribute) (subst AreRight (sym are.items) right))
+      ap (map (λ (item : ListItem). item.at)) (right_names (items_of attribute) (subst AreRight (sym are.items) right))
 
   keys_right : key_offsets (lists_of attributes).keys ≡ []
   unfolding lists_of key_offsets
@@ -173,19 +173,19 @@ module _ (attributes : List Attribute) (settings : List Setting) (zip : AllZip I
   unfolding lists_of sort_offsets
   sort_right = by (found_or_missing topic.Sort attributes settings zip)
     where
-      by : IsFound topic.Sort attributes settings ⊎ IsMissing topic.Sort attributes settings → map (λ (item : Piece). item.at) (wrong_after (is_wrong_sort (lists_of attributes)) [] (items_in (first_about topic.Sort attributes))) ≡ []
+      by : IsFound topic.Sort attributes settings ⊎ IsMissing topic.Sort attributes settings → map (λ (item : ListItem). item.at) (wrong_after (is_wrong_sort (lists_of attributes)) [] (items_in (first_about topic.Sort attributes))) ≡ []
       by (inl found) = of found.setting found.same found.member found.read
         where
           of : (s : Setting) → is_same_topic topic.Sort (topic_of_setting s) ≡ true → Member s settings → IsRead found.attribute s
-              → map (λ (item : Piece). item.at) (wrong_after (is_wrong_sort (lists_of attributes)) [] (items_in (first_about topic.Sort attributes))) ≡ []
+              → map (λ (item : ListItem). item.at) (wrong_after (is_wrong_sort (lists_of attributes)) [] (items_in (first_about topic.Sort attributes))) ≡ []
           of (Keys names) e is read = absurd (cc)
           of (Values names) e is read = absurd (cc)
           of (Sort keys) e is read =
-              ap (λ (a : Option Attribute). map (λ (item : Piece). item.at) (wrong_after (is_wrong_sort (lists_of attributes)) [] (items_in a))) found.first
-              ∙ ap (map (λ (item : Piece). item.at)) (sort_items_right found.attribute keys (from_member (Sort keys) settings is) read.holds)
+              ap (λ (a : Option Attribute). map (λ (item : ListItem). item.at) (wrong_after (is_wrong_sort (lists_of attributes)) [] (items_in a))) found.first
+              ∙ ap (map (λ (item : ListItem). item.at)) (sort_items_right found.attribute keys (from_member (Sort keys) settings is) read.holds)
           of (Size entries) e is read = absurd (cc)
           of (Asks action) e is read = absurd (cc)
-      by (inr missing) = ap (λ (a : Option Attribute). map (λ (item : Piece). item.at) (wrong_after (is_wrong_sort (lists_of attributes)) [] (items_in a))) missing.first
+      by (inr missing) = ap (λ (a : Option Attribute). map (λ (item : ListItem). item.at) (wrong_after (is_wrong_sort (lists_of attributes)) [] (items_in a))) missing.first
 
   keyed_right : (end : ℕ) → keyless_offsets end (lists_of attributes).keys ≡ []
   unfolding lists_of

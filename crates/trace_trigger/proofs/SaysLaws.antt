@@ -11,7 +11,7 @@ use Rattle.trace_trigger.specs.declared.spec.Action.TheVariants.{Attach}
 use Rattle.trace_trigger.specs.declared.key.Key.{Key}
 use Rattle.trace_trigger.specs.declared.spec.SortKey.{SortKey}
 use Rattle.trace_trigger.specs.declared.sort_rule.SortRule.{SortRule}
-use Rattle.trace_trigger.specs.declared.piece.Piece.{Piece}
+use Rattle.trace_trigger.specs.declared.piece.ListItem.{ListItem}
 use Rattle.trace_trigger.specs.HistParts.{attributes_of}
 use Rattle.trace_trigger.specs.HistLists.{Lists, lists_of, names_of, summed_items, is_hitcount, sort_keys, sort_key_of}
 use Rattle.trace_trigger.specs.HistMeanings.{is_too_many, few, size_of, told_size, sort_source, sort_rule}
@@ -150,17 +150,17 @@ module _ (definition : Definition) (text : List ℕ) (settings : List Setting) (
 
   -- ---- how many
 
-  few_keys : (items : List Piece) (names : List (List ℕ)) → names_of items ≡ names → nat_lt 3 (length items) ≡ false → length names ≤ 3
-  few_keys items names e f = omega (arith, ltb-false 3 (length items) f, length-map items (λ (item : Piece). item.bytes), ap length e)
+  few_keys : (items : List ListItem) (names : List (List ℕ)) → names_of items ≡ names → nat_lt 3 (length items) ≡ false → length names ≤ 3
+  few_keys items names e f = omega (arith, ltb-false 3 (length items) f, length-map items (λ (item : ListItem). item.bytes), ap length e)
 
-  keys_few : (items : List Piece) (names : List (List ℕ)) → names_of items ≡ names → length names ≤ 3 → nat_lt 3 (length items) ≡ false
-  keys_few items names e f = le-ltb 3 (length items) (omega (arith, f, length-map items (λ (item : Piece). item.bytes), ap length e))
+  keys_few : (items : List ListItem) (names : List (List ℕ)) → names_of items ≡ names → length names ≤ 3 → nat_lt 3 (length items) ≡ false
+  keys_few items names e f = le-ltb 3 (length items) (omega (arith, f, length-map items (λ (item : ListItem). item.bytes), ap length e))
 
-  few_sorts : (items : List Piece) (keys : List SortKey) → sort_keys items ≡ keys → nat_lt 2 (length items) ≡ false → length keys ≤ 2
+  few_sorts : (items : List ListItem) (keys : List SortKey) → sort_keys items ≡ keys → nat_lt 2 (length items) ≡ false → length keys ≤ 2
   few_sorts [] keys e f = omega (arith, ap length e)
   few_sorts (item ∷ items) keys e f = omega (arith, ltb-false 2 (length (item ∷ items)) f, length-map (item ∷ items) sort_key_of, ap length e)
 
-  sorts_few : (items : List Piece) (keys : List SortKey) → sort_keys items ≡ keys → length keys ≤ 2 → nat_lt 2 (length items) ≡ false
+  sorts_few : (items : List ListItem) (keys : List SortKey) → sort_keys items ≡ keys → length keys ≤ 2 → nat_lt 2 (length items) ≡ false
   sorts_few [] keys e f = refl
   sorts_few (item ∷ items) keys e f = le-ltb 2 (length (item ∷ items)) (omega (arith, f, length-map (item ∷ items) sort_key_of, ap length e))
 

@@ -8,7 +8,7 @@ use Rattle.trace_trigger.specs.declared.spec.Action.TheVariants.{Attach}
 use Rattle.trace_trigger.specs.declared.spec.SortKey.{SortKey}
 use Rattle.trace_trigger.specs.declared.attribute.Topic.TheVariants as topic
 use Rattle.trace_trigger.specs.declared.attribute.Attribute.{Attribute}
-use Rattle.trace_trigger.specs.declared.piece.Piece.{Piece}
+use Rattle.trace_trigger.specs.declared.piece.ListItem.{ListItem}
 use Rattle.trace_trigger.specs.HistSizes.{rounded_size}
 use Rattle.trace_trigger.specs.HistLists.{is_same_topic, first_about, items_of, items_in, asked_for, action_in, Lists, lists_of, names_of, is_listed, sort_key_of, sort_keys}
 use Rattle.trace_trigger.specs.HistOffsets.{keyless_offsets}
@@ -21,7 +21,7 @@ use Rattle.trace_trigger.proofs.ListLaws.{Member, member_from, from_member, same
 
 -- ---- names among others
 
-pub listed_member : (name : List ℕ) (items : List Piece) → is_listed items name ≡ true → Member name (names_of items)
+pub listed_member : (name : List ℕ) (items : List ListItem) → is_listed items name ≡ true → Member name (names_of items)
 listed_member name [] e = absurd (cc)
 listed_member name (item ∷ items) e = by (or_cases (bytes_eq name item.bytes) (is_listed items name) e) (listed_member name items)
   where
@@ -29,7 +29,7 @@ listed_member name (item ∷ items) e = by (or_cases (bytes_eq name item.bytes) 
     by (inl f) next = inl ((bytes_eq-Decides name item.bytes).0 f)
     by (inr f) next = inr (next f)
 
-pub member_listed : (name : List ℕ) (items : List Piece) → Member name (names_of items) → is_listed items name ≡ true
+pub member_listed : (name : List ℕ) (items : List ListItem) → Member name (names_of items) → is_listed items name ≡ true
 member_listed name [] is = absurd is
 member_listed name (item ∷ items) (inl e) = or_left (bytes_eq name item.bytes) (is_listed items name) ((bytes_eq-Decides name item.bytes).1 e)
 member_listed name (item ∷ items) (inr is) = or_right (bytes_eq name item.bytes) (is_listed items name) (member_listed name items is)
@@ -39,11 +39,11 @@ member_listed name (item ∷ items) (inr is) = or_right (bytes_eq name item.byte
 pub some_items : (attribute : Attribute) → 0 < length (names_of (items_of attribute))
 some_items attribute = (found_is_cut 44 (attribute.at + attribute.skip) attribute.value).some
 
-pub sort_keys-some : (items : List Piece) → 0 < length (names_of items) → sort_keys items ≡ map sort_key_of items
+pub sort_keys-some : (items : List ListItem) → 0 < length (names_of items) → sort_keys items ≡ map sort_key_of items
 sort_keys-some [] some = absurd (omega (arith, some))
 sort_keys-some (item ∷ items) some = refl
 
-pub keyed : (end : ℕ) (keys : List Piece) → 0 < length (names_of keys) → keyless_offsets end keys ≡ []
+pub keyed : (end : ℕ) (keys : List ListItem) → 0 < length (names_of keys) → keyless_offsets end keys ≡ []
 keyed end [] some = absurd (omega (arith, some))
 keyed end (key ∷ keys) some = refl
 

@@ -9,7 +9,7 @@ use Rattle.trace_lex.specs.Blanks.{is_blank}
 use Rattle.trace_lex.proofs.Lists.{BeginsNot}
 use Rattle.trace_trigger.specs.Frames.{mark, is_unblank, after_blanks}
 use Rattle.trace_trigger.specs.declared.attribute.Attribute.{Attribute}
-use Rattle.trace_trigger.specs.declared.piece.Piece.{Piece}
+use Rattle.trace_trigger.specs.declared.piece.ListItem.{ListItem}
 use Rattle.trace_trigger.specs.HistAttributes.{attribute_of}
 use Rattle.trace_trigger.specs.HistParts.{attributes_of, end_of, tail_of, is_condition, condition_of, offset_in}
 use Rattle.trace_trigger.specs.HistLists.{first_about, items_in, Lists, lists_of}
@@ -65,7 +65,7 @@ module _ (begin : ℕ) (parts : List (List ℕ)) where
             is_at = it.is_at;
             wrong = item_wrong (begin + size 58 list.before + length list.head) offset it.before it.part it.wrong_there;
           }
-      by (inr none) = absurd (subst (λ (pieces : List Piece). Member offset (offsets (wrong_after is_wrong_name [] pieces))) none.none is)
+      by (inr none) = absurd (subst (λ (pieces : List ListItem). Member offset (offsets (wrong_after is_wrong_name [] pieces))) none.none is)
 
   values_sound : (offset : ℕ) → Member offset (value_offsets lists.values) → WrongItemAt offset
   unfolding lists_of value_offsets
@@ -86,7 +86,7 @@ module _ (begin : ℕ) (parts : List (List ℕ)) where
             is_at = it.is_at;
             wrong = item_wrong (begin + size 58 list.before + length list.head) offset it.before it.part it.wrong_there;
           }
-      by (inr none) = absurd (subst (λ (pieces : List Piece). Member offset (offsets (wrong_after is_wrong_name [] pieces))) none.none is)
+      by (inr none) = absurd (subst (λ (pieces : List ListItem). Member offset (offsets (wrong_after is_wrong_name [] pieces))) none.none is)
 
   sort_sound : (offset : ℕ) → Member offset (sort_offsets lists) → WrongItemAt offset
   unfolding lists_of sort_offsets
@@ -107,7 +107,7 @@ module _ (begin : ℕ) (parts : List (List ℕ)) where
             is_at = it.is_at;
             wrong = sort_wrong begin parts (begin + size 58 list.before + length list.head) offset it.before it.part it.wrong_there;
           }
-      by (inr none) = absurd (subst (λ (pieces : List Piece). Member offset (offsets (wrong_after (is_wrong_sort (lists_of (located_attributes begin parts))) [] pieces))) none.none is)
+      by (inr none) = absurd (subst (λ (pieces : List ListItem). Member offset (offsets (wrong_after (is_wrong_sort (lists_of (located_attributes begin parts))) [] pieces))) none.none is)
 
   lists_sound : (offset : ℕ) → Member offset (list_offsets lists) → WrongItemAt offset
   lists_sound offset is = by (member_cases offset (key_offsets lists.keys ++ value_offsets lists.values) (sort_offsets lists) is)
@@ -212,7 +212,7 @@ module _ (text : List ℕ) (cut : Cut text) where
   pub attributes_there : attributes_of text ≡ there
   attributes_there =
       ap attributes_of cut.cut ∙ attributes_are cut.removes cut.word cut.tail passes stops
-      ∙ ap (λ (pieces : List Piece). map attribute_of pieces) (cut_pieces 58 start cut.word cut.attributes cut.parts)
+      ∙ ap (λ (pieces : List ListItem). map attribute_of pieces) (cut_pieces 58 start cut.word cut.attributes cut.parts)
 
   tail_there : tail_of text ≡ after_blanks cut.tail
   tail_there = ap tail_of cut.cut ∙ tail_is cut.removes cut.word cut.tail passes stops

@@ -6,7 +6,7 @@ use Rattle.trace_trigger.specs.declared.spec.Action.TheVariants.{Pause, Continue
 use Rattle.trace_trigger.specs.declared.attribute.Topic.{Topic}
 use Rattle.trace_trigger.specs.declared.attribute.Topic.TheVariants.{Keys, Values, Sort, Size, Asked, Unknown}
 use Rattle.trace_trigger.specs.declared.attribute.Attribute.{Attribute}
-use Rattle.trace_trigger.specs.declared.piece.Piece.{Piece}
+use Rattle.trace_trigger.specs.declared.piece.ListItem.{ListItem}
 use Rattle.trace_trigger.specs.HistPieces.{pieces_of}
 
 -- the head of an attribute ends with the first `=` (61); without one it is all
@@ -34,7 +34,7 @@ topic_of head = if bytes_eq head (codes "keys=") || bytes_eq head (codes "key=")
     else asked_by head
 
 -- an attribute is at the offset of its first byte; its value is what follows the head
-abbrev pub attribute_of : Piece → Attribute
+abbrev pub attribute_of : ListItem → Attribute
 attribute_of piece = record {
   at = piece.at;
   topic = topic_of (take (head_len piece.bytes) piece.bytes);

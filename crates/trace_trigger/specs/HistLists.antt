@@ -10,7 +10,7 @@ use Rattle.trace_trigger.specs.declared.spec.SortKey.{SortKey}
 use Rattle.trace_trigger.specs.declared.attribute.Topic.{Topic}
 use Rattle.trace_trigger.specs.declared.attribute.Topic.TheVariants.{Keys, Values, Sort, Size, Asked, Unknown}
 use Rattle.trace_trigger.specs.declared.attribute.Attribute.{Attribute}
-use Rattle.trace_trigger.specs.declared.piece.Piece.{Piece}
+use Rattle.trace_trigger.specs.declared.piece.ListItem.{ListItem}
 use Rattle.trace_trigger.specs.HistPieces.{pieces_of}
 
 -- ---- attributes by topic
@@ -28,11 +28,11 @@ abbrev pub first_about : Topic → List Attribute → Option Attribute
 first_about topic attributes = find (λ (attribute : Attribute). is_same_topic topic attribute.topic) attributes
 
 -- the items of a list, separated by `,` (44), each with its offset
-abbrev pub items_of : Attribute → List Piece
+abbrev pub items_of : Attribute → List ListItem
 items_of attribute = pieces_of 44 (attribute.at + attribute.skip) attribute.value
 
 -- none without an attribute; an attribute has one item at least, perhaps an empty one
-abbrev pub items_in : Option Attribute → List Piece
+abbrev pub items_in : Option Attribute → List ListItem
 items_in None = []
 items_in (Some attribute) = items_of attribute
 
@@ -55,9 +55,9 @@ action_in (Some attribute) = asked_for attribute.topic
 -- ---- all of them
 
 pub record Lists : Type 0 where
-  pub keys : List Piece
-  pub values : List Piece
-  pub sort : List Piece
+  pub keys : List ListItem
+  pub values : List ListItem
+  pub sort : List ListItem
   pub size : Option (List ℕ)
   pub action : Action
 
@@ -72,19 +72,19 @@ lists_of attributes = record {
 
 -- ---- names
 
-abbrev pub names_of : List Piece → List (List ℕ)
-names_of items = map (λ (item : Piece). item.bytes) items
+abbrev pub names_of : List ListItem → List (List ℕ)
+names_of items = map (λ (item : ListItem). item.bytes) items
 
 -- whether an item is this name
-abbrev pub is_listed : List Piece → List ℕ → Bool
-is_listed items name = list_any (λ (item : Piece). bytes_eq name item.bytes) items
+abbrev pub is_listed : List ListItem → List ℕ → Bool
+is_listed items name = list_any (λ (item : ListItem). bytes_eq name item.bytes) items
 
 abbrev pub is_hitcount : List ℕ → Bool
 is_hitcount name = bytes_eq name (codes "hitcount")
 
 -- the values that are summed: `hitcount` may be written among them, and is there anyway
-abbrev pub summed_items : List Piece → List Piece
-summed_items items = filter (λ (item : Piece). not (is_hitcount item.bytes)) items
+abbrev pub summed_items : List ListItem → List ListItem
+summed_items items = filter (λ (item : ListItem). not (is_hitcount item.bytes)) items
 
 -- ---- sort keys
 
@@ -101,11 +101,11 @@ is_descending suffix = bytes_eq suffix (codes ".descending")
 abbrev pub is_direction : List ℕ → Bool
 is_direction suffix = (bytes_eq suffix [] || bytes_eq suffix (codes ".ascending")) || is_descending suffix
 
-abbrev pub sort_key_of : Piece → SortKey
+abbrev pub sort_key_of : ListItem → SortKey
 sort_key_of item = record { name = sort_name item.bytes; descending = is_descending (sort_suffix item.bytes) }
 
 -- by `hitcount` where nothing else is said
-abbrev pub sort_keys : List Piece → List SortKey
+abbrev pub sort_keys : List ListItem → List SortKey
 sort_keys [] = record { name = codes "hitcount"; descending = false } ∷ []
 sort_keys (item ∷ items) = map sort_key_of (item ∷ items)
 

@@ -12,14 +12,14 @@ use Rattle.trace_trigger.specs.declared.spec.SortKey.{SortKey}
 use Rattle.trace_trigger.specs.declared.sort_rule.SortRule.{SortRule}
 use Rattle.trace_trigger.specs.declared.sort_rule.SortSource.{SortSource}
 use Rattle.trace_trigger.specs.declared.sort_rule.SortSource.TheVariants as sorted
-use Rattle.trace_trigger.specs.declared.piece.Piece.{Piece}
+use Rattle.trace_trigger.specs.declared.piece.ListItem.{ListItem}
 use Rattle.trace_trigger.specs.TriggerAnswers.{◌>>=◌}
 use Rattle.trace_trigger.specs.HistSizes.{rounded_size}
 use Rattle.trace_trigger.specs.HistLists.{Lists, summed_items, is_hitcount}
 
 -- ---- how many
 
-abbrev pub summed_len : List Piece → ℕ
+abbrev pub summed_len : List ListItem → ℕ
 summed_len values = length (summed_items values)
 
 -- at most three keys, three values besides `hitcount`, and two sort keys
@@ -37,14 +37,14 @@ each read [] = Ok []
 each read (x ∷ xs) = read x >>= λ y. each read xs >>= λ ys. Ok (y ∷ ys)
 
 -- a key is a name, and may be a number or a string
-abbrev pub key_as : Piece → Operand → Key
+abbrev pub key_as : ListItem → Operand → Key
 key_as item operand = record { written = item.bytes; name = item.bytes; operand = operand }
 
-abbrev pub key_meant : Piece → Option Operand → Result Key TriggerFault
+abbrev pub key_meant : ListItem → Option Operand → Result Key TriggerFault
 key_meant item None = Err (NoSuchField item.at)
 key_meant item (Some operand) = Ok (key_as item operand)
 
-abbrev pub key_in : List Field → Piece → Result Key TriggerFault
+abbrev pub key_in : List Field → ListItem → Result Key TriggerFault
 key_in fields item = key_meant item (operand_named fields item.bytes)
 
 -- a value is a number
@@ -52,7 +52,7 @@ abbrev pub value_meant : ℕ → Option Operand → Result Operand TriggerFault
 value_meant at None = Err (NoSuchField at)
 value_meant at (Some operand) = if is_text operand then Err (WrongOperator at) else Ok operand
 
-abbrev pub value_source : List Field → Piece → Result Operand TriggerFault
+abbrev pub value_source : List Field → ListItem → Result Operand TriggerFault
 value_source fields item = value_meant item.at (operand_named fields item.bytes)
 
 -- ---- size

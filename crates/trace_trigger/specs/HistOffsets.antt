@@ -7,7 +7,7 @@ use Rattle.trace_lex.specs.Decimals.{decimal_number}
 use Rattle.trace_trigger.specs.declared.attribute.Topic.{Topic}
 use Rattle.trace_trigger.specs.declared.attribute.Topic.TheVariants.{Size, Unknown}
 use Rattle.trace_trigger.specs.declared.attribute.Attribute.{Attribute}
-use Rattle.trace_trigger.specs.declared.piece.Piece.{Piece}
+use Rattle.trace_trigger.specs.declared.piece.ListItem.{ListItem}
 use Rattle.trace_trigger.specs.HistParts.{attributes_of, end_of, tail_of, is_condition, offset_in}
 use Rattle.trace_trigger.specs.HistLists.{Lists, lists_of, is_same_topic, is_listed, is_sortable, sort_name, sort_suffix, is_direction}
 
@@ -41,39 +41,39 @@ attribute_offsets attributes = map (λ (attribute : Attribute). attribute.at) (w
 -- ---- items
 
 -- what is no name, and a name that stands in the list before
-abbrev pub is_wrong_name : List Piece → Piece → Bool
+abbrev pub is_wrong_name : List ListItem → ListItem → Bool
 is_wrong_name before item = not (is_name item.bytes) || is_listed before item.bytes
 
 -- a key is a name
-abbrev pub is_wrong_key : List Piece → Piece → Bool
+abbrev pub is_wrong_key : List ListItem → ListItem → Bool
 is_wrong_key before item = is_wrong_name before item
 
-unfoldable pub key_offsets : List Piece → List ℕ
-key_offsets keys = map (λ (item : Piece). item.at) (wrong_after is_wrong_key [] keys)
+unfoldable pub key_offsets : List ListItem → List ℕ
+key_offsets keys = map (λ (item : ListItem). item.at) (wrong_after is_wrong_key [] keys)
 
 -- and so is a value
-abbrev pub is_wrong_value : List Piece → Piece → Bool
+abbrev pub is_wrong_value : List ListItem → ListItem → Bool
 is_wrong_value before item = is_wrong_name before item
 
-unfoldable pub value_offsets : List Piece → List ℕ
-value_offsets values = map (λ (item : Piece). item.at) (wrong_after is_wrong_value [] values)
+unfoldable pub value_offsets : List ListItem → List ℕ
+value_offsets values = map (λ (item : ListItem). item.at) (wrong_after is_wrong_value [] values)
 
 -- whether a sort key has this name
-abbrev pub is_sorted_by : List Piece → List ℕ → Bool
-is_sorted_by items name = list_any (λ (item : Piece). bytes_eq name (sort_name item.bytes)) items
+abbrev pub is_sorted_by : List ListItem → List ℕ → Bool
+is_sorted_by items name = list_any (λ (item : ListItem). bytes_eq name (sort_name item.bytes)) items
 
 -- among sort keys: what cannot be sorted by, another suffix, and a name that stands in the list before, in whatever direction
-abbrev pub is_wrong_sort : Lists → List Piece → Piece → Bool
+abbrev pub is_wrong_sort : Lists → List ListItem → ListItem → Bool
 is_wrong_sort lists before item = (not (is_sortable lists (sort_name item.bytes)) || not (is_direction (sort_suffix item.bytes)))
     || is_sorted_by before (sort_name item.bytes)
 
 unfoldable pub sort_offsets : Lists → List ℕ
-sort_offsets lists = map (λ (item : Piece). item.at) (wrong_after (is_wrong_sort lists) [] lists.sort)
+sort_offsets lists = map (λ (item : ListItem). item.at) (wrong_after (is_wrong_sort lists) [] lists.sort)
 
 -- ---- the whole string
 
 -- without keys the string goes wrong where its first word ends
-abbrev pub keyless_offsets : ℕ → List Piece → List ℕ
+abbrev pub keyless_offsets : ℕ → List ListItem → List ℕ
 keyless_offsets end [] = end ∷ []
 keyless_offsets end (key ∷ keys) = []
 

@@ -4,7 +4,7 @@ ghost use Rattle.std.specs.Prelude.{◌≡◌, ◌≤◌, ◌<◌, ◌+◌, ◌^
 ghost use Rattle.std.specs.List.{All};
 ghost use Rattle.trace_trigger.specs.HistAttributes as attributes;
 
-use crate::piece::{Piece, cut_at};
+use crate::piece::{ListItem, cut_at};
 use crate::spec::Action;
 use std::alloc::{AllocError, Global};
 use trace_format::Text;
@@ -79,7 +79,7 @@ fn topic_of(head: &[u8]) -> Topic
     }
 }
 
-fn attribute_of(alloc: Global, piece: &Piece) -> Result<Attribute, AllocError>
+fn attribute_of(alloc: Global, piece: &ListItem) -> Result<Attribute, AllocError>
     ensures { IfOk result (λ attribute. attribute ≡ attributes.attribute_of piece.now) }
 {
     let written = piece.bytes.as_bytes();

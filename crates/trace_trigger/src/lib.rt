@@ -9,15 +9,15 @@ mod hist_parts;
 mod key;
 pub mod laws;
 mod meaning;
+mod offset;
 mod parts;
 mod piece;
-mod offset;
 mod read;
 mod size;
 mod sort_rule;
 mod spec;
 mod trigger;
-mod written;
+mod written_lists;
 
 pub use fault::TriggerFault;
 pub use key::Key;

@@ -10,11 +10,11 @@ ghost use Rattle.trace_trigger.specs.TriggerAnswers.{IsTold};
 
 use crate::fault::TriggerFault;
 use crate::key::Key;
-use crate::piece::Piece;
+use crate::piece::ListItem;
 use crate::size::rounded_size;
 use crate::sort_rule::{SortRule, SortSource};
 use crate::spec::SortKey;
-use crate::written::{Written, is_descending, is_hitcount, sort_name, sort_suffix};
+use crate::written_lists::{WrittenLists, is_descending, is_hitcount, sort_name, sort_suffix};
 use std::alloc::{AllocError, Global};
 use trace_format::{Field, Operand, Text};
 use trace_lex::decimal_number;
@@ -29,7 +29,7 @@ const MOST_SORT_KEYS: usize = 2;
 const DEFAULT_SIZE: u32 = 2048;
 
 /// How many of the values are summed: all but `hitcount`.
-fn summed_len(values: &[Piece]) -> usize
+fn summed_len(values: &[ListItem]) -> usize
     ensures { result ≡ meanings.summed_len values.now }
 {
     values
@@ -39,7 +39,7 @@ fn summed_len(values: &[Piece]) -> usize
 }
 
 /// The values that are summed: all but `hitcount`.
-pub(crate) fn summed(mut values: Vec<Piece>) -> Vec<Piece>
+pub(crate) fn summed(mut values: Vec<ListItem>) -> Vec<ListItem>
     ensures { result.items ≡ lists.summed_items values.items }
 {
     values.retain(|value| !is_hitcount(value.bytes.as_bytes()));
@@ -47,7 +47,7 @@ pub(crate) fn summed(mut values: Vec<Piece>) -> Vec<Piece>
 }
 
 /// Whether there are too many keys, values or sort keys.
-pub(crate) fn is_too_many(written: &Written) -> bool
+pub(crate) fn is_too_many(written: &WrittenLists) -> bool
     ensures { result ≡ meanings.is_too_many written.now }
 {
     written.keys.len() > MOST_NAMES
@@ -56,7 +56,7 @@ pub(crate) fn is_too_many(written: &Written) -> bool
 }
 
 /// What a key means. It may be a number or a string.
-fn key_operand(fields: &[Field], key: &Piece) -> Result<Operand, TriggerFault>
+fn key_operand(fields: &[Field], key: &ListItem) -> Result<Operand, TriggerFault>
     ensures { MatchResult result
         (λ operand. meanings.key_in fields.now key.now ≡ Ok (meanings.key_as key.now operand))
         (λ fault. meanings.key_in fields.now key.now ≡ Err fault) }
@@ -68,7 +68,7 @@ fn key_operand(fields: &[Field], key: &Piece) -> Result<Operand, TriggerFault>
 }
 
 /// A key that means this.
-fn key_as(alloc: Global, key: &Piece, operand: Operand) -> Result<Key, AllocError>
+fn key_as(alloc: Global, key: &ListItem, operand: Operand) -> Result<Key, AllocError>
     ensures { IfOk result (λ read. read ≡ meanings.key_as key.now operand) }
 {
     Ok(Key {
@@ -83,7 +83,7 @@ fn key_as(alloc: Global, key: &Piece, operand: Operand) -> Result<Key, AllocErro
 pub(crate) fn keys_of(
     alloc: Global,
     fields: &[Field],
-    keys: &[Piece],
+    keys: &[ListItem],
 ) -> Result<Vec<Key>, TriggerFault>
     ensures { MatchResult result
         (λ read. meanings.each (meanings.key_in fields.now) keys.now ≡ Ok read.items)
@@ -98,7 +98,7 @@ pub(crate) fn keys_of(
 }
 
 /// Where a value is found. It is a number.
-fn value_source(fields: &[Field], value: &Piece) -> Result<Operand, TriggerFault>
+fn value_source(fields: &[Field], value: &ListItem) -> Result<Operand, TriggerFault>
     ensures { result ≡ meanings.value_source fields.now value.now }
 {
     match Operand::named(fields, value.bytes.as_bytes()) {
@@ -113,7 +113,7 @@ fn value_source(fields: &[Field], value: &Piece) -> Result<Operand, TriggerFault
 pub(crate) fn value_sources(
     alloc: Global,
     fields: &[Field],
-    values: &[Piece],
+    values: &[ListItem],
 ) -> Result<Vec<Operand>, TriggerFault>
     ensures { MatchResult result
         (λ sources. meanings.each (meanings.value_source fields.now) values.now ≡ Ok sources.items)
@@ -145,7 +145,7 @@ pub(crate) fn size_of(size: &Option<Text>) -> Result<u32, TriggerFault>
 }
 
 /// The names of items.
-pub(crate) fn names_of(alloc: Global, items: &[Piece]) -> Result<Vec<Text>, AllocError>
+pub(crate) fn names_of(alloc: Global, items: &[ListItem]) -> Result<Vec<Text>, AllocError>
     ensures { IfOk result (λ names. names.items ≡ lists.names_of items.now) }
 {
     let mut names = Vec::with_capacity(alloc, items.len())?;
@@ -155,7 +155,7 @@ pub(crate) fn names_of(alloc: Global, items: &[Piece]) -> Result<Vec<Text>, Allo
     Ok(names)
 }
 
-fn sort_key_of(alloc: Global, item: &Piece) -> Result<SortKey, AllocError>
+fn sort_key_of(alloc: Global, item: &ListItem) -> Result<SortKey, AllocError>
     ensures { IfOk result (λ key. key ≡ lists.sort_key_of item.now) }
 {
     let written = item.bytes.as_bytes();
@@ -167,7 +167,7 @@ fn sort_key_of(alloc: Global, item: &Piece) -> Result<SortKey, AllocError>
 
 /// The sort keys; by `hitcount`, where none are written.
 #[tactic(auto, using(crate::proofs::SortKeyLemmas::sort_keys_some, crate::proofs::SortKeyLemmas::sort_keys_none))]
-pub(crate) fn sort_keys(alloc: Global, items: &[Piece]) -> Result<Vec<SortKey>, AllocError>
+pub(crate) fn sort_keys(alloc: Global, items: &[ListItem]) -> Result<Vec<SortKey>, AllocError>
     ensures { IfOk result (λ keys. keys.items ≡ lists.sort_keys items.now) }
 {
     let mut keys = Vec::with_capacity(alloc, items.len())?;

@@ -7,8 +7,10 @@ ghost use Rattle.trace_trigger.specs.HistOffsets as offsets;
 
 use crate::attribute::{Attribute, Topic};
 use crate::hist_parts::condition_of;
-use crate::piece::Piece;
-use crate::written::{Written, is_direction, is_listed, is_same_topic, sort_name, sort_suffix};
+use crate::piece::ListItem;
+use crate::written_lists::{
+    WrittenLists, is_direction, is_listed, is_same_topic, sort_name, sort_suffix,
+};
 use trace_lex::{all_digits, is_name};
 
 /// The earlier of two offsets, if there are any.
@@ -72,7 +74,7 @@ fn attribute_offset(attributes: &[Attribute]) -> Option<usize>
 }
 
 /// Whether an item is no name, or one that stands in the list before.
-fn is_wrong_name(before: &[Piece], item: &Piece) -> bool
+fn is_wrong_name(before: &[ListItem], item: &ListItem) -> bool
     ensures { result ≡ offsets.is_wrong_name before.now item.now }
 {
     let name = item.bytes.as_bytes();
@@ -80,7 +82,7 @@ fn is_wrong_name(before: &[Piece], item: &Piece) -> bool
 }
 
 /// A key is a name.
-fn is_wrong_key(before: &[Piece], item: &Piece) -> bool
+fn is_wrong_key(before: &[ListItem], item: &ListItem) -> bool
     ensures { result ≡ offsets.is_wrong_key before.now item.now }
 {
     is_wrong_name(before, item)
@@ -88,7 +90,7 @@ fn is_wrong_key(before: &[Piece], item: &Piece) -> bool
 
 /// The first offset of a key that is wrong.
 #[tactic(auto, using(crate::proofs::WrongOffsets::from_wrong, crate::proofs::WrongOffsets::from_right, crate::proofs::WrongOffsets::from_end), unfolding(crate::specs::HistOffsets::key_offsets))]
-fn key_offset(keys: &[Piece]) -> Option<usize>
+fn key_offset(keys: &[ListItem]) -> Option<usize>
     ensures { result ≡ offsets.least (offsets.key_offsets keys.now) }
 {
     let mut offset = None;
@@ -101,7 +103,7 @@ fn key_offset(keys: &[Piece]) -> Option<usize>
 }
 
 /// A value is a name.
-fn is_wrong_value(before: &[Piece], item: &Piece) -> bool
+fn is_wrong_value(before: &[ListItem], item: &ListItem) -> bool
     ensures { result ≡ offsets.is_wrong_value before.now item.now }
 {
     is_wrong_name(before, item)
@@ -109,7 +111,7 @@ fn is_wrong_value(before: &[Piece], item: &Piece) -> bool
 
 /// The first offset of a value that is wrong.
 #[tactic(auto, using(crate::proofs::WrongOffsets::from_wrong, crate::proofs::WrongOffsets::from_right, crate::proofs::WrongOffsets::from_end), unfolding(crate::specs::HistOffsets::value_offsets))]
-fn value_offset(values: &[Piece]) -> Option<usize>
+fn value_offset(values: &[ListItem]) -> Option<usize>
     ensures { result ≡ offsets.least (offsets.value_offsets values.now) }
 {
     let mut offset = None;
@@ -122,7 +124,7 @@ fn value_offset(values: &[Piece]) -> Option<usize>
 }
 
 /// Whether a sort key of this name is among these.
-fn is_sorted_by(items: &[Piece], name: &[u8]) -> bool
+fn is_sorted_by(items: &[ListItem], name: &[u8]) -> bool
     ensures { result ≡ offsets.is_sorted_by items.now name.now }
 {
     items
@@ -131,7 +133,7 @@ fn is_sorted_by(items: &[Piece], name: &[u8]) -> bool
 }
 
 /// Whether a sort key can't be sorted by, has another suffix than a direction, or has a name that stands in the list before.
-fn is_wrong_sort(written: &Written, before: &[Piece], item: &Piece) -> bool
+fn is_wrong_sort(written: &WrittenLists, before: &[ListItem], item: &ListItem) -> bool
     ensures { result ≡ offsets.is_wrong_sort written.now before.now item.now }
 {
     let name = sort_name(item.bytes.as_bytes());
@@ -142,7 +144,7 @@ fn is_wrong_sort(written: &Written, before: &[Piece], item: &Piece) -> bool
 
 /// The first offset of a sort key that is wrong.
 #[tactic(auto, using(crate::proofs::WrongOffsets::from_wrong, crate::proofs::WrongOffsets::from_right, crate::proofs::WrongOffsets::from_end), unfolding(crate::specs::HistOffsets::sort_offsets))]
-fn sort_offset(written: &Written) -> Option<usize>
+fn sort_offset(written: &WrittenLists) -> Option<usize>
     ensures { result ≡ offsets.least (offsets.sort_offsets written.now) }
 {
     let mut offset = None;
@@ -156,7 +158,7 @@ fn sort_offset(written: &Written) -> Option<usize>
 
 /// The first offset of an item that is wrong.
 #[tactic(auto, using(crate::proofs::WrongOffsets::least_append))]
-fn list_offset(written: &Written) -> Option<usize>
+fn list_offset(written: &WrittenLists) -> Option<usize>
     ensures { result ≡ offsets.least (offsets.list_offsets written.now) }
 {
     let names = earlier(key_offset(&written.keys), value_offset(&written.values));
@@ -164,7 +166,7 @@ fn list_offset(written: &Written) -> Option<usize>
 }
 
 /// The offset of the first word's end, if there are no keys.
-fn keyless_offset(end: usize, keys: &[Piece]) -> Option<usize>
+fn keyless_offset(end: usize, keys: &[ListItem]) -> Option<usize>
     ensures { result ≡ offsets.least (offsets.keyless_offsets end keys.now) }
 {
     if keys.is_empty() { Some(end) } else { None }
@@ -190,7 +192,7 @@ pub(crate) fn wrong_offset(
     end: usize,
     tail: &[u8],
     attributes: &[Attribute],
-    written: &Written,
+    written: &WrittenLists,
 ) -> Option<usize>
     requires { length tail.now ≤ length text.now }
     ensures { result ≡ offsets.least (offsets.attribute_offsets attributes.now ++ offsets.list_offsets written.now

@@ -9,7 +9,7 @@ use trace_lex::{len_before, rest_of};
 
 /// A part of a string, and the offset of its first byte in the whole text.
 #[derive(Drop)]
-pub(crate) struct Piece {
+pub(crate) struct ListItem {
     pub(crate) at: usize,
     pub(crate) bytes: Text,
 }
@@ -20,7 +20,7 @@ pub(crate) fn cut_at(
     separator: u8,
     at: usize,
     text: &[u8],
-) -> Result<Vec<Piece>, AllocError>
+) -> Result<Vec<ListItem>, AllocError>
     requires { at + length text.now < 2 ^ 64 }
     ensures { IfOk result (λ pieces. pieces.items ≡ pieces_of separator at text.now) }
 {
@@ -30,7 +30,7 @@ pub(crate) fn cut_at(
         let rest = rest_of(text, from);
         let len = len_before(separator, rest);
         let bytes = Text::from_slice(alloc, &rest[..len])?;
-        pieces.push(Piece {
+        pieces.push(ListItem {
             at: at + from,
             bytes,
         })?;

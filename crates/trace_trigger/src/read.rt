@@ -14,7 +14,7 @@ use crate::hist_parts::start_of;
 use crate::meaning::{keys_of, names_of, size_of, sort_keys, sort_rules, summed, value_sources};
 use crate::offset::wrong_offset;
 use crate::spec::HistSpec;
-use crate::written::Written;
+use crate::written_lists::WrittenLists;
 use std::alloc::Global;
 use trace_format::EventDef;
 
@@ -26,7 +26,7 @@ pub(crate) fn read_written(
     text: &[u8],
     word: &[u8],
     tail: &[u8],
-) -> Result<Written, TriggerFault>
+) -> Result<WrittenLists, TriggerFault>
     requires hist { IsHistText text.now }
     requires word { word.now ≡ parts.word_of text.now }
     requires len { length word.now ≡ parts.word_len (parts.body_of text.now) }
@@ -37,7 +37,7 @@ pub(crate) fn read_written(
 {
     let start = start_of(text);
     let attributes = attributes_at(alloc, start, word)?;
-    let written = Written::of(alloc, &attributes)?;
+    let written = WrittenLists::of(alloc, &attributes)?;
     match wrong_offset(text, start + word.len(), tail, &attributes, &written) {
         Some(at) => Err(TriggerFault::HistSyntax { at }),
         None => Ok(written),
@@ -49,7 +49,7 @@ pub(crate) fn read_written(
 pub(crate) fn spec_from(
     alloc: Global,
     text: &[u8],
-    written: Written,
+    written: WrittenLists,
     condition: Option<&[u8]>,
     event: &EventDef,
 ) -> Result<HistSpec, TriggerFault>
@@ -57,7 +57,7 @@ pub(crate) fn spec_from(
     requires bound { IfSome condition (λ filter. length filter.now ≤ length text.now) }
     ensures { IsAnswered result (texts.spec_from event.now text.now written) }
 {
-    let Written {
+    let WrittenLists {
         keys,
         values,
         sort,

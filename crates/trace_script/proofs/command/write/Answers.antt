@@ -2,7 +2,7 @@ use Rattle.std.proofs.Common.{[], ◌∷◌, ◌++◌, sym, ◌∙◌, ap}
 use Rattle.trace_script.proofs.CommandLemmas.{join_push, push_some}
 use Rattle.trace_script.specs.Lines.{write_behind}
 use Rattle.trace_script.specs.TokensLeft.{token_of}
-use Rattle.trace_script.specs.declared.tokens.Piece.{Piece}
+use Rattle.trace_script.specs.declared.tokens.BorrowedToken.{BorrowedToken}
 use Rattle.trace_script.proofs.command.write.Goals as goal
 
 pub loop-token-preserved : goal.loop-token-preserved
@@ -14,5 +14,5 @@ loop-token-preserved c =
       words ++ word ∷ [],
       push_some words word,
       rw (c.in_ok-append_word-in-Word.ensures, before.1, before.2) (sym (join_push words word)),
-      sym (ap (write_behind words) (taken ∙ ap (λ (p : Piece). token_of p ∷ c.next.new.self) c.in-Word.is)) ∙ before.3,
+      sym (ap (write_behind words) (taken ∙ ap (λ (p : BorrowedToken). token_of p ∷ c.next.new.self) c.in-Word.is)) ∙ before.3,
     )

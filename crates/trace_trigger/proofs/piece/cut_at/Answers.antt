@@ -1,13 +1,13 @@
 use Rattle.std.proofs.Common.{◌≡◌, ◌<◌, ◌+◌, suc, length, List, [], ◌∷◌, ◌++◌, take, drop, ap, sym, ◌∙◌, arith}
 use Rattle.std.proofs.lemmas.List.{drop-drop, length-drop}
-use Rattle.trace_trigger.specs.declared.piece.Piece.{Piece}
+use Rattle.trace_trigger.specs.declared.piece.ListItem.{ListItem}
 use Rattle.trace_trigger.specs.HistPieces.{pieces_of}
 use Rattle.trace_trigger.proofs.PieceLemmas.{pieces-ended, pieces-more}
 use Rattle.trace_trigger.proofs.piece.cut_at.Goals as goal
 
 pub returns-then-len-rest : goal.returns-then-len-rest
 returns-then-len-rest c =
-    let found : List Piece = c.loop-pieces.pieces.items in
+    let found : List ListItem = c.loop-pieces.pieces.items in
     let whole : found ++ pieces_of c.args.separator (c.args.at + c.loop-pieces.from) c.rest_of-rest.result.now ≡ pieces_of c.args.separator c.args.at c.args.text.now =
     ap (λ r. c.loop-pieces.pieces.items ++ pieces_of c.args.separator (c.args.at + c.loop-pieces.from) r) c.rest_of-rest.ensures ∙ c.loop-pieces.invariant.1 in
     let grown : c.push.new.self.items ≡ c.loop-pieces.pieces.items ++ record { at = c.args.at + c.loop-pieces.from; bytes = take c.len_before-len.result c.rest_of-rest.result.now } ∷ [] =

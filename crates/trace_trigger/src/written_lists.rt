@@ -7,7 +7,7 @@ ghost use Rattle.trace_trigger.specs.HistAttributes.{IsLocated};
 ghost use Rattle.trace_trigger.specs.HistLists as lists;
 
 use crate::attribute::{Attribute, Topic};
-use crate::piece::{Piece, cut_at};
+use crate::piece::{ListItem, cut_at};
 use crate::spec::Action;
 use std::alloc::{AllocError, Global};
 use std::marker::Model;
@@ -16,15 +16,15 @@ use trace_lex::{is_name, len_before, rest_of};
 
 /// The lists of names, cut into items, and the rest of what the attributes say. Of several attributes on one topic the first counts.
 #[derive(Drop)]
-pub(crate) struct Written {
-    pub(crate) keys: Vec<Piece>,
-    pub(crate) values: Vec<Piece>,
-    pub(crate) sort: Vec<Piece>,
+pub(crate) struct WrittenLists {
+    pub(crate) keys: Vec<ListItem>,
+    pub(crate) values: Vec<ListItem>,
+    pub(crate) sort: Vec<ListItem>,
     pub(crate) size: Option<Text>,
     pub(crate) action: Action,
 }
 
-impl Model for Written {
+impl Model for WrittenLists {
     ghost use Rattle.trace_trigger.specs.HistLists.{Lists};
 
     ghost Value = { Lists };
@@ -38,14 +38,14 @@ impl Model for Written {
     } };
 }
 
-impl Written {
+impl WrittenLists {
     /// What attributes say.
     #[tactic(auto, unfolding(crate::specs::HistLists::lists_of))]
-    pub(crate) fn of(alloc: Global, attributes: &[Attribute]) -> Result<Written, AllocError>
+    pub(crate) fn of(alloc: Global, attributes: &[Attribute]) -> Result<WrittenLists, AllocError>
         requires { All IsLocated attributes.now }
         ensures { IfOk result (λ written. written ≡ lists.lists_of attributes.now) }
     {
-        Ok(Written {
+        Ok(WrittenLists {
             keys: items_about(alloc, Topic::Keys, attributes)?,
             values: items_about(alloc, Topic::Values, attributes)?,
             sort: items_about(alloc, Topic::Sort, attributes)?,
@@ -92,7 +92,7 @@ fn items_about(
     alloc: Global,
     topic: Topic,
     attributes: &[Attribute],
-) -> Result<Vec<Piece>, AllocError>
+) -> Result<Vec<ListItem>, AllocError>
     requires { All IsLocated attributes.now }
     ensures { IfOk result (λ items. items.items ≡ lists.items_in (lists.first_about topic attributes.now)) }
 {
@@ -129,7 +129,7 @@ fn action_in(attribute: Option<&Attribute>) -> Action
 }
 
 /// Whether an item of a list is this name.
-pub(crate) fn is_listed(items: &[Piece], name: &[u8]) -> bool
+pub(crate) fn is_listed(items: &[ListItem], name: &[u8]) -> bool
     ensures { result ≡ lists.is_listed items.now name.now }
 {
     items.iter().any(|item| name == item.bytes.as_bytes())
