@@ -8,7 +8,7 @@ use Rattle.page_ring.specs.Events.{Event, Put, Take}
 use Rattle.page_ring.specs.Cut.{Accepted, cut, with_record, next_page, last_page, filled}
 use Rattle.page_ring.specs.Account.{Account, account, after, nothing, kept, is_taken, is_overrun, reader_page, with_accepted, with_first_taken, accepts}
 use Rattle.page_ring.specs.Shown.{shown_by}
-use Rattle.page_ring.specs.Step.{after_put, with_kept, without_first, without_first_of}
+use Rattle.page_ring.specs.private.Step.{after_put, with_kept, without_first, without_first_of}
 use Rattle.page_ring.specs.Sound.{IsRising}
 use Rattle.page_ring.proofs.PageFacts.{all_weaker, all_append, rising_push, rising_filter}
 

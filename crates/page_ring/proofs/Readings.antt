@@ -15,7 +15,7 @@ use Rattle.page_ring.specs.Shown.{Shown}
 use Rattle.page_ring.specs.Pages.{on_page, stored, kept_in, unread_in, IsFirst}
 use Rattle.page_ring.specs.Reads.{NothingUnread, TakesFirst}
 use Rattle.page_ring.specs.Sound.{IsSound, seen, IsRising, IsStorable, page_after}
-use Rattle.page_ring.specs.Step.{without_first, readings_shown}
+use Rattle.page_ring.specs.private.Step.{without_first, readings_shown}
 use Rattle.page_ring.proofs.PageFacts.{circle_nonempty}
 
 pub circle_full : (a : Inside) → IsSound a → All (λ p. 0 < length p.records.items) a.pages.circle.items

@@ -13,7 +13,7 @@ use Rattle.page_ring.specs.Cut.{Accepted}
 use Rattle.page_ring.specs.Account.{is_overrun}
 use Rattle.page_ring.specs.Pages.{on_page, stored, kept_in, overrun_head, cleared}
 use Rattle.page_ring.specs.Sound.{IsSound, IsArranged, seen, IsRising, IsStorable, page_after}
-use Rattle.page_ring.specs.Step.{overrun_by, left_by, appended, moved}
+use Rattle.page_ring.specs.private.Step.{overrun_by, left_by, appended, moved}
 use Rattle.page_ring.specs.Shown.{Shown}
 use Rattle.page_ring.proofs.Moves.{MovesTail, Appends, kept_with, kept_moved, arranged_moved, arranged_appended}
 use Rattle.page_ring.proofs.PageFacts.{AreLeft, all_append, all_weaker, near_left, reader_left, circle_left_at_tail, filter_none, filter_all, moved_records, lost_count, lost_size, storable_size, rising_push, rising_filter, all_filter}

@@ -5,7 +5,7 @@ use Rattle.page_ring.specs.Cut.{Accepted}
 use Rattle.page_ring.specs.Events.{Event, Put, Take}
 use Rattle.page_ring.specs.Account.{account, after, put_answer, stats_of, readings_of}
 use Rattle.page_ring.specs.Shown.{Seen, Shown, StandsFor, shown_by}
-use Rattle.page_ring.specs.Step.{after_put, put_answer_shown, without_first, without_first_of, stats_shown, readings_shown, accepts_shown}
+use Rattle.page_ring.specs.private.Step.{after_put, put_answer_shown, without_first, without_first_of, stats_shown, readings_shown, accepts_shown}
 use Rattle.page_ring.proofs.Bridge.{account-push, account_fair, shown_after_put, shown_after_take}
 
 pub stands_after : (old new : Seen) (events : List Event) (e : Event) → new.pages ≡ old.pages → new.page_bytes ≡ old.page_bytes → new.shown ≡ shown_by old.page_bytes (after old.pages old.page_bytes (account old.pages old.page_bytes events) e) → StandsFor new (events ++ e ∷ [])

@@ -3,7 +3,7 @@ use Rattle.std.proofs.Common.{◌≡◌, ℕ, ◌+◌, ◌<◌, nat_le, Bool, tr
 use Rattle.std.proofs.lemmas.Bool.{or_left, or_right, ne_eqb, eq-eqb}
 use Rattle.page_ring.specs.Shown.{Shown}
 use Rattle.page_ring.specs.Account.{kept_losing}
-use Rattle.page_ring.specs.Step.{after_put, put_answer_shown, overrun_by, left_by, appended, moved, accepts_shown}
+use Rattle.page_ring.specs.private.Step.{after_put, put_answer_shown, overrun_by, left_by, appended, moved, accepts_shown}
 use Rattle.page_ring.specs.declared.rings.Put.TheVariants.{Kept, KeptLosing, Dropped}
 
 pub kept_losing-none : (lost : ℕ) → lost ≡ 0 → Kept ≡ kept_losing lost

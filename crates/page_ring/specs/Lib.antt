@@ -2,7 +2,6 @@ pub mod Events
 pub mod Cut
 pub mod Account
 pub mod Shown
-pub mod Step
 pub mod Pages
 pub mod Sound
 pub mod Reads
@@ -11,3 +10,4 @@ pub mod Reading
 pub mod KeptRecords
 pub mod Laws
 pub mod Rows
+pub mod private

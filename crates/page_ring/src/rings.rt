@@ -11,7 +11,7 @@ ghost use Rattle.page_ring.specs.Account.{put_answer, readings_of, stats_of, fir
 ghost use Rattle.page_ring.specs.Pages.{kept_in};
 ghost use Rattle.std.specs.List.{AllByRecursion};
 ghost use Rattle.page_ring.specs.Shown.{StandsFor, offered};
-ghost use Rattle.page_ring.specs.Step.{after_put, put_answer_shown, without_first, readings_shown, stats_shown, overrun_by, left_by, appended, moved};
+ghost use Rattle.page_ring.specs.private.Step.{after_put, put_answer_shown, without_first, readings_shown, stats_shown, overrun_by, left_by, appended, moved};
 
 use crate::pages::{Page, Pages, Stored, Unread};
 use std::alloc::{AllocError, Global};

@@ -8,7 +8,7 @@ use Rattle.page_ring.specs.Events.{Event, Take}
 use Rattle.page_ring.specs.Laws.{ReadingsAreAhead}
 use Rattle.trace_buffer.specs.Families.{CpuReading, on_cpu, events_of, with_events, cpu_readings, kept_count}
 use Rattle.trace_buffer.specs.Orders.{Candidate, Consumed, with_taken, next_from, consume_any}
-use Rattle.trace_buffer.specs.Nexts.{next_of, without_first_of, taken_in_order}
+use Rattle.trace_buffer.specs.private.Nexts.{next_of, without_first_of, taken_in_order}
 use Rattle.trace_buffer.specs.declared.times.Next.{Next}
 use Rattle.trace_buffer.proofs.NextReads.{cases_Option, candidate_of-map, candidate_of-none, IsEarliestOf, earliest, next_of-none, next_of-some, first_length, taken_in_order-none, taken_in_order-some}
 

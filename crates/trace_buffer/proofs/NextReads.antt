@@ -8,7 +8,7 @@ use Rattle.page_ring.specs.Account.{Reading, readings_of, first}
 use Rattle.page_ring.specs.Events.{Event}
 use Rattle.trace_buffer.specs.Families.{on_cpu}
 use Rattle.trace_buffer.specs.Orders.{Candidate, candidate, earlier, next_from}
-use Rattle.trace_buffer.specs.Nexts.{sooner_of, first_time, next_of, candidate_of, without_first_of, taken_in_order}
+use Rattle.trace_buffer.specs.private.Nexts.{sooner_of, first_time, next_of, candidate_of, without_first_of, taken_in_order}
 use Rattle.trace_buffer.specs.declared.times.Next.{Next}
 
 -- a candidate without its record

@@ -3,6 +3,5 @@ pub mod Orders
 pub mod Buffers
 pub mod CpuReadings
 pub mod Sound
-pub mod Nexts
-pub mod Ahead
 pub mod Laws
+pub mod private

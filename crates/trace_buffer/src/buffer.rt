@@ -11,7 +11,7 @@ ghost use Rattle.trace_buffer.specs.Orders as orders;
 ghost use Rattle.trace_buffer.specs.Buffers as seen;
 ghost use Rattle.trace_buffer.specs.Buffers.{StandsFor, offers, readies};
 ghost use Rattle.trace_buffer.specs.CpuReadings.{kept_reading, taken_reading};
-ghost use Rattle.trace_buffer.specs.Nexts.{next_of};
+ghost use Rattle.trace_buffer.specs.private.Nexts.{next_of};
 
 use crate::cursor::{Cursor, read_in_order};
 use crate::merge::{push_kept, sort_by_time};

@@ -4,7 +4,7 @@
 ghost use Rattle.std.specs.Prelude.{◌≡◌, ◌<◌, ◌≤◌, ◌∷◌, map, length, IfOk};
 ghost use Rattle.page_ring.specs.Reading.{reading};
 ghost use Rattle.trace_buffer.specs.CpuReadings.{taken_reading};
-ghost use Rattle.trace_buffer.specs.Nexts.{first_time, next_of, taken_in_order};
+ghost use Rattle.trace_buffer.specs.private.Nexts.{first_time, next_of, taken_in_order};
 
 use crate::taken::Taken;
 use crate::times::{Next, sooner, time_of};
@@ -25,7 +25,7 @@ impl<'a> Model for Cursor<'a> {
 
     ghost Value = { List Reading };
 
-    ghost use Rattle.trace_buffer.specs.Ahead.{readings_ahead, IsAtEnd};
+    ghost use Rattle.trace_buffer.specs.private.Ahead.{readings_ahead, IsAtEnd};
 
     ghost view = { readings_ahead };
 

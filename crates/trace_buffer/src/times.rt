@@ -2,7 +2,7 @@
 
 ghost use Rattle.std.specs.Prelude.{◌≡◌, slice_index};
 ghost use Rattle.trace_record.specs.Record.{timestamp};
-ghost use Rattle.trace_buffer.specs.Nexts.{sooner_of};
+ghost use Rattle.trace_buffer.specs.private.Nexts.{sooner_of};
 
 /// A CPU, and the timestamp of the first record that its ring keeps.
 #[derive(Clone, Copy)]

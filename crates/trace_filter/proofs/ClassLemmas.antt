@@ -6,7 +6,7 @@ use Rattle.std.proofs.lemmas.Bool.{cond-true, cond-false, cond_both, and_parts, 
 use Rattle.trace_filter.specs.declared.glob.ReadElement as pieces
 use Rattle.trace_lex.specs.Prefixes.{is_not}
 use Rattle.trace_filter.specs.Globs.{OneByte, itself, class_from, class_piece, part_of}
-use Rattle.trace_filter.specs.SeenGlobs.{IsPartPiece}
+use Rattle.trace_filter.specs.private.SeenGlobs.{IsPartPiece}
 
 -- no byte is a `]`
 abbrev NoBracket : List ℕ → Type 0

@@ -4,7 +4,7 @@ use Rattle.std.proofs.Math.ListN.{set}
 use Rattle.trace_filter.specs.declared.glob.ReadElement as pieces
 use Rattle.trace_filter.specs.Globs.{Class, is_in_class, parts_from, part_of}
 use Rattle.trace_filter.specs.Marks.{spread, shift, advance, advance_all, mark_at, first_row}
-use Rattle.trace_filter.specs.SeenGlobs.{glob_part_of, IsPartPiece}
+use Rattle.trace_filter.specs.private.SeenGlobs.{glob_part_of, IsPartPiece}
 
 pub spread_one : (row : List Bool) (i : ℕ) (seen d : Bool) → i < length row
     → take (suc i) (set row i (seen || get_or row i d)) ++ spread (seen || get_or row i d) (drop (suc i) (set row i (seen || get_or row i d))) ≡ take i row ++ spread seen (drop i row)

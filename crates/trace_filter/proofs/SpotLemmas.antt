@@ -5,7 +5,7 @@ use Rattle.std.proofs.lemmas.Bool.{cond-true, cond-false, cond_both}
 use Rattle.trace_filter.specs.declared.token.ReadToken as pieces
 use Rattle.trace_lex.specs.Blanks.{is_blank}
 use Rattle.trace_filter.specs.Tokens.{piece_of, is_comparison, Token, Spot, spots_from}
-use Rattle.trace_filter.specs.Seen.{token_of, IsPiece, IsNextToken}
+use Rattle.trace_filter.specs.private.Seen.{token_of, IsPiece, IsNextToken}
 
 -- to skip bytes is to drop them
 pub skipped : (value_due : Bool) (n at : ℕ) (bs : List ℕ) → spots_from value_due n at bs ≡ spots_from value_due 0 (at + n) (drop n bs)

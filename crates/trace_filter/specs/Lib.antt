@@ -1,13 +1,11 @@
 pub mod Tokens
 pub mod Grammar
 pub mod Syntax
-pub mod Seen
 pub mod Globs
 pub mod GlobGrammar
 pub mod ClassGrammar
 pub mod TokenGrammar
 pub mod Marks
-pub mod SeenGlobs
 pub mod Fields
 pub mod Fits
 pub mod Subjects
@@ -18,3 +16,4 @@ pub mod Filters
 pub mod Values
 pub mod Laws
 pub mod FilterFaultTexts
+pub mod private

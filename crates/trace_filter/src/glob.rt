@@ -4,7 +4,7 @@ ghost use Rattle.std.specs.Prelude.{◌≡◌, ◌≤◌, ◌==◌, ◌&&◌, �
 ghost use Rattle.std.specs.List.{list_any};
 ghost use Rattle.trace_filter.specs.Globs.{ranges_of, parts_of, parts_from, part_of, class_from as spec_class_from, class_piece as spec_class_piece, itself as spec_itself, is_member as spec_is_member, is_in_class};
 ghost use Rattle.trace_filter.specs.Marks.{is_match, advance as spec_advance, advance_all, mark_at, spread as spec_spread, shift as spec_shift, first_row as spec_first_row};
-ghost use Rattle.trace_filter.specs.SeenGlobs.{class_of, glob_part_of, IsPartPiece};
+ghost use Rattle.trace_filter.specs.private.SeenGlobs.{class_of, glob_part_of, IsPartPiece};
 
 use trace_lex::len_before;
 

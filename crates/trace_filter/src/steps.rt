@@ -87,7 +87,7 @@ pub(crate) struct Compiler {
 }
 
 impl Compiler {
-    ghost use Rattle.trace_filter.specs.Seen.{token_of};
+    ghost use Rattle.trace_filter.specs.private.Seen.{token_of};
     ghost use Rattle.trace_filter.specs.Steps.{moves_of, comparison_behind};
     ghost use Rattle.trace_filter.specs.Subjects.{fault_at, subject_behind};
 

@@ -59,7 +59,7 @@ impl Model for Reader {
 
 impl Reader {
     ghost use Rattle.trace_filter.specs.Syntax.{step, may_end as ends, Takes};
-    ghost use Rattle.trace_filter.specs.Seen.{token_of};
+    ghost use Rattle.trace_filter.specs.private.Seen.{token_of};
 
     fn new() -> Reader
         ensures { result ≡ start }

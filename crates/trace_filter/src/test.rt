@@ -5,7 +5,7 @@ ghost use Rattle.trace_format.specs.Cells.{datum_of};
 ghost use Rattle.trace_format.specs.Operands.{is_text};
 ghost use Rattle.trace_filter.specs.Fields.{takes_at, fits_at};
 ghost use Rattle.trace_filter.specs.Truth.{pattern_of};
-ghost use Rattle.trace_filter.specs.Seen.{literal_of};
+ghost use Rattle.trace_filter.specs.private.Seen.{literal_of};
 ghost use Rattle.trace_filter.specs.Steps.{datum_at};
 ghost use Rattle.trace_filter.specs.Tests.{number_test, text_test, datum_test};
 

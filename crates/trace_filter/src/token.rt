@@ -4,7 +4,7 @@ ghost use Rattle.std.specs.Prelude.{◌≡◌, ◌≤◌, ◌<◌, [], ◌∷◌
 ghost use Rattle.std.specs.List.{prefix_len};
 ghost use Rattle.trace_lex.specs.Names.{is_name as spec_is_name, is_name_byte as spec_name_byte};
 ghost use Rattle.trace_filter.specs.Tokens.{Name, Illegible, is_quote as spec_quote, is_word_byte as spec_word_byte, begins_with as spec_begins_with, quoted_piece as spec_quoted_piece, word_piece as spec_word_piece, name_piece as spec_name_piece, longest as spec_longest, symbol_piece as spec_symbol_piece, piece_of, is_comparison as spec_comparison, spots_from};
-ghost use Rattle.trace_filter.specs.Seen.{token_of, IsPiece, IsNextToken};
+ghost use Rattle.trace_filter.specs.private.Seen.{token_of, IsPiece, IsNextToken};
 
 use trace_lex::{blanks_len, is_blank, is_name, is_name_byte, len_before, rest_of};
 

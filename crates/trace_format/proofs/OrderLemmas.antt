@@ -8,7 +8,7 @@ use Rattle.trace_format.specs.Definitions.{Definition, IsDefinition, AreFields, 
 use Rattle.trace_format.specs.Cells.{Datum, Cells, Holds, IsRowOf, kinds_of, value_at}
 use Rattle.trace_format.specs.Rows.{value_of, field_named, row_of}
 use Rattle.trace_format.specs.Pairs.{has_pair, HasPair, AreOnce}
-use Rattle.trace_format.specs.InOrder.{named_value, values_in_order}
+use Rattle.trace_format.specs.private.InOrder.{named_value, values_in_order}
 use Rattle.trace_lex.proofs.Options.{and_then_some, map_some}
 use Rattle.trace_format.proofs.BuildLemmas.{value_of-holds}
 use Rattle.trace_format.proofs.FieldNames.{bytes_eq-swap, fields_named, stand_by_name}

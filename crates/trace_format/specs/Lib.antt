@@ -6,8 +6,8 @@ pub mod Reading
 pub mod Cells
 pub mod Rows
 pub mod Pairs
-pub mod InOrder
 pub mod Decoding
 pub mod Catalogs
 pub mod Operands
 pub mod Laws
+pub mod private

@@ -2,7 +2,7 @@
 
 ghost use Rattle.std.specs.Prelude.{◌≡◌, true, map, IfOk, Some, option_map};
 ghost use Rattle.trace_format.specs.Cells.{datum_of};
-ghost use Rattle.trace_format.specs.InOrder.{named_value as value_where_named, values_in_order};
+ghost use Rattle.trace_format.specs.private.InOrder.{named_value as value_where_named, values_in_order};
 
 use crate::event::Field;
 use crate::kind::Kind;

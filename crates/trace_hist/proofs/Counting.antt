@@ -9,7 +9,7 @@ use Rattle.trace_hist.specs.declared.hist.Hist.TheInside.{Inside}
 use Rattle.trace_hist.specs.Hits.{Hit}
 use Rattle.trace_hist.specs.Groups.{Table, same_key, is_among, distinct, keys_of, group, grouped}
 use Rattle.trace_hist.specs.Hists.{Seen, StandsFor, counted}
-use Rattle.trace_hist.specs.Steps.{stepped, after_row, after_hit}
+use Rattle.trace_hist.specs.private.Steps.{stepped, after_row, after_hit}
 use Rattle.trace_hist.specs.Stored.{hit_in, is_stored, table_of, seen, IsSound}
 use Rattle.trace_hist.proofs.Keys.{distinct-known, distinct-new}
 use Rattle.trace_hist.proofs.GroupLaws.{keys_of-push, table-known, table-new, after_row-is, group-push}

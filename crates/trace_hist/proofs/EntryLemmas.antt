@@ -12,7 +12,7 @@ use Rattle.trace_hist.specs.Hits.{Hit}
 use Rattle.trace_hist.specs.Groups.{Entry, same_key, is_among, distinct, keys_of, with_key, added, summed, entry_of}
 use Rattle.trace_hist.specs.PrintOrder.{row_in, sum_at}
 use Rattle.trace_hist.specs.Stored.{hit_in}
-use Rattle.trace_hist.specs.Sums.{total_at}
+use Rattle.trace_hist.specs.private.Sums.{total_at}
 use Rattle.trace_hist.proofs.Keys.{is_among-distinct, distinct-known, distinct-new}
 use Rattle.trace_hist.proofs.GroupLaws.{with_key-same, with_key-other, keys_of-push, entry_keys-of}
 use Rattle.trace_hist.proofs.Printing.{filter-over}

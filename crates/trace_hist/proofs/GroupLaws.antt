@@ -9,7 +9,7 @@ use Rattle.std.proofs.lemmas.List.Folds.{list_any-append}
 use Rattle.trace_format.specs.Cells.{Datum}
 use Rattle.trace_hist.specs.Hits.{Hit}
 use Rattle.trace_hist.specs.Groups.{Entry, Table, same_key, is_among, distinct, keys_of, admitted, with_key, added, summed, entry_of, group}
-use Rattle.trace_hist.specs.Steps.{bumped, first_entry, stepped, after_row}
+use Rattle.trace_hist.specs.private.Steps.{bumped, first_entry, stepped, after_row}
 use Rattle.trace_hist.specs.Stored.{table_of}
 use Rattle.trace_hist.proofs.Keys.{not_same, key_decided, key-refl, is_among-distinct, distinct-known, distinct-new}
 

@@ -2,8 +2,6 @@ pub mod Groups
 pub mod Hists
 pub mod Hits
 pub mod Laws
-pub mod Numbers
 pub mod PrintOrder
-pub mod Steps
 pub mod Stored
-pub mod Sums
+pub mod private

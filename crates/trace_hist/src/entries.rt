@@ -5,10 +5,10 @@ ghost use Rattle.std.specs.List.{list_any, range_with_len};
 ghost use Rattle.trace_format.specs.Cells.{datum_of};
 ghost use Rattle.trace_hist.specs.declared.entry.HistRow.{HistRow};
 ghost use Rattle.trace_hist.specs.Groups as groups;
-ghost use Rattle.trace_hist.specs.Numbers.{IsFieldNumber};
+ghost use Rattle.trace_hist.specs.private.Numbers.{IsFieldNumber};
 ghost use Rattle.trace_hist.specs.PrintOrder as order;
 ghost use Rattle.trace_hist.specs.Stored.{hit_in, table_of};
-ghost use Rattle.trace_hist.specs.Sums.{total_at};
+ghost use Rattle.trace_hist.specs.private.Sums.{total_at};
 
 use crate::cell::copy;
 use crate::entry::HistRow;

@@ -6,7 +6,7 @@ ghost use Rattle.trace_trigger.specs.declared.spec.Action.TheVariants as actions
 ghost use Rattle.trace_hist.specs.Groups.{grouped};
 ghost use Rattle.trace_hist.specs.Hits.{Hit, hit_of};
 ghost use Rattle.trace_hist.specs.PrintOrder.{row_in, printed};
-ghost use Rattle.trace_hist.specs.Steps.{after_hit};
+ghost use Rattle.trace_hist.specs.private.Steps.{after_hit};
 ghost use Rattle.trace_hist.specs.Hists.{StandsFor, IsReserved, counted};
 
 use crate::entries::entries_in_order;

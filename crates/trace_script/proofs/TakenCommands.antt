@@ -5,7 +5,7 @@ use Rattle.std.proofs.lemmas.List.{append-nil}
 use Rattle.trace_format.specs.declared.pair.Pair.{Pair}
 use Rattle.trace_script.specs.Outcomes.{or_fault, Fails, Gives, ◌>>=◌}
 use Rattle.trace_script.specs.Lines.{pair_of, pairs_of, emission_with, emission_of, only_word, take_of}
-use Rattle.trace_script.specs.TokensLeft.{begins_with_word, IsPairAnd}
+use Rattle.trace_script.specs.private.TokensLeft.{begins_with_word, IsPairAnd}
 use Rattle.trace_script.specs.declared.fault.LineError.{LineError}
 use Rattle.trace_script.specs.declared.fault.LineError.TheVariants.{Fault, Memory}
 use Rattle.trace_script.specs.declared.fault.ScriptFault.{ScriptFault}

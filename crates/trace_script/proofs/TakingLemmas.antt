@@ -3,8 +3,8 @@ use Rattle.std.proofs.Common.{◌≡◌, ◌≢◌, ℕ, zero, suc, Bool, true, 
 use Rattle.std.specs.List.{list_any}
 use Rattle.trace_lex.specs.Blanks.{is_blank}
 use Rattle.trace_script.specs.Tokens.{Place, Between, Arrow, InWord, InQuotes, is_quote, is_end, place_of, plain, behind, tokens_from, tokens_of}
-use Rattle.trace_script.specs.Words.{begins_with_quote, begins_with_arrow, BeginsToken, BeginsWord, IsWordAnd}
-use Rattle.trace_script.specs.TokensLeft.{tokens_left}
+use Rattle.trace_script.specs.private.Words.{begins_with_quote, begins_with_arrow, BeginsToken, BeginsWord, IsWordAnd}
+use Rattle.trace_script.specs.private.TokensLeft.{tokens_left}
 use Rattle.trace_script.specs.declared.token.Token.{Token}
 use Rattle.trace_script.specs.declared.token.Token.TheVariants.{Word, Redirect}
 use Rattle.trace_script.proofs.WordLemmas.{arrow_at, word_at}

@@ -5,7 +5,7 @@ use Rattle.std.proofs.lemmas.Bool.{eqb-true}
 use Rattle.std.specs.List.{prefix_len}
 use Rattle.trace_lex.specs.Blanks.{is_blank}
 use Rattle.trace_script.specs.Tokens.{Between, Arrow, InWord, is_quote, is_end, behind, tokens_from, tokens_of}
-use Rattle.trace_script.specs.Words.{is_plain, begins_with_quote, begins_with_arrow, BeginsToken, BeginsWord, place_in, IsWordAnd, IsUnclosed}
+use Rattle.trace_script.specs.private.Words.{is_plain, begins_with_quote, begins_with_arrow, BeginsToken, BeginsWord, place_in, IsWordAnd, IsUnclosed}
 use Rattle.trace_script.specs.Outcomes.{or_fault, Fails}
 use Rattle.trace_script.specs.declared.fault.LineError.{LineError}
 use Rattle.trace_script.specs.declared.fault.LineError.TheVariants.{Fault, Memory}

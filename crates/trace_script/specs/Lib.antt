@@ -5,7 +5,5 @@ pub mod Lines
 pub mod Commands
 pub mod Faults
 pub mod Rendering
-pub mod Words
-pub mod TokensLeft
-pub mod TokensIn
 pub mod ScriptFaultTexts
+pub mod private

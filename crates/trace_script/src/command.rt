@@ -8,7 +8,7 @@ ghost use Rattle.trace_format.specs.declared.pair.Pair.{Pair as PairValue};
 ghost use Rattle.trace_script.specs.declared.token.Token.{Token};
 ghost use Rattle.trace_script.specs.Outcomes.{Fails, Gives, or_fault};
 ghost use Rattle.trace_script.specs.Commands.{IsWriteOf};
-ghost use Rattle.trace_script.specs.TokensLeft.{IsPairAnd};
+ghost use Rattle.trace_script.specs.private.TokensLeft.{IsPairAnd};
 ghost use Rattle.trace_script.specs.Lines.{pair_of, pairs_of, emission_with, emission_of, only_word, redirected_to, write_of, read_of, take_of, mkdir_of, rmdir_of, named_command};
 ghost use Rattle.trace_script.specs.declared.fault.ScriptFault.TheVariants.{WrongWords};
 

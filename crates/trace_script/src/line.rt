@@ -5,7 +5,7 @@ ghost use Rattle.std.specs.List.{list_all, list_any};
 ghost use Rattle.trace_script.specs.Commands.{AsksFor, IsAskedBy};
 ghost use Rattle.trace_script.specs.Faults.{HasFault};
 ghost use Rattle.trace_script.specs.Outcomes.{Gives};
-ghost use Rattle.trace_script.specs.TokensLeft.{asked_after};
+ghost use Rattle.trace_script.specs.private.TokensLeft.{asked_after};
 ghost use Rattle.trace_script.specs.Tokens.{is_quote, tokens_of};
 ghost use Rattle.trace_script.specs.declared.fault.ScriptFault.{ScriptFault as FaultValue};
 ghost use Rattle.trace_script.specs.Lines.{alone, named_line, asked_of, is_line_byte, says_nothing, spoken, line_of};

@@ -6,8 +6,8 @@
 ghost use Rattle.std.specs.Prelude.{◌≡◌, ◌↔◌, [], ◌∷◌, ◌≢◌, IsTrue, MatchOption, Some, false};
 ghost use Rattle.std.specs.List.{list_any};
 ghost use Rattle.trace_script.specs.Tokens.{is_quote, tokens_of};
-ghost use Rattle.trace_script.specs.Words.{BeginsToken};
-ghost use Rattle.trace_script.specs.TokensLeft.{token_of, begins_with_word, tokens_left};
+ghost use Rattle.trace_script.specs.private.Words.{BeginsToken};
+ghost use Rattle.trace_script.specs.private.TokensLeft.{token_of, begins_with_word, tokens_left};
 ghost use Rattle.trace_script.specs.declared.token.Token.TheVariants.{Word as IsWord};
 
 use crate::token::{Token, begins_with_arrow, plain_part, redirection, without_blanks};
@@ -42,7 +42,7 @@ impl<'a> Model for Tokens<'a> {
 
     ghost Value = { List Token };
 
-    ghost use Rattle.trace_script.specs.TokensIn.{tokens_in, IsReadable};
+    ghost use Rattle.trace_script.specs.private.TokensIn.{tokens_in, IsReadable};
 
     ghost view = { λ tokens. tokens_in tokens.left };
 

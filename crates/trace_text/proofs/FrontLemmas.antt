@@ -1,7 +1,7 @@
 -- Calls that append, one after another: where one is refused, the bytes begin with those that the first was given.
 use Rattle.std.proofs.Common.{◌≡◌, List, ℕ, [], ◌++◌, sym, ap, ◌∙◌, append_assoc}
 use Rattle.std.proofs.lemmas.List.{append-nil}
-use Rattle.trace_text.specs.Fronts.{BeginWith}
+use Rattle.trace_text.specs.private.Fronts.{BeginWith}
 
 pub unchanged : (front bytes : List ℕ) → bytes ≡ front → BeginWith front bytes
 unchanged front bytes same = record { rest = []; cut = same ∙ sym (append-nil front) }

@@ -5,10 +5,10 @@ pub mod DeclarationText
 pub mod RecordText
 pub mod TraceText
 pub mod Laws
-pub mod Fronts
 pub mod BufferText
 pub mod SnapshotText
 pub mod TriggerText
 pub mod EntryText
 pub mod HistText
 pub mod ShownTriggers
+pub mod private

@@ -3,7 +3,7 @@
 ghost use Rattle.std.specs.Prelude.{◌≡◌, ◌++◌, map, OnOk, OnErr};
 ghost use Rattle.trace_format.specs.Cells.{datum_of};
 ghost use Rattle.trace_format.specs.Decoding.{row_from};
-ghost use Rattle.trace_text.specs.Fronts.{BeginWith};
+ghost use Rattle.trace_text.specs.private.Fronts.{BeginWith};
 ghost use Rattle.trace_text.specs.RecordText as texts;
 
 use crate::append::push_number;

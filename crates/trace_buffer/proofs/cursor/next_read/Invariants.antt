@@ -1,5 +1,5 @@
 use Rattle.std.proofs.Common.{◌≡◌, ◌≤◌, length, drop}
-use Rattle.trace_buffer.specs.Nexts.{next_of}
+use Rattle.trace_buffer.specs.private.Nexts.{next_of}
 use Rattle.trace_buffer.proofs.cursor.next_read.Given as goal
 
 abbrev pub invariant-loop-cpu : goal.invariant-loop-cpu

@@ -4,7 +4,7 @@ use Rattle.page_ring.specs.Account.{Reading}
 use Rattle.page_ring.specs.Reading.{reading}
 use Rattle.trace_buffer.specs.CpuReadings.{taken_reading}
 use Rattle.trace_buffer.specs.Families.{CpuReading, on_cpu}
-use Rattle.trace_buffer.specs.Nexts.{next_of}
+use Rattle.trace_buffer.specs.private.Nexts.{next_of}
 use Rattle.trace_buffer.specs.declared.times.Next.{Next}
 use Rattle.trace_buffer.proofs.Lists.{moved_one}
 use Rattle.trace_buffer.proofs.NextReads.{next_of-none, next_of-some, next_length, taken_in_order-none, taken_in_order-next}

@@ -1,6 +1,6 @@
 use Rattle.std.proofs.Common.{◌≡◌, ◌-◌, ◌≤◌, ◌++◌, length, map}
 use Rattle.trace_buffer.specs.CpuReadings.{taken_reading}
-use Rattle.trace_buffer.specs.Nexts.{taken_in_order}
+use Rattle.trace_buffer.specs.private.Nexts.{taken_in_order}
 use Rattle.trace_buffer.proofs.cursor.read_in_order.Given as goal
 
 abbrev pub invariant-loop-read : goal.invariant-loop-read

@@ -1,6 +1,6 @@
 use Rattle.std.proofs.Common.{◌≡◌, ◌+◌, ◌++◌, take, drop, length, sym, ap, ◌∙◌, arith}
 use Rattle.trace_filter.specs.Marks.{shift}
-use Rattle.trace_filter.specs.SeenGlobs.{class_of}
+use Rattle.trace_filter.specs.private.SeenGlobs.{class_of}
 use Rattle.trace_filter.proofs.RowLemmas.{shift_end}
 use Rattle.trace_filter.proofs.glob.shift.Goals as goal
 

@@ -1,6 +1,6 @@
 use Rattle.std.proofs.Common.{◌≡◌, ◌++◌, false, take, drop}
 use Rattle.trace_filter.specs.Marks.{shift}
-use Rattle.trace_filter.specs.SeenGlobs.{class_of}
+use Rattle.trace_filter.specs.private.SeenGlobs.{class_of}
 use Rattle.trace_filter.proofs.glob.shift.Given as goal
 
 abbrev pub invariant-loop-offset : goal.invariant-loop-offset

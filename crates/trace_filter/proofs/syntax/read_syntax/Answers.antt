@@ -1,4 +1,4 @@
-use Rattle.trace_filter.specs.Seen.{token_of}
+use Rattle.trace_filter.specs.private.Seen.{token_of}
 use Rattle.trace_filter.proofs.Depths.{one_deeper}
 use Rattle.trace_filter.proofs.syntax.read_syntax.Goals as goal
 

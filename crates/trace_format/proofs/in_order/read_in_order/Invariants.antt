@@ -1,6 +1,6 @@
 use Rattle.std.proofs.Common.{◌≡◌, ◌≤◌, ◌+◌, ◌-◌, ◌++◌, length, map, drop, option_map, vec_len, vec_capacity}
 use Rattle.trace_format.specs.Cells.{datum_of}
-use Rattle.trace_format.specs.InOrder.{values_in_order}
+use Rattle.trace_format.specs.private.InOrder.{values_in_order}
 use Rattle.trace_format.proofs.in_order.read_in_order.Given as goal
 
 -- there are as many pairs as fields, and there is room for the types and values of all of them; the types and the values so far and those that are left are those of all

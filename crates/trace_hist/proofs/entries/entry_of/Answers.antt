@@ -3,7 +3,7 @@ use Rattle.std.specs.List.{range_with_len}
 use Rattle.trace_format.specs.Cells.{Datum, datum_of}
 use Rattle.trace_hist.specs.Groups.{Entry, with_key}
 use Rattle.trace_hist.specs.Stored.{hit_in}
-use Rattle.trace_hist.specs.Sums.{total_at}
+use Rattle.trace_hist.specs.private.Sums.{total_at}
 use Rattle.trace_hist.proofs.EntryLemmas.{sums-are}
 use Rattle.trace_hist.proofs.entries.entry_of.Goals as goal
 

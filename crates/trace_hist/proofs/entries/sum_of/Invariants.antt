@@ -2,7 +2,7 @@ use Rattle.std.proofs.Common.{◌≡◌, ◌*◌, ◌-◌, ◌^◌, pos, neg_ℤ
 use Rattle.trace_format.specs.Cells.{datum_of}
 use Rattle.trace_hist.specs.Groups.{with_key}
 use Rattle.trace_hist.specs.Stored.{hit_in}
-use Rattle.trace_hist.specs.Sums.{total_at}
+use Rattle.trace_hist.specs.private.Sums.{total_at}
 use Rattle.trace_hist.proofs.entries.sum_of.Given as goal
 
 abbrev pub invariant-loop-hit : goal.invariant-loop-hit

@@ -1,7 +1,7 @@
 use Rattle.std.proofs.Common.{[], ◌∷◌, ◌++◌, sym, ◌∙◌, ap}
 use Rattle.trace_script.proofs.CommandLemmas.{join_push, push_some}
 use Rattle.trace_script.specs.Lines.{write_behind}
-use Rattle.trace_script.specs.TokensLeft.{token_of}
+use Rattle.trace_script.specs.private.TokensLeft.{token_of}
 use Rattle.trace_script.specs.declared.tokens.BorrowedToken.{BorrowedToken}
 use Rattle.trace_script.proofs.command.write.Goals as goal
 

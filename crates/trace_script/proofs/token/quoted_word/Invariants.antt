@@ -1,6 +1,6 @@
 use Rattle.std.proofs.Common.{◌≡◌, [], drop}
 use Rattle.trace_script.specs.Tokens.{InWord, tokens_from}
-use Rattle.trace_script.specs.Words.{place_in}
+use Rattle.trace_script.specs.private.Words.{place_in}
 use Rattle.trace_script.proofs.token.quoted_word.Given as goal
 
 abbrev pub invariant-loop-index : goal.invariant-loop-index

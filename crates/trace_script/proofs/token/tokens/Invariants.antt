@@ -1,6 +1,6 @@
 use Rattle.std.proofs.Common.{◌≡◌, ◌≢◌, [], length}
 use Rattle.trace_script.specs.Tokens.{behind, tokens_of}
-use Rattle.trace_script.specs.Words.{BeginsToken}
+use Rattle.trace_script.specs.private.Words.{BeginsToken}
 use Rattle.trace_script.proofs.token.tokens.Given as goal
 
 abbrev pub invariant-loop-rest : goal.invariant-loop-rest

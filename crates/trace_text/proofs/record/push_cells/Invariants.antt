@@ -1,6 +1,6 @@
 use Rattle.std.proofs.Common.{◌≡◌, ◌++◌, length, map, drop}
 use Rattle.trace_format.specs.Cells.{datum_of}
-use Rattle.trace_text.specs.Fronts.{BeginWith}
+use Rattle.trace_text.specs.private.Fronts.{BeginWith}
 use Rattle.trace_text.specs.RecordText.{cells_text}
 use Rattle.trace_text.proofs.record.push_cells.Given as goal
 

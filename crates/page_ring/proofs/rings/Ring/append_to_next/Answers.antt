@@ -1,7 +1,7 @@
 use Rattle.std.proofs.Common.{◌≡◌, ◌+◌, ◌<◌, ◌≤◌, ◌^◌, length, sym, subst, arith}
 use Rattle.page_ring.specs.Shown.{Seen, offered}
 use Rattle.page_ring.specs.Sound.{seen}
-use Rattle.page_ring.specs.Step.{appended, moved}
+use Rattle.page_ring.specs.private.Step.{appended, moved}
 use Rattle.page_ring.proofs.Moves.{Appends, MovesTail, appends_from}
 use Rattle.page_ring.proofs.SoundFacts.{bytes_small, sound_next, shown_next, lost_le_entries, lost_le_bytes}
 use Rattle.page_ring.proofs.rings.Ring.append_to_next.Goals as goal

@@ -1,6 +1,6 @@
 use Rattle.std.proofs.Common.{◌≡◌, [], subst}
 use Rattle.page_ring.specs.Shown.{Seen}
-use Rattle.page_ring.specs.Step.{overrun_by, left_by}
+use Rattle.page_ring.specs.private.Step.{overrun_by, left_by}
 use Rattle.page_ring.proofs.SoundFacts.{none_at_tail, all_at_tail}
 use Rattle.page_ring.proofs.rings.Ring.fits_tail.Goals as goal
 

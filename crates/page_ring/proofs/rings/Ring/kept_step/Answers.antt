@@ -3,7 +3,7 @@ use Rattle.page_ring.specs.Account.{readings_from}
 use Rattle.page_ring.specs.Pages.{on_page}
 use Rattle.page_ring.specs.Unread.{unread_left}
 use Rattle.page_ring.specs.Shown.{Seen}
-use Rattle.page_ring.specs.Step.{readings_shown}
+use Rattle.page_ring.specs.private.Step.{readings_shown}
 use Rattle.page_ring.proofs.Readings.{rising_unread, readings_unread, few_unread}
 use Rattle.page_ring.proofs.rings.Ring.kept_step.Goals as goal
 

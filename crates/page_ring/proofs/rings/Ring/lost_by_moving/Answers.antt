@@ -1,6 +1,6 @@
 use Rattle.std.proofs.Common.{◌≡◌, ◌+◌, length, subst}
 use Rattle.page_ring.specs.Shown.{Seen}
-use Rattle.page_ring.specs.Step.{overrun_by}
+use Rattle.page_ring.specs.private.Step.{overrun_by}
 use Rattle.page_ring.proofs.SoundFacts.{lost_at_next}
 use Rattle.page_ring.proofs.rings.Ring.lost_by_moving.Goals as goal
 

@@ -2,7 +2,7 @@ use Rattle.std.proofs.Common.{◌≡◌, ◌-◌, Option, Some, None, sym, subst
 use Rattle.page_ring.specs.Account.{Reading, first}
 use Rattle.page_ring.specs.Pages.{kept_in}
 use Rattle.page_ring.specs.Shown.{Seen}
-use Rattle.page_ring.specs.Step.{readings_shown}
+use Rattle.page_ring.specs.private.Step.{readings_shown}
 use Rattle.page_ring.proofs.Readings.{circle_full, first_reading, no_reading}
 use Rattle.page_ring.proofs.rings.Ring.peek_step.Goals as goal
 

@@ -4,7 +4,7 @@ use Rattle.trace_record.specs.Record.{timestamp}
 use Rattle.page_ring.specs.Account.{Reading, first}
 use Rattle.page_ring.specs.Pages.{kept_in}
 use Rattle.page_ring.specs.Shown.{Seen}
-use Rattle.page_ring.specs.Step.{readings_shown}
+use Rattle.page_ring.specs.private.Step.{readings_shown}
 use Rattle.page_ring.proofs.Readings.{circle_full, first_reading, no_reading}
 use Rattle.page_ring.proofs.rings.Ring.peek_ts_step.Goals as goal
 

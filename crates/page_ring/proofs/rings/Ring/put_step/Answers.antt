@@ -1,5 +1,5 @@
 use Rattle.std.proofs.Common.{ℕ, ◌≡◌, ◌<◌, ◌≤◌, ◌⊎◌, Bool, arith, true, ◌+◌, length, sym, ◌∙◌, inl, inr}
-use Rattle.page_ring.specs.Step.{overrun_by}
+use Rattle.page_ring.specs.private.Step.{overrun_by}
 use Rattle.trace_record.proofs.HeadBytes.{sixteen_in}
 use Rattle.page_ring.proofs.Steps.{put_here, put_there, put_refused, kept_losing-none, kept_losing-some}
 use Rattle.page_ring.proofs.rings.Ring.put_step.Goals as goal

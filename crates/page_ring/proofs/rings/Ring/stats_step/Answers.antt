@@ -4,7 +4,7 @@ use Rattle.page_ring.specs.declared.pages.Page.{Page}
 use Rattle.page_ring.specs.Shown.{Seen}
 use Rattle.page_ring.specs.Pages.{kept_in}
 use Rattle.page_ring.specs.Sound.{page_after, IsStorable}
-use Rattle.page_ring.specs.Step.{stats_shown}
+use Rattle.page_ring.specs.private.Step.{stats_shown}
 use Rattle.page_ring.proofs.PageFacts.{circle_nonempty, all_weaker}
 use Rattle.page_ring.proofs.rings.Ring.stats_step.Goals as goal
 

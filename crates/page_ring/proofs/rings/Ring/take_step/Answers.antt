@@ -4,7 +4,7 @@ use Rattle.page_ring.specs.Account.{Reading, first}
 use Rattle.page_ring.specs.Pages.{kept_in}
 use Rattle.page_ring.specs.Shown.{Seen}
 use Rattle.page_ring.specs.Sound.{seen}
-use Rattle.page_ring.specs.Step.{without_first, readings_shown}
+use Rattle.page_ring.specs.private.Step.{without_first, readings_shown}
 use Rattle.page_ring.proofs.Readings.{circle_full, no_reading, shown_none, without_none, shown_taken, reading_taken, sound_taken}
 use Rattle.page_ring.proofs.rings.Ring.take_step.Goals as goal
 

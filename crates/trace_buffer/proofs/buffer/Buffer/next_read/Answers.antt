@@ -2,7 +2,7 @@ use Rattle.std.proofs.Common.{◌≡◌, ℕ, ◌-◌, ◌<◌, [], length, map,
 use Rattle.std.proofs.lemmas.List.{length-map}
 use Rattle.page_ring.specs.Account.{readings_of}
 use Rattle.trace_buffer.specs.Families.{events_of}
-use Rattle.trace_buffer.specs.Nexts.{first_time}
+use Rattle.trace_buffer.specs.private.Nexts.{first_time}
 use Rattle.trace_buffer.proofs.Consumed.{get_or-readings}
 use Rattle.trace_buffer.proofs.NextReads.{next_of-drop, next_of-end, sooner_of-below}
 use Rattle.trace_buffer.proofs.Rings.{stands_count}

@@ -2,7 +2,7 @@ use Rattle.std.proofs.Common.{◌≡◌, ◌<◌, ◌≤◌, List, map, drop, If
 use Rattle.page_ring.specs.Account.{readings_of}
 use Rattle.page_ring.specs.Events.{Event}
 use Rattle.trace_buffer.specs.Buffers.{StandsFor, cpus}
-use Rattle.trace_buffer.specs.Nexts.{next_of}
+use Rattle.trace_buffer.specs.private.Nexts.{next_of}
 use Rattle.trace_buffer.proofs.buffer.Buffer.next_read.Given as goal
 
 abbrev pub invariant-loop-cpu : goal.invariant-loop-cpu

@@ -5,7 +5,7 @@ use Rattle.trace_buffer.specs.Buffers.{StandsFor}
 use Rattle.trace_buffer.specs.CpuReadings.{taken_reading}
 use Rattle.trace_buffer.specs.Families.{kept_count}
 use Rattle.trace_buffer.specs.Orders.{Consumed, consume_any}
-use Rattle.trace_buffer.specs.Nexts.{taken_in_order}
+use Rattle.trace_buffer.specs.private.Nexts.{taken_in_order}
 use Rattle.trace_buffer.proofs.Consumed.{taken_in_order-consumed, consumed-min}
 use Rattle.trace_buffer.proofs.buffer.Buffer.preview_any.Goals as goal
 

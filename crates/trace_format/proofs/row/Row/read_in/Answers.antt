@@ -3,7 +3,7 @@ use Rattle.std.specs.List.{AllZip}
 use Rattle.trace_format.specs.declared.kind.Kind.{Kind}
 use Rattle.trace_format.specs.declared.event.Field.{Field}
 use Rattle.trace_format.specs.Cells.{Cells, Holds, datum_of, kinds_of}
-use Rattle.trace_format.specs.InOrder.{values_in_order}
+use Rattle.trace_format.specs.private.InOrder.{values_in_order}
 use Rattle.trace_format.proofs.OrderLemmas.{held_in_order, row_in_order}
 use Rattle.trace_format.proofs.row.Row.read_in.Goals as goal
 

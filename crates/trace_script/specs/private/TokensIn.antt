@@ -2,8 +2,8 @@
 use Rattle.std.specs.Prelude.{◌≡◌, ◌≢◌, ℕ, false, List, []}
 use Rattle.std.specs.List.{list_any}
 use Rattle.trace_script.specs.Tokens.{is_quote}
-use Rattle.trace_script.specs.TokensLeft.{tokens_left}
-use Rattle.trace_script.specs.Words.{BeginsToken}
+use Rattle.trace_script.specs.private.TokensLeft.{tokens_left}
+use Rattle.trace_script.specs.private.Words.{BeginsToken}
 use Rattle.trace_script.specs.declared.token.Token.{Token}
 use Rattle.trace_script.specs.declared.tokens.Left.{Left}
 use Rattle.trace_script.specs.declared.tokens.Left.TheVariants.{Unread, Listed}
