@@ -1,3 +1,4 @@
+pub mod BodyLaws
 pub mod FaultOffsets
 pub mod Cuts
 pub mod WordLaws
