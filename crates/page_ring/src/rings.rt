@@ -1,4 +1,24 @@
-//! The ring.
+//! The ring of one CPU: pages in a circle, which a writer fills, and the reader page outside it (docs/RING.md has more pictures).
+//!
+//! ```text
+//!     reader page         circle
+//!                         head page             tail page
+//!      [. . 3 4]          [5 6 7] [8 9 a]  ..   [b c  ]
+//!           |              |                         |
+//!           read next      lost next                 put next
+//! ```
+//!
+//! - A put goes onto the tail page. If it doesn't fit there, the tail moves on to the next page. If that is the head page, its unread records are lost
+//!   with it and the page after it is the head page; or, without `overwrite`, the record is dropped and the tail stays.
+//! - A read takes the first unread record of the reader page. If none is left there, the reader page changes places with the head page first. So the
+//!   page that is being read can't be overwritten, and the circle has all its pages for the writer.
+//! - If only the tail page has records, it is the page that is swapped out. It is the reader page and the tail page in one until the tail moves on.
+//!
+//! Which page a record is on depends on sizes alone, so `specs/Cut.antt` says it of the list of accepted records. The code keeps of each page its
+//! number, how many bytes came onto it, and its unread records; it keeps no page of the circle that has none.
+//!
+//! A public call and its step (`put` and `put_step`) are one body and two proofs: the step says what becomes of the visible facts, by the pages, and the
+//! public clause what that means for the list of all puts and reads, by the step alone.
 #![tactic(auto)]
 
 ghost use Rattle.std.specs.Prelude.{◌≡◌, ℕ, ◌+◌, ◌<◌, ◌≤◌, ◌^◌, ◌%◌, [], ◌∷◌, ◌++◌, length, max, List, nat_le, All, IfOk, OnOk, OnErr, IsNone};

@@ -1,4 +1,23 @@
-//! The lock.
+//! A lock that serves its callers in the order of their tickets, over a table of two words and one slot.
+//!
+//! NEXT is the ticket that is drawn next, SERVING the one that is served, and the slot has the value while nobody holds it. Two callers, a and b:
+//!
+//! ```text
+//!                           NEXT   SERVING   slot
+//!   nobody is in line         7       7      value
+//!   a draws 7                 8       7      value
+//!   a enters                  8       7        -       b finds somebody in line, and waits
+//!   a leaves                  8       8      value     the value is home before 8 is served
+//!   b draws 8                 9       8      value
+//!   b enters                  9       8        -
+//! ```
+//!
+//! Only the caller whose ticket is served touches the slot, so its exchanges need no care of their own. Tickets rise, a holder adds at most one entry,
+//! of its own ticket, and the value is home before the next ticket is served: so the list of entries grows in the order of the tickets, and each
+//! caller finds all that was added before it.
+//!
+//! That nobody draws while somebody is in line is for speed alone: a ticket fixes who comes next, so a thread that has one and isn't running stops all
+//! others. One that waits without a ticket stops nobody.
 ghost use Rattle.std.specs.Prelude.{◌≡◌, ◌↔◌, ◌+◌, ◌<◌, ◌≤◌, ◌^◌, [], ◌∷◌, All, AllPairs, Some, None, IfOk, IfErr, IfSome, IfNone, IsOk, MatchResult};
 ghost use Rattle.ticket_lock.specs.Entries.{IsBefore};
 

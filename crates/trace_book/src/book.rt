@@ -1,4 +1,19 @@
 //! The book: a history of commands, and what it has come to.
+//!
+//! A command is done in two phases, so that one that is refused changes nothing, wherever the refusal is found and whichever allocation fails:
+//!
+//! ```text
+//!                        emission                       any other command
+//!   prepare   looks      prepare_emission: Delivery     prepare: Change and Reply      refusals are found here, in their order
+//!             grows      row, record, rings, hists      the change itself              may be refused memory
+//!             grows      the history's place            the history's place            HistoryFull comes before Memory
+//!   commit    changes    deliver                        commit                         an emission's takes no memory
+//!             records    one entry more                 one entry more
+//! ```
+//!
+//! `commit` can be refused memory for a spare side, a hist trigger's place, an event or an instance alone: each such command has one growth, and it comes
+//! before all that the command changes. Nothing is undone anywhere. What the two phases hand on is data (`Change`, `Delivery`), so `commit` never looks at
+//! the command again: it makes a step of the state, and `prepare` has shown that this is the step that the definitions give the command.
 
 ghost use Rattle.std.specs.Prelude.{◌≡◌, ℕ, ◌+◌, ◌^◌, ◌≤◌, ◌<◌, [], ◌∷◌, ◌++◌, All, map, is_none, is_some, IfOk, IfErr, IfSome, OnOk, OnErr, ◌≢◌, true, false};
 ghost use Rattle.std.specs.Option.{option_map};

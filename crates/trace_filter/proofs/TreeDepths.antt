@@ -1,4 +1,4 @@
--- The most that are open at one offset of a tree's tokens is the tree's depth.
+-- The most that are open at once of a tree's tokens is the tree's depth.
 use Rattle.std.proofs.Common.{◌≡◌, ℕ, ◌+◌, max, List, [], ◌∷◌, ◌++◌, length, sym, ap, ◌∙◌, arith, append_assoc, append-nil}
 use Rattle.std.specs.List.{sum}
 use Rattle.trace_filter.specs.Tokens.{Token, Close, AndAnd, OrOr}

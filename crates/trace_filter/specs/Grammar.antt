@@ -103,7 +103,7 @@ open_count opened = opened.bangs + length opened.outer + sum opened.outer
 abbrev pub nothing_open : Opened
 nothing_open = record { bangs = 0; outer = [] }
 
--- the most that are open at one offset, from an offset on
+-- the most that are open at once, from an offset on
 abbrev pub deepest : Opened → List Token → ℕ
 deepest opened [] = open_count opened
 deepest opened (token ∷ tokens) = max (open_count opened) (deepest (behind opened token) tokens)

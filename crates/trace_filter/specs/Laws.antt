@@ -88,7 +88,7 @@ abbrev pub HoldsAsItsTree : Type 0
 HoldsAsItsTree = (definition : Definition) → (text : List ℕ) → (row : Cells) → (emission : Emission) → IsFilter definition text → IsDefinition definition → IsRowOf definition row
     → emission.values ≡ row.values → IsTrue (holds_of (parsed_of definition text) emission) ↔ Passes definition text emission
 
--- the most that are open at one offset of the tokens is the depth of each tree that they spell
+-- the most that are open at once of the tokens is the depth of each tree that they spell
 abbrev pub DepthIsOfTheTree : Type 0
 DepthIsOfTheTree = (tokens : List Token) → (tree : Expr) → Spells tokens tree → depth_of tokens ≡ depth tree
 

@@ -11,7 +11,7 @@ use std::fmt::{Display, Formatter};
 /// Why a text was refused as a filter. Offsets count bytes from 0 in the text as written.
 #[derive(Debug, Drop)]
 pub enum FilterFault {
-    /// The text has over 1,024 bytes without the blanks at both ends, or over 16 `!` and `(` are open at one offset.
+    /// The text has over 1,024 bytes without the blanks at both ends, or over 16 `!` and `(` are open at once.
     TooMany,
     /// The first token with which no filter goes on, the end of a text where more was to come, or a value that is no number.
     FilterSyntax { at: usize },

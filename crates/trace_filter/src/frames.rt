@@ -4,7 +4,7 @@ ghost use Rattle.std.specs.Prelude.{◌≡◌, true, false, not};
 
 use arrayvec::ArrayVec;
 
-/// At most so many `(` are open at one offset.
+/// At most so many `(` are open at once.
 const DEEPEST: usize = 16;
 
 /// What was found inside one `(`.

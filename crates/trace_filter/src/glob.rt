@@ -11,7 +11,7 @@ use trace_lex::len_before;
 /// A text that is matched has fewer bytes than this.
 pub(crate) const TEXT_END: usize = 256;
 
-/// The bytes that one offset of a text may have: those that the members write, or all others.
+/// The bytes that may stand at one offset of a text: those that the members write, or all others.
 #[derive(Clone, Copy)]
 pub(crate) struct Class<'a> {
     negated: bool,

@@ -1,4 +1,25 @@
-//! Filters as lists of steps, and their value.
+//! Filters as lists of steps, and their value: one pass over the tokens, with no tree, and one pass over the steps for each emission.
+//!
+//! A filter is alternatives of factors: `||` binds loosest, then `&&`, then `!`, and `(` opens a filter within. So three truth values say all that has
+//! to be known of what is inside one `(` (`Frame`, frames.rt): whether an alternative before this one held (`any`), whether all factors of this one did
+//! so far (`all`), and whether the next operand is inverted (`odd`). A `(` puts the frame aside and begins a new one; a `)` takes it up again, with what
+//! was found inside as one more operand. `n > 2 && !(m == 1 || m == 3)`, where n is 5 and m is 3:
+//!
+//! ```text
+//!   step        any  all  odd     put aside
+//!                -   yes   -
+//!   n > 2        -   yes   -
+//!   &&           -   yes   -
+//!   !            -   yes  yes
+//!   (            -   yes   -      (-, yes, yes)
+//!   m == 1       -    -    -      (-, yes, yes)
+//!   ||           -   yes   -      (-, yes, yes)
+//!   m == 3       -   yes   -      (-, yes, yes)
+//!   )            -    -    -                       what was inside held, and is inverted
+//! ```
+//!
+//! In the end the filter holds if `any` or `all` does: this one doesn't. At most 16 `(` are open at once, so frames need no memory. That this is the
+//! truth of the tree which the grammar gives the text is a theorem (laws.rt). syntax.rt has seen before that the text is one of the grammar.
 
 ghost use Rattle.std.specs.Prelude.{◌≡◌, ◌++◌, [], false, None, Some, OnOk, IfOk, IfErr, map};
 ghost use Rattle.trace_format.specs.Cells.{datum_of};

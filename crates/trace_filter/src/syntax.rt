@@ -9,7 +9,7 @@ use crate::token::{Token, next_token};
 use arrayvec::ArrayVec;
 use std::marker::Model;
 
-/// At most so many `!` and `(` are open at one offset.
+/// At most so many `!` and `(` are open at once.
 const DEEPEST: usize = 16;
 
 /// So many are open where the first too many was read.
@@ -32,7 +32,7 @@ pub(crate) enum Due {
 #[derive(Clone, Copy, PartialEq, Eq)]
 pub(crate) enum Verdict {
     Fine,
-    /// Over 16 `!` and `(` are open at one offset.
+    /// Over 16 `!` and `(` are open at once.
     TooDeep,
     /// At this byte begins the first token with which no filter goes on, or the text ends here, where more was to come.
     WrongAt(usize),

@@ -83,7 +83,7 @@ impl Row {
         ensures only { (row : Cells) → IsRowOf def.now row → Give def.now.fields pairs.now row → IsBuilt result (Ok row) }
         // Other pairs are refused at the first that is wrong, else at the first field that is missing.
         ensures refused { IfErr result (IsRefusedRow def.now pairs.now) }
-        // The value at a field's name is the one in the field's index.
+        // The value at a field's name is the one at the field's index.
         ensures names { IfOk result (λ row. StandByName def.now.fields row.values) }
         // What is built, and each refusal, as one function of the pairs.
         ensures exact { IsBuilt result (row_of def.now pairs.now) }
@@ -158,7 +158,7 @@ impl Row {
     pub fn decode(alloc: Global, def: &EventDef, bytes: &[u8]) -> Result<Option<Row>, AllocError>
         // It finds a row exactly where the bytes are that row's payload.
         ensures row { IfOk result (λ found. (row : Cells) → (found ≡ Some row) ↔ (IsRowOf def.now row × (bytes.now ≡ payload_of row))) }
-        // The value at a field's name is the one in the field's index.
+        // The value at a field's name is the one at the field's index.
         ensures names { IfOk result (λ found. IfSome found (λ row. StandByName def.now.fields row.values)) }
         // What is found as one function of the bytes.
         ensures exact { IfOk result (λ found. found ≡ row_from def.now bytes.now) }

@@ -1,4 +1,15 @@
-//! Histograms.
+//! Histograms: what a hist trigger has counted.
+//!
+//! A histogram stands for the list of rows that it has counted, and all that it tells is the grouping of that list: the first distinct keys, as many
+//! as there is room for, each with the number of rows that had it and the sums of their values. A row is counted in two phases, since an emission may
+//! reach many histograms and is refused as a whole where memory is short:
+//!
+//! ```text
+//!   reserve_hit   puts the row's key and numbers aside (`next`), with room for one row more      may be refused, and changes nothing that is seen
+//!   hit           makes `next` the last row, or counts it as dropped where the table is full     takes no memory
+//! ```
+//!
+//! A row that was put aside and is not counted (the emission was refused, or the trigger is paused) is forgotten with the next `reserve_hit`.
 
 ghost use Rattle.std.specs.Prelude.{◌≡◌, ◌<◌, ◌+◌, ◌^◌, ◌++◌, List, [], ◌∷◌, IfOk, OnOk, OnErr, length, map};
 ghost use Rattle.std.specs.Prelude.{IsTrue, ◌↔◌, IsSome, Some, false, true};

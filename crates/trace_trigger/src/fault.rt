@@ -15,7 +15,7 @@ use trace_filter::FilterFault;
 pub enum TriggerFault {
     /// No trigger is written so.
     BadText,
-    /// The filter has over 1,024 bytes without the blanks at both ends, or over 16 `!` and `(` are open at one offset; or a hist trigger has over
+    /// The filter has over 1,024 bytes without the blanks at both ends, or over 16 `!` and `(` are open at once; or a hist trigger has over
     /// three keys, three values or two sort keys.
     TooMany,
     /// The first token with which no filter goes on, the end of a text where more was to come, or a value that is no number.

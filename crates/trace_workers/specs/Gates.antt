@@ -1,10 +1,10 @@
--- What a gate answered to the parts of a block. `may` is what it may answer: to the part with this place in its block, at the command with this
--- place in its part, at this point. Both places count from 0.
+-- What a gate answered to the parts of a block. `may` is what it may answer: to the part with this index in its block, at the command with this
+-- index in its part, at this point. Both indexes count from 0.
 use Rattle.std.specs.Prelude.{ℕ, ◌<◌, Bool, true, false, List, [], length, get_or}
 use Rattle.trace_command.specs.declared.command.Command.{Command}
 use Rattle.trace_workers.specs.declared.gate.Point.{Point}
 
--- the block has a part with the first place, and this part a command with the second
+-- the block has a part with the first index, and this part a command with the second
 abbrev pub HasCommand : List (List Command) → ℕ → ℕ → Type 0
 HasCommand parts thread call = (thread < length parts) × (call < length (get_or parts thread []))
 

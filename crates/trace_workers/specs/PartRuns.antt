@@ -44,7 +44,7 @@ pub record HasAsked (v w : View Entry) (commands : List Command) (replies : List
   pub few : length replies ≤ length commands
   pub whole : fault ≡ None → length replies ≡ length commands
 
--- What the gate answered to one worker, whose part came to these replies and this fault; `may` is what it may answer at the command with this place.
+-- What the gate answered to one worker, whose part came to these replies and this fault; `may` is what it may answer at the command with this index.
 -- Each command with a reply was let pass, before it and after it: after the last one not if the worker was stopped. If it was, that was at one of its
 -- commands.
 pub record IsGated (may : ℕ → Point → Bool → Type 0) (commands : List Command) (replies : List (Result Reply Refusal)) (fault : Option BlockFault) : Type 0 where

@@ -153,7 +153,7 @@ pub fn run_block<R: Threads + Wait + Sync, G: Gate + Sync>(
     ensures fault { IfErr result.1 (λ fault. (trails : List Trail) × AllZip Begins (map (λ part. part.items) parts.items) trails
         × IsAfterBlock (view_of root) (view_of result.0) trails) }
     ensures open { G.is_open gate.now ≡ true → IfErr result.1 (λ fault. fault ≢ Stopped) }
-    // The gate was asked for each command, before it and after it, by its own place: it can be told from what it may answer there.
+    // The gate was asked for each command, before it and after it, by its own indexes: it can be told from what it may answer there.
     ensures gate { IfOk result.1 (λ done. LetsAllPass (G.may_answer gate.now) (map (λ part. part.items) parts.items)) }
     ensures stopped { IfErr result.1 (λ fault. fault ≡ Stopped
         → StopsOne (G.may_answer gate.now) (map (λ part. part.items) parts.items)) }

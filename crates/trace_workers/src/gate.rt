@@ -17,11 +17,11 @@ pub trait Gate {
     /// Whether it answers `true` always.
     ghost is_open: { Self → Bool };
 
-    /// What it may answer: to the part with this place in its block, at the command with this place in its part, at this point. Anything, if it can't
+    /// What it may answer: to the part with this index in its block, at the command with this index in its part, at this point. Anything, if it can't
     /// tell beforehand.
     ghost may_answer: { Self → ℕ → ℕ → Point → Bool → Type 0 } = { λ _ _ _ _ _. Unit {0} };
 
-    /// Whether the worker may go on: the part with this place in its block, at the command with this place in its part. Both places count from 0.
+    /// Whether the worker may go on: the part with this index in its block, at the command with this index in its part. Both indexes count from 0.
     fn arrive(&self, thread: u32, call: u64, point: Point) -> bool
         ensures open { is_open self.now ≡ true → result ≡ true }
         ensures named { may_answer self.now thread call point result };
