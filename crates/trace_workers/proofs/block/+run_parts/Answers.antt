@@ -5,7 +5,8 @@ use Rattle.trace_workers.specs.PartRuns.{HasAsked, IsGated, begun_trail, begun_t
 use Rattle.trace_command.specs.declared.command.Command.{Command}
 use Rattle.trace_workers.specs.declared.fault.BlockFault.TheVariants.{Stopped}
 use Rattle.trace_workers.proofs.Gating.{gated_whole, pass_push, stops_before, stops_last, told_stopped}
-use Rattle.trace_workers.proofs.Working.{run_meet, run_none}
+use Rattle.trace_workers.proofs.Joining.{run_meet}
+use Rattle.trace_workers.proofs.Working.{run_none}
 use Rattle.trace_workers.proofs.Blocking.{names_left, map_push, begun_none, begun_push, whole_push, told_none}
 use Rattle.trace_workers.proofs.block.+run_parts.Goals as goal
 use Rattle.trace_workers.proofs.block.+run_parts.Goals.{in-Ok-started, in-Err}
