@@ -11,7 +11,7 @@ ghost use Rattle.trace_session.specs.Sessions.{status_of};
 
 use crate::environment::Environment;
 use crate::part_split::split_threads;
-use crate::part_text::{Written, write_threads};
+use crate::part_text::{PartOutput, write_threads};
 use std::sync::Wait;
 use std::thread::Threads;
 use ticket_lock::Pass;
@@ -28,7 +28,7 @@ pub fn run_part<R: Threads + Wait + Sync, G: Gate + Sync>(
     env: &Environment<'_, R, G>,
     pass: Pass<Book>,
     threads: Vec<Vec<Numbered>>,
-) -> (Pass<Book>, Result<Written, Stop>)
+) -> (Pass<Book>, Result<PartOutput, Stop>)
     requires of { IsOf env.now.lock.now pass }
     requires session { (g : Config) × IsSessionPass g (view_of pass) }
     requires few { vec_len threads ≤ 8 }

@@ -28,7 +28,7 @@ pub struct OutcomeAt {
 /// What a part gives: the bytes that are to be written for it, the status of its commands, and what became of each of them, in the order of
 /// their lines.
 #[derive(Drop)]
-pub struct Written {
+pub struct PartOutput {
     pub text: Vec<u8>,
     pub status: Status,
     pub outcomes: Vec<OutcomeAt>,
@@ -135,12 +135,12 @@ fn add_thread(
 }
 
 /// What a part gives, all of whose commands give this.
-fn finish(writing: Writing) -> Written
+fn finish(writing: Writing) -> PartOutput
     ensures text { result.text.items ≡ writing.text.items }
     ensures status { result.status ≡ (if writing.is_refused then Status.Refused else Status.Done) }
     ensures outcomes { result.outcomes.items ≡ writing.outcomes.items }
 {
-    Written {
+    PartOutput {
         text: writing.text,
         status: if writing.is_refused {
             Status::Refused
@@ -156,7 +156,7 @@ pub(crate) fn write_threads(
     alloc: Global,
     numbers: &[Vec<usize>],
     done: Vec<Part>,
-) -> Result<Written, Stop>
+) -> Result<PartOutput, Stop>
     requires { AreNumbered (items_in numbers.now) (replies_in done.items) }
     ensures text { IfOk result (λ written.
         written.text.items ≡ numbered_threads 0 (items_in numbers.now) (replies_in done.items)) }

@@ -9,7 +9,7 @@ ghost use Rattle.trace_session.specs.Sessions.{text_of, status_of};
 
 use crate::device::Sink;
 use crate::output::write_outcome;
-use crate::part_text::{OutcomeAt, Written};
+use crate::part_text::{OutcomeAt, PartOutput};
 use crate::replies::Replies;
 use crate::status::Status;
 use std::alloc::Global;
@@ -166,7 +166,7 @@ fn tell_part<W: Sink>(
 pub(crate) fn give_part<W: Sink>(
     number: usize,
     text: &[u8],
-    given: Written,
+    given: PartOutput,
     replies: &mut Replies,
     writer: &mut W,
 ) -> Result<Status, Stop>
@@ -183,7 +183,7 @@ pub(crate) fn give_part<W: Sink>(
     ensures all { OnOk result (IsSome (W.heard writer.old) → given.status ≢ Status.Done → replies.new ≡ []) }
     ensures unheard { OnErr result (W.heard writer.new ≡ W.heard writer.old) }
 {
-    let Written {
+    let PartOutput {
         text: written,
         status,
         outcomes,
