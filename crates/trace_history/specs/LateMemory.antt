@@ -1,5 +1,5 @@
 -- Requests that take memory late: none is taken before each refusal was looked at, that of a full history too, so `Memory` never takes the
--- place of one. (Of every other request `IsFoundEarly` lists the refusals of which that holds.)
+-- place of one. (Of every other request `IsFoundEarly` lists the refusals of which that is promised.)
 use Rattle.std.specs.Prelude.{◌≡◌, ℕ, true, false, List, Some, None, ⊤}
 use Rattle.trace_command.specs.Paths.{File, SyntheticEvents, EventsFilter, EventFilter, EventTrigger}
 use Rattle.trace_command.specs.Requests.{Request, RemoveInstance, WriteFile}

@@ -24,7 +24,7 @@ pub record IsSessionPass (g : Config) (v : View Entry) : Type 0 where
   pub legal : IsLegal g v.seen
   pub below : All (λ (entry : Entry). entry.ticket < v.front) v.seen
 
--- the answer to the command is a refusal that is found before any memory is taken: by what it is, or as any refusal of such a command
+-- the answer to the command is a refusal that is found before any memory is taken: because of what it is, or because of what the command is
 abbrev pub IsRefusedEarly : Config → View Entry → Command → Type 0
 IsRefusedEarly g v command =
     IsFoundEarly (answer_to g v.seen command) ⊎ (TakesMemoryLate (request_of command) × IsErr (answer_to g v.seen command))
