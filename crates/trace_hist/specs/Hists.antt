@@ -1,5 +1,5 @@
 -- What a caller sees of a histogram, and when that agrees with a list of rows.
-use Rattle.std.specs.Prelude.{◌≡◌, ℕ, ◌+◌, Bool, List, Option, Some}
+use Rattle.std.specs.Prelude.{◌≡◌, ℕ, ◌+◌, ◌^◌, ◌<◌, Bool, List, Option, Some}
 use Rattle.trace_format.specs.Operands.{Emission}
 use Rattle.trace_trigger.specs.HistSpecs.{SpecSeen}
 use Rattle.trace_hist.specs.Hits.{Hit, hit_of}
@@ -23,3 +23,7 @@ IsReserved hist emission = hist.next ≡ Some (hit_of hist.spec emission)
 -- how many rows were counted since it was new or cleared
 abbrev pub counted : Seen → ℕ
 counted hist = hist.table.hits + hist.table.dropped
+
+-- one row more may be counted. It counts 2^32 at most, so 128 bits hold each sum of their numbers, which have 64
+abbrev pub HasRoom : Seen → Type 0
+HasRoom hist = counted hist < 2 ^ 32

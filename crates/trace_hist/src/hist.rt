@@ -11,14 +11,14 @@
 //!
 //! A row that was put aside and is not counted (the emission was refused, or the trigger is paused) is forgotten with the next `reserve_hit`.
 
-ghost use Rattle.std.specs.Prelude.{◌≡◌, ◌<◌, ◌+◌, ◌^◌, ◌++◌, List, [], ◌∷◌, IfOk, OnOk, OnErr, length, map};
+ghost use Rattle.std.specs.Prelude.{◌≡◌, ◌+◌, ◌++◌, List, [], ◌∷◌, IfOk, OnOk, OnErr, length, map};
 ghost use Rattle.std.specs.Prelude.{IsTrue, ◌↔◌, IsSome, Some, false, true};
 ghost use Rattle.trace_trigger.specs.declared.spec.Action.TheVariants as actions;
 ghost use Rattle.trace_hist.specs.Groups.{grouped};
 ghost use Rattle.trace_hist.specs.Hits.{Hit, hit_of};
 ghost use Rattle.trace_hist.specs.PrintOrder.{row_in, printed};
 ghost use Rattle.trace_hist.specs.private.Steps.{after_hit};
-ghost use Rattle.trace_hist.specs.Hists.{StandsFor, IsReserved, counted};
+ghost use Rattle.trace_hist.specs.Hists.{StandsFor, IsReserved, counted, HasRoom};
 
 use crate::entries::entries_in_order;
 use crate::entry::HistRow;
@@ -110,7 +110,7 @@ impl Hist {
     pub fn hit(&mut self, row: &Row, cpu: u32, pid: i32)
         requires reserved { IsReserved self.old
             (record { values = row.now.values; cpu = cpu; pid = pid }) }
-        requires few { counted self.old < 2 ^ 32 }
+        requires few { HasRoom self.old }
         ensures stands { (rows : List Hit) → StandsFor self.old rows → self.old.paused ≡ false
             → StandsFor self.new (rows ++ hit_of self.old.spec (record { values = row.now.values; cpu = cpu; pid = pid }) ∷ []) }
         ensures paused { self.old.paused ≡ true → self.new ≡ self.old }
@@ -127,7 +127,7 @@ impl Hist {
     // Counts the row that memory was taken for.
     fn count_next(&mut self)
         requires reserved { IsSome self.old.next }
-        requires few { counted self.old < 2 ^ 32 }
+        requires few { HasRoom self.old }
         ensures { (hit : Hit) → self.old.next ≡ Some hit → self.new ≡ after_hit self.old hit }
     {
         let Some(next) = self.next.take() else {
