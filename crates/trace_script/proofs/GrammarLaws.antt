@@ -5,7 +5,7 @@ use Rattle.std.proofs.lemmas.Bool.{eq-eqb, eqb-true}
 use Rattle.std.proofs.lemmas.Bool.Decides.{nat_tests}
 use Rattle.std.specs.List.{flat_map, AllByRecursion}
 use Rattle.trace_lex.specs.Blanks.{is_blank}
-use Rattle.trace_script.specs.Tokens.{Place, Between, Arrow, InWord, InQuotes, is_quote, is_end, place_of, plain, behind, tokens_from, tokens_of}
+use Rattle.trace_script.specs.Tokens.{LexState, Between, Arrow, InWord, InQuotes, is_quote, is_end, state_of, plain, behind, tokens_from, tokens_of}
 use Rattle.trace_script.specs.Grammar.{WordPiece, Plain, Quoted, IsWordPiece, piece_text, piece_value, LinePart, Gap, Redirection, Written, part_text, part_tokens, MayPrecede, IsLine, IsWritten}
 use Rattle.trace_script.specs.declared.token.Token.{Token}
 use Rattle.trace_script.specs.declared.token.Token.TheVariants.{Word, Redirect}
@@ -13,10 +13,10 @@ use Rattle.trace_script.specs.declared.token.Token.TheVariants.{Word, Redirect}
 -- ---- the four kinds of byte
 
 pub data Class : ℕ → Type 0 where
-  a_blank : {b : ℕ} → is_blank b ≡ true → is_end b ≡ true → place_of b ≡ Between → plain b ≡ [] → Class b
-  an_arrow : {b : ℕ} → b ≡ 62 → is_end b ≡ true → place_of b ≡ Arrow → plain b ≡ [] → Class b
-  a_quote : {b : ℕ} → is_quote b ≡ true → is_end b ≡ false → place_of b ≡ InQuotes b → plain b ≡ [] → Class b
-  a_plain : {b : ℕ} → is_end b ≡ false → is_quote b ≡ false → place_of b ≡ InWord → plain b ≡ b ∷ [] → Class b
+  a_blank : {b : ℕ} → is_blank b ≡ true → is_end b ≡ true → state_of b ≡ Between → plain b ≡ [] → Class b
+  an_arrow : {b : ℕ} → b ≡ 62 → is_end b ≡ true → state_of b ≡ Arrow → plain b ≡ [] → Class b
+  a_quote : {b : ℕ} → is_quote b ≡ true → is_end b ≡ false → state_of b ≡ InQuotes b → plain b ≡ [] → Class b
+  a_plain : {b : ℕ} → is_end b ≡ false → is_quote b ≡ false → state_of b ≡ InWord → plain b ≡ b ∷ [] → Class b
 
 -- the tests of a byte, one by one
 class_by : (b : ℕ) (x y z : Bool) → is_blank b ≡ x → (b == 62) ≡ y → is_quote b ≡ z → Class b
@@ -32,13 +32,13 @@ class_by b false false false e f g = a_plain (rw (e, f)) g (rw (e, f, g)) (rw (e
 pub class_of : (b : ℕ) → Class b
 class_of b = class_by b (is_blank b) (b == 62) (is_quote b) refl refl refl
 
-pub blank_leads : (b : ℕ) → is_blank b ≡ true → (place_of b ≡ Between) × (plain b ≡ [])
+pub blank_leads : (b : ℕ) → is_blank b ≡ true → (state_of b ≡ Between) × (plain b ≡ [])
 blank_leads b e = (
   ap (λ t. if t then Between else (if b == 62 then Arrow else (if is_quote b then InQuotes b else InWord))) e,
   ap (λ t. if (t || (b == 62)) || is_quote b then [] else b ∷ []) e,
 )
 
-pub plain_leads : (b : ℕ) → is_end b ≡ false → is_quote b ≡ false → (place_of b ≡ InWord) × (plain b ≡ b ∷ [])
+pub plain_leads : (b : ℕ) → is_end b ≡ false → is_quote b ≡ false → (state_of b ≡ InWord) × (plain b ≡ b ∷ [])
 plain_leads b e f =
     elim (class_of b) [
       | a_blank p q r s ↦ absurd (cc)
@@ -50,7 +50,7 @@ plain_leads b e f =
 quote_is : (b : ℕ) → is_quote b ≡ true → (b ≡ 39) ⊎ (b ≡ 34)
 quote_is b e = grind (arith, nat_tests)
 
-pub quote_leads : (b : ℕ) → is_quote b ≡ true → (is_end b ≡ false) × (place_of b ≡ InQuotes b) × (plain b ≡ [])
+pub quote_leads : (b : ℕ) → is_quote b ≡ true → (is_end b ≡ false) × (state_of b ≡ InQuotes b) × (plain b ≡ [])
 quote_leads b e = ⊎_elim (λ h. rw h (refl, refl, refl)) (λ h. rw h (refl, refl, refl)) (quote_is b e)
 
 -- ---- what is written is read
@@ -58,18 +58,18 @@ quote_leads b e = ⊎_elim (λ h. rw h (refl, refl, refl)) (λ h. rw h (refl, re
 -- where a line goes on with a byte that ends a word, the word is ended
 pub word_ends : (w : List ℕ) (b : ℕ) (bs : List ℕ) → is_end b ≡ true → tokens_from InWord w (b ∷ bs) ≡ behind (Word w ∷ []) (tokens_from Between [] (b ∷ bs))
 word_ends w b bs e =
-    ap (λ t. if t then behind (Word w ∷ []) (tokens_from (place_of b) [] bs) else tokens_from (place_of b) (w ++ plain b) bs) e
-    ∙ ap (λ t. behind (Word w ∷ []) (tokens_from (place_of b) (if t || is_quote b then [] else b ∷ []) bs)) (sym e)
+    ap (λ t. if t then behind (Word w ∷ []) (tokens_from (state_of b) [] bs) else tokens_from (state_of b) (w ++ plain b) bs) e
+    ∙ ap (λ t. behind (Word w ∷ []) (tokens_from (state_of b) (if t || is_quote b then [] else b ∷ []) bs)) (sym e)
 
 -- with any other byte a word goes on
-pub word_goes_on : (w : List ℕ) (b : ℕ) (bs : List ℕ) → is_end b ≡ false → tokens_from InWord w (b ∷ bs) ≡ tokens_from (place_of b) (w ++ plain b) bs
+pub word_goes_on : (w : List ℕ) (b : ℕ) (bs : List ℕ) → is_end b ≡ false → tokens_from InWord w (b ∷ bs) ≡ tokens_from (state_of b) (w ++ plain b) bs
 word_goes_on w b bs e =
-    ap (λ t. if t then behind (Word w ∷ []) (tokens_from (place_of b) [] bs) else tokens_from (place_of b) (w ++ plain b) bs) e
+    ap (λ t. if t then behind (Word w ∷ []) (tokens_from (state_of b) [] bs) else tokens_from (state_of b) (w ++ plain b) bs) e
 
 -- a byte leads on, and adds to the word
-pub led : (w : List ℕ) (b : ℕ) (bs : List ℕ) (place : Place) (more : List ℕ) → (place_of b ≡ place) → (plain b ≡ more) → tokens_from (place_of b) (w ++ plain b) bs ≡ tokens_from place (w ++ more) bs
-led w b bs place more e f =
-    ap (λ (p : Place). tokens_from p (w ++ plain b) bs) e ∙ ap (λ (v : List ℕ). tokens_from place (w ++ v) bs) f
+pub led : (w : List ℕ) (b : ℕ) (bs : List ℕ) (state : LexState) (more : List ℕ) → (state_of b ≡ state) → (plain b ≡ more) → tokens_from (state_of b) (w ++ plain b) bs ≡ tokens_from state (w ++ more) bs
+led w b bs state more e f =
+    ap (λ (p : LexState). tokens_from p (w ++ plain b) bs) e ∙ ap (λ (v : List ℕ). tokens_from state (w ++ v) bs) f
 
 -- a word begins with any other byte
 pub word_begins : (b : ℕ) (bs : List ℕ) → is_end b ≡ false → tokens_from Between [] (b ∷ bs) ≡ tokens_from InWord [] (b ∷ bs)
@@ -78,7 +78,7 @@ word_begins b bs e = sym (word_goes_on [] b bs e)
 -- behind a `>` that no other follows
 pub arrow_alone : (b : ℕ) (bs : List ℕ) → (b == 62) ≡ false → tokens_from Arrow [] (b ∷ bs) ≡ behind (Redirect false ∷ []) (tokens_from Between [] (b ∷ bs))
 arrow_alone b bs e =
-    ap (λ t. if t then behind (Redirect true ∷ []) (tokens_from Between [] bs) else behind (Redirect false ∷ []) (tokens_from (place_of b) (plain b) bs)) e
+    ap (λ t. if t then behind (Redirect true ∷ []) (tokens_from Between [] bs) else behind (Redirect false ∷ []) (tokens_from (state_of b) (plain b) bs)) e
 
 other_byte : (b quote : ℕ) → b ≢ quote → (b == quote) ≡ false
 other_byte b quote h = grind (arith, nat_tests)
@@ -176,8 +176,8 @@ pub record WordRest (w bs : List ℕ) (ts : List Token) : Type 0 where
   pub text : flat_map piece_text pieces ++ flat_map part_text parts ≡ bs
   pub meaning : Word (w ++ flat_map piece_value pieces) ∷ flat_map part_tokens parts ≡ ts
 
--- the rest of a line at each place
-abbrev pub Rest : Place → List ℕ → List ℕ → List Token → Type 0
+-- the rest of a line in each state
+abbrev pub Rest : LexState → List ℕ → List ℕ → List Token → Type 0
 Rest Between w bs ts = IsWritten bs ts
 Rest Arrow w bs ts = IsWritten (62 ∷ bs) ts
 Rest InWord w bs ts = WordRest w bs ts
@@ -185,7 +185,7 @@ Rest (InQuotes quote) w bs ts =
     (inside : List ℕ) × (rest : List ℕ) × AllByRecursion (λ b. b ≢ quote) inside × (bs ≡ inside ++ (quote ∷ rest)) × WordRest (w ++ inside) rest ts
 
 -- between words none is open
-abbrev pub Idle : Place → List ℕ → Type 0
+abbrev pub Idle : LexState → List ℕ → Type 0
 Idle Between w = w ≡ []
 Idle Arrow w = w ≡ []
 Idle InWord w = Unit {0}
@@ -239,9 +239,9 @@ gap_first blank bs ts h r =
 quoted_rest : (quote : ℕ) (inside rest : List ℕ) → piece_text (Quoted quote inside) ++ rest ≡ quote ∷ (inside ++ (quote ∷ rest))
 quoted_rest quote inside rest = ap (λ (bs : List ℕ). quote ∷ bs) (append_assoc inside (quote ∷ []) rest)
 
-module _ (b : ℕ) (bs : List ℕ) (ts : List Token) (rest : (place : Place) (w : List ℕ) (more : List Token) → Idle place w → tokens_from place w bs ≡ Some more → Rest place w bs more) where
+module _ (b : ℕ) (bs : List ℕ) (ts : List Token) (rest : (state : LexState) (w : List ℕ) (more : List Token) → Idle state w → tokens_from state w bs ≡ Some more → Rest state w bs more) where
   -- between words, a byte and what is behind it
-  starts : tokens_from (place_of b) (plain b) bs ≡ Some ts → IsWritten (b ∷ bs) ts
+  starts : tokens_from (state_of b) (plain b) bs ≡ Some ts → IsWritten (b ∷ bs) ts
   starts e =
       elim (class_of b) [
         | a_blank p q r s ↦ gap_first b bs ts p (rest Between [] ts refl (sym (led [] b bs Between [] r s) ∙ e))
@@ -254,7 +254,7 @@ module _ (b : ℕ) (bs : List ℕ) (ts : List Token) (rest : (place : Place) (w 
       ]
 
   -- in a word, a byte that doesn't end it
-  goes_on : (w : List ℕ) → is_end b ≡ false → tokens_from (place_of b) (w ++ plain b) bs ≡ Some ts → WordRest w (b ∷ bs) ts
+  goes_on : (w : List ℕ) → is_end b ≡ false → tokens_from (state_of b) (w ++ plain b) bs ≡ Some ts → WordRest w (b ∷ bs) ts
   goes_on w n e =
       elim (class_of b) [
         | a_blank p q r s ↦ absurd (cc)
@@ -308,7 +308,7 @@ word_last w b bs more ts n r e =
       meaning = ap (λ (v : List ℕ). Word v ∷ flat_map part_tokens r.parts) (append-nil w) ∙ (ap (λ (toks : List Token). Word w ∷ toks) r.meaning ∙ e);
     }
 
-module _ (b : ℕ) (bs : List ℕ) (ts : List Token) (rest : (place : Place) (w : List ℕ) (more : List Token) → Idle place w → tokens_from place w bs ≡ Some more → Rest place w bs more) where
+module _ (b : ℕ) (bs : List ℕ) (ts : List Token) (rest : (state : LexState) (w : List ℕ) (more : List Token) → Idle state w → tokens_from state w bs ≡ Some more → Rest state w bs more) where
   in_word : (w : List ℕ) (t : Bool) → is_end b ≡ t → tokens_from InWord w (b ∷ bs) ≡ Some ts → WordRest w (b ∷ bs) ts
   in_word w true n e =
       let h = behind_some (Word w ∷ []) (tokens_from Between [] (b ∷ bs)) ts (sym (word_ends w b bs n) ∙ e) in
@@ -319,7 +319,7 @@ module _ (b : ℕ) (bs : List ℕ) (ts : List Token) (rest : (place : Place) (w 
   behind_arrow true n e =
       let f : 62 ≡ b = sym (eqb-true b 62 n) in
       let h = behind_some (Redirect true ∷ []) (tokens_from Between [] bs) ts
-      (sym (ap (λ x. if x then behind (Redirect true ∷ []) (tokens_from Between [] bs) else behind (Redirect false ∷ []) (tokens_from (place_of b) (plain b) bs)) n) ∙ e) in
+      (sym (ap (λ x. if x then behind (Redirect true ∷ []) (tokens_from Between [] bs) else behind (Redirect false ∷ []) (tokens_from (state_of b) (plain b) bs)) n) ∙ e) in
       let r = rest Between [] h.0 refl h.1 in
       record {
         parts = Redirection true ∷ r.parts;
@@ -354,19 +354,19 @@ module _ (b : ℕ) (bs : List ℕ) (ts : List Token) (rest : (place : Place) (w 
       differs : (q : ℕ) → (b == q) ≡ false → b ≢ q
       differs q d same = let t : (b == q) ≡ true = eq-eqb b q same in absurd (cc)
 
-pub read_written : (place : Place) (w bs : List ℕ) (ts : List Token) → Idle place w → tokens_from place w bs ≡ Some ts → Rest place w bs ts
+pub read_written : (state : LexState) (w bs : List ℕ) (ts : List Token) → Idle state w → tokens_from state w bs ≡ Some ts → Rest state w bs ts
 read_written Between w [] ts i e = record { parts = []; lawful = tt; text = refl; meaning = some_is [] ts e }
 read_written Arrow w [] ts i e = record { parts = Redirection false ∷ []; lawful = (tt, tt, tt); text = refl; meaning = some_is (Redirect false ∷ []) ts e }
 read_written InWord w [] ts i e =
     record { pieces = []; parts = []; right = tt; lawful = tt; apart = tt; text = refl; meaning = ap (λ (v : List ℕ). Word v ∷ []) (append-nil w) ∙ some_is (Word w ∷ []) ts e }
 read_written (InQuotes quote) w [] ts i e = absurd (cc)
 read_written Between w (b ∷ bs) ts i e =
-    starts b bs ts (λ place v more j f. read_written place v bs more j f) (ap (λ (v : List ℕ). tokens_from (place_of b) (v ++ plain b) bs) (sym i) ∙ e)
+    starts b bs ts (λ state v more j f. read_written state v bs more j f) (ap (λ (v : List ℕ). tokens_from (state_of b) (v ++ plain b) bs) (sym i) ∙ e)
 read_written Arrow w (b ∷ bs) ts i e =
-    behind_arrow b bs ts (λ place v more j f. read_written place v bs more j f) (b == 62) refl (ap (λ (v : List ℕ). tokens_from Arrow v (b ∷ bs)) (sym i) ∙ e)
-read_written InWord w (b ∷ bs) ts i e = in_word b bs ts (λ place v more j f. read_written place v bs more j f) w (is_end b) refl e
+    behind_arrow b bs ts (λ state v more j f. read_written state v bs more j f) (b == 62) refl (ap (λ (v : List ℕ). tokens_from Arrow v (b ∷ bs)) (sym i) ∙ e)
+read_written InWord w (b ∷ bs) ts i e = in_word b bs ts (λ state v more j f. read_written state v bs more j f) w (is_end b) refl e
 read_written (InQuotes quote) w (b ∷ bs) ts i e =
-    in_quotes_rest b bs ts (λ place v more j f. read_written place v bs more j f) quote w (b == quote) refl e
+    in_quotes_rest b bs ts (λ state v more j f. read_written state v bs more j f) quote w (b == quote) refl e
 
 pub line_written : (line : List ℕ) (tokens : List Token) → tokens_of line ≡ Some tokens → IsWritten line tokens
 unfolding tokens_of

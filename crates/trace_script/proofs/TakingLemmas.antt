@@ -2,7 +2,7 @@
 use Rattle.std.proofs.Common.{◌≡◌, ◌≢◌, ℕ, zero, suc, Bool, true, false, ◌||◌, ◌==◌, cond, List, [], ◌∷◌, ◌++◌, drop, Option, is_some, unwrap_or, Some, None, refl, ap, sym, ◌∙◌}
 use Rattle.std.specs.List.{list_any}
 use Rattle.trace_lex.specs.Blanks.{is_blank}
-use Rattle.trace_script.specs.Tokens.{Place, Between, Arrow, InWord, InQuotes, is_quote, is_end, place_of, plain, behind, tokens_from, tokens_of}
+use Rattle.trace_script.specs.Tokens.{LexState, Between, Arrow, InWord, InQuotes, is_quote, is_end, state_of, plain, behind, tokens_from, tokens_of}
 use Rattle.trace_script.specs.private.Words.{begins_with_quote, begins_with_arrow, BeginsToken, BeginsWord, IsWordAnd}
 use Rattle.trace_script.specs.private.TokensLeft.{tokens_left}
 use Rattle.trace_script.specs.declared.token.Token.{Token}
@@ -11,14 +11,14 @@ use Rattle.trace_script.proofs.WordLemmas.{arrow_at, word_at}
 
 -- ---- a line without quotes
 
--- a place that is in no quotes
-abbrev IsOutside : Place → Type 0
+-- a state that is in no quotes
+abbrev IsOutside : LexState → Type 0
 IsOutside Between = Unit {0}
 IsOutside Arrow = Unit {0}
 IsOutside InWord = Unit {0}
 IsOutside (InQuotes quote) = ⊥
 
-leads_outside : (b : ℕ) → is_quote b ≡ false → IsOutside (place_of b)
+leads_outside : (b : ℕ) → is_quote b ≡ false → IsOutside (state_of b)
 leads_outside b e = by_tests (is_blank b) (b == 62) (is_quote b) e
   where
     by_tests : (x y z : Bool) → z ≡ false → IsOutside (cond x Between (cond y Arrow (cond z (InQuotes b) InWord)))
@@ -35,29 +35,29 @@ some_behind : (tokens : List Token) (rest : Option (List Token)) → is_some (be
 some_behind tokens None = refl
 some_behind tokens (Some more) = refl
 
-unquoted : (place : Place) (word bs : List ℕ) → IsOutside place → list_any is_quote bs ≡ false → is_some (tokens_from place word bs) ≡ true
+unquoted : (state : LexState) (word bs : List ℕ) → IsOutside state → list_any is_quote bs ≡ false → is_some (tokens_from state word bs) ≡ true
 unquoted Between word [] out none = refl
 unquoted Arrow word [] out none = refl
 unquoted InWord word [] out none = refl
 unquoted (InQuotes quote) word bs out none = absurd out
 unquoted Between word (b ∷ bs) out none =
     let h = either_false (is_quote b) (list_any is_quote bs) none in
-    unquoted (place_of b) (word ++ plain b) bs (leads_outside b h.0) h.1
+    unquoted (state_of b) (word ++ plain b) bs (leads_outside b h.0) h.1
 unquoted Arrow word (b ∷ bs) out none =
     let h = either_false (is_quote b) (list_any is_quote bs) none in
-    by_test (b == 62) (unquoted Between word bs tt h.1) (unquoted (place_of b) (word ++ plain b) bs (leads_outside b h.0) h.1)
+    by_test (b == 62) (unquoted Between word bs tt h.1) (unquoted (state_of b) (word ++ plain b) bs (leads_outside b h.0) h.1)
   where
-    by_test : (t : Bool) → is_some (tokens_from Between word bs) ≡ true → is_some (tokens_from (place_of b) (word ++ plain b) bs) ≡ true
-        → is_some (cond t (behind (Redirect true ∷ []) (tokens_from Between word bs)) (behind (Redirect false ∷ []) (tokens_from (place_of b) (word ++ plain b) bs))) ≡ true
+    by_test : (t : Bool) → is_some (tokens_from Between word bs) ≡ true → is_some (tokens_from (state_of b) (word ++ plain b) bs) ≡ true
+        → is_some (cond t (behind (Redirect true ∷ []) (tokens_from Between word bs)) (behind (Redirect false ∷ []) (tokens_from (state_of b) (word ++ plain b) bs))) ≡ true
     by_test true f g = some_behind (Redirect true ∷ []) (tokens_from Between word bs) ∙ f
-    by_test false f g = some_behind (Redirect false ∷ []) (tokens_from (place_of b) (word ++ plain b) bs) ∙ g
+    by_test false f g = some_behind (Redirect false ∷ []) (tokens_from (state_of b) (word ++ plain b) bs) ∙ g
 unquoted InWord word (b ∷ bs) out none =
     let h = either_false (is_quote b) (list_any is_quote bs) none in
-    by_test (is_end b) (unquoted (place_of b) [] bs (leads_outside b h.0) h.1) (unquoted (place_of b) (word ++ plain b) bs (leads_outside b h.0) h.1)
+    by_test (is_end b) (unquoted (state_of b) [] bs (leads_outside b h.0) h.1) (unquoted (state_of b) (word ++ plain b) bs (leads_outside b h.0) h.1)
   where
-    by_test : (t : Bool) → is_some (tokens_from (place_of b) [] bs) ≡ true → is_some (tokens_from (place_of b) (word ++ plain b) bs) ≡ true
-        → is_some (cond t (behind (Word word ∷ []) (tokens_from (place_of b) [] bs)) (tokens_from (place_of b) (word ++ plain b) bs)) ≡ true
-    by_test true f g = some_behind (Word word ∷ []) (tokens_from (place_of b) [] bs) ∙ f
+    by_test : (t : Bool) → is_some (tokens_from (state_of b) [] bs) ≡ true → is_some (tokens_from (state_of b) (word ++ plain b) bs) ≡ true
+        → is_some (cond t (behind (Word word ∷ []) (tokens_from (state_of b) [] bs)) (tokens_from (state_of b) (word ++ plain b) bs)) ≡ true
+    by_test true f g = some_behind (Word word ∷ []) (tokens_from (state_of b) [] bs) ∙ f
     by_test false f g = g
 
 -- a line without quotes has none that is not closed
@@ -105,14 +105,14 @@ word_taken line word rest next none begins found same = token_taken line rest ne
 
 -- ---- whether a token is left
 
--- a place within a token
-abbrev IsWithin : Place → Type 0
+-- a state within a token
+abbrev IsWithin : LexState → Type 0
 IsWithin Between = ⊥
 IsWithin Arrow = Unit {0}
 IsWithin InWord = Unit {0}
 IsWithin (InQuotes quote) = Unit {0}
 
-leads_within : (b : ℕ) → is_blank b ≡ false → IsWithin (place_of b)
+leads_within : (b : ℕ) → is_blank b ≡ false → IsWithin (state_of b)
 leads_within b e = by_tests (is_blank b) (b == 62) (is_quote b) e
   where
     by_tests : (x y z : Bool) → x ≡ false → IsWithin (cond x Between (cond y Arrow (cond z (InQuotes b) InWord)))
@@ -128,21 +128,21 @@ not_nil_behind : (token : Token) (rest : Option (List Token)) → behind (token 
 not_nil_behind token None e = cc
 not_nil_behind token (Some more) e = cc
 
-some_token : (place : Place) (word bs : List ℕ) → IsWithin place → tokens_from place word bs ≢ Some []
+some_token : (state : LexState) (word bs : List ℕ) → IsWithin state → tokens_from state word bs ≢ Some []
 some_token Between word bs within = absurd within
 some_token Arrow word [] within = λ e. cc
 some_token InWord word [] within = λ e. cc
 some_token (InQuotes quote) word [] within = λ e. cc
 some_token Arrow word (b ∷ bs) within = by_test (b == 62)
   where
-    by_test : (t : Bool) → cond t (behind (Redirect true ∷ []) (tokens_from Between word bs)) (behind (Redirect false ∷ []) (tokens_from (place_of b) (word ++ plain b) bs)) ≢ Some []
+    by_test : (t : Bool) → cond t (behind (Redirect true ∷ []) (tokens_from Between word bs)) (behind (Redirect false ∷ []) (tokens_from (state_of b) (word ++ plain b) bs)) ≢ Some []
     by_test true = not_nil_behind (Redirect true) (tokens_from Between word bs)
-    by_test false = not_nil_behind (Redirect false) (tokens_from (place_of b) (word ++ plain b) bs)
-some_token InWord word (b ∷ bs) within = by_test (is_end b) refl (some_token (place_of b) (word ++ plain b) bs)
+    by_test false = not_nil_behind (Redirect false) (tokens_from (state_of b) (word ++ plain b) bs)
+some_token InWord word (b ∷ bs) within = by_test (is_end b) refl (some_token (state_of b) (word ++ plain b) bs)
   where
-    by_test : (t : Bool) → is_end b ≡ t → (IsWithin (place_of b) → tokens_from (place_of b) (word ++ plain b) bs ≢ Some [])
-        → cond t (behind (Word word ∷ []) (tokens_from (place_of b) [] bs)) (tokens_from (place_of b) (word ++ plain b) bs) ≢ Some []
-    by_test true e f = not_nil_behind (Word word) (tokens_from (place_of b) [] bs)
+    by_test : (t : Bool) → is_end b ≡ t → (IsWithin (state_of b) → tokens_from (state_of b) (word ++ plain b) bs ≢ Some [])
+        → cond t (behind (Word word ∷ []) (tokens_from (state_of b) [] bs)) (tokens_from (state_of b) (word ++ plain b) bs) ≢ Some []
+    by_test true e f = not_nil_behind (Word word) (tokens_from (state_of b) [] bs)
     by_test false e f = f (leads_within b (not_blank b e))
 some_token (InQuotes quote) word (b ∷ bs) within = by_test (b == quote) (some_token InWord word bs tt) (some_token (InQuotes quote) (word ++ b ∷ []) bs tt)
   where
@@ -161,7 +161,7 @@ unfolding tokens_of
 no_token_left [] unquoted begins none = refl
 no_token_left (b ∷ bs) unquoted begins none =
     let first : is_blank b ≡ false = begins (λ e. cc) in
-    absurd (some_token (place_of b) ([] ++ plain b) bs (leads_within b first) (is_nothing (tokens_from Between [] (b ∷ bs)) (unquoted_line (b ∷ bs) unquoted) none))
+    absurd (some_token (state_of b) ([] ++ plain b) bs (leads_within b first) (is_nothing (tokens_from Between [] (b ∷ bs)) (unquoted_line (b ∷ bs) unquoted) none))
 
 pub no_byte_left : (rest : List ℕ) → rest ≡ [] → tokens_left rest ≡ []
 unfolding tokens_of

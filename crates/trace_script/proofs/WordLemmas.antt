@@ -5,7 +5,7 @@ use Rattle.std.proofs.lemmas.Bool.{eqb-true}
 use Rattle.std.specs.List.{prefix_len}
 use Rattle.trace_lex.specs.Blanks.{is_blank}
 use Rattle.trace_script.specs.Tokens.{Between, Arrow, InWord, is_quote, is_end, behind, tokens_from, tokens_of}
-use Rattle.trace_script.specs.private.Words.{is_plain, begins_with_quote, begins_with_arrow, BeginsToken, BeginsWord, place_in, IsWordAnd, IsUnclosed}
+use Rattle.trace_script.specs.private.Words.{is_plain, begins_with_quote, begins_with_arrow, BeginsToken, BeginsWord, state_in, IsWordAnd, IsUnclosed}
 use Rattle.trace_script.specs.Outcomes.{or_fault, Fails}
 use Rattle.trace_script.specs.declared.fault.LineError.{LineError}
 use Rattle.trace_script.specs.declared.fault.LineError.TheVariants.{Fault, Memory}
@@ -175,14 +175,14 @@ tokens_unclosed items line rest (Fault fault) e h =
 -- ---- a word in which quotes are
 
 -- it ends at this byte
-pub quoted_ends : (within : Option ℕ) (word line : List ℕ) (at : ℕ) → tokens_from (place_in within) word (drop at line) ≡ tokens_from InWord [] line → is_some within ≡ false → at < length line
+pub quoted_ends : (within : Option ℕ) (word line : List ℕ) (at : ℕ) → tokens_from (state_in within) word (drop at line) ≡ tokens_from InWord [] line → is_some within ≡ false → at < length line
     → is_end (get_or line at 0) ≡ true → IsWordAnd line word (drop at line)
 quoted_ends (Some quote) word line at e none h ends = absurd (cc)
 quoted_ends None word line at e none h ends =
     sym e ∙ word_ended word (drop at line) (inr (get_or line at 0, drop (suc at) line, drop-cons line at 0 h, ends))
 
 -- it ends with the line
-pub quoted_done : (within : Option ℕ) (word line : List ℕ) (at : ℕ) → tokens_from (place_in within) word (drop at line) ≡ tokens_from InWord [] line → within ≡ None → length line ≤ at → IsWordAnd line word []
+pub quoted_done : (within : Option ℕ) (word line : List ℕ) (at : ℕ) → tokens_from (state_in within) word (drop at line) ≡ tokens_from InWord [] line → within ≡ None → length line ≤ at → IsWordAnd line word []
 quoted_done (Some quote) word line at e none h = absurd (cc)
 quoted_done None word line at e none h =
     sym e ∙ (ap (tokens_from InWord word) (drop_all at line h) ∙ word_ended word [] (inl refl))

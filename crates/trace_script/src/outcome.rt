@@ -46,14 +46,14 @@ fn detail(alloc: Global, refusal: &Refusal) -> Result<Vec<u8>, AllocError>
         | Refusal::FilterSyntax { at }
         | Refusal::NoSuchField { at }
         | Refusal::WrongOperator { at }
-        | Refusal::HistSyntax { at } => place(alloc, *at),
+        | Refusal::HistSyntax { at } => offset_text(alloc, *at),
         Refusal::BadRow { field } => field_name(alloc, field.as_bytes()),
         _ => Ok(Vec::new(alloc)),
     }
 }
 
 /// ` at K`.
-fn place(alloc: Global, at: usize) -> Result<Vec<u8>, AllocError>
+fn offset_text(alloc: Global, at: usize) -> Result<Vec<u8>, AllocError>
     ensures { IfOk result (λ text. text.items ≡ codes " at " ++ decimal at) }
 {
     Ok(format!(in alloc; " at {at}")?.into_bytes())

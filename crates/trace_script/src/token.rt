@@ -3,7 +3,7 @@
 ghost use Rattle.std.specs.Prelude.{◌≡◌, ◌≢◌, ℕ, List, ◌<◌, ◌≤◌, ◌∷◌, [], false, IfOk, IfErr, OnOk, length, Some, None, Ok, Err};
 ghost use Rattle.std.specs.List.{list_any, prefix_len};
 ghost use Rattle.trace_script.specs.Tokens.{Arrow, InWord, behind, is_end, is_quote, tokens_from, tokens_of};
-ghost use Rattle.trace_script.specs.private.Words.{is_plain, begins_with_quote, begins_with_arrow, BeginsToken, BeginsWord, place_in, IsWordAnd, IsUnclosed};
+ghost use Rattle.trace_script.specs.private.Words.{is_plain, begins_with_quote, begins_with_arrow, BeginsToken, BeginsWord, state_in, IsWordAnd, IsUnclosed};
 ghost use Rattle.trace_script.specs.Grammar.{IsWritten};
 ghost use Rattle.trace_script.specs.declared.token.Token.{Token as TokenValue};
 ghost use Rattle.trace_script.specs.declared.token.Token.TheVariants.{Redirect as IsRedirect};
@@ -92,7 +92,7 @@ pub(crate) fn without_blanks(line: &[u8]) -> &[u8]
 fn step(byte: u8, within: &mut Option<u8>, word: &mut Text) -> Result<(), AllocError>
     requires { within.old ≡ None → is_end byte ≡ false }
     ensures { OnOk result ((bytes : List ℕ) →
-        tokens_from (place_in within.new) word.new bytes ≡ tokens_from (place_in within.old) word.old (byte ∷ bytes)) }
+        tokens_from (state_in within.new) word.new bytes ≡ tokens_from (state_in within.old) word.old (byte ∷ bytes)) }
 {
     match *within {
         None if is_quote(byte) => *within = Some(byte),

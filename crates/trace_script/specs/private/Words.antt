@@ -1,7 +1,7 @@
 -- Words for the private contracts that cut a line into tokens.
 use Rattle.std.specs.Prelude.{◌≡◌, ℕ, Bool, false, ◌||◌, ◌==◌, not, List, [], ◌∷◌, Option, None, Some}
 use Rattle.trace_lex.specs.Blanks.{is_blank}
-use Rattle.trace_script.specs.Tokens.{Place, InWord, InQuotes, is_end, is_quote, behind, tokens_from, tokens_of}
+use Rattle.trace_script.specs.Tokens.{LexState, InWord, InQuotes, is_end, is_quote, behind, tokens_from, tokens_of}
 use Rattle.trace_script.specs.declared.fault.LineError.{LineError}
 use Rattle.trace_script.specs.declared.fault.LineError.TheVariants.{Fault, Memory}
 use Rattle.trace_script.specs.declared.fault.ScriptFault.TheVariants.{UnclosedQuote}
@@ -32,10 +32,10 @@ abbrev pub BeginsWord : List ℕ → Type 0
 BeginsWord [] = ⊥
 BeginsWord (b ∷ bs) = is_end b ≡ false
 
--- the place in a word: outside quotes, or within these
-abbrev pub place_in : Option ℕ → Place
-place_in None = InWord
-place_in (Some quote) = InQuotes quote
+-- the state in a word: outside quotes, or within these
+abbrev pub state_in : Option ℕ → LexState
+state_in None = InWord
+state_in (Some quote) = InQuotes quote
 
 -- what is left of a word, and then of a line, are this word and what follows it
 abbrev pub IsWordAnd : List ℕ → List ℕ → List ℕ → Type 0
