@@ -1,4 +1,4 @@
-"""docs/READING-SPECS.md: the files of specs/ on which the headline rests.
+"""docs/READING-SPECS.md: the files of specs/ on which the headline rests; and that nothing public rests on specs/private.
 
 Run by itself it prints the table that is to stand there.
 """
@@ -25,14 +25,18 @@ def spec_file(crate, module):
     return path if path.exists() else None
 
 
+def names_in(names, other, module):
+    """The names that an import brings."""
+    return [name.split(" as ")[-1].strip() for name in names.split(",")] if names else [other or module.split(".")[-1]]
+
+
 def cited_by_clauses(crate, source, function):
     """The modules that the clauses of a function name."""
     text = (TOP / "crates" / crate / "src" / source).read_text()
     start = text.index("pub fn %s<" % function)
     clauses = text[start : text.index("\n{\n", start)]
     for library, module, names, other in IMPORT.findall(text):
-        words = [name.split(" as ")[-1].strip() for name in names.split(",")] if names else [other or module.split(".")[-1]]
-        if any(re.search(r"(?<![\w.])%s(?!\w)" % re.escape(word), clauses) for word in words):
+        if any(re.search(r"(?<![\w.])%s(?!\w)" % re.escape(word), clauses) for word in names_in(names, other, module)):
             yield spec_file(library, module)
 
 
@@ -64,11 +68,31 @@ def table():
     return HEAD + "\n".join(rows) + "\n"
 
 
+def citing_private():
+    """The files of specs/ outside specs/private that import one inside, and the sources with a public function whose clauses name a word of one."""
+    for file in TOP.glob("crates/*/specs/**/*.antt"):
+        if file.parent.name != "private" and any(module.startswith("private.") for _, module, _, _ in IMPORT.findall(file.read_text())):
+            yield file
+    for file in TOP.glob("crates/*/src/**/*.rt"):
+        text = file.read_text()
+        clauses = "\n".join(found.group() for found in re.finditer(r"^( *)pub fn .*?\n\1\{\n", text, re.M | re.S))
+        for _, module, names, other in IMPORT.findall(text):
+            words = names_in(names, other, module) if module.startswith("private.") else []
+            if any(re.search(r"(?<![\w.])%s(?!\w)" % re.escape(word), clauses) for word in words):
+                yield file
+
+
 def reading_cases():
     def right(_):
         return [] if table() in PAGE.read_text() else ["tests/cases/reading.py prints another table"]
 
-    return [Case("docs/READING-SPECS.md: what the headline rests on", right)]
+    def public(_):
+        return ["%s cites specs/private" % file.relative_to(TOP) for file in citing_private()]
+
+    return [
+        Case("docs/READING-SPECS.md: what the headline rests on", right),
+        Case("specs/private: no public clause cites it", public),
+    ]
 
 
 if __name__ == "__main__":
