@@ -15,6 +15,7 @@ use Rattle.trace_trigger.specs.declared.trigger.TriggerText.{TriggerText}
 use Rattle.trace_trigger.specs.declared.trigger.TriggerText.TheVariants as said
 use Rattle.trace_command.specs.Paths as paths
 use Rattle.trace_command.specs.Requests.{Request, WriteFile}
+use Rattle.trace_command.specs.declared.file_name.EventFile.TheVariants as per_event
 use Rattle.trace_history.specs.HistTriggers as history
 use Rattle.trace_history.specs.HistTriggers.{HistTrigger, asked_by, asked_of, counted_by, empties, has_same, hists_after, hists_of, hists_said, hits_of, is_pause, is_paused, kept_by, paused_after, says_same, written_to}
 use Rattle.trace_history.specs.Triggers as triggers
@@ -32,7 +33,7 @@ use Rattle.trace_book.proofs.HistSteps.{AreBelow, numbers-below}
 
 -- the request that writes a text to an event's trigger file
 abbrev pub text_request : Option (List ℕ) → Definition → Bool → List ℕ → Request
-text_request name event append text = WriteFile name (Some (paths.EventTrigger event.name)) append text
+text_request name event append text = WriteFile name (Some (paths.OfEvent event.name per_event.Trigger)) append text
 
 wrote : (name : Option (List ℕ)) (event : Definition) (append : Bool) (text : List ℕ)
     → written_to name event (text_request name event append text) ≡ Some (record { append = append; text = text })

@@ -9,6 +9,8 @@ use Rattle.trace_format.specs.Definitions.{Definition}
 use Rattle.trace_command.specs.Paths as paths
 use Rattle.trace_command.specs.Requests.{Request, MakeInstance, RemoveInstance, WriteFile, ReadFile}
 use Rattle.trace_command.specs.declared.command.Config.{Config}
+use Rattle.trace_command.specs.declared.file_name.EventFile.TheVariants as per_event
+use Rattle.trace_command.specs.declared.file_name.TopFile.TheVariants as top
 use Rattle.trace_snapshot.specs.Sides.{SideFamilies}
 use Rattle.trace_history.specs.Emissions.{emitted}
 use Rattle.trace_history.specs.HistTriggers.{written_to}
@@ -191,8 +193,8 @@ pub record IsWriteEffect (g : Config) (past : List Request) (append : Bool) (tex
 
 -- a write to a file that is neither of snapshots nor of triggers
 abbrev pub IsQuietFile : paths.File → Type 0
-IsQuietFile paths.Snapshot = ⊥
-IsQuietFile (paths.EventTrigger event) = ⊥
+IsQuietFile (paths.OfInstance top.Snapshot) = ⊥
+IsQuietFile (paths.OfEvent event per_event.Trigger) = ⊥
 IsQuietFile file = Unit {0}
 
 either-none : {A : Type 0} (one : Bool) → (let o : Option A = if one then None else None in o) ≡ None
@@ -214,25 +216,25 @@ calm-write name other past file append text quiet = record {
   where
     trigger : (f : paths.File) → IsQuietFile f → (event : Definition)
         → set_by other (sets_trigger event past) (WriteFile name (Some f) append text) ≡ None
-    trigger (paths.EventTrigger e) is event = absurd is
+    trigger (paths.OfEvent e per_event.Trigger) is event = absurd is
     trigger _ is event = either-none (is_same other name)
 
     stays : (f : paths.File) → IsQuietFile f → exchanges other past (WriteFile name (Some f) append text) ≡ false
-    stays paths.Snapshot is = absurd is
+    stays (paths.OfInstance top.Snapshot) is = absurd is
     stays _ is = refl
 
     spare : (f : paths.File) → IsQuietFile f → set_by other (sets_spare past) (WriteFile name (Some f) append text) ≡ None
-    spare (paths.EventTrigger e) is = absurd is
-    spare paths.Snapshot is = absurd is
+    spare (paths.OfEvent e per_event.Trigger) is = absurd is
+    spare (paths.OfInstance top.Snapshot) is = absurd is
     spare _ is = either-none (is_same other name)
 
     untouched : (f : paths.File) → IsQuietFile f → (g : Config) (family : List (List Event))
         → spare_after g other (WriteFile name (Some f) append text) family ≡ family
-    untouched paths.Snapshot is g family = absurd is
+    untouched (paths.OfInstance top.Snapshot) is g family = absurd is
     untouched _ is g family = refl
 
     unwritten : (f : paths.File) → IsQuietFile f → (event : Definition) → written_to other event (WriteFile name (Some f) append text) ≡ None
-    unwritten (paths.EventTrigger e) is event = absurd is
+    unwritten (paths.OfEvent e per_event.Trigger) is event = absurd is
     unwritten _ is event = refl
 
 -- and so is one to a file of another instance
@@ -249,15 +251,15 @@ calm-other_write name other past file append text is = record {
 }
   where
     stays : (f : paths.File) → exchanges other past (WriteFile name (Some f) append text) ≡ false
-    stays paths.Snapshot = rw is refl
+    stays (paths.OfInstance top.Snapshot) = rw is refl
     stays _ = refl
 
     untouched : (f : paths.File) (g : Config) (family : List (List Event)) → spare_after g other (WriteFile name (Some f) append text) family ≡ family
-    untouched paths.Snapshot g family = rw is refl
+    untouched (paths.OfInstance top.Snapshot) g family = rw is refl
     untouched _ g family = refl
 
     unwritten : (f : paths.File) (event : Definition) → written_to other event (WriteFile name (Some f) append text) ≡ None
-    unwritten (paths.EventTrigger e) event = rw is refl
+    unwritten (paths.OfEvent e per_event.Trigger) event = rw is refl
     unwritten _ event = refl
 
 -- ---- all else

@@ -40,43 +40,22 @@ use Rattle.trace_book.proofs.Effects.{declaration_effect, declarations_read, law
 
 -- the event of a file that is there
 pub has_event : (cpus : ℕ) (events : List Definition) (found : File) → IsThere cpus events found → HasEvent events found
-has_event cpus events file.Trace there = tt
-has_event cpus events (file.CpuTrace cpu) there = tt
-has_event cpus events file.TracePipe there = tt
-has_event cpus events (file.CpuTracePipe cpu) there = tt
-has_event cpus events (file.CpuStats cpu) there = tt
-has_event cpus events file.Overwrite there = tt
-has_event cpus events file.TraceOptions there = tt
-has_event cpus events file.TracingOn there = tt
-has_event cpus events file.Snapshot there = tt
-has_event cpus events file.EventsEnable there = tt
-has_event cpus events file.EventsFilter there = tt
-has_event cpus events (file.EventEnable event) there = there
-has_event cpus events (file.EventFilter event) there = there
-has_event cpus events (file.EventTrigger event) there = there
-has_event cpus events (file.EventHist event) there = there
-has_event cpus events (file.EventFormat event) there = there
+has_event cpus events (file.OfInstance named) there = tt
+has_event cpus events (file.OfCpu cpu named) there = tt
+has_event cpus events (file.OfEvent event named) there = there
 
 -- and it can be read of an instance
 pub readable : (g : Config) (source : Source) (found : File) → IsUsableInstance g (length source.catalog.now) source.instance.now
     → IsThere g.cpus source.catalog.now found → IsReadable source found
-readable g source file.Trace usable there = tt
-readable g source (file.CpuTrace cpu) usable there = omega (arith, there, usable.shaped.live.cpus)
-readable g source file.TracePipe usable there = tt
-readable g source (file.CpuTracePipe cpu) usable there = omega (arith, there, usable.shaped.live.cpus)
-readable g source (file.CpuStats cpu) usable there = omega (arith, there, usable.shaped.live.cpus)
-readable g source file.Overwrite usable there = tt
-readable g source file.TraceOptions usable there = tt
-readable g source file.TracingOn usable there = tt
-readable g source file.Snapshot usable there = tt
-readable g source file.EventsEnable usable there = tt
-readable g source file.EventsFilter usable there = tt
-readable g source (file.EventEnable event) usable there = omega (arith, there, usable.enabled)
-readable g source (file.EventFilter event) usable there = omega (arith, there, usable.filters)
-readable g source (file.EventTrigger event) usable there =
-    (omega (arith, there, usable.triggers), omega (arith, there, usable.hists))
-readable g source (file.EventHist event) usable there = omega (arith, there, usable.hists)
-readable g source (file.EventFormat event) usable there = there
+readable g source (file.OfInstance named) usable there = tt
+readable g source (file.OfCpu cpu named) usable there = omega (arith, there, usable.shaped.live.cpus)
+readable g source (file.OfEvent event named) usable there = record {
+  declared = there;
+  enabled = omega (arith, there, usable.enabled);
+  filters = omega (arith, there, usable.filters);
+  triggers = omega (arith, there, usable.triggers);
+  hists = omega (arith, there, usable.hists);
+}
 
 -- ---- what an address answers
 

@@ -69,22 +69,9 @@ own_write g name past named append text change file quiet is =
 -- a write to a file that is none of declarations declares nothing
 pub plain_write : (name : Option (List ℕ)) (events : List Definition) (found : File) (append : Bool) (text : List ℕ)
     → IsPlain (WriteFile name (Some (file_at events found)) append text)
-plain_write name events file.Trace append text = record { declares = refl; made = refl; removed = refl; ticks = refl }
-plain_write name events (file.CpuTrace cpu) append text = record { declares = refl; made = refl; removed = refl; ticks = refl }
-plain_write name events file.TracePipe append text = record { declares = refl; made = refl; removed = refl; ticks = refl }
-plain_write name events (file.CpuTracePipe cpu) append text = record { declares = refl; made = refl; removed = refl; ticks = refl }
-plain_write name events (file.CpuStats cpu) append text = record { declares = refl; made = refl; removed = refl; ticks = refl }
-plain_write name events file.Overwrite append text = record { declares = refl; made = refl; removed = refl; ticks = refl }
-plain_write name events file.TraceOptions append text = record { declares = refl; made = refl; removed = refl; ticks = refl }
-plain_write name events file.TracingOn append text = record { declares = refl; made = refl; removed = refl; ticks = refl }
-plain_write name events file.Snapshot append text = record { declares = refl; made = refl; removed = refl; ticks = refl }
-plain_write name events file.EventsEnable append text = record { declares = refl; made = refl; removed = refl; ticks = refl }
-plain_write name events file.EventsFilter append text = record { declares = refl; made = refl; removed = refl; ticks = refl }
-plain_write name events (file.EventEnable event) append text = record { declares = refl; made = refl; removed = refl; ticks = refl }
-plain_write name events (file.EventFilter event) append text = record { declares = refl; made = refl; removed = refl; ticks = refl }
-plain_write name events (file.EventTrigger event) append text = record { declares = refl; made = refl; removed = refl; ticks = refl }
-plain_write name events (file.EventHist event) append text = record { declares = refl; made = refl; removed = refl; ticks = refl }
-plain_write name events (file.EventFormat event) append text = record { declares = refl; made = refl; removed = refl; ticks = refl }
+plain_write name events (file.OfInstance named) append text = record { declares = refl; made = refl; removed = refl; ticks = refl }
+plain_write name events (file.OfCpu cpu named) append text = record { declares = refl; made = refl; removed = refl; ticks = refl }
+plain_write name events (file.OfEvent event named) append text = record { declares = refl; made = refl; removed = refl; ticks = refl }
 
 -- a declaration empties no ring
 declared_rings : (append : Bool) (family : List (List Event)) → rings_after_write append (Some paths.SyntheticEvents) family ≡ family
@@ -204,19 +191,6 @@ event_there past events place is are inside =
 
 pub nothing_missing : (g : Config) (past : List Request) (events : List Definition) (found : File) → events ≡ declared_events past → AreEvents [] events
     → IsThere g.cpus events found → missing g past (file_at events found) ≡ None
-nothing_missing g past events file.Trace is are there = refl
-nothing_missing g past events (file.CpuTrace cpu) is are there = rw (lt-ltb cpu g.cpus there) refl
-nothing_missing g past events file.TracePipe is are there = refl
-nothing_missing g past events (file.CpuTracePipe cpu) is are there = rw (lt-ltb cpu g.cpus there) refl
-nothing_missing g past events (file.CpuStats cpu) is are there = rw (lt-ltb cpu g.cpus there) refl
-nothing_missing g past events file.Overwrite is are there = refl
-nothing_missing g past events file.TraceOptions is are there = refl
-nothing_missing g past events file.TracingOn is are there = refl
-nothing_missing g past events file.Snapshot is are there = refl
-nothing_missing g past events file.EventsEnable is are there = refl
-nothing_missing g past events file.EventsFilter is are there = refl
-nothing_missing g past events (file.EventEnable event) is are there = rw (event_there past events event is are there) refl
-nothing_missing g past events (file.EventFilter event) is are there = rw (event_there past events event is are there) refl
-nothing_missing g past events (file.EventTrigger event) is are there = rw (event_there past events event is are there) refl
-nothing_missing g past events (file.EventHist event) is are there = rw (event_there past events event is are there) refl
-nothing_missing g past events (file.EventFormat event) is are there = rw (event_there past events event is are there) refl
+nothing_missing g past events (file.OfInstance named) is are there = refl
+nothing_missing g past events (file.OfCpu cpu named) is are there = rw (lt-ltb cpu g.cpus there) refl
+nothing_missing g past events (file.OfEvent event named) is are there = rw (event_there past events event is are there) refl

@@ -1,13 +1,11 @@
 -- Hist triggers after an emission: those of its event have counted its row, if they were to, and the others are as they were.
-use Rattle.std.proofs.Common.{◌≡◌, ℕ, zero, suc, ℤ, ◌+◌, ◌<◌, ◌≤◌, ◌^◌, Bool, true, false, ◌&&◌, if◌then◌else◌, List, [], ◌∷◌, ◌++◌, length, map, get_or, Option, Some, None, ⊎_elim, refl, sym, ap, ◌∙◌, subst, arith, append-nil, length-append}
+use Rattle.std.proofs.Common.{◌≡◌, ℕ, suc, ℤ, ◌<◌, Bool, true, false, ◌&&◌, if◌then◌else◌, List, [], ◌∷◌, ◌++◌, length, map, get_or, Option, Some, None, ⊎_elim, refl, sym, ap, ◌∙◌, subst, arith, append-nil}
 use Rattle.std.proofs.lemmas.Bool.{cases_eq}
 use Rattle.std.proofs.lemmas.List.{get_or-map, length-map, ext_get_or}
 use Rattle.std.proofs.lemmas.Slice.Eq.{bytes_eq-Decides}
 use Rattle.std.specs.List.{AllByRecursion}
 use Rattle.std.specs.Str.{bytes_eq}
 use Rattle.trace_filter.specs.Filters.{Parsed}
-use Rattle.trace_format.specs.Operands.{Emission as Row}
-use Rattle.trace_format.specs.Catalogs.{AreEvents}
 use Rattle.trace_format.specs.Definitions.{Definition}
 use Rattle.trace_format.specs.declared.pair.Pair.{Pair}
 use Rattle.trace_hist.specs.Groups.{grouped}
@@ -15,9 +13,9 @@ use Rattle.trace_trigger.specs.SameSpecs.{is_passed}
 use Rattle.trace_command.specs.Requests.{Request, Emission}
 use Rattle.trace_history.specs.Declarations.{IsPlaceOf}
 use Rattle.trace_history.specs.Emissions.{Emitted, emitted}
-use Rattle.trace_history.specs.HistTriggers.{HistTrigger, counted_by, counted_hit, counted_row, hists_of, hits_of, is_paused, table_of, written_to}
-use Rattle.trace_history.specs.Settings.{declared_events, makes}
-use Rattle.trace_history.specs.Triggers.{met_by, passes}
+use Rattle.trace_history.specs.HistTriggers.{HistTrigger, counted_by, counted_hit, counted_row, hists_of, hits_of, is_paused, table_of}
+use Rattle.trace_history.specs.Settings.{declared_events}
+use Rattle.trace_history.specs.Triggers.{passes}
 use Rattle.trace_book.specs.KeptHists.{AreHit, IsHit, KeptHist, kept_as, kept_hists, rows_counted}
 use Rattle.trace_book.specs.States.{WereOfferedRow}
 use Rattle.trace_book.proofs.HistSteps.{AreBelow, KeepsHists, hists-calm, hits-calm, map-each, numbers-below, paused-calm}

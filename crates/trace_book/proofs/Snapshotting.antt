@@ -14,6 +14,8 @@ use Rattle.trace_command.specs.Refusals.{IsRefusal}
 use Rattle.trace_command.specs.Requests.{Request, WriteFile}
 use Rattle.trace_command.specs.declared.command.Config.{Config}
 use Rattle.trace_command.specs.declared.command.Reply.{Reply}
+use Rattle.trace_command.specs.declared.file_name.EventFile.TheVariants as per_event
+use Rattle.trace_command.specs.declared.file_name.TopFile.TheVariants as top
 use Rattle.trace_command.specs.declared.refusal.Refusal.{Refusal}
 use Rattle.trace_command.specs.declared.refusal.Refusal.TheVariants as refusal
 use Rattle.trace_snapshot.specs.Sides.{SideFamilies}
@@ -119,19 +121,19 @@ pub record KeepsSettings (name : Option (List ℕ)) (past : List Request) (reque
   pub tracing : is_tracing name (request ∷ past) ≡ is_tracing name past
 
 snapshot-keeps : (name : Option (List ℕ)) (past : List Request) (append : Bool) (text : List ℕ)
-    → KeepsSettings name past (WriteFile name (Some paths.Snapshot) append text)
+    → KeepsSettings name past (WriteFile name (Some (paths.OfInstance top.Snapshot)) append text)
 snapshot-keeps name past append text =
     let same = same_instance name in
-    let request : Request = WriteFile name (Some paths.Snapshot) append text in
+    let request : Request = WriteFile name (Some (paths.OfInstance top.Snapshot)) append text in
     let kept : map (λ (event : Definition). option_map (parsed_of event) (filter_of name event.name (request ∷ past))) (declared_events past)
     ≡ map (λ (event : Definition). option_map (parsed_of event) (filter_of name event.name past)) (declared_events past) = rw same refl in
     record { enabled = rw same refl; filters = kept; overwrite = rw same refl; tracing = rw same refl }
 
 pub trigger-keeps : (name : Option (List ℕ)) (past : List Request) (event : List ℕ) (append : Bool) (text : List ℕ)
-    → KeepsSettings name past (WriteFile name (Some (paths.EventTrigger event)) append text)
+    → KeepsSettings name past (WriteFile name (Some (paths.OfEvent event per_event.Trigger)) append text)
 trigger-keeps name past event append text =
     let same = same_instance name in
-    let request : Request = WriteFile name (Some (paths.EventTrigger event)) append text in
+    let request : Request = WriteFile name (Some (paths.OfEvent event per_event.Trigger)) append text in
     let kept : map (λ (event : Definition). option_map (parsed_of event) (filter_of name event.name (request ∷ past))) (declared_events past)
     ≡ map (λ (event : Definition). option_map (parsed_of event) (filter_of name event.name past)) (declared_events past) = rw same refl in
     record { enabled = rw same refl; filters = kept; overwrite = rw same refl; tracing = rw same refl }
@@ -140,7 +142,7 @@ trigger-keeps name past event append text =
 
 -- its request
 abbrev pub snapshot_request : Option (List ℕ) → Bool → List ℕ → Request
-snapshot_request name append text = WriteFile name (Some paths.Snapshot) append text
+snapshot_request name append text = WriteFile name (Some (paths.OfInstance top.Snapshot)) append text
 
 snapshot-quiet : (name : Option (List ℕ)) (past : List Request) (append : Bool) (text : List ℕ) (event : Definition)
     → KeepsTrigger name past (snapshot_request name append text) event
@@ -170,7 +172,7 @@ snapshot-has_trigger name past append text some =
     (λ j inside one. ap is_some (sym (trigger-stays name past (snapshot_request name append text) (get_or (declared_events past) j no_event)
     (snapshot-quiet name past append text (get_or (declared_events past) j no_event)))) ∙ one) some
 
-snapshot-stay : (append : Bool) (family : List (List Event)) → rings_after_write append (Some paths.Snapshot) family ≡ family
+snapshot-stay : (append : Bool) (family : List (List Event)) → rings_after_write append (Some (paths.OfInstance top.Snapshot)) family ≡ family
 snapshot-stay true family = refl
 snapshot-stay false family = refl
 
@@ -273,7 +275,7 @@ refused refusal answered is = (λ other. is, λ early. is)
 
 pub snapshot-frees : (g : Config) (name : Option (List ℕ)) (past : List Request) (append : Bool) (text : List ℕ) (i : InstanceSeen)
     → InstanceStandsFor g name past i → written_number text ≡ Some 0 → list_any is_some i.triggers ≡ false
-    → IsWriteChange g name past append text paths.Snapshot (Ok FreeSpare)
+    → IsWriteChange g name past append text (paths.OfInstance top.Snapshot) (Ok FreeSpare)
 unfolding snapshot_answer
 snapshot-frees g name past append text i stands number none =
     let is = written-is text 0 number in
@@ -285,7 +287,7 @@ snapshot-frees g name past append text i stands number none =
 
 pub snapshot-busy : (g : Config) (name : Option (List ℕ)) (past : List Request) (append : Bool) (text : List ℕ) (i : InstanceSeen)
     → InstanceStandsFor g name past i → written_number text ≡ Some 0 → list_any is_some i.triggers ≡ true
-    → IsWriteChange g name past append text paths.Snapshot (Err refusal.Busy)
+    → IsWriteChange g name past append text (paths.OfInstance top.Snapshot) (Err refusal.Busy)
 unfolding snapshot_answer
 snapshot-busy g name past append text i stands number some =
     let is = written-is text 0 number in
@@ -294,7 +296,7 @@ snapshot-busy g name past append text i stands number some =
     (ap (spare_answer (has_trigger name past)) is ∙ ap (λ (in_use : Bool). spare_answer in_use (Some Frees)) armed)
 
 pub snapshot-takes : (g : Config) (name : Option (List ℕ)) (past : List Request) (append : Bool) (text : List ℕ) → written_number text ≡ Some 1
-    → IsWriteChange g name past append text paths.Snapshot (Ok TakeSnapshot)
+    → IsWriteChange g name past append text (paths.OfInstance top.Snapshot) (Ok TakeSnapshot)
 unfolding snapshot_answer
 snapshot-takes g name past append text number =
     let is = written-is text 1 number in (
@@ -313,7 +315,7 @@ other-number n none one = by (n == 0) (n == 1) refl refl
     by false false is at = rw (is, at) refl
 
 pub snapshot-empties : (g : Config) (name : Option (List ℕ)) (past : List Request) (append : Bool) (text : List ℕ) (n : ℕ)
-    → written_number text ≡ Some n → (n ≡ 0 → ⊥) → (n ≡ 1 → ⊥) → IsWriteChange g name past append text paths.Snapshot (Ok ClearSpare)
+    → written_number text ≡ Some n → (n ≡ 0 → ⊥) → (n ≡ 1 → ⊥) → IsWriteChange g name past append text (paths.OfInstance top.Snapshot) (Ok ClearSpare)
 unfolding snapshot_answer
 snapshot-empties g name past append text n number none one =
     let is = written-is text n number ∙ ap Some (other-number n none one) in (
@@ -323,7 +325,7 @@ snapshot-empties g name past append text n number none one =
     )
 
 pub snapshot-bad : (g : Config) (name : Option (List ℕ)) (past : List Request) (append : Bool) (text : List ℕ) → written_number text ≡ None
-    → IsWriteChange g name past append text paths.Snapshot (Err refusal.BadValue)
+    → IsWriteChange g name past append text (paths.OfInstance top.Snapshot) (Err refusal.BadValue)
 unfolding snapshot_answer written_snapshot
 snapshot-bad g name past append text none =
     refused refusal.BadValue (snapshot_answer name past text)

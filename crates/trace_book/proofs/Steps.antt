@@ -11,10 +11,12 @@ use Rattle.trace_snapshot.specs.Sides as snapshot
 use Rattle.trace_snapshot.specs.Sides.{SideFamilies, SidesSeen}
 use Rattle.trace_filter.specs.Filters.{Parsed, parsed_of}
 use Rattle.trace_format.specs.Definitions.{Definition}
-use Rattle.trace_command.specs.Paths.{File, EventEnable, EventsEnable, EventFilter, EventsFilter, EventTrigger}
+use Rattle.trace_command.specs.Paths.{File, OfInstance, OfEvent}
 use Rattle.trace_command.specs.Requests.{Request, WriteFile}
 use Rattle.trace_command.specs.declared.command.Config.{Config}
 use Rattle.trace_command.specs.declared.command.Reply.{Reply}
+use Rattle.trace_command.specs.declared.file_name.EventFile.TheVariants as per_event
+use Rattle.trace_command.specs.declared.file_name.TopFile.TheVariants as top
 use Rattle.trace_command.specs.declared.refusal.Refusal.{Refusal}
 use Rattle.trace_command.specs.declared.refusal.Refusal.TheVariants.{NoSuchEvent, NoSuchInstance}
 use Rattle.trace_history.specs.History.{answer_with_room, unless_refused}
@@ -65,22 +67,22 @@ cond_none false o none = refl
 
 -- no write switches an event that is not declared, if its own file would be refused
 file-switches_none : (past : List Request) (file : File) (text event : List ℕ) → event_named event past ≡ None
-    → ((name : List ℕ) → file ≡ EventEnable name → is_some (event_named name past) ≡ true) → switches event past file text ≡ None
-file-switches_none past (EventEnable name) text event none there = rw (other_name past event name none (there name refl)) refl
-file-switches_none past EventsEnable text event none there = rw none refl
+    → ((name : List ℕ) → file ≡ OfEvent name per_event.Enable → is_some (event_named name past) ≡ true) → switches event past file text ≡ None
+file-switches_none past (OfEvent name per_event.Enable) text event none there = rw (other_name past event name none (there name refl)) refl
+file-switches_none past (OfInstance top.EventsEnable) text event none there = rw none refl
 file-switches_none past file text event none there = refl
 
 -- nor sets its filter
 file-sets_none : (past : List Request) (file : File) (text event : List ℕ) → event_named event past ≡ None
-    → ((name : List ℕ) → file ≡ EventFilter name → is_some (event_named name past) ≡ true) → sets_filter event past file text ≡ None
-file-sets_none past (EventFilter name) text event none there = rw (other_name past event name none (there name refl)) refl
-file-sets_none past EventsFilter text event none there = rw none refl
+    → ((name : List ℕ) → file ≡ OfEvent name per_event.Filter → is_some (event_named name past) ≡ true) → sets_filter event past file text ≡ None
+file-sets_none past (OfEvent name per_event.Filter) text event none there = rw (other_name past event name none (there name refl)) refl
+file-sets_none past (OfInstance top.EventsFilter) text event none there = rw none refl
 file-sets_none past file text event none there = refl
 
 -- nor sets its trigger
 file-triggers_none : (past : List Request) (file : File) (text : List ℕ) (event : Definition) → event_named event.name past ≡ None
-    → ((name : List ℕ) → file ≡ EventTrigger name → is_some (event_named name past) ≡ true) → sets_trigger event past file text ≡ None
-file-triggers_none past (EventTrigger name) text event none there = rw (other_name past event.name name none (there name refl)) refl
+    → ((name : List ℕ) → file ≡ OfEvent name per_event.Trigger → is_some (event_named name past) ≡ true) → sets_trigger event past file text ≡ None
+file-triggers_none past (OfEvent name per_event.Trigger) text event none there = rw (other_name past event.name name none (there name refl)) refl
 file-triggers_none past file text event none there = refl
 
 -- so no request that is done switches it
@@ -90,7 +92,7 @@ not_switched g past (WriteFile other (Some file) append text) reply name event g
     cond_none (is_same name other) (switches event past file text)
     (file-switches_none past file text event none
     (λ n is.
-    let own : answer_with_room g past (WriteFile other (Some (EventEnable n)) append text) ≡ Ok reply =
+    let own : answer_with_room g past (WriteFile other (Some (OfEvent n per_event.Enable)) append text) ≡ Ok reply =
     subst (λ (f : File). answer_with_room g past (WriteFile other (Some f) append text) ≡ Ok reply) is given in
     is_known _ _ NoSuchEvent NoSuchInstance _ reply own))
 not_switched g past request reply name event given none = refl
@@ -101,7 +103,7 @@ not_filtered g past (WriteFile other (Some file) append text) reply name event g
     cond_none (is_same name other) (sets_filter event past file text)
     (file-sets_none past file text event none
     (λ n is.
-    let own : answer_with_room g past (WriteFile other (Some (EventFilter n)) append text) ≡ Ok reply =
+    let own : answer_with_room g past (WriteFile other (Some (OfEvent n per_event.Filter)) append text) ≡ Ok reply =
     subst (λ (f : File). answer_with_room g past (WriteFile other (Some f) append text) ≡ Ok reply) is given in
     is_known _ _ NoSuchEvent NoSuchInstance _ reply own))
 not_filtered g past request reply name event given none = refl
@@ -112,7 +114,7 @@ not_triggered g past (WriteFile other (Some file) append text) reply name event 
     cond_none (is_same name other) (sets_trigger event past file text)
     (file-triggers_none past file text event none
     (λ n is.
-    let own : answer_with_room g past (WriteFile other (Some (EventTrigger n)) append text) ≡ Ok reply =
+    let own : answer_with_room g past (WriteFile other (Some (OfEvent n per_event.Trigger)) append text) ≡ Ok reply =
     subst (λ (f : File). answer_with_room g past (WriteFile other (Some f) append text) ≡ Ok reply) is given in
     is_known _ _ NoSuchEvent NoSuchInstance _ reply own))
 not_triggered g past request reply name event given none = refl
@@ -124,7 +126,7 @@ and-false false = refl
 -- nor writes its trigger file
 not_written : (g : Config) (past : List Request) (request : Request) (reply : Reply) (name : Option (List ℕ)) (event : Definition)
     → answer_with_room g past request ≡ Ok reply → event_named event.name past ≡ None → written_to name event request ≡ None
-not_written g past (WriteFile other (Some (EventTrigger n)) append text) reply name event given none =
+not_written g past (WriteFile other (Some (OfEvent n per_event.Trigger)) append text) reply name event given none =
     let differ : bytes_eq event.name n ≡ false = other_name past event.name n none (is_known _ _ NoSuchEvent NoSuchInstance _ reply given) in
     let unwritten : (is_same name other && bytes_eq event.name n) ≡ false =
     ap (λ (b : Bool). is_same name other && b) differ ∙ and-false (is_same name other) in

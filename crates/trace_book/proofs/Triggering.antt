@@ -12,6 +12,7 @@ use Rattle.trace_command.specs.Refusals.{IsRefusal}
 use Rattle.trace_command.specs.Requests.{Request, WriteFile}
 use Rattle.trace_command.specs.declared.command.Config.{Config}
 use Rattle.trace_command.specs.declared.command.Reply.{Reply}
+use Rattle.trace_command.specs.declared.file_name.EventFile.TheVariants as per_event
 use Rattle.trace_command.specs.declared.refusal.Refusal.{Refusal}
 use Rattle.trace_snapshot.specs.Sides.{SideFamilies}
 use Rattle.trace_history.specs.History.{named_trigger_answer, trigger_answer}
@@ -45,7 +46,7 @@ use Rattle.trace_book.proofs.Writes.{other-name}
 
 -- its request
 abbrev pub trigger_request : Option (List ℕ) → List Request → ℕ → Bool → List ℕ → Request
-trigger_request name past index append text = WriteFile name (Some (paths.EventTrigger (name_at (declared_events past) index))) append text
+trigger_request name past index append text = WriteFile name (Some (paths.OfEvent (name_at (declared_events past) index) per_event.Trigger)) append text
 
 -- the event
 abbrev event_at : List Request → ℕ → Definition
@@ -81,12 +82,12 @@ others-keep name past index append text distinct inside j within other =
     let differ = other-name (declared_events past) j index no_event distinct within inside other in
     record { alive = refl; unwritten = rw (same_instance name, differ) refl }
 
-trigger-stay : (append : Bool) (event : List ℕ) (family : List (List Event)) → rings_after_write append (Some (paths.EventTrigger event)) family ≡ family
+trigger-stay : (append : Bool) (event : List ℕ) (family : List (List Event)) → rings_after_write append (Some (paths.OfEvent event per_event.Trigger)) family ≡ family
 trigger-stay true event family = refl
 trigger-stay false event family = refl
 
 trigger-live : (g : Config) (name : Option (List ℕ)) (past : List Request) (event : List ℕ) (append : Bool) (text : List ℕ) (family : List (List Event))
-    → rings_after g name past (WriteFile name (Some (paths.EventTrigger event)) append text) family ≡ family
+    → rings_after g name past (WriteFile name (Some (paths.OfEvent event per_event.Trigger)) append text) family ≡ family
 trigger-live g name past event append text family = rw (same_instance name) (trigger-stay append event family)
 
 -- ---- what changes
@@ -147,7 +148,7 @@ trigger-effect g name past index written change distinct inside is = record {
 
     same_request : write_of name here written ≡ request
     same_request =
-        ap (λ (n : List ℕ). (let r : Request = WriteFile name (Some (paths.EventTrigger n)) append text in r)) (name_at-is (declared_events past) index no_event inside)
+        ap (λ (n : List ℕ). (let r : Request = WriteFile name (Some (paths.OfEvent n per_event.Trigger)) append text in r)) (name_at-is (declared_events past) index no_event inside)
 
     settings : KeepsSettings name past request
     settings = trigger-keeps name past (name_at (declared_events past) index) append text
@@ -247,7 +248,7 @@ answer-is name past index append text distinct inside = ap (named_trigger_answer
 pub trigger-written : (g : Config) (name : Option (List ℕ)) (past : List Request) (index : ℕ) (event : Definition) (written : Written) (change : TriggerChange)
     → AreEvents [] (declared_events past) → index < length (declared_events past) → event ≡ get_or (declared_events past) index event
     → IsTriggerChange name past event written (Ok change)
-    → IsWriteChange g name past written.append written.text.now (paths.EventTrigger (name_at (declared_events past) index))
+    → IsWriteChange g name past written.append written.text.now (paths.OfEvent (name_at (declared_events past) index) per_event.Trigger)
     (Ok (Triggers index written.append change))
 trigger-written g name past index event written change distinct inside at is =
     let here : IsTriggerChange name past (event_at past index) written (Ok change) =
@@ -260,7 +261,7 @@ trigger-written g name past index event written change distinct inside at is =
 pub trigger-refused : (g : Config) (name : Option (List ℕ)) (past : List Request) (index : ℕ) (event : Definition) (written : Written) (refused : Refusal)
     → AreEvents [] (declared_events past) → index < length (declared_events past) → event ≡ get_or (declared_events past) index event
     → IsTriggerChange name past event written (Err refused)
-    → IsWriteChange g name past written.append written.text.now (paths.EventTrigger (name_at (declared_events past) index)) (Err refused)
+    → IsWriteChange g name past written.append written.text.now (paths.OfEvent (name_at (declared_events past) index) per_event.Trigger) (Err refused)
 trigger-refused g name past index event written refused distinct inside at is =
     let here : IsTriggerChange name past (event_at past index) written (Err refused) =
     subst (λ (e : Definition). IsTriggerChange name past e written (Err refused)) (at-place past index event inside at) is in

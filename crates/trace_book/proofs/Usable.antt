@@ -14,11 +14,10 @@ use Rattle.trace_history.specs.Declarations.{IsFit}
 use Rattle.trace_history.specs.Settings.{declared_events, instance_names, is_enabled, is_same, kept_filter}
 use Rattle.trace_book.specs.Instances.{InstanceSeen, InstanceStandsFor, kept_trigger}
 use Rattle.std.proofs.lemmas.List.Filters.{length-filter_both}
-use Rattle.trace_format.specs.Operands.{Emission}
 use Rattle.trace_hist.specs.Groups.{admitted, grouped, is_among}
 use Rattle.trace_trigger.specs.HistSpecs.{SpecSeen}
 use Rattle.trace_hist.specs.Hists.{counted}
-use Rattle.trace_hist.specs.Hits.{Hit, hit_of}
+use Rattle.trace_hist.specs.Hits.{Hit}
 use Rattle.trace_history.specs.Emissions.{Emitted, emitted}
 use Rattle.trace_history.specs.HistTriggers.{HistTrigger, asked_by, counted_by, counted_hit, empties, hists_of, hits_of, is_paused, written_to}
 use Rattle.trace_history.specs.Triggers.{passes}

@@ -12,6 +12,9 @@ use Rattle.trace_history.specs.History.{filter_of_all_answer, named_filter_answe
 use Rattle.trace_command.specs.Paths as paths
 use Rattle.trace_command.specs.Refusals.{IsRefusal}
 use Rattle.trace_command.specs.Requests.{Request}
+use Rattle.trace_command.specs.declared.file_name.CpuFile.TheVariants as per_cpu
+use Rattle.trace_command.specs.declared.file_name.EventFile.TheVariants as per_event
+use Rattle.trace_command.specs.declared.file_name.TopFile.TheVariants as top
 use Rattle.trace_history.specs.Settings.{event_named, declared_events, clears_filter, can_take, sets_filter, switches, written_flag, written_option, written_tracing}
 use Rattle.trace_history.specs.Rings.{rings_after_write}
 use Rattle.trace_command.specs.declared.command.Config.{Config}
@@ -32,31 +35,31 @@ use Rattle.trace_history.proofs.EventLists.{map-agrees, map-constant, map-set, n
 -- ---- what changes
 
 pub clears-trace : (g : Config) (instance : Option (List ℕ)) (past : List Request) (text : List ℕ) (append : Bool)
-    → IsWriteChange g instance past append text paths.Trace (Ok (if append then Keep else Clear))
+    → IsWriteChange g instance past append text (paths.OfInstance top.Trace) (Ok (if append then Keep else Clear))
 clears-trace g instance past text true = (
   refl,
-  own_write g instance past paths.Trace true text Keep tt quiet-keep
+  own_write g instance past (paths.OfInstance top.Trace) true text Keep tt quiet-keep
       (record { enabled = λ old. refl; filters = λ old. refl; overwrite = λ old. refl; tracing = λ old. refl; rings = λ old. refl }),
   λ i usable. tt,
 )
 clears-trace g instance past text false = (
   refl,
-  own_write g instance past paths.Trace false text Clear tt (record { triggers = λ old. refl; hists = λ old. refl; sides = λ cpus pages page_bytes f. refl })
+  own_write g instance past (paths.OfInstance top.Trace) false text Clear tt (record { triggers = λ old. refl; hists = λ old. refl; sides = λ cpus pages page_bytes f. refl })
       (record { enabled = λ old. refl; filters = λ old. refl; overwrite = λ old. refl; tracing = λ old. refl; rings = λ old. refl }),
   λ i usable. tt,
 )
 
 pub clears-cpu : (g : Config) (instance : Option (List ℕ)) (past : List Request) (text : List ℕ) (cpu : ℕ) → cpu < g.cpus → (append : Bool)
-    → IsWriteChange g instance past append text (paths.CpuTrace cpu) (Ok (if append then Keep else ClearCpu cpu))
+    → IsWriteChange g instance past append text (paths.OfCpu cpu per_cpu.Trace) (Ok (if append then Keep else ClearCpu cpu))
 clears-cpu g instance past text cpu there true = (
   refl,
-  own_write g instance past (paths.CpuTrace cpu) true text Keep tt quiet-keep
+  own_write g instance past (paths.OfCpu cpu per_cpu.Trace) true text Keep tt quiet-keep
       (record { enabled = λ old. refl; filters = λ old. refl; overwrite = λ old. refl; tracing = λ old. refl; rings = λ old. refl }),
   λ i usable. tt,
 )
 clears-cpu g instance past text cpu there false = (
   refl,
-  own_write g instance past (paths.CpuTrace cpu) false text (ClearCpu cpu) tt (record { triggers = λ old. refl; hists = λ old. refl; sides = λ cpus pages page_bytes f. refl })
+  own_write g instance past (paths.OfCpu cpu per_cpu.Trace) false text (ClearCpu cpu) tt (record { triggers = λ old. refl; hists = λ old. refl; sides = λ cpus pages page_bytes f. refl })
       (record { enabled = λ old. refl; filters = λ old. refl; overwrite = λ old. refl; tracing = λ old. refl; rings = λ old. refl }),
   λ i usable. rw usable.shaped.live.cpus there,
 )
@@ -94,35 +97,35 @@ no-number text refused is =
     rw (none.1, none.0) (λ other. refl, λ early. refl)
 
 pub sets-overwrite : (g : Config) (instance : Option (List ℕ)) (past : List Request) (append : Bool) (text : List ℕ) (flag : Bool) → needed_flag (written_flag text) ≡ Ok flag
-    → IsWriteChange g instance past append text paths.Overwrite (Ok (SetOverwrite flag))
+    → IsWriteChange g instance past append text (paths.OfInstance top.Overwrite) (Ok (SetOverwrite flag))
 unfolding switch_answer
 sets-overwrite g instance past append text flag needed =
     let is = needed-some (written_flag text) flag needed in (
       rw is refl,
-      own_write g instance past paths.Overwrite append text (SetOverwrite flag) tt (record { triggers = λ old. refl; hists = λ old. refl; sides = λ cpus pages page_bytes f. refl })
-          (record { enabled = λ old. refl; filters = λ old. refl; overwrite = λ old. rw is refl; tracing = λ old. refl; rings = λ old. same-rings append paths.Overwrite old refl }),
+      own_write g instance past (paths.OfInstance top.Overwrite) append text (SetOverwrite flag) tt (record { triggers = λ old. refl; hists = λ old. refl; sides = λ cpus pages page_bytes f. refl })
+          (record { enabled = λ old. refl; filters = λ old. refl; overwrite = λ old. rw is refl; tracing = λ old. refl; rings = λ old. same-rings append (paths.OfInstance top.Overwrite) old refl }),
       λ i usable. tt,
     )
 
 pub sets-option : (g : Config) (instance : Option (List ℕ)) (past : List Request) (append : Bool) (text : List ℕ) (flag : Bool) → needed_flag (written_option text) ≡ Ok flag
-    → IsWriteChange g instance past append text paths.TraceOptions (Ok (SetOverwrite flag))
+    → IsWriteChange g instance past append text (paths.OfInstance top.TraceOptions) (Ok (SetOverwrite flag))
 unfolding option_answer
 sets-option g instance past append text flag needed =
     let is = needed-some (written_option text) flag needed in (
       rw is refl,
-      own_write g instance past paths.TraceOptions append text (SetOverwrite flag) tt (record { triggers = λ old. refl; hists = λ old. refl; sides = λ cpus pages page_bytes f. refl })
-          (record { enabled = λ old. refl; filters = λ old. refl; overwrite = λ old. rw is refl; tracing = λ old. refl; rings = λ old. same-rings append paths.TraceOptions old refl }),
+      own_write g instance past (paths.OfInstance top.TraceOptions) append text (SetOverwrite flag) tt (record { triggers = λ old. refl; hists = λ old. refl; sides = λ cpus pages page_bytes f. refl })
+          (record { enabled = λ old. refl; filters = λ old. refl; overwrite = λ old. rw is refl; tracing = λ old. refl; rings = λ old. same-rings append (paths.OfInstance top.TraceOptions) old refl }),
       λ i usable. tt,
     )
 
 pub sets-tracing : (g : Config) (instance : Option (List ℕ)) (past : List Request) (append : Bool) (text : List ℕ) (flag : Bool) → needed_flag (written_tracing text) ≡ Ok flag
-    → IsWriteChange g instance past append text paths.TracingOn (Ok (SetTracing flag))
+    → IsWriteChange g instance past append text (paths.OfInstance top.TracingOn) (Ok (SetTracing flag))
 unfolding tracing_answer
 sets-tracing g instance past append text flag needed =
     let is = needed-some (written_tracing text) flag needed in (
       rw is refl,
-      own_write g instance past paths.TracingOn append text (SetTracing flag) tt (record { triggers = λ old. refl; hists = λ old. refl; sides = λ cpus pages page_bytes f. refl })
-          (record { enabled = λ old. refl; filters = λ old. refl; overwrite = λ old. refl; tracing = λ old. rw is refl; rings = λ old. same-rings append paths.TracingOn old refl }),
+      own_write g instance past (paths.OfInstance top.TracingOn) append text (SetTracing flag) tt (record { triggers = λ old. refl; hists = λ old. refl; sides = λ cpus pages page_bytes f. refl })
+          (record { enabled = λ old. refl; filters = λ old. refl; overwrite = λ old. refl; tracing = λ old. rw is refl; rings = λ old. same-rings append (paths.OfInstance top.TracingOn) old refl }),
       λ i usable. tt,
     )
 
@@ -145,34 +148,34 @@ no_event : Definition
 no_event = record { name = []; fields = [] }
 
 pub switches-all : (g : Config) (instance : Option (List ℕ)) (past : List Request) (append : Bool) (text : List ℕ) (flag : Bool) → AreEvents [] (declared_events past)
-    → needed_flag (written_flag text) ≡ Ok flag → IsWriteChange g instance past append text paths.EventsEnable (Ok (SwitchAll flag))
+    → needed_flag (written_flag text) ≡ Ok flag → IsWriteChange g instance past append text (paths.OfInstance top.EventsEnable) (Ok (SwitchAll flag))
 unfolding switch_answer
 switches-all g instance past append text flag distinct needed =
     let is = needed-some (written_flag text) flag needed in
     let events = declared_events past in
     let enabled = λ (old : List ℕ → Bool).
-    map-constant (λ (event : Definition). unwrap_or (switches event.name past paths.EventsEnable text) (old event.name)) flag events no_event
+    map-constant (λ (event : Definition). unwrap_or (switches event.name past (paths.OfInstance top.EventsEnable) text) (old event.name)) flag events no_event
     (λ j inside. rw (named_at events j no_event distinct inside, is) refl)
     ∙ ap (λ (n : ℕ). replicate n flag) (sym (length-map events (λ (event : Definition). old event.name))) in (
       rw is refl,
-      own_write g instance past paths.EventsEnable append text (SwitchAll flag) tt (record { triggers = λ old. refl; hists = λ old. refl; sides = λ cpus pages page_bytes f. refl })
-          (record { enabled = enabled; filters = λ old. refl; overwrite = λ old. refl; tracing = λ old. refl; rings = λ old. same-rings append paths.EventsEnable old refl }),
+      own_write g instance past (paths.OfInstance top.EventsEnable) append text (SwitchAll flag) tt (record { triggers = λ old. refl; hists = λ old. refl; sides = λ cpus pages page_bytes f. refl })
+          (record { enabled = enabled; filters = λ old. refl; overwrite = λ old. refl; tracing = λ old. refl; rings = λ old. same-rings append (paths.OfInstance top.EventsEnable) old refl }),
       λ i usable. tt,
     )
 
 pub switches-one : (g : Config) (instance : Option (List ℕ)) (past : List Request) (append : Bool) (text : List ℕ) (index : ℕ) (flag : Bool) → AreEvents [] (declared_events past)
     → index < length (declared_events past) → needed_flag (written_flag text) ≡ Ok flag
-    → IsWriteChange g instance past append text (paths.EventEnable (name_at (declared_events past) index)) (Ok (Switch index flag))
+    → IsWriteChange g instance past append text (paths.OfEvent (name_at (declared_events past) index) per_event.Enable) (Ok (Switch index flag))
 unfolding switch_answer
 switches-one g instance past append text index flag distinct inside needed = (
   rw is refl,
-  own_write g instance past (paths.EventEnable name) append text (Switch index flag) tt (record { triggers = λ old. refl; hists = λ old. refl; sides = λ cpus pages page_bytes f. refl })
+  own_write g instance past (paths.OfEvent name per_event.Enable) append text (Switch index flag) tt (record { triggers = λ old. refl; hists = λ old. refl; sides = λ cpus pages page_bytes f. refl })
       (record {
         enabled = λ old. map-set (λ (event : Definition). old event.name) (switched old) flag events index no_event inside (here old) (others old);
         filters = λ old. refl;
         overwrite = λ old. refl;
         tracing = λ old. refl;
-        rings = λ old. same-rings append (paths.EventEnable name) old refl;
+        rings = λ old. same-rings append (paths.OfEvent name per_event.Enable) old refl;
       }),
   λ i usable. rw usable.enabled inside,
 )
@@ -187,7 +190,7 @@ switches-one g instance past append text index flag distinct inside needed = (
     is = needed-some (written_flag text) flag needed
 
     switched : (List ℕ → Bool) → Definition → Bool
-    switched old event = unwrap_or (switches event.name past (paths.EventEnable name) text) (old event.name)
+    switched old event = unwrap_or (switches event.name past (paths.OfEvent name per_event.Enable) text) (old event.name)
 
     here : (old : List ℕ → Bool) → switched old (get_or events index no_event) ≡ flag
     here old =
@@ -202,16 +205,16 @@ switches-one g instance past append text index flag distinct inside needed = (
 pub sets-one : (g : Config) (instance : Option (List ℕ)) (past : List Request) (append : Bool) (text : List ℕ) (index : ℕ) (event : Definition) (kept : Option Parsed)
     → AreEvents [] (declared_events past) → index < length (declared_events past) → event ≡ get_or (declared_events past) index event
     → IsWrittenFilter text event (Ok kept)
-    → IsWriteChange g instance past append text (paths.EventFilter (name_at (declared_events past) index)) (Ok (SetFilter index kept))
+    → IsWriteChange g instance past append text (paths.OfEvent (name_at (declared_events past) index) per_event.Filter) (Ok (SetFilter index kept))
 sets-one g instance past append text index event kept distinct inside at written = (
   done,
-  own_write g instance past (paths.EventFilter name) append text (SetFilter index kept) tt (record { triggers = λ old. refl; hists = λ old. refl; sides = λ cpus pages page_bytes f. refl })
+  own_write g instance past (paths.OfEvent name per_event.Filter) append text (SetFilter index kept) tt (record { triggers = λ old. refl; hists = λ old. refl; sides = λ cpus pages page_bytes f. refl })
       (record {
         enabled = λ old. refl;
         filters = λ old. map-set (λ (e : Definition). option_map (parsed_of e) (old e.name)) (filtered old) kept events index event inside (here old) (others old);
         overwrite = λ old. refl;
         tracing = λ old. refl;
-        rings = λ old. same-rings append (paths.EventFilter name) old refl;
+        rings = λ old. same-rings append (paths.OfEvent name per_event.Filter) old refl;
       }),
   λ i usable. rw usable.filters inside,
 )
@@ -229,7 +232,7 @@ sets-one g instance past append text index event kept distinct inside at written
     done = rw (found, ← at) written.0
 
     filtered : (List ℕ → Option (List ℕ)) → Definition → Option Parsed
-    filtered old e = option_map (parsed_of e) (unwrap_or (sets_filter e.name past (paths.EventFilter name) text) (old e.name))
+    filtered old e = option_map (parsed_of e) (unwrap_or (sets_filter e.name past (paths.OfEvent name per_event.Filter) text) (old e.name))
 
     here : (old : List ℕ → Option (List ℕ)) → filtered old (get_or events index event) ≡ kept
     here old =
@@ -266,33 +269,33 @@ memory-for-all text [] inside = absurd (omega arith)
 memory-for-all text (event ∷ events) inside = (λ other. absurd (other refl), λ early. absurd (all-late text event events early))
 
 pub clears-all : (g : Config) (instance : Option (List ℕ)) (past : List Request) (append : Bool) (text : List ℕ) → AreEvents [] (declared_events past)
-    → 0 < length (declared_events past) → clears_filter text ≡ true → IsWriteChange g instance past append text paths.EventsFilter (Ok ClearFilters)
+    → 0 < length (declared_events past) → clears_filter text ≡ true → IsWriteChange g instance past append text (paths.OfInstance top.EventsFilter) (Ok ClearFilters)
 clears-all g instance past append text distinct inside off =
     let events = declared_events past in
     let none : Option Parsed = None in
     let filters = λ (old : List ℕ → Option (List ℕ)).
     map-constant
-    (λ (event : Definition). option_map (parsed_of event) (unwrap_or (sets_filter event.name past paths.EventsFilter text) (old event.name)))
+    (λ (event : Definition). option_map (parsed_of event) (unwrap_or (sets_filter event.name past (paths.OfInstance top.EventsFilter) text) (old event.name)))
     none events no_event (λ j within. rw (named_at events j no_event distinct within, off) refl)
     ∙ ap (λ (n : ℕ). replicate n none) (sym (length-map events (λ (event : Definition). option_map (parsed_of event) (old event.name)))) in (
       cleared-all text events inside off,
-      own_write g instance past paths.EventsFilter append text ClearFilters tt (record { triggers = λ old. refl; hists = λ old. refl; sides = λ cpus pages page_bytes f. refl })
-          (record { enabled = λ old. refl; filters = filters; overwrite = λ old. refl; tracing = λ old. refl; rings = λ old. same-rings append paths.EventsFilter old refl }),
+      own_write g instance past (paths.OfInstance top.EventsFilter) append text ClearFilters tt (record { triggers = λ old. refl; hists = λ old. refl; sides = λ cpus pages page_bytes f. refl })
+          (record { enabled = λ old. refl; filters = filters; overwrite = λ old. refl; tracing = λ old. refl; rings = λ old. same-rings append (paths.OfInstance top.EventsFilter) old refl }),
       λ i usable. tt,
     )
 
 pub sets-all : (g : Config) (instance : Option (List ℕ)) (past : List Request) (append : Bool) (text : List ℕ) (changes : Vec FilterChange Global) → AreEvents [] (declared_events past)
     → clears_filter text ≡ false → changes.items ≡ map (change_of text) (declared_events past) → filter_of_all_answer text (declared_events past) ≡ Ok reply.Done
-    → IsWriteChange g instance past append text paths.EventsFilter (Ok (SetFilters changes))
+    → IsWriteChange g instance past append text (paths.OfInstance top.EventsFilter) (Ok (SetFilters changes))
 sets-all g instance past append text changes distinct on are done = (
   done,
-  own_write g instance past paths.EventsFilter append text (SetFilters changes) tt (record { triggers = λ old. refl; hists = λ old. refl; sides = λ cpus pages page_bytes f. refl })
+  own_write g instance past (paths.OfInstance top.EventsFilter) append text (SetFilters changes) tt (record { triggers = λ old. refl; hists = λ old. refl; sides = λ cpus pages page_bytes f. refl })
       (record {
         enabled = λ old. refl;
         filters = filters;
         overwrite = λ old. refl;
         tracing = λ old. refl;
-        rings = λ old. same-rings append paths.EventsFilter old refl;
+        rings = λ old. same-rings append (paths.OfInstance top.EventsFilter) old refl;
       }),
   λ i usable. rw (are, usable.filters) (length-map events (change_of text)),
 )
@@ -304,7 +307,7 @@ sets-all g instance past append text changes distinct on are done = (
     kept old event = option_map (parsed_of event) (old event.name)
 
     filtered : (List ℕ → Option (List ℕ)) → Definition → Option Parsed
-    filtered old event = option_map (parsed_of event) (unwrap_or (sets_filter event.name past paths.EventsFilter text) (old event.name))
+    filtered old event = option_map (parsed_of event) (unwrap_or (sets_filter event.name past (paths.OfInstance top.EventsFilter) text) (old event.name))
 
     each : (old : List ℕ → Option (List ℕ)) (event : Definition) (k : ℕ) → event_named event.name past ≡ Some (record { id = k; event = event })
         → filtered old event ≡ changed_filter (change_of text event) (kept old event)

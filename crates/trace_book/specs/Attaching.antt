@@ -8,10 +8,11 @@ use Rattle.trace_trigger.specs.TriggerTexts.{said_of}
 use Rattle.trace_trigger.specs.declared.trigger.SnapshotTrigger.{SnapshotTrigger}
 use Rattle.trace_trigger.specs.declared.trigger.TriggerText.{TriggerText}
 use Rattle.trace_trigger.specs.declared.trigger.TriggerText.TheVariants as said
-use Rattle.trace_command.specs.Paths.{EventTrigger}
+use Rattle.trace_command.specs.Paths.{OfEvent}
 use Rattle.trace_command.specs.Refusals.{IsRefusal}
 use Rattle.trace_command.specs.Requests.{Request, WriteFile}
 use Rattle.trace_command.specs.declared.command.Reply.TheVariants.{Done}
+use Rattle.trace_command.specs.declared.file_name.EventFile.TheVariants as per_event
 use Rattle.trace_command.specs.declared.refusal.Refusal.{Refusal}
 use Rattle.trace_command.specs.declared.refusal.Refusal.TheVariants.{TriggerExists}
 use Rattle.trace_history.specs.History.{trigger_answer}
@@ -31,7 +32,7 @@ pub record AreKept (name : Option (List ℕ)) (past : List Request) (event : Def
 
 -- the request that writes a text to the event's trigger file
 abbrev pub write_of : Option (List ℕ) → Definition → Written → Request
-write_of name event written = WriteFile name (Some (EventTrigger event.name)) written.append written.text.now
+write_of name event written = WriteFile name (Some (OfEvent event.name per_event.Trigger)) written.append written.text.now
 
 -- whether there is a spare after a change: a hist trigger needs none
 abbrev pub arms : TriggerChange → Option Bool

@@ -5,7 +5,6 @@ use Rattle.std.specs.List.{filter}
 use Rattle.trace_filter.specs.Filters.{Parsed, parsed_of}
 use Rattle.trace_format.specs.Definitions.{Definition}
 use Rattle.trace_command.specs.Paths.{File}
-use Rattle.trace_command.specs.Paths as paths
 use Rattle.trace_buffer.specs.Buffers as buffers
 use Rattle.trace_format.specs.Catalogs.{AreEvents}
 use Rattle.trace_command.specs.Refusals.{IsRefusal}
@@ -14,9 +13,9 @@ use Rattle.trace_command.specs.declared.command.Config.{Config}
 use Rattle.trace_command.specs.declared.command.Reply.TheVariants.{Done}
 use Rattle.trace_command.specs.declared.refusal.Refusal.{Refusal}
 use Rattle.trace_command.specs.declared.refusal.Refusal.TheVariants.{BadValue}
-use Rattle.trace_history.specs.History.{cpu_stats_text, filter_answer, filter_text, flag_text, format_of_event, option_text, read_answer, shown_snapshot, shown_trace, switches_text, hists_of_event, triggers_of_event, write_answer}
+use Rattle.trace_history.specs.History.{filter_answer, read_answer, write_answer}
 use Rattle.trace_history.specs.Rings.{rings, rings_after_read}
-use Rattle.trace_history.specs.Settings.{declared_events, event_named, filter_of, is_enabled, is_tracing, now_of, overwrites, written_filter}
+use Rattle.trace_history.specs.Settings.{declared_events, now_of, written_filter}
 use Rattle.trace_book.specs.Instances.{InstanceSeen, InstanceStandsFor}
 use Rattle.trace_book.specs.KeptHists.{KeptHist}
 use Rattle.trace_book.specs.Changes.{IsEffect, IsLawful, rings_changed}
@@ -88,31 +87,16 @@ pub record IsSource (g : Config) (name : Option (List ℕ)) (past : List Request
   pub clock : source.clock ≡ now_of past
   pub instance : InstanceStandsFor g name past source.instance.now
 
+-- an event is there for a read: in the catalog, and in each list that the instance has over the events
+pub record HasAll (source : Source) (event : ℕ) : Type 0 where
+  pub declared : event < length source.catalog.now
+  pub enabled : event < length source.instance.now.enabled
+  pub filters : event < length source.instance.now.filters
+  pub triggers : event < length source.instance.now.triggers
+  pub hists : event < length source.instance.now.hists
+
 -- the CPU or the event of a file is there for a read
 abbrev pub IsReadable : Source → Found → Type 0
-IsReadable source (found.CpuTrace cpu) = cpu < buffers.cpus source.instance.now.sides.live
-IsReadable source (found.CpuTracePipe cpu) = cpu < buffers.cpus source.instance.now.sides.live
-IsReadable source (found.CpuStats cpu) = cpu < buffers.cpus source.instance.now.sides.live
-IsReadable source (found.EventEnable event) = event < length source.instance.now.enabled
-IsReadable source (found.EventFilter event) = event < length source.instance.now.filters
-IsReadable source (found.EventTrigger event) = (event < length source.instance.now.triggers) × (event < length source.instance.now.hists)
-IsReadable source (found.EventHist event) = event < length source.instance.now.hists
-IsReadable source (found.EventFormat event) = event < length source.catalog.now
-IsReadable source file = ⊤
-
--- the text of a file that is read whole, nothing of another
-abbrev pub text_of : Config → Option (List ℕ) → List Request → File → List ℕ
-text_of g name past paths.Trace = shown_trace g name past None
-text_of g name past (paths.CpuTrace cpu) = shown_trace g name past (Some cpu)
-text_of g name past (paths.CpuStats cpu) = cpu_stats_text g name past cpu
-text_of g name past paths.Overwrite = flag_text (overwrites name past)
-text_of g name past paths.TraceOptions = option_text (overwrites name past)
-text_of g name past paths.TracingOn = flag_text (is_tracing name past)
-text_of g name past (paths.EventEnable event) = flag_text (is_enabled name event past)
-text_of g name past paths.EventsEnable = switches_text (map (λ event. is_enabled name event.name past) (declared_events past))
-text_of g name past (paths.EventFilter event) = filter_text (filter_of name event past)
-text_of g name past paths.Snapshot = shown_snapshot g name past
-text_of g name past (paths.EventTrigger event) = triggers_of_event name past (event_named event past)
-text_of g name past (paths.EventHist event) = hists_of_event name past (event_named event past)
-text_of g name past (paths.EventFormat event) = format_of_event (event_named event past)
-text_of g name past file = []
+IsReadable source (found.OfInstance file) = ⊤
+IsReadable source (found.OfCpu cpu file) = cpu < buffers.cpus source.instance.now.sides.live
+IsReadable source (found.OfEvent event file) = HasAll source event

@@ -25,42 +25,19 @@ name_at (event ∷ events) (suc place) = name_at events place
 
 -- the file, as a path names it
 abbrev pub file_at : List Definition → File → paths.File
-file_at events file.Trace = paths.Trace
-file_at events (file.CpuTrace cpu) = paths.CpuTrace cpu
-file_at events file.TracePipe = paths.TracePipe
-file_at events (file.CpuTracePipe cpu) = paths.CpuTracePipe cpu
-file_at events (file.CpuStats cpu) = paths.CpuStats cpu
-file_at events file.Overwrite = paths.Overwrite
-file_at events file.TraceOptions = paths.TraceOptions
-file_at events file.TracingOn = paths.TracingOn
-file_at events file.Snapshot = paths.Snapshot
-file_at events file.EventsEnable = paths.EventsEnable
-file_at events file.EventsFilter = paths.EventsFilter
-file_at events (file.EventEnable event) = paths.EventEnable (name_at events event)
-file_at events (file.EventFilter event) = paths.EventFilter (name_at events event)
-file_at events (file.EventTrigger event) = paths.EventTrigger (name_at events event)
-file_at events (file.EventHist event) = paths.EventHist (name_at events event)
-file_at events (file.EventFormat event) = paths.EventFormat (name_at events event)
+file_at events (file.OfInstance named) = paths.OfInstance named
+file_at events (file.OfCpu cpu named) = paths.OfCpu cpu named
+file_at events (file.OfEvent event named) = paths.OfEvent (name_at events event) named
 
 -- its CPU or its event is there
 abbrev pub IsThere : ℕ → List Definition → File → Type 0
-IsThere cpus events (file.CpuTrace cpu) = cpu < cpus
-IsThere cpus events (file.CpuTracePipe cpu) = cpu < cpus
-IsThere cpus events (file.CpuStats cpu) = cpu < cpus
-IsThere cpus events (file.EventEnable event) = event < length events
-IsThere cpus events (file.EventFilter event) = event < length events
-IsThere cpus events (file.EventTrigger event) = event < length events
-IsThere cpus events (file.EventHist event) = event < length events
-IsThere cpus events (file.EventFormat event) = event < length events
-IsThere cpus events _ = ⊤
+IsThere cpus events (file.OfInstance named) = ⊤
+IsThere cpus events (file.OfCpu cpu named) = cpu < cpus
+IsThere cpus events (file.OfEvent event named) = event < length events
 
 -- its event is there
 abbrev pub HasEvent : List Definition → File → Type 0
-HasEvent events (file.EventEnable event) = event < length events
-HasEvent events (file.EventFilter event) = event < length events
-HasEvent events (file.EventTrigger event) = event < length events
-HasEvent events (file.EventHist event) = event < length events
-HasEvent events (file.EventFormat event) = event < length events
+HasEvent events (file.OfEvent event named) = event < length events
 HasEvent events _ = ⊤
 
 -- the number of a CPU that is there

@@ -17,7 +17,7 @@
 
 ghost use Rattle.std.specs.Prelude.{◌≡◌, ℕ, ◌+◌, ◌^◌, ◌≤◌, ◌<◌, [], ◌∷◌, ◌++◌, All, map, is_none, is_some, IfOk, IfErr, IfSome, OnOk, OnErr, ◌≢◌, true, false};
 ghost use Rattle.std.specs.Option.{option_map};
-ghost use Rattle.trace_command.specs.Places.{bytes_now};
+ghost use Rattle.trace_command.specs.FileNames.{bytes_now};
 ghost use Rattle.trace_command.specs.Configs.{IsInRange};
 ghost use Rattle.trace_history.specs.History.{answer_to, past_of, IsLegal};
 ghost use Rattle.trace_history.specs.LateMemory.{TakesMemoryLate};

@@ -4,6 +4,8 @@ ghost use Rattle.std.specs.Prelude.{◌≡◌, ℕ, ◌+◌, ◌<◌, ◌≤◌,
 ghost use Rattle.trace_command.specs.Requests.{Request};
 ghost use Rattle.trace_command.specs.Paths as paths;
 ghost use Rattle.trace_command.specs.declared.command.Config.{Config};
+ghost use Rattle.trace_command.specs.declared.file_name.CpuFile.TheVariants as per_cpu;
+ghost use Rattle.trace_command.specs.declared.file_name.TopFile.TheVariants as top;
 ghost use Rattle.trace_history.specs.History as history;
 ghost use Rattle.trace_history.specs.Settings.{declared_events};
 ghost use Rattle.trace_buffer.specs.Buffers as buffers;
@@ -13,8 +15,8 @@ ghost use Rattle.trace_text.specs.FormatText as texts;
 ghost use Rattle.trace_text.specs.TriggerText.{trigger_text as trigger_text_of};
 ghost use Rattle.trace_text.specs.HistText.{hist_text as hist_text_of};
 ghost use Rattle.trace_book.specs.KeptHists.{kept_of};
-ghost use Rattle.trace_book.specs.Commands.{IsRead, IsReadable, IsSource, kept_in_order, shown_kept_hist, text_of};
-ghost use Rattle.trace_book.specs.Files.{IsThere, file_at};
+ghost use Rattle.trace_book.specs.Commands.{HasAll, IsRead, IsReadable, IsSource, kept_in_order, shown_kept_hist};
+ghost use Rattle.trace_book.specs.Files.{IsThere, file_at, name_at};
 
 use crate::change::InstanceChange;
 use crate::hists::EventHists;
@@ -23,7 +25,7 @@ use crate::resolve::{File, event_at};
 use crate::shown::{shown_hists, shown_in_order};
 use crate::text::{filter_text, flag_text, mixture_text, option_text, push_declarations};
 use std::alloc::{AllocError, Global};
-use trace_command::{Refusal, Reply};
+use trace_command::{CpuFile, EventFile, Refusal, Reply, TopFile};
 use trace_format::Catalog;
 use trace_lex::Text;
 use trace_text::{
@@ -59,45 +61,82 @@ pub(crate) fn read_file(
         → IsRead g name past limit (file_at source.entry.catalog.now file) result }
 {
     match file {
-        File::TracePipe => return read_pipe(alloc, source, limit),
-        File::CpuTracePipe(cpu) => return read_cpu_pipe(alloc, source, cpu, limit),
-        File::EventsFilter => return Err(Refusal::NotReadable),
+        File::OfInstance(TopFile::TracePipe) => return read_pipe(alloc, source, limit),
+        File::OfCpu(cpu, CpuFile::TracePipe) => return read_cpu_pipe(alloc, source, cpu, limit),
+        File::OfInstance(TopFile::EventsFilter) => return Err(Refusal::NotReadable),
         _ => {}
     }
     if limit.is_some() {
         return Err(Refusal::BadValue);
     }
-    let text = file_text(alloc, source, file)?;
+    let text = match file {
+        File::OfInstance(file) => text_of_instance(alloc, source, file)?,
+        File::OfCpu(cpu, file) => text_of_cpu(alloc, source, cpu, file)?,
+        File::OfEvent(event, file) => text_of_event(alloc, source, event, file)?,
+    };
     Ok(Shown {
         change: InstanceChange::Keep,
         reply: Reply::Text(text),
     })
 }
 
-// What a file shows that is read whole. Of a file that isn't, nothing.
-fn file_text(alloc: Global, source: Source<'_>, file: File) -> Result<Text, AllocError>
-    requires few { length source.catalog.now ≤ 64 }
-    requires file { IsReadable source file }
+// What a file of the instance itself shows that is read whole. Of one that isn't, nothing.
+fn text_of_instance(alloc: Global, source: Source<'_>, file: TopFile) -> Result<Text, AllocError>
     ensures { (g : Config) (name : Option (List ℕ)) (past : List Request)
-        → IsSource g name past source.entry → IsThere g.cpus source.entry.catalog.now file
-        → IfOk result (λ text. text ≡ text_of g name past (file_at source.entry.catalog.now file)) }
+        → IsSource g name past source.entry
+        → IfOk result (λ text. text ≡ history.text_of g name past (paths.OfInstance file)) }
 {
     let instance = source.instance;
     match file {
-        File::Trace => trace(alloc, source, None),
-        File::CpuTrace(cpu) => trace(alloc, source, Some(cpu)),
-        File::CpuStats(cpu) => stats(alloc, source, cpu),
-        File::Overwrite => flag_text(alloc, instance.overwrites()),
-        File::TraceOptions => option_text(alloc, instance.overwrites()),
-        File::TracingOn => flag_text(alloc, instance.is_tracing()),
-        File::Snapshot => snapshot(alloc, source),
-        File::EventsEnable => mixture_text(alloc, instance.none_on(), instance.some_off()),
-        File::EventEnable(event) => flag_text(alloc, instance.is_enabled(event)),
-        File::EventFilter(event) => filter_text(alloc, instance.filter(event)),
-        File::EventTrigger(event) => triggers(alloc, instance, event),
-        File::EventHist(event) => histograms(alloc, instance.hists(event)),
-        File::EventFormat(event) => format(alloc, source.catalog, event),
-        File::TracePipe | File::CpuTracePipe(_) | File::EventsFilter => Ok(Text::new(alloc)),
+        TopFile::Trace => trace(alloc, source, None),
+        TopFile::Overwrite => flag_text(alloc, instance.overwrites()),
+        TopFile::TraceOptions => option_text(alloc, instance.overwrites()),
+        TopFile::TracingOn => flag_text(alloc, instance.is_tracing()),
+        TopFile::Snapshot => snapshot(alloc, source),
+        TopFile::EventsEnable => mixture_text(alloc, instance.none_on(), instance.some_off()),
+        TopFile::TracePipe | TopFile::EventsFilter => Ok(Text::new(alloc)),
+    }
+}
+
+// Likewise for a file of a CPU.
+fn text_of_cpu(
+    alloc: Global,
+    source: Source<'_>,
+    cpu: u32,
+    file: CpuFile,
+) -> Result<Text, AllocError>
+    requires { cpu < buffers.cpus source.instance.now.sides.live }
+    ensures { (g : Config) (name : Option (List ℕ)) (past : List Request)
+        → IsSource g name past source.entry
+        → IfOk result (λ text. text ≡ history.text_of g name past (paths.OfCpu cpu file)) }
+{
+    match file {
+        CpuFile::Trace => trace(alloc, source, Some(cpu)),
+        CpuFile::Stats => stats(alloc, source, cpu),
+        CpuFile::TracePipe => Ok(Text::new(alloc)),
+    }
+}
+
+// Likewise for a file of an event.
+fn text_of_event(
+    alloc: Global,
+    source: Source<'_>,
+    event: usize,
+    file: EventFile,
+) -> Result<Text, AllocError>
+    requires few { length source.catalog.now ≤ 64 }
+    requires event { HasAll source event }
+    ensures { (g : Config) (name : Option (List ℕ)) (past : List Request)
+        → IsSource g name past source.entry
+        → IfOk result (λ text. text ≡ history.text_of g name past (paths.OfEvent (name_at source.entry.catalog.now event) file)) }
+{
+    let instance = source.instance;
+    match file {
+        EventFile::Enable => flag_text(alloc, instance.is_enabled(event)),
+        EventFile::Filter => filter_text(alloc, instance.filter(event)),
+        EventFile::Trigger => triggers(alloc, instance, event),
+        EventFile::Hist => histograms(alloc, instance.hists(event)),
+        EventFile::Format => format(alloc, source.catalog, event),
     }
 }
 
@@ -198,7 +237,7 @@ pub(crate) fn declarations(alloc: Global, catalog: &Catalog) -> Result<Text, All
 #[tactic(auto, unfolding(trace_history::specs::History::shown_pipe))]
 fn read_pipe(alloc: Global, source: Source<'_>, limit: Option<u64>) -> Result<Shown, Refusal>
     ensures { (g : Config) (name : Option (List ℕ)) (past : List Request)
-        → IsSource g name past source.entry → IsRead g name past limit paths.TracePipe result }
+        → IsSource g name past source.entry → IsRead g name past limit (paths.OfInstance top.TracePipe) result }
 {
     let most = limit.unwrap_or(u64::MAX);
     let taken = source.instance.buffer().preview_any(most)?;
@@ -221,7 +260,7 @@ fn read_cpu_pipe(
     requires { cpu < buffers.cpus source.instance.now.sides.live }
     ensures { (g : Config) (name : Option (List ℕ)) (past : List Request)
         → IsSource g name past source.entry
-        → cpu < g.cpus → IsRead g name past limit (paths.CpuTracePipe cpu) result }
+        → cpu < g.cpus → IsRead g name past limit (paths.OfCpu cpu per_cpu.TracePipe) result }
 {
     let most = limit.unwrap_or(u64::MAX);
     let taken = source.instance.buffer().preview_cpu(cpu, most)?;

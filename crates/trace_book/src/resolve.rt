@@ -4,7 +4,7 @@ ghost use Rattle.std.specs.Prelude.{◌≡◌, ◌≢◌, ℕ, ◌<◌, ◌≤�
 ghost use Rattle.std.specs.Option.{option_map};
 ghost use Rattle.trace_lex.specs.Decimals.{value_after};
 ghost use Rattle.trace_command.specs.Paths as paths;
-ghost use Rattle.trace_command.specs.Places as places;
+ghost use Rattle.trace_command.specs.FileNames as names;
 ghost use Rattle.trace_command.specs.Requests.{Request};
 ghost use Rattle.trace_command.specs.declared.command.Config.{Config};
 ghost use Rattle.trace_history.specs.Declarations.{IsPlaceOf};
@@ -15,29 +15,16 @@ ghost use Rattle.trace_book.specs.Found.{numbered};
 ghost use Rattle.trace_book.specs.States.{StandsFor};
 
 use crate::state::{Named, State};
-use trace_command::{Config, Place, Refusal, address_of};
+use trace_command::{Config, CpuFile, EventFile, FileName, Refusal, TopFile, address_of};
 use trace_format::{Catalog, EventDef};
 use trace_lex::digits_value;
 
 /// A file of an instance that is there: a CPU by its number, an event by its place among the declared ones, from 0.
 #[derive(Clone, Copy, Drop)]
 pub(crate) enum File {
-    Trace,
-    CpuTrace(u32),
-    TracePipe,
-    CpuTracePipe(u32),
-    CpuStats(u32),
-    Overwrite,
-    TraceOptions,
-    TracingOn,
-    Snapshot,
-    EventsEnable,
-    EventsFilter,
-    EventEnable(usize),
-    EventFilter(usize),
-    EventTrigger(usize),
-    EventHist(usize),
-    EventFormat(usize),
+    OfInstance(TopFile),
+    OfCpu(u32, CpuFile),
+    OfEvent(usize, EventFile),
 }
 
 /// What a path leads to.
@@ -100,7 +87,7 @@ impl State {
         let Some(place) = self.place_of(address.instance) else {
             return Err(Refusal::NoSuchInstance);
         };
-        let Some(named) = address.place else {
+        let Some(named) = address.file else {
             return Err(Refusal::NoSuchFile);
         };
         match found_file(&self.catalog, config.cpus, named)? {
@@ -111,7 +98,7 @@ impl State {
 
     /// The place of the instance of this name; the top one has none.
     pub(crate) fn place_of(&self, name: Option<&[u8]>) -> Option<usize>
-        ensures { result ≡ position (λ (n : Named). is_same n.name (option_map places.bytes_now name.entry)) self.now.instances.items }
+        ensures { result ≡ position (λ (n : Named). is_same n.name (option_map names.bytes_now name.entry)) self.now.instances.items }
     {
         self.instances
             .iter()
@@ -120,7 +107,7 @@ impl State {
 }
 
 fn is_named(named: &Named, name: Option<&[u8]>) -> bool
-    ensures { result ≡ is_same named.now.name (option_map places.bytes_now name.entry) }
+    ensures { result ≡ is_same named.now.name (option_map names.bytes_now name.entry) }
 {
     match (&named.name, name) {
         (None, None) => true,
@@ -130,30 +117,17 @@ fn is_named(named: &Named, name: Option<&[u8]>) -> bool
 }
 
 // The file that a path names, with its CPU and its event looked up; none for the declarations.
-fn found_file(catalog: &Catalog, cpus: u32, named: Place<'_>) -> Result<Option<File>, Refusal>
+fn found_file(catalog: &Catalog, cpus: u32, named: FileName<'_>) -> Result<Option<File>, Refusal>
     ensures found { (g : Config) (past : List Request) → g.cpus ≡ cpus → catalog.now ≡ declared_events past
-        → files.IsFound g past catalog.now (places.file_at named.entry) result }
+        → files.IsFound g past catalog.now (names.file_at named.entry) result }
     ensures there { IfOk result (λ found. IfSome found (files.IsThere cpus catalog.now)) }
     ensures memory { IfErr result (λ r. r ≢ Refusal.Memory) }
 {
     let file = match named {
-        Place::Trace => File::Trace,
-        Place::CpuTrace(digits) => File::CpuTrace(cpu_below(digits, cpus)?),
-        Place::TracePipe => File::TracePipe,
-        Place::CpuTracePipe(digits) => File::CpuTracePipe(cpu_below(digits, cpus)?),
-        Place::CpuStats(digits) => File::CpuStats(cpu_below(digits, cpus)?),
-        Place::Overwrite => File::Overwrite,
-        Place::TraceOptions => File::TraceOptions,
-        Place::TracingOn => File::TracingOn,
-        Place::Snapshot => File::Snapshot,
-        Place::SyntheticEvents => return Ok(None),
-        Place::EventsEnable => File::EventsEnable,
-        Place::EventsFilter => File::EventsFilter,
-        Place::EventEnable(name) => File::EventEnable(event_place(catalog, name)?),
-        Place::EventFilter(name) => File::EventFilter(event_place(catalog, name)?),
-        Place::EventTrigger(name) => File::EventTrigger(event_place(catalog, name)?),
-        Place::EventHist(name) => File::EventHist(event_place(catalog, name)?),
-        Place::EventFormat(name) => File::EventFormat(event_place(catalog, name)?),
+        FileName::SyntheticEvents => return Ok(None),
+        FileName::OfInstance(file) => File::OfInstance(file),
+        FileName::OfCpu(digits, file) => File::OfCpu(cpu_below(digits, cpus)?, file),
+        FileName::OfEvent(name, file) => File::OfEvent(event_place(catalog, name)?, file),
     };
     Ok(Some(file))
 }

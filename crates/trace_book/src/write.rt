@@ -3,11 +3,12 @@
 ghost use Rattle.std.specs.Prelude.{◌≡◌, ◌≢◌, ℕ, ◌≤◌, ◌<◌, Bool, List, [], length, map, Option, Some, None, true, if◌then◌else◌, IfOk, IfErr, OnOk, Ok};
 ghost use Rattle.std.specs.List.{list_any};
 ghost use Rattle.trace_format.specs.Catalogs.{AreEvents};
-ghost use Rattle.trace_command.specs.Paths.{EventsFilter, EventTrigger, Snapshot};
+ghost use Rattle.trace_command.specs.Paths as paths;
 ghost use Rattle.trace_command.specs.Refusals.{IsRefusal};
 ghost use Rattle.trace_command.specs.Requests.{Request};
 ghost use Rattle.trace_command.specs.declared.command.Config.{Config};
 ghost use Rattle.trace_command.specs.declared.command.Reply.TheVariants.{Done};
+ghost use Rattle.trace_command.specs.declared.file_name.TopFile.TheVariants as top;
 ghost use Rattle.trace_history.specs.History as history;
 ghost use Rattle.trace_history.specs.LateMemory.{WriteTakesMemoryLate};
 ghost use Rattle.trace_history.specs.Settings as settings;
@@ -23,7 +24,7 @@ use crate::change::{FilterChange, InstanceChange};
 use crate::instance::Instance;
 use crate::resolve::{File, event_at};
 use std::alloc::{AllocError, Global};
-use trace_command::Refusal;
+use trace_command::{CpuFile, EventFile, Refusal, TopFile};
 use trace_filter::{Filter, FilterFault};
 use trace_format::{Catalog, EventDef};
 use trace_lex::{trim, written_number};
@@ -53,31 +54,85 @@ pub(crate) fn written_change(
         → IsThere g.cpus catalog.now file → IsWriteChange g name past written.entry.append written.entry.text.now (file_at catalog.now file) result }
     ensures memory { WriteTakesMemoryLate (file_at catalog.now file) written.entry.text.now → IfErr result (λ r. r ≢ Refusal.Memory) }
 {
+    match file {
+        File::OfInstance(file) => change_of_instance(alloc, catalog, instance, file, written),
+        File::OfCpu(cpu, file) => change_of_cpu(cpu, file, written.append),
+        File::OfEvent(event, file) => {
+            change_of_event(alloc, catalog, instance, event, file, written)
+        }
+    }
+}
+
+// What a write to a file of the instance itself changes.
+fn change_of_instance(
+    alloc: Global,
+    catalog: &Catalog,
+    instance: &Instance,
+    file: TopFile,
+    written: Written<'_>,
+) -> Result<InstanceChange, Refusal>
+    requires few { length catalog.now ≤ 64 }
+    ensures change { (g : Config) (name : Option (List ℕ)) (past : List Request) → catalog.now ≡ declared_events past → AreEvents [] catalog.now
+        → InstanceStandsFor g name past instance.now
+        → IsWriteChange g name past written.entry.append written.entry.text.now (paths.OfInstance file) result }
+    ensures memory { WriteTakesMemoryLate (paths.OfInstance file) written.entry.text.now → IfErr result (λ r. r ≢ Refusal.Memory) }
+{
     let Written { text, append, .. } = written;
     match file {
-        File::Trace => Ok(cleared(append, InstanceChange::Clear)),
-        File::CpuTrace(cpu) => Ok(cleared(append, InstanceChange::ClearCpu(cpu))),
-        File::TracePipe => Err(Refusal::NotWritable),
-        File::CpuTracePipe(_) => Err(Refusal::NotWritable),
-        File::CpuStats(_) => Err(Refusal::NotWritable),
-        File::Overwrite => Ok(InstanceChange::SetOverwrite(needed(written_flag(text))?)),
-        File::TraceOptions => Ok(InstanceChange::SetOverwrite(needed(written_option(text))?)),
-        File::TracingOn => Ok(InstanceChange::SetTracing(needed(written_tracing(text))?)),
-        File::Snapshot => written_snapshot(instance, text),
-        File::EventsEnable => Ok(InstanceChange::SwitchAll(needed(written_flag(text))?)),
-        File::EventsFilter => written_filters(alloc, catalog, text),
-        File::EventEnable(event) => Ok(InstanceChange::Switch(event, needed(written_flag(text))?)),
-        File::EventFilter(event) => {
+        TopFile::Trace => Ok(cleared(append, InstanceChange::Clear)),
+        TopFile::Overwrite => Ok(InstanceChange::SetOverwrite(needed(written_flag(text))?)),
+        TopFile::TraceOptions => Ok(InstanceChange::SetOverwrite(needed(written_option(text))?)),
+        TopFile::TracingOn => Ok(InstanceChange::SetTracing(needed(written_tracing(text))?)),
+        TopFile::Snapshot => written_snapshot(instance, text),
+        TopFile::EventsEnable => Ok(InstanceChange::SwitchAll(needed(written_flag(text))?)),
+        TopFile::EventsFilter => written_filters(alloc, catalog, text),
+        _ => Err(Refusal::NotWritable),
+    }
+}
+
+// What a write to a file of a CPU changes.
+fn change_of_cpu(cpu: u32, file: CpuFile, append: bool) -> Result<InstanceChange, Refusal>
+    ensures change { (g : Config) (name : Option (List ℕ)) (past : List Request) (text : List ℕ) → cpu < g.cpus
+        → IsWriteChange g name past append text (paths.OfCpu cpu file) result }
+    ensures memory { IfErr result (λ r. r ≢ Refusal.Memory) }
+{
+    match file {
+        CpuFile::Trace => Ok(cleared(append, InstanceChange::ClearCpu(cpu))),
+        _ => Err(Refusal::NotWritable),
+    }
+}
+
+// What a write to a file of an event changes.
+fn change_of_event(
+    alloc: Global,
+    catalog: &Catalog,
+    instance: &Instance,
+    event: usize,
+    file: EventFile,
+    written: Written<'_>,
+) -> Result<InstanceChange, Refusal>
+    requires few { length catalog.now ≤ 64 }
+    requires event { event < length catalog.now }
+    requires triggers { length instance.now.triggers ≡ length catalog.now }
+    requires hists { length instance.now.hists ≡ length catalog.now }
+    ensures change { (g : Config) (name : Option (List ℕ)) (past : List Request) → length past ≡ written.entry.number → catalog.now ≡ declared_events past → AreEvents [] catalog.now
+        → InstanceStandsFor g name past instance.now
+        → IsWriteChange g name past written.entry.append written.entry.text.now (paths.OfEvent (name_at catalog.now event) file) result }
+    ensures memory { WriteTakesMemoryLate (paths.OfEvent (name_at catalog.now event) file) written.entry.text.now → IfErr result (λ r. r ≢ Refusal.Memory) }
+{
+    let Written { text, append, .. } = written;
+    match file {
+        EventFile::Enable => Ok(InstanceChange::Switch(event, needed(written_flag(text))?)),
+        EventFile::Filter => {
             let filter = written_filter(alloc, text, event_at(catalog, event))?;
             Ok(InstanceChange::SetFilter(event, filter))
         }
-        File::EventTrigger(event) => {
+        EventFile::Trigger => {
             let triggers = EventTriggers::of(instance, event);
             let change = triggers.written(alloc, event_at(catalog, event), written)?;
             Ok(InstanceChange::Triggers(event, append, change))
         }
-        File::EventHist(_) => Err(Refusal::NotWritable),
-        File::EventFormat(_) => Err(Refusal::NotWritable),
+        _ => Err(Refusal::NotWritable),
     }
 }
 
@@ -86,7 +141,7 @@ pub(crate) fn written_change(
 #[tactic(auto, unfolding(trace_history::specs::History::snapshot_answer, trace_history::specs::Snapshots::written_snapshot))]
 fn written_snapshot(instance: &Instance, text: &[u8]) -> Result<InstanceChange, Refusal>
     ensures change { (g : Config) (name : Option (List ℕ)) (past : List Request) (append : Bool) → InstanceStandsFor g name past instance.now
-        → IsWriteChange g name past append text.now Snapshot result }
+        → IsWriteChange g name past append text.now (paths.OfInstance top.Snapshot) result }
     ensures memory { IfErr result (λ r. r ≢ Refusal.Memory) }
 {
     match written_number(text) {
@@ -171,7 +226,7 @@ fn written_filter(alloc: Global, text: &[u8], event: &EventDef) -> Result<Option
 fn written_filters(alloc: Global, catalog: &Catalog, text: &[u8]) -> Result<InstanceChange, Refusal>
     requires { length catalog.now ≤ 64 }
     ensures change { (g : Config) (name : Option (List ℕ)) (past : List Request) (append : Bool) → catalog.now ≡ declared_events past → AreEvents [] catalog.now
-        → IsWriteChange g name past append text.now EventsFilter result }
+        → IsWriteChange g name past append text.now (paths.OfInstance top.EventsFilter) result }
     ensures memory { settings.clears_filter text.now ≡ true → IfErr result (λ r. r ≢ Refusal.Memory) }
 {
     if catalog.is_empty() {

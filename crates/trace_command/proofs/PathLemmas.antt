@@ -4,7 +4,7 @@ use Rattle.std.proofs.Math.Seq.{drop-cons}
 use Rattle.std.proofs.lemmas.Grind.{common_steps}
 use Rattle.std.proofs.lemmas.List.Splits.{slice_split_at, slice_split_none, length-slice_split}
 use Rattle.trace_command.specs.Paths.{address_in, file_in, file_of_instance, instance_in, is_instance, parts}
-use Rattle.trace_command.specs.Places.{parts_of}
+use Rattle.trace_command.specs.FileNames.{parts_of}
 
 -- a list, cut at a place
 cut_at : (xs : List ℕ) (i b : ℕ) → i < length xs → get_or xs i 0 ≡ b → xs ≡ take i xs ++ b ∷ drop (i + 1) xs

@@ -1,6 +1,6 @@
 pub mod Configs
 pub mod PairLists
 pub mod Paths
-pub mod Places
+pub mod FileNames
 pub mod Refusals
 pub mod Requests

@@ -1,35 +1,28 @@
 -- The files of the tracing tree, and which file a path names.
 use Rattle.std.specs.Prelude.{ℕ, Bool, ◌&&◌, not, ◌==◌, nat_lt, length, if◌then◌else◌, List, [], ◌∷◌, Option, Some, None, take, drop, codes}
-use Rattle.std.specs.Option.{option_and_then}
+use Rattle.std.specs.Option.{option_and_then, option_map}
 use Rattle.std.specs.List.{slice_split}
 use Rattle.std.specs.Str.{bytes_eq}
 use Rattle.trace_lex.specs.Names.{is_name}
 use Rattle.trace_lex.specs.Decimals.{decimal_number, has_leading_zero}
+use Rattle.trace_command.specs.declared.file_name.CpuFile.{CpuFile}
+use Rattle.trace_command.specs.declared.file_name.CpuFile.TheVariants as per_cpu
+use Rattle.trace_command.specs.declared.file_name.EventFile.{EventFile}
+use Rattle.trace_command.specs.declared.file_name.EventFile.TheVariants as per_event
+use Rattle.trace_command.specs.declared.file_name.TopFile.{TopFile}
+use Rattle.trace_command.specs.declared.file_name.TopFile.TheVariants as top
 
 -- what is between the slashes of a path
 abbrev pub parts : List ℕ → List (List ℕ)
 parts path = slice_split (λ b. b == 47) path
 
--- a file. One of an event has the event's name, one of a CPU its number. There is one system of events, so the switch of all events is one
--- file with two paths.
+-- a file: that of all declarations, one of an instance itself, one of a CPU, by its number, or one of an event, by its name. There is one system
+-- of events, so the switch of all events is one file with two paths.
 pub data File : Type 0 where
-  Trace : File
-  CpuTrace : ℕ → File
-  TracePipe : File
-  CpuTracePipe : ℕ → File
-  CpuStats : ℕ → File
-  Overwrite : File
-  TraceOptions : File
-  TracingOn : File
-  Snapshot : File
   SyntheticEvents : File
-  EventsEnable : File
-  EventsFilter : File
-  EventEnable : List ℕ → File
-  EventFilter : List ℕ → File
-  EventTrigger : List ℕ → File
-  EventHist : List ℕ → File
-  EventFormat : List ℕ → File
+  OfInstance : TopFile → File
+  OfCpu : ℕ → CpuFile → File
+  OfEvent : List ℕ → EventFile → File
 
 -- the number in `cpuN`: decimal, without leading zeros
 abbrev pub cpu_number : List ℕ → Option ℕ
@@ -39,54 +32,55 @@ cpu_number part =
 -- a file at the top
 unfoldable pub top_file : List ℕ → Option File
 top_file name =
-    if bytes_eq name (codes "trace") then Some Trace
-    else (if bytes_eq name (codes "trace_pipe") then Some TracePipe
-    else (if bytes_eq name (codes "trace_options") then Some TraceOptions
-    else (if bytes_eq name (codes "tracing_on") then Some TracingOn
-    else (if bytes_eq name (codes "snapshot") then Some Snapshot
+    if bytes_eq name (codes "trace") then Some (OfInstance top.Trace)
+    else (if bytes_eq name (codes "trace_pipe") then Some (OfInstance top.TracePipe)
+    else (if bytes_eq name (codes "trace_options") then Some (OfInstance top.TraceOptions)
+    else (if bytes_eq name (codes "tracing_on") then Some (OfInstance top.TracingOn)
+    else (if bytes_eq name (codes "snapshot") then Some (OfInstance top.Snapshot)
     else (if bytes_eq name (codes "synthetic_events") then Some SyntheticEvents else None)))))
 
 -- a file of an option
-unfoldable pub option_file : List ℕ → Option File
-option_file name = if bytes_eq name (codes "overwrite") then Some Overwrite else None
+unfoldable pub option_file : List ℕ → Option TopFile
+option_file name = if bytes_eq name (codes "overwrite") then Some top.Overwrite else None
 
 -- a file of all events, below `events`
-unfoldable pub events_file : List ℕ → Option File
-events_file name = if bytes_eq name (codes "enable") then Some EventsEnable else None
+unfoldable pub events_file : List ℕ → Option TopFile
+events_file name = if bytes_eq name (codes "enable") then Some top.EventsEnable else None
 
 -- a file of all events of the one system
-unfoldable pub system_file : List ℕ → Option File
+unfoldable pub system_file : List ℕ → Option TopFile
 system_file name =
-    if bytes_eq name (codes "enable") then Some EventsEnable
-    else (if bytes_eq name (codes "filter") then Some EventsFilter else None)
+    if bytes_eq name (codes "enable") then Some top.EventsEnable
+    else (if bytes_eq name (codes "filter") then Some top.EventsFilter else None)
 
 -- a file of a CPU
-unfoldable pub cpu_file : ℕ → List ℕ → Option File
-cpu_file cpu name =
-    if bytes_eq name (codes "stats") then Some (CpuStats cpu)
-    else (if bytes_eq name (codes "trace") then Some (CpuTrace cpu)
-    else (if bytes_eq name (codes "trace_pipe") then Some (CpuTracePipe cpu) else None))
+unfoldable pub cpu_file : List ℕ → Option CpuFile
+cpu_file name =
+    if bytes_eq name (codes "stats") then Some per_cpu.Stats
+    else (if bytes_eq name (codes "trace") then Some per_cpu.Trace
+    else (if bytes_eq name (codes "trace_pipe") then Some per_cpu.TracePipe else None))
 
 -- a file of an event
-unfoldable pub event_file : List ℕ → List ℕ → Option File
-event_file event name =
-    if bytes_eq name (codes "enable") then Some (EventEnable event)
-    else (if bytes_eq name (codes "filter") then Some (EventFilter event)
-    else (if bytes_eq name (codes "trigger") then Some (EventTrigger event)
-    else (if bytes_eq name (codes "hist") then Some (EventHist event)
-    else (if bytes_eq name (codes "format") then Some (EventFormat event) else None))))
+unfoldable pub event_file : List ℕ → Option EventFile
+event_file name =
+    if bytes_eq name (codes "enable") then Some per_event.Enable
+    else (if bytes_eq name (codes "filter") then Some per_event.Filter
+    else (if bytes_eq name (codes "trigger") then Some per_event.Trigger
+    else (if bytes_eq name (codes "hist") then Some per_event.Hist
+    else (if bytes_eq name (codes "format") then Some per_event.Format else None))))
 
 -- the file that the parts of a path name
 abbrev pub file_in : List (List ℕ) → Option File
 file_in (name ∷ []) = top_file name
 file_in (first ∷ name ∷ []) =
-    if bytes_eq first (codes "options") then option_file name
-    else (if bytes_eq first (codes "events") then events_file name else None)
+    if bytes_eq first (codes "options") then option_map OfInstance (option_file name)
+    else (if bytes_eq first (codes "events") then option_map OfInstance (events_file name) else None)
 file_in (first ∷ second ∷ name ∷ []) =
-    if bytes_eq first (codes "per_cpu") then option_and_then (λ cpu. cpu_file cpu name) (cpu_number second)
-    else (if bytes_eq first (codes "events") && bytes_eq second (codes "synthetic") then system_file name else None)
-file_in (first ∷ second ∷ third ∷ name ∷ []) =
-    if bytes_eq first (codes "events") && (bytes_eq second (codes "synthetic") && is_name third) then event_file third name else None
+    if bytes_eq first (codes "per_cpu") then option_and_then (λ cpu. option_map (OfCpu cpu) (cpu_file name)) (cpu_number second)
+    else (if bytes_eq first (codes "events") && bytes_eq second (codes "synthetic") then option_map OfInstance (system_file name) else None)
+file_in (first ∷ second ∷ event ∷ name ∷ []) =
+    if bytes_eq first (codes "events") && (bytes_eq second (codes "synthetic") && is_name event) then option_map (OfEvent event) (event_file name)
+    else None
 file_in _ = None
 
 -- ---- where a path leads

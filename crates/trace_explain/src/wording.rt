@@ -4,7 +4,7 @@ ghost use Rattle.std.specs.Prelude.{◌≡◌};
 ghost use Rattle.trace_explain.specs.Wording.{command_subject, value_words, most_words, busy_words, refusal_words, cause_words, fault_words};
 
 use crate::cause::Cause;
-use trace_command::{Command, Place, Refusal, address_of};
+use trace_command::{Command, FileName, Refusal, address_of};
 use trace_script::ScriptFault;
 
 /// What a command is about, as far as the words depend on it.
@@ -29,8 +29,8 @@ pub(crate) fn command_subject(command: &Command) -> Subject
     match command {
         Command::Emit { .. } => Subject::Emission,
         Command::Mkdir(_) | Command::Rmdir(_) => Subject::Instance,
-        Command::Write { path, .. } => match address_of(path.as_bytes()).place {
-            Some(Place::SyntheticEvents) => Subject::Declaration,
+        Command::Write { path, .. } => match address_of(path.as_bytes()).file {
+            Some(FileName::SyntheticEvents) => Subject::Declaration,
             _ => Subject::Write,
         },
         Command::Read { .. } => Subject::Read,

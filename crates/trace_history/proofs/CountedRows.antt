@@ -9,8 +9,9 @@ use Rattle.trace_format.specs.Definitions.{Definition}
 use Rattle.trace_trigger.specs.SameSpecs.{IsSame}
 use Rattle.trace_trigger.specs.declared.spec.Action.{Action}
 use Rattle.trace_trigger.specs.declared.spec.Action.TheVariants.{Clear}
-use Rattle.trace_command.specs.Paths.{EventTrigger}
+use Rattle.trace_command.specs.Paths.{OfEvent}
 use Rattle.trace_command.specs.Requests.{Request, WriteFile, Emission as Emits}
+use Rattle.trace_command.specs.declared.file_name.EventFile.TheVariants as per_event
 use Rattle.trace_history.specs.Emissions.{Emitted, emitted}
 use Rattle.trace_history.specs.HistTriggers.{HistTrigger, Written, written_to, hists_after, hists_of, asked_by, paused_after, is_paused, counted_hit, counted_by, empties, hits_of}
 use Rattle.trace_history.specs.Laws.{asks, clears, meets, IsRowOfEmission, CountedRowsAreOfEmissions, EmissionsAreCountedOnce, EmissionsAreCounted, PausesCountNothing, ClearsLeaveNone, OtherRequestsLeaveHistTriggers}
@@ -184,7 +185,7 @@ pauses_count_nothing instance event t (next ∷ later) past attached paused unas
 
 pub clears_leave_none : ClearsLeaveNone
 clears_leave_none instance event t past text spec attached said same clear =
-    let request : Request = WriteFile instance (Some (EventTrigger event.name)) true text in
+    let request : Request = WriteFile instance (Some (OfEvent event.name per_event.Trigger)) true text in
     let asked : asked_by event t (written_to instance event request) ≡ Some Clear =
     rw (is_same-self instance, (bytes_eq-Decides event.name event.name).1 refl, said, same-back t.spec spec (back same)) (ap Some clear) in (
       hits-cleared instance event t past request attached (ap empties asked),

@@ -2,9 +2,10 @@
 use Rattle.std.proofs.Common.{◌≡◌, ℕ, Bool, true, false, List, Option, Some, option_map, refl, ap, ◌∙◌}
 use Rattle.page_ring.specs.Events as ring
 use Rattle.trace_lex.specs.Decimals.{written_number}
-use Rattle.trace_command.specs.Paths.{Snapshot}
+use Rattle.trace_command.specs.Paths.{OfInstance}
 use Rattle.trace_command.specs.Requests.{Request, Emission, MakeInstance, WriteFile}
 use Rattle.trace_command.specs.declared.command.Config.{Config}
+use Rattle.trace_command.specs.declared.file_name.TopFile.TheVariants as top
 use Rattle.trace_history.specs.Emissions.{Emitted}
 use Rattle.trace_history.specs.Laws.{writes_snapshot, SnapshotsSwapTheSides, TriggersSwapTheSides, SnapshotsStay}
 use Rattle.trace_history.specs.Rings.{with_emitted, rings_after_write, rings_after, spare_after, rings, other_rings}
@@ -20,13 +21,13 @@ unfolding written_snapshot
 one-takes text one = ap (option_map snapshot_write) one
 
 -- the write itself leaves the rings as they are
-written-stay : (append : Bool) (family : List (List ring.Event)) → rings_after_write append (Some Snapshot) family ≡ family
+written-stay : (append : Bool) (family : List (List ring.Event)) → rings_after_write append (Some (OfInstance top.Snapshot)) family ≡ family
 written-stay true family = refl
 written-stay false family = refl
 
 pub snapshots_swap_the_sides : SnapshotsSwapTheSides
 snapshots_swap_the_sides g past instance append text one =
-    let request : Request = WriteFile instance (Some Snapshot) append text in
+    let request : Request = WriteFile instance (Some (OfInstance top.Snapshot)) append text in
     let takes = one-takes text one in
     let flips : exchanges instance past request ≡ true = rw (is_same-self instance, takes) refl in
     let swapped = rings-exchanged g instance past request refl flips in
@@ -48,7 +49,7 @@ triggers_swap_the_sides g past instance _ e is acting = absurd (cc)
 
 spare-stays : (g : Config) (instance : Option (List ℕ)) (request : Request) (family : List (List ring.Event)) → makes instance request ≡ false
     → writes_snapshot instance request ≡ false → spare_after g instance request family ≡ family
-spare-stays g instance (WriteFile other (Some Snapshot) append text) family alive elsewhere = rw elsewhere refl
+spare-stays g instance (WriteFile other (Some (OfInstance top.Snapshot)) append text) family alive elsewhere = rw elsewhere refl
 spare-stays g instance (MakeInstance name) family alive elsewhere = rw alive refl
 spare-stays g instance request family alive elsewhere = refl
 

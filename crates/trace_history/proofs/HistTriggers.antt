@@ -20,10 +20,11 @@ use Rattle.trace_trigger.specs.TriggerTexts.{said_of}
 use Rattle.trace_trigger.specs.declared.fault.TriggerFault.{TriggerFault}
 use Rattle.trace_trigger.specs.declared.trigger.TriggerText.{TriggerText}
 use Rattle.trace_trigger.specs.declared.trigger.TriggerText.TheVariants.{Nothing, Attach, Remove, Hist, RemoveHist}
-use Rattle.trace_command.specs.Paths.{EventTrigger}
+use Rattle.trace_command.specs.Paths.{OfEvent}
 use Rattle.trace_command.specs.Requests.{Request, WriteFile, request_of}
 use Rattle.trace_command.specs.declared.command.Config.{Config}
 use Rattle.trace_command.specs.declared.command.Entry.{Entry}
+use Rattle.trace_command.specs.declared.file_name.EventFile.TheVariants as per_event
 use Rattle.trace_history.specs.History.{answer_with_room, missing_event, unless_refused, named_trigger_answer, trigger_answer, said_answer, new_hist_answer, room_answer, trigger_count, requests_of, IsLegalNewestFirst}
 use Rattle.trace_history.specs.HistTriggers.{HistTrigger, Written, says_same, has_same, kept_by, hists_said, written_to, hists_after, hists_of}
 use Rattle.trace_history.specs.Laws.{AtMostFourTriggers, HistTriggersDiffer, HistTriggersAreInOrder}
@@ -200,7 +201,7 @@ trigger_of-after instance event past request alive = rw alive (set-after request
     attached = trigger_of instance event past
 
     set-after : (r : Request) → unwrap_or (set_by instance (sets_trigger event past) r) attached ≡ trigger_after event (length past) (written_to instance event r) attached
-    set-after (WriteFile other (Some (EventTrigger name)) append text) = by (is_same instance other) (bytes_eq event.name name)
+    set-after (WriteFile other (Some (OfEvent name per_event.Trigger)) append text) = by (is_same instance other) (bytes_eq event.name name)
       where
         by : (same named : Bool)
             → unwrap_or (if same then (if named then written_trigger (length past) (said_of event text) else None) else None) attached
@@ -225,7 +226,7 @@ pub written-said : (g : Config) (instance : Option (List ℕ)) (past : List Requ
     → IsOk (answer_with_room g past request) → event_named k.event.name past ≡ Some k → written_to instance k.event request ≡ Some w
     → IsOk (said_answer w.append (trigger_of instance k.event past) (kept_by w.append (hists_of instance k.event past)) (said_of k.event w.text))
 unfolding trigger_answer
-written-said g instance past (WriteFile other (Some (EventTrigger name)) append text) k w done there is =
+written-said g instance past (WriteFile other (Some (OfEvent name per_event.Trigger)) append text) k w done there is =
     by (is_same instance other) (bytes_eq k.event.name name) refl refl is
   where
     asked : IsOk (unless_refused (missing_event past name) (named_trigger_answer other past append text (event_named name past)))
@@ -251,7 +252,7 @@ written-said g instance past _ k w done there is = absurd (cc)
 -- nothing is written for an event that is not declared
 pub written-none : (g : Config) (instance : Option (List ℕ)) (past : List Request) (request : Request) (event : Definition)
     → IsOk (answer_with_room g past request) → event_named event.name past ≡ None → written_to instance event request ≡ None
-written-none g instance past (WriteFile other (Some (EventTrigger name)) append text) event done none =
+written-none g instance past (WriteFile other (Some (OfEvent name per_event.Trigger)) append text) event done none =
     by (is_same instance other) (bytes_eq event.name name) refl
   where
     asked : IsOk (unless_refused (missing_event past name) (named_trigger_answer other past append text (event_named name past)))

@@ -10,7 +10,9 @@ use Rattle.page_ring.specs.Laws.{puts_pass, KeptWerePut}
 use Rattle.trace_buffer.specs.Families.{events_of, with_events, all_cleared, cpu_readings, kept_count}
 use Rattle.trace_text.specs.RecordText.{record_line}
 use Rattle.trace_command.specs.Configs.{IsInRange}
-use Rattle.trace_command.specs.Paths.{File, Trace, CpuTrace, TracePipe, CpuTracePipe, Snapshot}
+use Rattle.trace_command.specs.Paths.{File, OfInstance, OfCpu}
+use Rattle.trace_command.specs.declared.file_name.CpuFile.TheVariants as per_cpu
+use Rattle.trace_command.specs.declared.file_name.TopFile.TheVariants as top
 use Rattle.trace_history.specs.History.{requests_of, IsLegalNewestFirst}
 use Rattle.trace_history.specs.Laws.{ShowsEmission, KeptRecordsShowEmissions, KeptSpareRecordsShowEmissions}
 use Rattle.trace_command.specs.Requests.{Request, Emission, MakeInstance, RemoveInstance, WriteFile, ReadFile, request_of}
@@ -92,15 +94,15 @@ emitted-are instance cpu past request family alive all = by (emitted past reques
 
 written-are : (P : ring.Event → Type 0) (append : Bool) (file : Option File) (family : List (List ring.Event)) (cpu : ℕ)
     → AllByRecursion P (events_of family cpu) → AllByRecursion P (events_of (rings_after_write append file family) cpu)
-written-are P false (Some Trace) family cpu all = replicate-are_none P (length family) cpu
-written-are P false (Some (CpuTrace other)) family cpu all = with_cleared-are P family other cpu all
+written-are P false (Some (OfInstance top.Trace)) family cpu all = replicate-are_none P (length family) cpu
+written-are P false (Some (OfCpu other per_cpu.Trace)) family cpu all = with_cleared-are P family other cpu all
 written-are P append file family cpu all = all
 
 read-are : (P : ring.Event → Type 0) (g : Config) (limit : Option ℕ) (file : Option File) (family : List (List ring.Event)) (cpu : ℕ) → P ring.Take
     → AllByRecursion P (events_of family cpu) → AllByRecursion P (events_of (rings_after_read g limit file family) cpu)
-read-are P g limit (Some TracePipe) family cpu take all =
+read-are P g limit (Some (OfInstance top.TracePipe)) family cpu take all =
     consumed-are P g.pages g.page_bytes (up_to_limit limit (kept_count g.pages g.page_bytes family)) family cpu take all
-read-are P g limit (Some (CpuTracePipe other)) family cpu take all =
+read-are P g limit (Some (OfCpu other per_cpu.TracePipe)) family cpu take all =
     with_takes-are P family other cpu (up_to_limit limit (length (cpu_readings g.pages g.page_bytes family other))) take all
 read-are P g limit file family cpu take all = all
 
@@ -129,8 +131,8 @@ after-are g instance cpu past (RemoveInstance name) family alive all = all
 spare-are : (g : Config) (instance : Option (List ℕ)) (cpu : ℕ) (past : List Request) (request : Request) (family : List (List ring.Event))
     → makes instance request ≡ false → AreBrought instance cpu (request ∷ past) (events_of family cpu)
     → AreBrought instance cpu (request ∷ past) (events_of (spare_after g instance request family) cpu)
-spare-are g instance cpu past (WriteFile other (Some Snapshot) append text) family alive all =
-    let P = IsBrought instance cpu (WriteFile other (Some Snapshot) append text ∷ past) in
+spare-are g instance cpu past (WriteFile other (Some (OfInstance top.Snapshot)) append text) family alive all =
+    let P = IsBrought instance cpu (WriteFile other (Some (OfInstance top.Snapshot)) append text ∷ past) in
     either-are P (is_same instance other && clears_spare (written_snapshot text)) (all_cleared family) family cpu
     (replicate-are_none P (length family) cpu) all
 spare-are g instance cpu past (MakeInstance name) family alive all = rw alive all

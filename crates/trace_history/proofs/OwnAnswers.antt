@@ -22,7 +22,7 @@ use Rattle.trace_trigger.specs.declared.fault.TriggerFault.{TriggerFault}
 use Rattle.trace_trigger.specs.declared.fault.TriggerFault.TheVariants as faults
 use Rattle.trace_trigger.specs.declared.trigger.TriggerText.{TriggerText}
 use Rattle.trace_trigger.specs.declared.trigger.TriggerText.TheVariants as texts
-use Rattle.trace_command.specs.Paths.{File, Trace, CpuTrace, TracePipe, CpuTracePipe, CpuStats, Overwrite, TraceOptions, TracingOn, Snapshot, SyntheticEvents, EventsEnable, EventsFilter, EventEnable, EventFilter, EventTrigger, EventHist, EventFormat}
+use Rattle.trace_command.specs.Paths.{File, SyntheticEvents, OfInstance, OfCpu, OfEvent}
 use Rattle.trace_command.specs.Refusals.{refusal_of_catalog, refusal_of_filter, refusal_of_trigger}
 use Rattle.trace_command.specs.Requests.{Request, Emission, MakeInstance, RemoveInstance, WriteFile, ReadFile, request_of}
 use Rattle.trace_command.specs.declared.command.Command.{Command}
@@ -30,9 +30,12 @@ use Rattle.trace_command.specs.declared.command.Config.{Config}
 use Rattle.trace_command.specs.declared.command.Entry.{Entry}
 use Rattle.trace_command.specs.declared.command.Reply.{Reply}
 use Rattle.trace_command.specs.declared.command.Reply.TheVariants as replies
+use Rattle.trace_command.specs.declared.file_name.CpuFile.TheVariants as per_cpu
+use Rattle.trace_command.specs.declared.file_name.EventFile.TheVariants as per_event
+use Rattle.trace_command.specs.declared.file_name.TopFile.TheVariants as top
 use Rattle.trace_command.specs.declared.refusal.Refusal.{Refusal}
 use Rattle.trace_command.specs.declared.refusal.Refusal.TheVariants as refusals
-use Rattle.trace_history.specs.History.{row_answer, event_answer, emission_answer, added_answer, read_declaration_answer, declaration_answer, switch_answer, taken_answer, filter_answer, named_filter_answer, filter_of_all_answer, option_answer, tracing_answer, spare_answer, snapshot_answer, most_triggers, trigger_count, room_answer, asked_answer, new_hist_answer, said_answer, trigger_answer, named_trigger_answer, write_answer, whole_text, read_answer, most_instances, named_answer, make_answer, remove_answer, missing_cpu, missing_event, missing, unless_refused, file_answer, instance_answer, answer_with_room, unless_full, answer, past_of, answer_to}
+use Rattle.trace_history.specs.History.{row_answer, event_answer, emission_answer, added_answer, read_declaration_answer, declaration_answer, switch_answer, taken_answer, filter_answer, named_filter_answer, filter_of_all_answer, option_answer, tracing_answer, spare_answer, snapshot_answer, most_triggers, trigger_count, room_answer, asked_answer, new_hist_answer, said_answer, trigger_answer, named_trigger_answer, write_answer, text_of, whole_text, read_answer, most_instances, named_answer, make_answer, remove_answer, missing_cpu, missing_event, missing, unless_refused, file_answer, instance_answer, answer_with_room, unless_full, answer, past_of, answer_to}
 use Rattle.trace_history.specs.Settings.{NumberedEvent, event_named, declared_events, written_flag, written_option, written_tracing, instance_names, is_there, clears_filter, can_take}
 use Rattle.trace_history.specs.Snapshots.{SnapshotWrite, Frees, Takes, Empties, written_snapshot}
 use Rattle.trace_history.specs.Triggers.{Trigger, trigger_of, has_trigger}
@@ -150,23 +153,18 @@ named_trigger instance past append text (Some k) =
 written : (g : Config) (instance : Option (List ℕ)) (past : List Request) (append : Bool) (text : List ℕ) (file : File)
     → IsOwn (write_answer g instance past append text file)
 unfolding switch_answer option_answer tracing_answer snapshot_answer
-written g instance past append text Trace = tt
-written g instance past append text (CpuTrace cpu) = tt
-written g instance past append text TracePipe = tt
-written g instance past append text (CpuTracePipe cpu) = tt
-written g instance past append text (CpuStats cpu) = tt
-written g instance past append text Overwrite = flagged (is_some (written_flag text))
-written g instance past append text TraceOptions = flagged (is_some (written_option text))
-written g instance past append text TracingOn = flagged (is_some (written_tracing text))
-written g instance past append text Snapshot = spare (has_trigger instance past) (written_snapshot text)
 written g instance past append text SyntheticEvents = declaration g past append text
-written g instance past append text (EventEnable event) = flagged (is_some (written_flag text))
-written g instance past append text EventsEnable = flagged (is_some (written_flag text))
-written g instance past append text EventsFilter = filter_of_all text (declared_events past)
-written g instance past append text (EventFilter event) = named_filter text (event_named event past)
-written g instance past append text (EventTrigger event) = named_trigger instance past append text (event_named event past)
-written g instance past append text (EventHist event) = tt
-written g instance past append text (EventFormat event) = tt
+written g instance past append text (OfInstance top.Overwrite) = flagged (is_some (written_flag text))
+written g instance past append text (OfInstance top.TraceOptions) = flagged (is_some (written_option text))
+written g instance past append text (OfInstance top.TracingOn) = flagged (is_some (written_tracing text))
+written g instance past append text (OfInstance top.Snapshot) = spare (has_trigger instance past) (written_snapshot text)
+written g instance past append text (OfInstance top.EventsEnable) = flagged (is_some (written_flag text))
+written g instance past append text (OfInstance top.EventsFilter) = filter_of_all text (declared_events past)
+written g instance past append text (OfCpu cpu per_cpu.Trace) = tt
+written g instance past append text (OfEvent event per_event.Enable) = flagged (is_some (written_flag text))
+written g instance past append text (OfEvent event per_event.Filter) = named_filter text (event_named event past)
+written g instance past append text (OfEvent event per_event.Trigger) = named_trigger instance past append text (event_named event past)
+written g instance past append text _ = tt
 
 -- ---- reads
 
@@ -176,23 +174,10 @@ whole (Some limit) text = tt
 
 shown : (g : Config) (instance : Option (List ℕ)) (past : List Request) (limit : Option ℕ) (file : File)
     → IsOwn (read_answer g instance past limit file)
-shown g instance past limit Trace = whole limit _
-shown g instance past limit (CpuTrace cpu) = whole limit _
-shown g instance past limit TracePipe = tt
-shown g instance past limit (CpuTracePipe cpu) = tt
-shown g instance past limit (CpuStats cpu) = whole limit _
-shown g instance past limit Overwrite = whole limit _
-shown g instance past limit TraceOptions = whole limit _
-shown g instance past limit TracingOn = whole limit _
-shown g instance past limit Snapshot = whole limit _
-shown g instance past limit SyntheticEvents = whole limit _
-shown g instance past limit (EventEnable event) = whole limit _
-shown g instance past limit EventsEnable = whole limit _
-shown g instance past limit EventsFilter = tt
-shown g instance past limit (EventFilter event) = whole limit _
-shown g instance past limit (EventTrigger event) = whole limit _
-shown g instance past limit (EventHist event) = whole limit _
-shown g instance past limit (EventFormat event) = whole limit _
+shown g instance past limit (OfInstance top.TracePipe) = tt
+shown g instance past limit (OfCpu cpu per_cpu.TracePipe) = tt
+shown g instance past limit (OfInstance top.EventsFilter) = tt
+shown g instance past limit file = whole limit (text_of g instance past file)
 
 -- ---- all requests
 
@@ -229,23 +214,10 @@ event_there past event answered a = missing_one (is_some (event_named event past
 
 file_there : (g : Config) (past : List Request) (file : File) (answered : Result Reply Refusal) → IsOwn answered
     → IsOwn (unless_refused (missing g past file) answered)
-file_there g past (CpuTrace cpu) answered a = cpu_there g cpu answered a
-file_there g past (CpuTracePipe cpu) answered a = cpu_there g cpu answered a
-file_there g past (CpuStats cpu) answered a = cpu_there g cpu answered a
-file_there g past (EventEnable event) answered a = event_there past event answered a
-file_there g past (EventFilter event) answered a = event_there past event answered a
-file_there g past (EventTrigger event) answered a = event_there past event answered a
-file_there g past (EventHist event) answered a = event_there past event answered a
-file_there g past (EventFormat event) answered a = event_there past event answered a
-file_there g past Trace answered a = a
-file_there g past TracePipe answered a = a
-file_there g past Overwrite answered a = a
-file_there g past TraceOptions answered a = a
-file_there g past TracingOn answered a = a
-file_there g past Snapshot answered a = a
 file_there g past SyntheticEvents answered a = a
-file_there g past EventsEnable answered a = a
-file_there g past EventsFilter answered a = a
+file_there g past (OfInstance file) answered a = a
+file_there g past (OfCpu cpu file) answered a = cpu_there g cpu answered a
+file_there g past (OfEvent event file) answered a = event_there past event answered a
 
 on_file : (g : Config) (past : List Request) (answered : File → Result Reply Refusal) (file : Option File)
     → ((f : File) → IsOwn (answered f)) → IsOwn (file_answer g past answered file)

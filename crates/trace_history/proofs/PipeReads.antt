@@ -12,9 +12,11 @@ use Rattle.trace_buffer.specs.Orders.{taken_of_cpu, after_cpu_reads}
 use Rattle.trace_history.specs.Laws.{those_of, PipeReadsConsumeWhatTheyShow, WholePipeReadsConsumeWhatTheyShow}
 use Rattle.trace_history.specs.Rings.{up_to_limit, pipe_read, cpu_pipe_read, rings_after_read, rings}
 use Rattle.trace_history.specs.Settings.{is_same}
-use Rattle.trace_command.specs.Paths.{File, TracePipe, CpuTracePipe}
+use Rattle.trace_command.specs.Paths.{File, OfInstance, OfCpu}
 use Rattle.trace_command.specs.Requests.{Request, ReadFile}
 use Rattle.trace_command.specs.declared.command.Config.{Config}
+use Rattle.trace_command.specs.declared.file_name.CpuFile.TheVariants as per_cpu
+use Rattle.trace_command.specs.declared.file_name.TopFile.TheVariants as top
 use Rattle.trace_history.proofs.Sides.{rings-stay}
 
 -- ---- one CPU's readings among those of all
@@ -89,11 +91,11 @@ pipe_reads_consume_what_they_show consumed stay g past instance cpu other limit 
     let family = rings g instance past in
     one-shown consumed stay g.pages g.page_bytes cpu family (up_to_limit limit (length (cpu_readings g.pages g.page_bytes family cpu))) other
     ∙ ap (λ (after : List (List Event)). those_of other (cpu_pipe_read g cpu limit family).taken
-    ++ map (on_cpu other) (cpu_readings g.pages g.page_bytes after other)) (sym (after_read g past instance (Some (CpuTracePipe cpu)) limit))
+    ++ map (on_cpu other) (cpu_readings g.pages g.page_bytes after other)) (sym (after_read g past instance (Some (OfCpu cpu per_cpu.TracePipe)) limit))
 
 pub whole_pipe_reads_consume_what_they_show : ReadsConsumeWhatTheyTake → WholePipeReadsConsumeWhatTheyShow
 whole_pipe_reads_consume_what_they_show consumed g past instance cpu limit =
     let family = rings g instance past in
     consumed g.pages g.page_bytes (up_to_limit limit (kept_count g.pages g.page_bytes family)) cpu family
     ∙ ap (λ (after : List (List Event)). those_of cpu (pipe_read g limit family).taken
-    ++ map (on_cpu cpu) (cpu_readings g.pages g.page_bytes after cpu)) (sym (after_read g past instance (Some TracePipe) limit))
+    ++ map (on_cpu cpu) (cpu_readings g.pages g.page_bytes after cpu)) (sym (after_read g past instance (Some (OfInstance top.TracePipe)) limit))

@@ -4,9 +4,11 @@ use Rattle.std.proofs.lemmas.List.{length-set, length-replicate}
 use Rattle.page_ring.specs.Events as ring
 use Rattle.trace_buffer.specs.Families.{events_of, with_events, all_cleared, cpu_readings, kept_count}
 use Rattle.trace_buffer.specs.Orders.{Candidate, Consumed, next_from, consume_any}
-use Rattle.trace_command.specs.Paths.{File, Trace, CpuTrace, TracePipe, CpuTracePipe, Snapshot}
+use Rattle.trace_command.specs.Paths.{File, OfInstance, OfCpu}
 use Rattle.trace_command.specs.Requests.{Request, Emission, MakeInstance, RemoveInstance, WriteFile, ReadFile}
 use Rattle.trace_command.specs.declared.command.Config.{Config}
+use Rattle.trace_command.specs.declared.file_name.CpuFile.TheVariants as per_cpu
+use Rattle.trace_command.specs.declared.file_name.TopFile.TheVariants as top
 use Rattle.trace_history.specs.Emissions.{Emitted, emitted, emitted_bytes, is_recorded}
 use Rattle.trace_history.specs.Rings.{up_to_limit, new_rings, with_emitted, rings_after_write, rings_after_read, rings_after, spare_after, rings_of_side, rings, other_rings}
 use Rattle.trace_history.specs.Settings.{is_same, makes, overwrites}
@@ -163,15 +165,15 @@ length-emitted instance past (Some e) family = by (is_recorded instance past e)
     by false = refl
 
 length-written : (append : Bool) (file : Option File) (family : List (List ring.Event)) → length (rings_after_write append file family) ≡ length family
-length-written false (Some Trace) family = let none : List ring.Event = [] in length-replicate (length family) none
-length-written false (Some (CpuTrace cpu)) family = length-set family cpu []
+length-written false (Some (OfInstance top.Trace)) family = let none : List ring.Event = [] in length-replicate (length family) none
+length-written false (Some (OfCpu cpu per_cpu.Trace)) family = length-set family cpu []
 length-written append file family = refl
 
 length-read : (g : Config) (limit : Option ℕ) (file : Option File) (family : List (List ring.Event))
     → length (rings_after_read g limit file family) ≡ length family
-length-read g limit (Some TracePipe) family =
+length-read g limit (Some (OfInstance top.TracePipe)) family =
     length-consumed g.pages g.page_bytes (up_to_limit limit (kept_count g.pages g.page_bytes family)) family
-length-read g limit (Some (CpuTracePipe cpu)) family =
+length-read g limit (Some (OfCpu cpu per_cpu.TracePipe)) family =
     length-with_events cpu (replicate (up_to_limit limit (length (cpu_readings g.pages g.page_bytes family cpu))) ring.Take) family
 length-read g limit file family = refl
 
@@ -201,7 +203,7 @@ length-cleared family = let none : List ring.Event = [] in length-replicate (len
 
 length-spare : (g : Config) (instance : Option (List ℕ)) (request : Request) (family : List (List ring.Event))
     → length family ≡ g.cpus → length (spare_after g instance request family) ≡ g.cpus
-length-spare g instance (WriteFile other (Some Snapshot) append text) family is =
+length-spare g instance (WriteFile other (Some (OfInstance top.Snapshot)) append text) family is =
     length-either (is_same instance other && clears_spare (written_snapshot text)) (all_cleared family) family g.cpus (length-cleared family ∙ is) is
 length-spare g instance (MakeInstance name) family is =
     length-either (makes instance (MakeInstance name)) (new_rings g) family g.cpus (length-new g) is

@@ -15,10 +15,12 @@ use Rattle.trace_trigger.specs.TriggerTexts.{said_of}
 use Rattle.trace_trigger.specs.declared.fault.TriggerFault.{TriggerFault}
 use Rattle.trace_trigger.specs.declared.trigger.TriggerText.{TriggerText}
 use Rattle.trace_trigger.specs.declared.trigger.TriggerText.TheVariants.{Nothing, Attach, Remove, Hist, RemoveHist}
-use Rattle.trace_command.specs.Paths.{File, Snapshot, EventTrigger}
+use Rattle.trace_command.specs.Paths.{File, OfInstance, OfEvent}
 use Rattle.trace_command.specs.Requests.{Request, Emission, MakeInstance, WriteFile, request_of}
 use Rattle.trace_command.specs.declared.command.Config.{Config}
 use Rattle.trace_command.specs.declared.command.Entry.{Entry}
+use Rattle.trace_command.specs.declared.file_name.EventFile.TheVariants as per_event
+use Rattle.trace_command.specs.declared.file_name.TopFile.TheVariants as top
 use Rattle.trace_history.specs.Emissions.{Emitted, emitted, emitted_event, emitted_row}
 use Rattle.trace_history.specs.History.{answer_with_room, missing_event, unless_refused, spare_answer, snapshot_answer, named_trigger_answer, requests_of, IsLegalNewestFirst}
 use Rattle.trace_history.specs.Laws.{TriggersHaveTheirSpare, SparesBeginEmpty}
@@ -64,7 +66,7 @@ said-armed number (Err fault) t is = absurd (cc)
 -- a write that attaches a trigger to a declared event makes a spare
 sets-armed : (k : NumberedEvent) (past : List Request) (file : File) (text : List ℕ) (t : Trigger) → event_named k.event.name past ≡ Some k
     → sets_trigger k.event past file text ≡ Some (Some t) → sets_spare past file text ≡ Some true
-sets-armed k past (EventTrigger name) text t there is = by (bytes_eq k.event.name name) refl is
+sets-armed k past (OfEvent name per_event.Trigger) text t there is = by (bytes_eq k.event.name name) refl is
   where
     by : (same : Bool) → bytes_eq k.event.name name ≡ same
         → (if same then written_trigger (length past) (said_of k.event text) else None) ≡ Some (Some t) → spare_armed_for (event_named name past) text ≡ Some true
@@ -88,7 +90,7 @@ set-armed instance k past _ t there is = absurd (cc)
 -- a write that is done sets none for an event that is not declared
 sets-none : (g : Config) (other : Option (List ℕ)) (past : List Request) (append : Bool) (file : File) (text : List ℕ) (event : Definition)
     → IsOk (answer_with_room g past (WriteFile other (Some file) append text)) → event_named event.name past ≡ None → sets_trigger event past file text ≡ None
-sets-none g other past append (EventTrigger name) text event done none = by (bytes_eq event.name name) refl
+sets-none g other past append (OfEvent name per_event.Trigger) text event done none = by (bytes_eq event.name name) refl
   where
     asked : IsOk (unless_refused (missing_event past name) (named_trigger_answer other past append text (event_named name past)))
     asked = asked-done other past (unless_refused (missing_event past name) (named_trigger_answer other past append text (event_named name past))) done
@@ -116,7 +118,7 @@ set-none g instance past _ event done none = refl
 pub record IsFreed (instance : Option (List ℕ)) (request : Request) : Type 0 where
   pub append : Bool
   pub text : List ℕ
-  pub is : request ≡ WriteFile instance (Some Snapshot) append text
+  pub is : request ≡ WriteFile instance (Some (OfInstance top.Snapshot)) append text
   pub frees : written_snapshot text ≡ Some Frees
 
 written-frees : (write : Option SnapshotWrite) → spare_written write ≡ Some false → write ≡ Some Frees
@@ -139,21 +141,21 @@ armed-for (Some k) text is = said-arms (said_of k.event text) is
 
 pub set-freed : (instance : Option (List ℕ)) (past : List Request) (request : Request) → set_by instance (sets_spare past) request ≡ Some false
     → IsFreed instance request
-set-freed instance past (WriteFile other (Some Snapshot) append text) is = by (is_same instance other) refl is
+set-freed instance past (WriteFile other (Some (OfInstance top.Snapshot)) append text) is = by (is_same instance other) refl is
   where
     by : (same : Bool) → is_same instance other ≡ same → (if same then spare_written (written_snapshot text) else None) ≡ Some false
-        → IsFreed instance (WriteFile other (Some Snapshot) append text)
+        → IsFreed instance (WriteFile other (Some (OfInstance top.Snapshot)) append text)
     by true same h = record {
       append = append;
       text = text;
-      is = ap (λ (o : Option (List ℕ)). let r : Request = WriteFile o (Some Snapshot) append text in r) (sym (same-instance instance other same));
+      is = ap (λ (o : Option (List ℕ)). let r : Request = WriteFile o (Some (OfInstance top.Snapshot)) append text in r) (sym (same-instance instance other same));
       frees = written-frees (written_snapshot text) h;
     }
     by false same h = absurd (cc)
-set-freed instance past (WriteFile other (Some (EventTrigger name)) append text) is = by (is_same instance other) is
+set-freed instance past (WriteFile other (Some (OfEvent name per_event.Trigger)) append text) is = by (is_same instance other) is
   where
     by : (same : Bool) → (if same then spare_armed_for (event_named name past) text else None) ≡ Some false
-        → IsFreed instance (WriteFile other (Some (EventTrigger name)) append text)
+        → IsFreed instance (WriteFile other (Some (OfEvent name per_event.Trigger)) append text)
     by true h = absurd (armed-for (event_named name past) text h)
     by false h = absurd (cc)
 set-freed instance past (WriteFile other (Some file) append text) is = by (is_same instance other) is
@@ -166,7 +168,7 @@ set-freed instance past _ is = absurd (cc)
 
 -- it is freed only where no event has a trigger
 freed-unused : (g : Config) (instance : Option (List ℕ)) (past : List Request) (append : Bool) (text : List ℕ)
-    → IsOk (answer_with_room g past (WriteFile instance (Some Snapshot) append text)) → written_snapshot text ≡ Some Frees → has_trigger instance past ≡ false
+    → IsOk (answer_with_room g past (WriteFile instance (Some (OfInstance top.Snapshot)) append text)) → written_snapshot text ≡ Some Frees → has_trigger instance past ≡ false
 unfolding snapshot_answer
 freed-unused g instance past append text done frees =
     let asked : IsOk (spare_answer (has_trigger instance past) (written_snapshot text)) =
@@ -295,7 +297,7 @@ triggers_have_their_spare g entries instance legal has =
 
 -- new rings stay so on the other side
 new-stay : (g : Config) (instance : Option (List ℕ)) (request : Request) → spare_after g instance request (new_rings g) ≡ new_rings g
-new-stay g instance (WriteFile other (Some Snapshot) append text) = by (is_same instance other && clears_spare (written_snapshot text))
+new-stay g instance (WriteFile other (Some (OfInstance top.Snapshot)) append text) = by (is_same instance other && clears_spare (written_snapshot text))
   where
     by : (clears : Bool) → (if clears then all_cleared (new_rings g) else new_rings g) ≡ new_rings g
     by true =
@@ -329,7 +331,7 @@ takes-spare None is = absurd (cc)
 exchange-armed : (instance : Option (List ℕ)) (past : List Request) (request : Request) → exchanges instance past request ≡ true
     → (set_by instance (sets_spare past) request ≡ Some true)
     ⊎ ((is_exchanged_by instance past (emitted past request) ≡ true) × (set_by instance (sets_spare past) request ≡ None))
-exchange-armed instance past (WriteFile other (Some Snapshot) append text) is =
+exchange-armed instance past (WriteFile other (Some (OfInstance top.Snapshot)) append text) is =
     let parts = and_parts (is_same instance other) (takes_snapshot (written_snapshot text)) is in
     inl (rw parts.0 (takes-spare (written_snapshot text) parts.1))
 exchange-armed instance past (Emission name cpu pid pairs) is = inr (is, refl)

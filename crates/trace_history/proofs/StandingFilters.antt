@@ -9,8 +9,10 @@ use Rattle.trace_format.specs.Definitions.{Definition}
 use Rattle.trace_lex.proofs.Options.{if_some}
 use Rattle.trace_history.specs.History.{answer_with_room, missing_event, unless_refused, named_filter_answer, filter_answer, taken_answer, requests_of, IsLegalNewestFirst}
 use Rattle.trace_history.specs.Laws.{FiltersAreOfTheirEvents, FiltersHoldAsTheirTrees}
-use Rattle.trace_command.specs.Paths.{File, EventFilter, EventsFilter}
+use Rattle.trace_command.specs.Paths.{File, OfInstance, OfEvent}
 use Rattle.trace_command.specs.Requests.{Request, WriteFile, request_of}
+use Rattle.trace_command.specs.declared.file_name.EventFile.TheVariants as per_event
+use Rattle.trace_command.specs.declared.file_name.TopFile.TheVariants as top
 use Rattle.trace_history.specs.Emissions.{filter_holds}
 use Rattle.trace_history.specs.Settings.{NumberedEvent, set_by, is_same, makes, event_named, declares, declared_events, clears_filter, can_take, written_filter, written_to_all, sets_filter, filter_of}
 use Rattle.trace_command.specs.declared.command.Config.{Config}
@@ -53,7 +55,7 @@ set-is_write instance sets _ v is = absurd (cc)
 
 -- what the write of a filter that was done says of its event
 asked-named : (g : Config) (other : Option (List ℕ)) (past : List Request) (append : Bool) (event written name : List ℕ) (found : Option NumberedEvent)
-    → IsOk (answer_with_room g past (WriteFile other (Some (EventFilter event)) append written)) → bytes_eq name event ≡ true → event_named name past ≡ found
+    → IsOk (answer_with_room g past (WriteFile other (Some (OfEvent event per_event.Filter)) append written)) → bytes_eq name event ≡ true → event_named name past ≡ found
     → IsOk (unless_refused (if is_some found then None else Some NoSuchEvent) (named_filter_answer written found))
 asked-named g other past append event written name found done named is =
     let same : name ≡ event = (bytes_eq-Decides name event).0 named in
@@ -67,7 +69,7 @@ taken-by : (g : Config) (other : Option (List ℕ)) (past : List Request) (appen
     → IsOk (answer_with_room g past (WriteFile other (Some file) append written)) → event_named name past ≡ Some k
     → sets_filter name past file written ≡ Some (Some text) → can_take text k.event ≡ true
 unfolding filter_answer can_take
-taken-by g other past append (EventFilter event) written name k text done there sets =
+taken-by g other past append (OfEvent event per_event.Filter) written name k text done there sets =
     let set = if_some (bytes_eq name event) sets in
     by_clears (clears_filter written) refl (asked-named g other past append event written name (Some k) done set.0 there) set.1
   where
@@ -81,7 +83,7 @@ taken-by g other past append (EventFilter event) written name k text done there 
         let h : Some written ≡ Some text = rw is at s in
         let same : written ≡ text = cc in
         rw (← same) (by_answer (answer_of k.event written) refl (rw is at d))
-taken-by g other past append EventsFilter written name k text done there sets =
+taken-by g other past append (OfInstance top.EventsFilter) written name k text done there sets =
     by (clears_filter written) (can_take written k.event) refl refl (rw there at sets)
   where
     by : (off can : Bool) → clears_filter written ≡ off → can_take written k.event ≡ can → written_to_all written (Some k) ≡ Some (Some text) → can_take text k.event ≡ true
@@ -96,12 +98,12 @@ taken-by g other past append _ written name k text done there sets = absurd (cc)
 -- a write sets none for an event that is not declared
 none-by : (g : Config) (other : Option (List ℕ)) (past : List Request) (append : Bool) (file : File) (written name : List ℕ)
     → IsOk (answer_with_room g past (WriteFile other (Some file) append written)) → event_named name past ≡ None → sets_filter name past file written ≡ None
-none-by g other past append (EventFilter event) written name done none = by (bytes_eq name event) refl
+none-by g other past append (OfEvent event per_event.Filter) written name done none = by (bytes_eq name event) refl
   where
     by : (same : Bool) → bytes_eq name event ≡ same → (if same then Some (written_filter written) else None) ≡ None
     by false is = refl
     by true is = absurd (let h = asked-named g other past append event written name None done is none in cc)
-none-by g other past append EventsFilter written name done none = rw none refl
+none-by g other past append (OfInstance top.EventsFilter) written name done none = rw none refl
 none-by g other past append _ written name done none = refl
 
 -- the filter that a request sets for an event of an instance

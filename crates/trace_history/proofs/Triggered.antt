@@ -7,8 +7,9 @@ use Rattle.trace_trigger.specs.TriggerTexts.{said_of}
 use Rattle.trace_trigger.specs.declared.fault.TriggerFault.{TriggerFault}
 use Rattle.trace_trigger.specs.declared.trigger.TriggerText.{TriggerText}
 use Rattle.trace_trigger.specs.declared.trigger.TriggerText.TheVariants.{Nothing, Attach, Remove, Hist, RemoveHist}
-use Rattle.trace_command.specs.Paths.{File, EventTrigger}
+use Rattle.trace_command.specs.Paths.{File, OfEvent}
 use Rattle.trace_command.specs.Requests.{Request, WriteFile}
+use Rattle.trace_command.specs.declared.file_name.EventFile.TheVariants as per_event
 use Rattle.trace_history.specs.Emissions.{Emitted, emitted}
 use Rattle.trace_history.specs.Settings.{is_same, makes, set_by}
 use Rattle.trace_history.specs.Triggers.{Trigger, written_trigger, sets_trigger, trigger_of, met_by, met, times_left}
@@ -25,7 +26,7 @@ said-number number (Err fault) t is = absurd (cc)
 
 sets-number : (event : Definition) (past : List Request) (file : File) (text : List ℕ) (t : Trigger)
     → sets_trigger event past file text ≡ Some (Some t) → t.number ≡ length past
-sets-number event past (EventTrigger name) text t is = by (bytes_eq event.name name) is
+sets-number event past (OfEvent name per_event.Trigger) text t is = by (bytes_eq event.name name) is
   where
     by : (same : Bool) → (if same then written_trigger (length past) (said_of event text) else None) ≡ Some (Some t) → t.number ≡ length past
     by true h = said-number (length past) (said_of event text) t h

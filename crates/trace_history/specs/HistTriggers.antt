@@ -14,8 +14,9 @@ use Rattle.trace_trigger.specs.TriggerTexts.{said_of}
 use Rattle.trace_trigger.specs.declared.fault.TriggerFault.{TriggerFault}
 use Rattle.trace_trigger.specs.declared.trigger.TriggerText.{TriggerText}
 use Rattle.trace_trigger.specs.declared.trigger.TriggerText.TheVariants.{Hist, RemoveHist}
-use Rattle.trace_command.specs.Paths.{EventTrigger}
+use Rattle.trace_command.specs.Paths.{OfEvent}
 use Rattle.trace_command.specs.Requests.{Request, WriteFile}
+use Rattle.trace_command.specs.declared.file_name.EventFile.TheVariants as per_event
 use Rattle.trace_history.specs.Emissions.{Emitted, emitted}
 use Rattle.trace_history.specs.Settings.{is_same, makes}
 use Rattle.trace_history.specs.Triggers.{met_by}
@@ -52,7 +53,7 @@ pub record Written : Type 0 where
   pub text : List ℕ
 
 abbrev pub written_to : Option (List ℕ) → Definition → Request → Option Written
-written_to instance event (WriteFile other (Some (EventTrigger name)) append text) =
+written_to instance event (WriteFile other (Some (OfEvent name per_event.Trigger)) append text) =
     if is_same instance other && bytes_eq event.name name then Some (record { append = append; text = text }) else None
 written_to instance event request = None
 

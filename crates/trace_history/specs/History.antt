@@ -3,7 +3,10 @@ use Rattle.std.specs.Prelude.{ℕ, ◌+◌, ◌<◌, ◌^◌, nat_lt, Bool, true
 use Rattle.std.specs.List.{filter, list_all, list_any}
 use Rattle.std.specs.Option.{option_map}
 use Rattle.trace_buffer.specs.Families.{cpu_stats}
-use Rattle.trace_command.specs.Paths.{File, Trace, CpuTrace, TracePipe, CpuTracePipe, CpuStats, Overwrite, TraceOptions, TracingOn, Snapshot, SyntheticEvents, EventsEnable, EventsFilter, EventEnable, EventFilter, EventTrigger, EventHist, EventFormat}
+use Rattle.trace_command.specs.Paths.{File, SyntheticEvents, OfInstance, OfCpu, OfEvent}
+use Rattle.trace_command.specs.declared.file_name.CpuFile.TheVariants as per_cpu
+use Rattle.trace_command.specs.declared.file_name.EventFile.TheVariants as per_event
+use Rattle.trace_command.specs.declared.file_name.TopFile.TheVariants as top
 use Rattle.trace_filter.specs.declared.fault.FilterFault.{FilterFault}
 use Rattle.trace_filter.specs.Filters.{Parsed, answer_of}
 use Rattle.trace_trigger.specs.HistSpecs.{SpecSeen}
@@ -173,32 +176,23 @@ abbrev pub named_trigger_answer : Option (List ℕ) → List Request → Bool �
 named_trigger_answer instance past append text None = Err NoSuchEvent
 named_trigger_answer instance past append text (Some k) = trigger_answer instance past append text k.event
 
--- what a write to a file of an instance answers: to a trace any string is done, to a pipe, to statistics, to a histogram and to a format none
+-- what a write to a file of an instance answers: to a trace any string is done, and a file that is not named can't be written
 abbrev pub write_answer : Config → Option (List ℕ) → List Request → Bool → List ℕ → File → Result Reply Refusal
-write_answer g instance past append text Trace = Ok Done
-write_answer g instance past append text (CpuTrace cpu) = Ok Done
-write_answer g instance past append text TracePipe = Err NotWritable
-write_answer g instance past append text (CpuTracePipe cpu) = Err NotWritable
-write_answer g instance past append text (CpuStats cpu) = Err NotWritable
-write_answer g instance past append text Overwrite = switch_answer text
-write_answer g instance past append text TraceOptions = option_answer text
-write_answer g instance past append text TracingOn = tracing_answer text
-write_answer g instance past append text Snapshot = snapshot_answer instance past text
 write_answer g instance past append text SyntheticEvents = declaration_answer g past append text
-write_answer g instance past append text (EventEnable event) = switch_answer text
-write_answer g instance past append text EventsEnable = switch_answer text
-write_answer g instance past append text EventsFilter = filter_of_all_answer text (declared_events past)
-write_answer g instance past append text (EventFilter event) = named_filter_answer text (event_named event past)
-write_answer g instance past append text (EventTrigger event) = named_trigger_answer instance past append text (event_named event past)
-write_answer g instance past append text (EventHist event) = Err NotWritable
-write_answer g instance past append text (EventFormat event) = Err NotWritable
+write_answer g instance past append text (OfInstance top.Trace) = Ok Done
+write_answer g instance past append text (OfInstance top.Overwrite) = switch_answer text
+write_answer g instance past append text (OfInstance top.TraceOptions) = option_answer text
+write_answer g instance past append text (OfInstance top.TracingOn) = tracing_answer text
+write_answer g instance past append text (OfInstance top.Snapshot) = snapshot_answer instance past text
+write_answer g instance past append text (OfInstance top.EventsEnable) = switch_answer text
+write_answer g instance past append text (OfInstance top.EventsFilter) = filter_of_all_answer text (declared_events past)
+write_answer g instance past append text (OfCpu cpu per_cpu.Trace) = Ok Done
+write_answer g instance past append text (OfEvent event per_event.Enable) = switch_answer text
+write_answer g instance past append text (OfEvent event per_event.Filter) = named_filter_answer text (event_named event past)
+write_answer g instance past append text (OfEvent event per_event.Trigger) = named_trigger_answer instance past append text (event_named event past)
+write_answer g instance past append text _ = Err NotWritable
 
 -- ---- what each file shows
-
--- a file that is no pipe takes no limit
-abbrev pub whole_text : Option ℕ → List ℕ → Result Reply Refusal
-whole_text None text = Ok (Text text)
-whole_text (Some limit) text = Err BadValue
 
 -- the text of a switch
 unfoldable pub flag_text : Bool → List ℕ
@@ -283,26 +277,38 @@ abbrev pub hists_of_event : Option (List ℕ) → List Request → Option Number
 hists_of_event instance past None = []
 hists_of_event instance past (Some k) = hist_text (map (shown_hist instance past k.event) (hists_of instance k.event past))
 
--- a read of a file of an instance
+-- what a file shows that is read whole; of a pipe, and of the filter of all events, nothing
+abbrev pub text_of : Config → Option (List ℕ) → List Request → File → List ℕ
+text_of g instance past SyntheticEvents = declarations_text past
+text_of g instance past (OfInstance top.Trace) = shown_trace g instance past None
+text_of g instance past (OfInstance top.TracePipe) = []
+text_of g instance past (OfInstance top.Overwrite) = flag_text (overwrites instance past)
+text_of g instance past (OfInstance top.TraceOptions) = option_text (overwrites instance past)
+text_of g instance past (OfInstance top.TracingOn) = flag_text (is_tracing instance past)
+text_of g instance past (OfInstance top.Snapshot) = shown_snapshot g instance past
+text_of g instance past (OfInstance top.EventsEnable) =
+    switches_text (map (λ event. is_enabled instance event.name past) (declared_events past))
+text_of g instance past (OfInstance top.EventsFilter) = []
+text_of g instance past (OfCpu cpu per_cpu.Trace) = shown_trace g instance past (Some cpu)
+text_of g instance past (OfCpu cpu per_cpu.TracePipe) = []
+text_of g instance past (OfCpu cpu per_cpu.Stats) = cpu_stats_text g instance past cpu
+text_of g instance past (OfEvent event per_event.Enable) = flag_text (is_enabled instance event past)
+text_of g instance past (OfEvent event per_event.Filter) = filter_text (filter_of instance event past)
+text_of g instance past (OfEvent event per_event.Trigger) = triggers_of_event instance past (event_named event past)
+text_of g instance past (OfEvent event per_event.Hist) = hists_of_event instance past (event_named event past)
+text_of g instance past (OfEvent event per_event.Format) = format_of_event (event_named event past)
+
+-- a file that is no pipe takes no limit
+abbrev pub whole_text : Option ℕ → List ℕ → Result Reply Refusal
+whole_text None text = Ok (Text text)
+whole_text (Some limit) text = Err BadValue
+
+-- what a read of a file of an instance answers: all files are read whole but the pipes, and the filter of all events can't be read
 abbrev pub read_answer : Config → Option (List ℕ) → List Request → Option ℕ → File → Result Reply Refusal
-read_answer g instance past limit Trace = whole_text limit (shown_trace g instance past None)
-read_answer g instance past limit (CpuTrace cpu) = whole_text limit (shown_trace g instance past (Some cpu))
-read_answer g instance past limit TracePipe = Ok (Text (shown_pipe g instance past limit))
-read_answer g instance past limit (CpuTracePipe cpu) = Ok (Text (shown_cpu_pipe g instance past cpu limit))
-read_answer g instance past limit (CpuStats cpu) = whole_text limit (cpu_stats_text g instance past cpu)
-read_answer g instance past limit Overwrite = whole_text limit (flag_text (overwrites instance past))
-read_answer g instance past limit TraceOptions = whole_text limit (option_text (overwrites instance past))
-read_answer g instance past limit TracingOn = whole_text limit (flag_text (is_tracing instance past))
-read_answer g instance past limit Snapshot = whole_text limit (shown_snapshot g instance past)
-read_answer g instance past limit SyntheticEvents = whole_text limit (declarations_text past)
-read_answer g instance past limit (EventEnable event) = whole_text limit (flag_text (is_enabled instance event past))
-read_answer g instance past limit EventsEnable =
-    whole_text limit (switches_text (map (λ event. is_enabled instance event.name past) (declared_events past)))
-read_answer g instance past limit EventsFilter = Err NotReadable
-read_answer g instance past limit (EventFilter event) = whole_text limit (filter_text (filter_of instance event past))
-read_answer g instance past limit (EventTrigger event) = whole_text limit (triggers_of_event instance past (event_named event past))
-read_answer g instance past limit (EventHist event) = whole_text limit (hists_of_event instance past (event_named event past))
-read_answer g instance past limit (EventFormat event) = whole_text limit (format_of_event (event_named event past))
+read_answer g instance past limit (OfInstance top.TracePipe) = Ok (Text (shown_pipe g instance past limit))
+read_answer g instance past limit (OfCpu cpu per_cpu.TracePipe) = Ok (Text (shown_cpu_pipe g instance past cpu limit))
+read_answer g instance past limit (OfInstance top.EventsFilter) = Err NotReadable
+read_answer g instance past limit file = whole_text limit (text_of g instance past file)
 
 -- ---- instances made and removed
 
@@ -337,15 +343,10 @@ missing_event past event = if is_some (event_named event past) then None else So
 
 -- the CPU or the event of a path that is not there
 abbrev pub missing : Config → List Request → File → Option Refusal
-missing g past (CpuTrace cpu) = missing_cpu g cpu
-missing g past (CpuTracePipe cpu) = missing_cpu g cpu
-missing g past (CpuStats cpu) = missing_cpu g cpu
-missing g past (EventEnable event) = missing_event past event
-missing g past (EventFilter event) = missing_event past event
-missing g past (EventTrigger event) = missing_event past event
-missing g past (EventHist event) = missing_event past event
-missing g past (EventFormat event) = missing_event past event
-missing g past _ = None
+missing g past SyntheticEvents = None
+missing g past (OfInstance file) = None
+missing g past (OfCpu cpu file) = missing_cpu g cpu
+missing g past (OfEvent event file) = missing_event past event
 
 -- a refusal, or else the answer
 abbrev pub unless_refused : Option Refusal → Result Reply Refusal → Result Reply Refusal

@@ -6,7 +6,6 @@ use Rattle.page_ring.specs.Account.{Reading}
 use Rattle.trace_buffer.specs.Families.{CpuReading, on_cpu, cpu_readings}
 use Rattle.trace_lex.specs.Decimals.{written_number}
 use Rattle.trace_filter.specs.Filters.{IsFilter, Passes}
-use Rattle.trace_format.specs.Operands.{Emission}
 use Rattle.trace_format.specs.Cells.{Cells, IsRowOf, payload_of}
 use Rattle.trace_format.specs.Definitions.{Definition}
 use Rattle.trace_trigger.specs.HistSpecs.{SpecSeen}
@@ -18,8 +17,11 @@ use Rattle.trace_trigger.specs.TriggerTexts.{said_of}
 use Rattle.trace_trigger.specs.declared.trigger.TriggerText.TheVariants.{Hist}
 use Rattle.trace_command.specs.Configs.{IsInRange}
 use Rattle.trace_history.specs.History.{trigger_count, requests_of, IsLegalNewestFirst}
-use Rattle.trace_command.specs.Paths.{TracePipe, CpuTracePipe, Snapshot, EventTrigger}
+use Rattle.trace_command.specs.Paths.{OfInstance, OfCpu, OfEvent}
 use Rattle.trace_command.specs.Requests.{Request, WriteFile, ReadFile, request_of}
+use Rattle.trace_command.specs.declared.file_name.CpuFile.TheVariants as per_cpu
+use Rattle.trace_command.specs.declared.file_name.EventFile.TheVariants as per_event
+use Rattle.trace_command.specs.declared.file_name.TopFile.TheVariants as top
 use Rattle.trace_history.specs.Emissions.{Emitted, emitted, emitted_bytes, filter_holds, is_recorded}
 use Rattle.trace_history.specs.Rings.{new_rings, with_emitted, rings, other_rings, pipe_read, cpu_pipe_read}
 use Rattle.trace_history.specs.Settings.{NumberedEvent, event_named, declared_events, filter_of, is_same, makes}
@@ -100,8 +102,8 @@ KeptSpareRecordsShowEmissions =
 abbrev pub SnapshotsSwapTheSides : Type 0
 SnapshotsSwapTheSides =
     (g : Config) (past : List Request) (instance : Option (List ℕ)) (append : Bool) (text : List ℕ) → written_number text ≡ Some 1
-    → (rings g instance (WriteFile instance (Some Snapshot) append text ∷ past) ≡ other_rings g instance past)
-    × (other_rings g instance (WriteFile instance (Some Snapshot) append text ∷ past) ≡ rings g instance past)
+    → (rings g instance (WriteFile instance (Some (OfInstance top.Snapshot)) append text ∷ past) ≡ other_rings g instance past)
+    × (other_rings g instance (WriteFile instance (Some (OfInstance top.Snapshot)) append text ∷ past) ≡ rings g instance past)
 
 -- An emission that makes a trigger act exchanges them too. The record that it brings, if it is recorded, goes to the side that was live.
 abbrev pub TriggersSwapTheSides : Type 0
@@ -113,7 +115,7 @@ TriggersSwapTheSides =
 
 -- whether a request writes to `snapshot` of an instance
 abbrev pub writes_snapshot : Option (List ℕ) → Request → Bool
-writes_snapshot instance (WriteFile other (Some Snapshot) append text) = is_same instance other
+writes_snapshot instance (WriteFile other (Some (OfInstance top.Snapshot)) append text) = is_same instance other
 writes_snapshot instance request = false
 
 -- nothing else reaches the other side: it stays as it is until a number is written to `snapshot`, a trigger acts or the instance is made anew
@@ -148,7 +150,7 @@ PipeReadsConsumeWhatTheyShow =
     (g : Config) (past : List Request) (instance : Option (List ℕ)) (cpu other : ℕ) (limit : Option ℕ)
     → map (on_cpu other) (kept_readings g instance other past)
     ≡ those_of other (cpu_pipe_read g cpu limit (rings g instance past)).taken
-    ++ map (on_cpu other) (kept_readings g instance other (ReadFile instance (Some (CpuTracePipe cpu)) limit ∷ past))
+    ++ map (on_cpu other) (kept_readings g instance other (ReadFile instance (Some (OfCpu cpu per_cpu.TracePipe)) limit ∷ past))
 
 -- and so does a read of the pipe of all CPUs
 abbrev pub WholePipeReadsConsumeWhatTheyShow : Type 0
@@ -156,7 +158,7 @@ WholePipeReadsConsumeWhatTheyShow =
     (g : Config) (past : List Request) (instance : Option (List ℕ)) (cpu : ℕ) (limit : Option ℕ)
     → map (on_cpu cpu) (kept_readings g instance cpu past)
     ≡ those_of cpu (pipe_read g limit (rings g instance past)).taken
-    ++ map (on_cpu cpu) (kept_readings g instance cpu (ReadFile instance (Some TracePipe) limit ∷ past))
+    ++ map (on_cpu cpu) (kept_readings g instance cpu (ReadFile instance (Some (OfInstance top.TracePipe)) limit ∷ past))
 
 -- ---- hist triggers
 
@@ -239,8 +241,8 @@ abbrev pub ClearsLeaveNone : Type 0
 ClearsLeaveNone =
     (instance : Option (List ℕ)) (event : Definition) (t : HistTrigger) (past : List Request) (text : List ℕ) (spec : SpecSeen)
     → t.number < length past → said_of event text ≡ Ok (Hist spec) → IsSame spec t.spec → spec.action ≡ Clear
-    → (hits_of instance event t (WriteFile instance (Some (EventTrigger event.name)) true text ∷ past) ≡ [])
-    × (is_paused instance event t (WriteFile instance (Some (EventTrigger event.name)) true text ∷ past) ≡ is_paused instance event t past)
+    → (hits_of instance event t (WriteFile instance (Some (OfEvent event.name per_event.Trigger)) true text ∷ past) ≡ [])
+    × (is_paused instance event t (WriteFile instance (Some (OfEvent event.name per_event.Trigger)) true text ∷ past) ≡ is_paused instance event t past)
 
 -- A request that does not make the instance and does not write to the event's own trigger file in it leaves which hist triggers there are and which
 -- of them are paused, and what they counted too, unless it is an emission: no switch and no filter of the event and nothing that another instance is

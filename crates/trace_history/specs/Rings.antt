@@ -4,7 +4,9 @@ use Rattle.std.specs.Prelude.{ℕ, ◌-◌, ◌==◌, min, Bool, false, ◌&&◌
 use Rattle.page_ring.specs.Events as ring
 use Rattle.trace_buffer.specs.Families.{with_events, with_cleared, all_cleared, cpu_readings, kept_count}
 use Rattle.trace_buffer.specs.Orders.{Consumed, consume_any, taken_of_cpu, after_cpu_reads}
-use Rattle.trace_command.specs.Paths.{File, Trace, CpuTrace, TracePipe, CpuTracePipe, Snapshot}
+use Rattle.trace_command.specs.Paths.{File, OfInstance, OfCpu}
+use Rattle.trace_command.specs.declared.file_name.CpuFile.TheVariants as per_cpu
+use Rattle.trace_command.specs.declared.file_name.TopFile.TheVariants as top
 use Rattle.trace_history.specs.Emissions.{Emitted, emitted, emitted_bytes, is_recorded}
 use Rattle.trace_history.specs.Settings.{is_same, makes, overwrites}
 use Rattle.trace_history.specs.Snapshots.{clears_spare, has_spare, live_side, written_snapshot}
@@ -31,8 +33,8 @@ with_emitted instance past (Some e) family =
 -- the rings after a write to a file of the instance: `>` to `trace` empties every ring, and to a CPU's trace file that CPU's ring; `>>`
 -- empties none
 abbrev pub rings_after_write : Bool → Option File → List (List ring.Event) → List (List ring.Event)
-rings_after_write false (Some Trace) family = all_cleared family
-rings_after_write false (Some (CpuTrace cpu)) family = with_cleared cpu family
+rings_after_write false (Some (OfInstance top.Trace)) family = all_cleared family
+rings_after_write false (Some (OfCpu cpu per_cpu.Trace)) family = with_cleared cpu family
 rings_after_write append file family = family
 
 -- a read of the pipe of all CPUs: what it consumes, and the rings after it
@@ -47,8 +49,8 @@ cpu_pipe_read g cpu limit family =
 
 -- the rings after a read of a file of the instance: a pipe consumes
 abbrev pub rings_after_read : Config → Option ℕ → Option File → List (List ring.Event) → List (List ring.Event)
-rings_after_read g limit (Some TracePipe) family = (pipe_read g limit family).family
-rings_after_read g limit (Some (CpuTracePipe cpu)) family = (cpu_pipe_read g cpu limit family).family
+rings_after_read g limit (Some (OfInstance top.TracePipe)) family = (pipe_read g limit family).family
+rings_after_read g limit (Some (OfCpu cpu per_cpu.TracePipe)) family = (cpu_pipe_read g cpu limit family).family
 rings_after_read g limit file family = family
 
 -- the rings of the live side after a request that follows this past
@@ -61,7 +63,7 @@ rings_after g instance past request family = if makes instance request then new_
 -- the rings of the spare side after a request: `snapshot` empties them where a number other than 1 is written to it, and nothing else does but
 -- that the instance is made
 abbrev pub spare_after : Config → Option (List ℕ) → Request → List (List ring.Event) → List (List ring.Event)
-spare_after g instance (WriteFile other (Some Snapshot) append text) family =
+spare_after g instance (WriteFile other (Some (OfInstance top.Snapshot)) append text) family =
     if is_same instance other && clears_spare (written_snapshot text) then all_cleared family else family
 spare_after g instance request family = if makes instance request then new_rings g else family
 

@@ -7,7 +7,9 @@ use Rattle.std.specs.Result.{result_ok}
 use Rattle.std.specs.Str.{bytes_eq}
 use Rattle.trace_lex.specs.Blanks.{trimmed}
 use Rattle.trace_lex.specs.Decimals.{written_number}
-use Rattle.trace_command.specs.Paths.{File, Overwrite, TraceOptions, TracingOn, SyntheticEvents, EventsEnable, EventsFilter, EventEnable, EventFilter}
+use Rattle.trace_command.specs.Paths.{File, SyntheticEvents, OfInstance, OfEvent}
+use Rattle.trace_command.specs.declared.file_name.EventFile.TheVariants as per_event
+use Rattle.trace_command.specs.declared.file_name.TopFile.TheVariants as top
 use Rattle.trace_filter.specs.Filters.{Parsed, parsed_of, answer_of}
 use Rattle.trace_format.specs.Catalogs.{id_of, event_of}
 use Rattle.trace_format.specs.Definitions.{Definition}
@@ -109,8 +111,8 @@ written_flag text = option_and_then flag_of (written_number text)
 
 -- how a write after this past switches an event: one to its own switch or, where it is declared by then, to that of all events
 abbrev pub switches : List ℕ → List Request → File → List ℕ → Option Bool
-switches event past (EventEnable name) text = if bytes_eq event name then written_flag text else None
-switches event past EventsEnable text = if is_some (event_named event past) then written_flag text else None
+switches event past (OfEvent name per_event.Enable) text = if bytes_eq event name then written_flag text else None
+switches event past (OfInstance top.EventsEnable) text = if is_some (event_named event past) then written_flag text else None
 switches event past file text = None
 
 -- an event is disabled until it is switched on
@@ -138,8 +140,8 @@ written_to_all text (Some k) = if clears_filter text then Some None else (if can
 
 -- the filter that a write after this past sets for an event
 abbrev pub sets_filter : List ℕ → List Request → File → List ℕ → Option (Option (List ℕ))
-sets_filter event past (EventFilter name) text = if bytes_eq event name then Some (written_filter text) else None
-sets_filter event past EventsFilter text = written_to_all text (event_named event past)
+sets_filter event past (OfEvent name per_event.Filter) text = if bytes_eq event name then Some (written_filter text) else None
+sets_filter event past (OfInstance top.EventsFilter) text = written_to_all text (event_named event past)
 sets_filter event past file text = None
 
 -- an event's filter as it was written, none until one is set
@@ -157,8 +159,8 @@ written_option text =
 
 -- how a write sets whether records may overwrite older ones
 abbrev pub sets_overwrite : List Request → File → List ℕ → Option Bool
-sets_overwrite past Overwrite text = written_flag text
-sets_overwrite past TraceOptions text = written_option text
+sets_overwrite past (OfInstance top.Overwrite) text = written_flag text
+sets_overwrite past (OfInstance top.TraceOptions) text = written_option text
 sets_overwrite past file text = None
 
 -- records overwrite older ones unless that was switched off
@@ -171,7 +173,7 @@ written_tracing text = option_map (λ n. not (n == 0)) (written_number text)
 
 -- how a write sets whether an instance records
 abbrev pub sets_tracing : List Request → File → List ℕ → Option Bool
-sets_tracing past TracingOn text = written_tracing text
+sets_tracing past (OfInstance top.TracingOn) text = written_tracing text
 sets_tracing past file text = None
 
 -- an instance records unless that was switched off

@@ -7,8 +7,10 @@ use Rattle.trace_trigger.specs.TriggerTexts.{said_of}
 use Rattle.trace_trigger.specs.declared.fault.TriggerFault.{TriggerFault}
 use Rattle.trace_trigger.specs.declared.trigger.TriggerText.{TriggerText}
 use Rattle.trace_trigger.specs.declared.trigger.TriggerText.TheVariants.{Attach}
-use Rattle.trace_command.specs.Paths.{File, Snapshot, EventTrigger}
+use Rattle.trace_command.specs.Paths.{File, OfInstance, OfEvent}
 use Rattle.trace_command.specs.Requests.{Request, WriteFile}
+use Rattle.trace_command.specs.declared.file_name.EventFile.TheVariants as per_event
+use Rattle.trace_command.specs.declared.file_name.TopFile.TheVariants as top
 use Rattle.trace_history.specs.Emissions.{Emitted, emitted}
 use Rattle.trace_history.specs.Settings.{NumberedEvent, event_named, is_same, makes, setting}
 use Rattle.trace_history.specs.Triggers.{acts, trigger_of}
@@ -40,7 +42,7 @@ is_exchanged_by instance past (Some e) = acts past e (trigger_of instance e.k.ev
 
 -- whether a request after this past exchanges the sides of an instance
 abbrev pub exchanges : Option (List ℕ) → List Request → Request → Bool
-exchanges instance past (WriteFile other (Some Snapshot) append text) = is_same instance other && takes_snapshot (written_snapshot text)
+exchanges instance past (WriteFile other (Some (OfInstance top.Snapshot)) append text) = is_same instance other && takes_snapshot (written_snapshot text)
 exchanges instance past request = is_exchanged_by instance past (emitted past request)
 
 -- how many exchanges there were in an instance's life
@@ -78,8 +80,8 @@ spare_armed_for (Some k) text = spare_armed (said_of k.event text)
 
 -- a snapshot makes a spare, and so does a trigger for snapshots that is attached
 abbrev pub sets_spare : List Request → File → List ℕ → Option Bool
-sets_spare past Snapshot text = spare_written (written_snapshot text)
-sets_spare past (EventTrigger name) text = spare_armed_for (event_named name past) text
+sets_spare past (OfInstance top.Snapshot) text = spare_written (written_snapshot text)
+sets_spare past (OfEvent name per_event.Trigger) text = spare_armed_for (event_named name past) text
 sets_spare past file text = None
 
 -- whether an instance has a spare side

@@ -11,8 +11,9 @@ use Rattle.trace_trigger.specs.declared.fault.TriggerFault.{TriggerFault}
 use Rattle.trace_trigger.specs.declared.trigger.SnapshotTrigger.{SnapshotTrigger}
 use Rattle.trace_trigger.specs.declared.trigger.TriggerText.{TriggerText}
 use Rattle.trace_trigger.specs.declared.trigger.TriggerText.TheVariants.{Attach, Remove}
-use Rattle.trace_command.specs.Paths.{File, EventTrigger}
+use Rattle.trace_command.specs.Paths.{File, OfEvent}
 use Rattle.trace_command.specs.Requests.{Request}
+use Rattle.trace_command.specs.declared.file_name.EventFile.TheVariants as per_event
 use Rattle.trace_history.specs.Emissions.{Emitted, emitted}
 use Rattle.trace_history.specs.Settings.{declared_events, setting}
 
@@ -31,7 +32,7 @@ written_trigger number said = None
 
 -- what a write after this past sets of an event's trigger
 abbrev pub sets_trigger : Definition → List Request → File → List ℕ → Option (Option Trigger)
-sets_trigger event past (EventTrigger name) text = if bytes_eq event.name name then written_trigger (length past) (said_of event text) else None
+sets_trigger event past (OfEvent name per_event.Trigger) text = if bytes_eq event.name name then written_trigger (length past) (said_of event text) else None
 sets_trigger event past file text = None
 
 -- the trigger of an event for snapshots, of which there is at most one

@@ -1,4 +1,4 @@
-use Rattle.std.proofs.Common.{◌≡◌, ◌∙◌, arith, length-set, to_z, of_z, w32}
+use Rattle.std.proofs.Common.{◌∙◌, arith, length-set, to_z, of_z, w32}
 use Rattle.std.proofs.Math.Seq.{map-set_same}
 use Rattle.trace_book.specs.KeptHists.{kept_of}
 use Rattle.trace_book.proofs.EachHist.{ready_more}

@@ -1,6 +1,6 @@
 use Rattle.std.proofs.Common.{◌≡◌, ℕ, Option, Some, None, is_some, sym, ap, ◌∙◌, rules}
 use Rattle.std.specs.Option.{option_map}
-use Rattle.trace_command.specs.Places.{bytes_now}
+use Rattle.trace_command.specs.FileNames.{bytes_now}
 use Rattle.trace_history.specs.History.{past_of}
 use Rattle.trace_book.proofs.Making.{there-place, found-stands}
 use Rattle.trace_book.proofs.book.Book.instance.Goals as goal

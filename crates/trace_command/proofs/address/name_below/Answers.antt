@@ -1,6 +1,6 @@
 use Rattle.std.proofs.Common.{sym}
 use Rattle.trace_command.proofs.PathLemmas.{instance_in-three}
-use Rattle.trace_command.proofs.place.name_below.Goals as goal
+use Rattle.trace_command.proofs.address.name_below.Goals as goal
 
 pub returns-in-Some : goal.returns-in-Some
 returns-in-Some c =

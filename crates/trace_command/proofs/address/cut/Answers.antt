@@ -3,7 +3,7 @@ use Rattle.std.proofs.lemmas.Bool.Decides.{nat_tests}
 use Rattle.std.proofs.lemmas.List.{take_rest, take_all}
 use Rattle.std.proofs.lemmas.List.Elements.{All-more}
 use Rattle.trace_command.proofs.PathLemmas.{parts_at, parts_none}
-use Rattle.trace_command.proofs.place.cut.Goals as goal
+use Rattle.trace_command.proofs.address.cut.Goals as goal
 
 pub returns-then-path-i-eq47 : goal.returns-then-path-i-eq47
 returns-then-path-i-eq47 c =
