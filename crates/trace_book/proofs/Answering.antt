@@ -1,12 +1,10 @@
 -- What a text that is written to an event's trigger file answers, and that the change made of it is the one that the definitions say.
-use Rattle.std.proofs.Common.{◌≡◌, ◌↔◌, ℕ, ◌+◌, ◌<◌, ◌≤◌, nat_lt, Bool, true, false, not, ◌&&◌, ◌||◌, if◌then◌else◌, List, [], ◌∷◌, ◌++◌, length, map, is_some, IsTrue, Bor, Option, None, Some, Result, Ok, Err, refl, sym, ap, ◌∙◌, arith, lt-ltb, ltb-true}
-use Rattle.std.specs.List.{list_any}
+use Rattle.std.proofs.Common.{◌≡◌, ℕ, ◌+◌, ◌<◌, ◌≤◌, nat_lt, Bool, true, false, not, ◌||◌, if◌then◌else◌, List, [], ◌∷◌, length, map, is_some, Bor, Option, None, Some, Result, Ok, Err, refl, sym, ap, ◌∙◌, arith, lt-ltb, ltb-true}
+use Rattle.std.specs.List.{list_any, position}
 use Rattle.std.specs.Option.{option_copied}
-use Rattle.std.proofs.lemmas.Bool.{false≢true}
 use Rattle.std.proofs.lemmas.List.{length-map}
+use Rattle.std.proofs.lemmas.Option.{none-some}
 use Rattle.trace_format.specs.Definitions.{Definition}
-use Rattle.trace_hist.specs.Groups.{grouped}
-use Rattle.trace_hist.specs.Hists.{Seen, StandsFor}
 use Rattle.trace_trigger.specs.HistSpecs.{SpecSeen}
 use Rattle.trace_trigger.specs.SameSpecs.{is_same}
 use Rattle.trace_trigger.specs.declared.spec.Action.{Action}
@@ -25,19 +23,19 @@ use Rattle.trace_command.specs.declared.command.Reply.TheVariants.{Done}
 use Rattle.trace_command.specs.declared.refusal.Refusal.{Refusal}
 use Rattle.trace_command.specs.declared.refusal.Refusal.TheVariants as refusal
 use Rattle.trace_history.specs.History.{asked_answer, hist_answer, new_hist_answer, remove_hist_answer, room_answer, said_answer, trigger_answer, trigger_count}
-use Rattle.trace_history.specs.HistTriggers.{HistTrigger, has_same, is_pause, hists_of}
+use Rattle.trace_history.specs.HistTriggers.{HistTrigger, has_same, hists_of}
 use Rattle.trace_history.specs.Triggers as triggers
 use Rattle.trace_history.specs.Triggers.{trigger_of}
-use Rattle.trace_book.specs.Attaching.{AreKept, IsAsked, IsAttached, IsChangeOf, IsTriggerChange, asked_change, attaches, kept_count}
+use Rattle.trace_book.specs.Attaching.{AreKept, IsAttached, IsChangeOf, kept_count}
 use Rattle.trace_book.specs.Instances as instances
 use Rattle.trace_book.specs.Instances.{kept_trigger}
 use Rattle.trace_book.specs.KeptHists.{KeptHist, kept_as, kept_hists, kept_of, says_same}
 use Rattle.trace_book.specs.declared.attach.EventTriggers.{EventTriggers}
-use Rattle.trace_book.specs.declared.change.TriggerChange.TheVariants.{Keep, Attach, Detach, AttachHist, DetachHist, AskHist}
-use Rattle.trace_book.specs.declared.hists.AttachedHist.{AttachedHist}
+use Rattle.trace_book.specs.declared.change.TriggerChange.TheVariants.{Keep, Attach, Detach}
 use Rattle.trace_book.specs.declared.trigger.Trigger.{Trigger}
 use Rattle.trace_book.specs.declared.write.Written.{Written}
-use Rattle.trace_book.proofs.Attached.{hists-asked, hists-attached, hists-removed, hists-stay, left_by, new_kept, snapshot-attached, snapshot-removed, snapshot-stays}
+use Rattle.trace_book.proofs.Attached.{hists-stay, left_by, snapshot-attached, snapshot-removed, snapshot-stays}
+use Rattle.trace_book.proofs.OneSays.{IsOnlyOne, found-only, some-position}
 use Rattle.trace_book.proofs.Snapshotting.{none-is, some-mapped, there-is}
 
 -- ---- what the requests say of what is kept
@@ -55,17 +53,27 @@ any-map : {A B : Type 0} (test : B → Bool) (f : A → B) (xs : List A) → lis
 any-map test f [] = refl
 any-map test f (x ∷ xs) = ap (λ (b : Bool). test (f x) || b) (any-map test f xs)
 
-has-same : (name : Option (List ℕ)) (past : List Request) (event : Definition) (kept : EventTriggers) (spec : SpecSeen) → AreKept name past event kept
+pub has-same : (name : Option (List ℕ)) (past : List Request) (event : Definition) (kept : EventTriggers) (spec : SpecSeen) → AreKept name past event kept
     → has_same spec (hists_of name event past) ≡ list_any (says_same spec) kept.hists.now
 has-same name past event kept spec are =
     sym (any-map (λ (k : KeptHist). is_same spec k.spec) (kept_as name past event) (hists_of name event past))
     ∙ ap (list_any (λ (k : KeptHist). is_same spec k.spec)) (sym are.hists)
     ∙ any-map (λ (k : KeptHist). is_same spec k.spec) kept_of kept.hists.now
 
-has-same_left : (name : Option (List ℕ)) (past : List Request) (event : Definition) (kept : EventTriggers) (spec : SpecSeen) (append : Bool)
-    → AreKept name past event kept → has_same spec (left_by name past event append) ≡ (append && list_any (says_same spec) kept.hists.now)
-has-same_left name past event kept spec true are = has-same name past event kept spec are
+-- the index of the one that says the same, of those that `>` or `>>` leaves
+abbrev pub same_left : SpecSeen → EventTriggers → Bool → Option ℕ
+same_left spec kept append = if append then position (says_same spec) kept.hists.now else None
+
+pub has-same_left : (name : Option (List ℕ)) (past : List Request) (event : Definition) (kept : EventTriggers) (spec : SpecSeen) (append : Bool)
+    → AreKept name past event kept → has_same spec (left_by name past event append) ≡ is_some (same_left spec kept append)
+has-same_left name past event kept spec true are = has-same name past event kept spec are ∙ sym (some-position (says_same spec) kept.hists.now)
 has-same_left name past event kept spec false are = refl
+
+-- and it is the only one
+pub only-left : (name : Option (List ℕ)) (past : List Request) (event : Definition) (kept : EventTriggers) (spec : SpecSeen) (index : ℕ) (append : Bool)
+    → AreKept name past event kept → same_left spec kept append ≡ Some index → IsOnlyOne spec (if append then kept_hists name past event else []) index
+only-left name past event kept spec index true are found = found-only name past event spec kept.hists.now index are.hists found
+only-left name past event kept spec index false are found = absurd (none-some index found)
 
 many-left : (name : Option (List ℕ)) (past : List Request) (event : Definition) (kept : EventTriggers) (append : Bool) → AreKept name past event kept
     → length (left_by name past event append) ≡ (if append then length kept.hists.now else 0)
@@ -73,7 +81,7 @@ many-left name past event kept true are =
     sym (length-map (hists_of name event past) (kept_as name past event)) ∙ ap length (sym are.hists) ∙ length-map kept.hists.now kept_of
 many-left name past event kept false are = refl
 
-count-left : (name : Option (List ℕ)) (past : List Request) (event : Definition) (kept : EventTriggers) (append : Bool) → AreKept name past event kept
+pub count-left : (name : Option (List ℕ)) (past : List Request) (event : Definition) (kept : EventTriggers) (append : Bool) → AreKept name past event kept
     → trigger_count (trigger_of name event past) (left_by name past event append) ≡ kept_count kept append
 count-left name past event kept append are =
     by (trigger_of name event past) ∙ (λ i. many-left name past event kept append are i + (if has-snapshot name past event kept are i then 1 else 0))
@@ -85,20 +93,23 @@ count-left name past event kept append are =
 
 -- ---- answers
 
-answered : (name : Option (List ℕ)) (past : List Request) (event : Definition) (append : Bool) (text : List ℕ) (r : Result TriggerText TriggerFault)
+pub answered : (name : Option (List ℕ)) (past : List Request) (event : Definition) (append : Bool) (text : List ℕ) (r : Result TriggerText TriggerFault)
     → said_of event text ≡ r
     → trigger_answer name past append text event ≡ said_answer append (trigger_of name event past) (left_by name past event append) r
 unfolding trigger_answer
 answered name past event append text r is =
     ap (said_answer append (trigger_of name event past) (left_by name past event append)) is
 
-refused : (refusal : Refusal) (answer : Result Reply Refusal) → answer ≡ Err refusal → IsRefusal refusal answer
+pub refused : (refusal : Refusal) (answer : Result Reply Refusal) → answer ≡ Err refusal → IsRefusal refusal answer
 refused refusal answer is = (λ other. is, λ early. is)
 
-room-had : (attached : Option triggers.Trigger) (hists : List HistTrigger) → trigger_count attached hists < 4 → room_answer attached hists ≡ Ok Done
+pub done-late : (answer : Result Reply Refusal) → answer ≡ Ok Done → IsRefusal refusal.Memory answer
+done-late answer is = (λ other. absurd (other refl), λ early. absurd (rw is at early))
+
+pub room-had : (attached : Option triggers.Trigger) (hists : List HistTrigger) → trigger_count attached hists < 4 → room_answer attached hists ≡ Ok Done
 room-had attached hists less = rw (lt-ltb (trigger_count attached hists) 4 less) refl
 
-room-full : (attached : Option triggers.Trigger) (hists : List HistTrigger) → 4 ≤ trigger_count attached hists → room_answer attached hists ≡ Err refusal.TooMany
+pub room-full : (attached : Option triggers.Trigger) (hists : List HistTrigger) → 4 ≤ trigger_count attached hists → room_answer attached hists ≡ Err refusal.TooMany
 room-full attached hists many = by (nat_lt (trigger_count attached hists) 4) refl
   where
     by : (room : Bool) → nat_lt (trigger_count attached hists) 4 ≡ room → (let a : Result Reply Refusal = if room then Ok Done else Err refusal.TooMany in a) ≡ Err refusal.TooMany
@@ -190,6 +201,7 @@ text-nothing event kept written is = λ name past number are. (
   record {
     snapshot = snapshot-stays name past event written.append written.text.now (Ok said.Nothing) is refl;
     hists = hists-stay name past event written.append written.text.now (Ok said.Nothing) is (λ t. refl) refl;
+    one = tt;
     spare = rw is refl;
   },
 )
@@ -242,6 +254,7 @@ attach-done trigger kept written none few = λ event name past number are is.
         snapshot = snapshot-attached name past event written.append written.text.now trigger is
             ∙ ap (λ (n : ℕ). (let t : Option Trigger = Some (record { number = n; left = trigger.count; filter = trigger.filter }) in t)) number;
         hists = hists-stay name past event written.append written.text.now (Ok (said.Attach trigger)) is (λ t. refl) refl;
+        one = tt;
         spare = rw is refl;
       },
     )
@@ -255,6 +268,7 @@ text-detaches event kept written is some = λ name past number are.
       record {
         snapshot = snapshot-removed name past event written.append written.text.now is;
         hists = hists-stay name past event written.append written.text.now (Ok said.Remove) is (λ t. refl) refl;
+        one = tt;
         spare = rw is refl;
       },
     )
@@ -266,177 +280,3 @@ text-lacks event kept written is none = λ name past number are.
     (answered name past event written.append written.text.now (Ok said.Remove) is
     ∙ ap (λ (o : Option triggers.Trigger). said_answer written.append o (left_by name past event written.append) (Ok said.Remove))
     (no-snapshot name past event kept are none))
-
--- ---- hist triggers
-
-ask-answer : (spec : SpecSeen) (kept : EventTriggers) (written : Written) (same : Bool) (event : Definition) (name : Option (List ℕ)) (past : List Request)
-    → (written.append && list_any (says_same spec) kept.hists.now) ≡ same → AreKept name past event kept
-    → said_of event written.text.now ≡ Ok (said.Hist spec)
-    → trigger_answer name past written.append written.text.now event
-    ≡ (if same then asked_answer spec.action else new_hist_answer (trigger_of name event past) (left_by name past event written.append) spec.action)
-ask-answer spec kept written same event name past at are is =
-    answered name past event written.append written.text.now (Ok (said.Hist spec)) is
-    ∙ ap
-    (λ (b : Bool). if b then asked_answer spec.action else new_hist_answer (trigger_of name event past) (left_by name past event written.append) spec.action)
-    (has-same_left name past event kept spec written.append are ∙ at)
-
-ask-refused : (spec : SpecSeen) (kept : EventTriggers) (written : Written) → (written.append && list_any (says_same spec) kept.hists.now) ≡ true
-    → spec.action ≡ action.Attach → IsAsked spec kept written (Err refusal.TriggerExists)
-ask-refused spec kept written same attach = λ event name past number are is.
-    refused refusal.TriggerExists (trigger_answer name past written.append written.text.now event)
-    (ask-answer spec kept written true event name past same are is ∙ ap asked_answer attach)
-
-asked-done : (asked : Action) → (asked ≡ action.Attach → ⊥) → asked_answer asked ≡ Ok Done
-asked-done action.Attach other = absurd (other refl)
-asked-done action.Pause other = refl
-asked-done action.Continue other = refl
-asked-done action.Clear other = refl
-
-ask-done : (spec : SpecSeen) (kept : EventTriggers) (written : Written) → (written.append && list_any (says_same spec) kept.hists.now) ≡ true
-    → (spec.action ≡ action.Attach → ⊥) → IsAsked spec kept written (Ok (AskHist spec))
-ask-done spec kept written same other = λ event name past number are is. (
-  ask-answer spec kept written true event name past same are is ∙ asked-done spec.action other,
-  record {
-    snapshot = snapshot-stays name past event written.append written.text.now (Ok (said.Hist spec)) is refl;
-    hists = hists-asked name past event written.append written.text.now spec is (has-same_left name past event kept spec written.append are ∙ same);
-    spare = rw is refl;
-  },
-)
-
--- what is asked of one that is attached
-pub ask-again : (spec : SpecSeen) (kept : EventTriggers) (written : Written) → (written.append && list_any (says_same spec) kept.hists.now) ≡ true
-    → IsAsked spec kept written (asked_change spec.action spec)
-ask-again spec kept written same = by spec.action refl
-  where
-    by : (a : Action) → spec.action ≡ a → IsAsked spec kept written (asked_change a spec)
-    by action.Attach is = ask-refused spec kept written same is
-    by action.Pause is = ask-done spec kept written same (λ other. let h : action.Pause ≡ action.Attach = sym is ∙ other in absurd (cc))
-    by action.Continue is = ask-done spec kept written same (λ other. let h : action.Continue ≡ action.Attach = sym is ∙ other in absurd (cc))
-    by action.Clear is = ask-done spec kept written same (λ other. let h : action.Clear ≡ action.Attach = sym is ∙ other in absurd (cc))
-
--- where none says the same
-new-lacks : (attached : Option triggers.Trigger) (hists : List HistTrigger) (asked : Action) → attaches asked ≡ false
-    → new_hist_answer attached hists asked ≡ Err refusal.NoSuchTrigger
-new-lacks attached hists action.Attach lacking = absurd (cc)
-new-lacks attached hists action.Pause lacking = absurd (cc)
-new-lacks attached hists action.Continue lacking = refl
-new-lacks attached hists action.Clear lacking = refl
-
-new-attaches : (attached : Option triggers.Trigger) (hists : List HistTrigger) (asked : Action) → attaches asked ≡ true
-    → new_hist_answer attached hists asked ≡ room_answer attached hists
-new-attaches attached hists action.Attach attaching = refl
-new-attaches attached hists action.Pause attaching = refl
-new-attaches attached hists action.Continue attaching = absurd (cc)
-new-attaches attached hists action.Clear attaching = absurd (cc)
-
-pub ask-lacks : (spec : SpecSeen) (kept : EventTriggers) (written : Written) → (written.append && list_any (says_same spec) kept.hists.now) ≡ false
-    → attaches spec.action ≡ false → IsAsked spec kept written (Err refusal.NoSuchTrigger)
-ask-lacks spec kept written none lacking = λ event name past number are is.
-    refused refusal.NoSuchTrigger (trigger_answer name past written.append written.text.now event)
-    (ask-answer spec kept written false event name past none are is
-    ∙ new-lacks (trigger_of name event past) (left_by name past event written.append) spec.action lacking)
-
-room-answer : (spec : SpecSeen) (kept : EventTriggers) (written : Written) (event : Definition) (name : Option (List ℕ)) (past : List Request)
-    → (written.append && list_any (says_same spec) kept.hists.now) ≡ false → attaches spec.action ≡ true → AreKept name past event kept
-    → said_of event written.text.now ≡ Ok (said.Hist spec)
-    → trigger_answer name past written.append written.text.now event ≡ room_answer (trigger_of name event past) (left_by name past event written.append)
-room-answer spec kept written event name past none attaching are is =
-    ask-answer spec kept written false event name past none are is
-    ∙ new-attaches (trigger_of name event past) (left_by name past event written.append) spec.action attaching
-
-pub ask-full : (spec : SpecSeen) (kept : EventTriggers) (written : Written) → (written.append && list_any (says_same spec) kept.hists.now) ≡ false
-    → attaches spec.action ≡ true → 4 ≤ kept_count kept written.append → IsAsked spec kept written (Err refusal.TooMany)
-ask-full spec kept written none attaching many = λ event name past number are is.
-    let full : 4 ≤ trigger_count (trigger_of name event past) (left_by name past event written.append) =
-    omega (arith, many, count-left name past event kept written.append are) in
-    refused refusal.TooMany (trigger_answer name past written.append written.text.now event)
-    (room-answer spec kept written event name past none attaching are is
-    ∙ room-full (trigger_of name event past) (left_by name past event written.append) full)
-
-pub done-late : (answer : Result Reply Refusal) → answer ≡ Ok Done → IsRefusal refusal.Memory answer
-done-late answer is = (λ other. absurd (other refl), λ early. absurd (rw is at early))
-
-pub ask-memory : (spec : SpecSeen) (kept : EventTriggers) (written : Written) → (written.append && list_any (says_same spec) kept.hists.now) ≡ false
-    → attaches spec.action ≡ true → kept_count kept written.append < 4 → IsAsked spec kept written (Err refusal.Memory)
-ask-memory spec kept written none attaching few = λ event name past number are is.
-    let room : trigger_count (trigger_of name event past) (left_by name past event written.append) < 4 =
-    omega (arith, few, count-left name past event kept written.append are) in
-    done-late (trigger_answer name past written.append written.text.now event)
-    (room-answer spec kept written event name past none attaching are is
-    ∙ room-had (trigger_of name event past) (left_by name past event written.append) room)
-
-pub ask-attached : (spec : SpecSeen) (kept : EventTriggers) (written : Written) (attached : AttachedHist)
-    → (written.append && list_any (says_same spec) kept.hists.now) ≡ false → attaches spec.action ≡ true → kept_count kept written.append < 4
-    → kept_of attached ≡ new_kept written.number spec → IsAsked spec kept written (Ok (AttachHist attached))
-ask-attached spec kept written attached none attaching few new = λ event name past number are is.
-    let room : trigger_count (trigger_of name event past) (left_by name past event written.append) < 4 =
-    omega (arith, few, count-left name past event kept written.append are) in
-    let before : List KeptHist = if written.append then kept_hists name past event else [] in (
-      room-answer spec kept written event name past none attaching are is
-          ∙ room-had (trigger_of name event past) (left_by name past event written.append) room,
-      record {
-        snapshot = snapshot-stays name past event written.append written.text.now (Ok (said.Hist spec)) is refl;
-        hists = hists-attached name past event written.append written.text.now spec is (has-same_left name past event kept spec written.append are ∙ none)
-            ∙ ap (λ (n : ℕ). before ++ new_kept n spec ∷ []) number
-            ∙ ap (λ (k : KeptHist). before ++ k ∷ []) (sym new);
-        spare = rw is refl;
-      },
-    )
-
--- what a new one keeps
-pub paused-as : (paused : Bool) (asked : Action) → (IsTrue paused → asked ≡ action.Pause) → (asked ≡ action.Pause → IsTrue paused) → paused ≡ is_pause asked
-paused-as true asked one other = let is : asked ≡ action.Pause = one refl in rw is refl
-paused-as false action.Pause one other = absurd (false≢true (other refl))
-paused-as false action.Attach one other = refl
-paused-as false action.Continue one other = refl
-paused-as false action.Clear one other = refl
-
-pub kept-new : (number : ℕ) (hist : Seen) (spec : SpecSeen) → hist.spec ≡ spec → StandsFor hist []
-    → (IsTrue hist.paused ↔ (spec.action ≡ action.Pause)) → kept_of (record { number = number; hist = hist }) ≡ new_kept number spec
-unfolding StandsFor
-kept-new number hist spec is stands paused =
-    let as_asked : hist.paused ≡ is_pause spec.action = paused-as hist.paused spec.action paused.0 paused.1 in
-    let empty : hist.table ≡ grouped spec [] = stands ∙ ap (λ (s : SpecSeen). grouped s []) is in
-    λ i. record { number = number; spec = is i; paused = as_asked i; table = empty i }
-
--- ---- removals
-
-removed-answer : (append same : Bool) (event : Definition) (kept : EventTriggers) (written : Written) (spec : SpecSeen) (name : Option (List ℕ)) (past : List Request)
-    → written.append ≡ append → list_any (says_same spec) kept.hists.now ≡ same → AreKept name past event kept
-    → said_of event written.text.now ≡ Ok (said.RemoveHist spec)
-    → trigger_answer name past written.append written.text.now event ≡ (if not append || same then Ok Done else Err refusal.NoSuchTrigger)
-removed-answer true same event kept written spec name past appends is are says =
-    answered name past event written.append written.text.now (Ok (said.RemoveHist spec)) says
-    ∙ ap (λ (b : Bool). remove_hist_answer b (left_by name past event b) spec) appends
-    ∙ ap (λ (b : Bool). (let a : Result Reply Refusal = if b then Ok Done else Err refusal.NoSuchTrigger in a)) (has-same name past event kept spec are ∙ is)
-removed-answer false same event kept written spec name past appends is are says =
-    answered name past event written.append written.text.now (Ok (said.RemoveHist spec)) says
-    ∙ ap (λ (b : Bool). remove_hist_answer b (left_by name past event b) spec) appends
-
-removed-changes : (event : Definition) (kept : EventTriggers) (written : Written) (spec : SpecSeen) (name : Option (List ℕ)) (past : List Request)
-    → trigger_answer name past written.append written.text.now event ≡ Ok Done → said_of event written.text.now ≡ Ok (said.RemoveHist spec)
-    → IsTriggerChange name past event written (Ok (DetachHist spec))
-removed-changes event kept written spec name past done is = (
-  done,
-  record {
-    snapshot = snapshot-stays name past event written.append written.text.now (Ok (said.RemoveHist spec)) is refl;
-    hists = hists-removed name past event written.append written.text.now spec is;
-    spare = rw is refl;
-  },
-)
-
-pub text-removes : (event : Definition) (kept : EventTriggers) (written : Written) (spec : SpecSeen)
-    → said_of event written.text.now ≡ Ok (said.RemoveHist spec) → (not written.append || list_any (says_same spec) kept.hists.now) ≡ true
-    → IsChangeOf event kept written (Ok (DetachHist spec))
-text-removes event kept written spec is at = λ name past number are.
-    removed-changes event kept written spec name past
-    (removed-answer written.append (list_any (says_same spec) kept.hists.now) event kept written spec name past refl refl are is
-    ∙ ap (λ (b : Bool). (let a : Result Reply Refusal = if b then Ok Done else Err refusal.NoSuchTrigger in a)) at) is
-
-pub text-removes_none : (event : Definition) (kept : EventTriggers) (written : Written) (spec : SpecSeen)
-    → said_of event written.text.now ≡ Ok (said.RemoveHist spec) → (not written.append || list_any (says_same spec) kept.hists.now) ≡ false
-    → IsChangeOf event kept written (Err refusal.NoSuchTrigger)
-text-removes_none event kept written spec is at = λ name past number are.
-    refused refusal.NoSuchTrigger (trigger_answer name past written.append written.text.now event)
-    (removed-answer written.append (list_any (says_same spec) kept.hists.now) event kept written spec name past refl refl are is
-    ∙ ap (λ (b : Bool). (let a : Result Reply Refusal = if b then Ok Done else Err refusal.NoSuchTrigger in a)) at)

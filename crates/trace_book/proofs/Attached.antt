@@ -25,11 +25,12 @@ use Rattle.trace_history.proofs.CountedRows.{paused-after}
 use Rattle.trace_history.proofs.Triggered.{number-before, times_left-attached, times_left-same}
 use Rattle.trace_book.specs.Instances.{kept_trigger}
 use Rattle.trace_book.specs.Instances as instances
-use Rattle.trace_book.specs.KeptHists.{KeptHist, asked, asked_same, kept_as, kept_hists, without_same}
+use Rattle.trace_book.specs.KeptHists.{KeptHist, asked, kept_as, kept_hists}
 use Rattle.trace_book.specs.declared.trigger.Trigger.{Trigger}
 use Rattle.trace_book.proofs.Calm.{kept-as_left}
 use Rattle.trace_book.proofs.Effects.{same_instance}
 use Rattle.trace_book.proofs.HistSteps.{AreBelow, numbers-below}
+use Rattle.trace_book.proofs.OneSays.{asked_same, without_same}
 
 -- the request that writes a text to an event's trigger file
 abbrev pub text_request : Option (List ℕ) → Definition → Bool → List ℕ → Request

@@ -114,16 +114,20 @@ stands-at g state past place name n stands at is =
     subst (λ (o : Option (List ℕ)). InstanceStandsFor g o past n.instance) called own
 
 write-done : (g : Config) (state : State) (past : List Request) (name : Option (List ℕ)) (place : ℕ) (found : File) (append : Bool) (text : List ℕ)
-    (change : InstanceChange) → IsUsable g state → StandsFor g state past → is_there name past ≡ true → IsAt state place name
+    (change : InstanceChange) → StandsFor g state past → is_there name past ≡ true → IsAt state place name
     → IsThere g.cpus state.catalog found → IsWriteChange g name past append text (file_at state.catalog found) (Ok change)
     → IsPrepared g past (write_to state name found append text) state (Ok (record { change = Instance place change; reply = Done }))
-write-done g state past name place found append text change usable stands is at there write =
+write-done g state past name place found append text change stands is at there write =
     let named = file_at state.catalog found in (
       write-answers g state past name found append text stands is there ∙ write.0,
       changed-at g state past (write_to state name found append text) place name change at (plain_write name state.catalog found append text)
           (λ other differ. other_write g other name past named append text differ)
           write.1,
-      (at.0, λ d. write.2 (get_or state.instances.items place d).instance (usable-at g state past place d usable stands at.0)),
+      (
+        at.0,
+        λ d. write.2 (get_or state.instances.items place d).instance
+            (subst (λ (o : Option (List ℕ)). InstanceStandsFor g o past (get_or state.instances.items place d).instance) (at.1 d) (stands.each place d at.0)),
+      ),
     )
 
 write-refused : (g : Config) (state : State) (past : List Request) (name : Option (List ℕ)) (found : File) (append : Bool) (text : List ℕ)
@@ -135,13 +139,13 @@ write-refused g state past name found append text refused stands is there write 
 
 -- the same of an address
 pub address-writes : (g : Config) (state : State) (past : List Request) (a : Address) (place : ℕ) (found : File) (append : Bool) (text : List ℕ)
-    (change : InstanceChange) → IsUsable g state → StandsFor g state past → IsResolved g state past a (Ok (target.Of place found))
+    (change : InstanceChange) → StandsFor g state past → IsResolved g state past a (Ok (target.Of place found))
     → IsWriteChange g a.instance past append text (file_at state.catalog found) (Ok change)
     → IsPrepared g past (WriteFile a.instance a.file append text) state (Ok (record { change = Instance place change; reply = Done }))
-address-writes g state past a place found append text change usable stands resolved write =
+address-writes g state past a place found append text change stands resolved write =
     subst
     (λ (f : Option paths.File). IsPrepared g past (WriteFile a.instance f append text) state (Ok (record { change = Instance place change; reply = Done })))
-    (sym resolved.2) (write-done g state past a.instance place found append text change usable stands resolved.0 resolved.1 resolved.3 write)
+    (sym resolved.2) (write-done g state past a.instance place found append text change stands resolved.0 resolved.1 resolved.3 write)
 
 pub address-write_refused : (g : Config) (state : State) (past : List Request) (a : Address) (place : ℕ) (found : File) (append : Bool) (text : List ℕ)
     (refused : Refusal) → StandsFor g state past → IsResolved g state past a (Ok (target.Of place found))

@@ -81,19 +81,6 @@ made_more R i old now read new inside one made = record {
 
 -- ---- when each was made
 
--- what is kept of each is what was made of what was kept
-pub made_kept : (change : KeptHist → KeptHist) (old now : List AttachedHist) → length now ≡ length old
-    → ((k : ℕ) (d : AttachedHist) → k < length old → kept_of (get_or now k d) ≡ change (kept_of (get_or old k d)))
-    → map kept_of now ≡ map change (map kept_of old)
-made_kept change [] [] many each = refl
-made_kept change [] (b ∷ now) many each = absurd (omega (arith, many))
-made_kept change (a ∷ old) [] many each = absurd (omega (arith, many))
-made_kept change (a ∷ old) (b ∷ now) many each =
-    let first : kept_of b ≡ change (kept_of a) = each 0 a (omega arith) in
-    let fewer : length now ≡ length old = omega (arith, many) in
-    let rest = made_kept change old now fewer (λ k d h. each (suc k) d (omega (arith, h))) in
-    rw (first, rest) refl
-
 -- each was hit
 pub made_hit : (emission : Emission) (old now : List AttachedHist) → length now ≡ length old
     → ((k : ℕ) (d : AttachedHist) → k < length old → IsHit emission (kept_of (get_or old k d)) (kept_of (get_or now k d)))

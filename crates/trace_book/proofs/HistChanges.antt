@@ -1,14 +1,14 @@
 -- What a change of an event's triggers and an emission make of the lists of hist triggers of an instance.
-use Rattle.std.proofs.Common.{◌≡◌, ℕ, ◌<◌, Bool, true, false, not, cond, if◌then◌else◌, List, [], ◌∷◌, ◌++◌, length, map, get_or, set, Option, Some, None, refl, sym, ap, ◌∙◌, subst, get_or-set_same, get_or-set_other, length-set}
+use Rattle.std.proofs.Common.{◌≡◌, ℕ, zero, suc, ◌<◌, Bool, true, false, if◌then◌else◌, List, [], ◌∷◌, ◌++◌, length, map, get_or, set, Option, Some, None, refl, sym, ap, ◌∙◌, subst, arith, get_or-set_same, get_or-set_other, length-set}
 use Rattle.std.proofs.Math.Seq.{map-set_same}
 use Rattle.std.proofs.lemmas.List.{get_or_default, get_or-map, length-map, map-append, map-set}
-use Rattle.std.specs.List.{filter}
+use Rattle.std.specs.List.{remove}
 use Rattle.trace_buffer.specs.Buffers as buffers
-use Rattle.trace_trigger.specs.HistSpecs.{SpecSeen}
+use Rattle.trace_trigger.specs.declared.spec.Action.{Action}
 use Rattle.trace_snapshot.specs.Sides.{HasShapeOf, IsSpareOf, SideFamilies, SidesSeen, StandsFor, with_spare}
 use Rattle.trace_book.specs.Changes.{IsApplied, hists_changed, sides_changed, triggers_after}
 use Rattle.trace_book.specs.Instances.{InstanceSeen, IsAlike, hists_kept}
-use Rattle.trace_book.specs.KeptHists.{AreHit, KeptHist, asked_same, kept_of, says_same, without_same}
+use Rattle.trace_book.specs.KeptHists.{AreHit, KeptHist, asked, asked_at, kept_of}
 use Rattle.trace_book.specs.States.{IsOffered, row_of}
 use Rattle.trace_book.specs.declared.change.Delivery.{Delivery}
 use Rattle.trace_book.specs.declared.change.InstanceChange.TheVariants.{Triggers}
@@ -20,17 +20,21 @@ use Rattle.trace_book.proofs.LiveSide.{armed_offered, armed_shaped}
 
 -- ---- the lists
 
--- what is kept of the others where some are removed
-pub kept_without : (spec : SpecSeen) (hists : List AttachedHist)
-    → map kept_of (filter (λ attached. not (says_same spec attached)) hists) ≡ without_same spec (map kept_of hists)
-kept_without spec [] = refl
-kept_without spec (a ∷ hists) = by_test (not (says_same spec a)) (kept_without spec hists)
-  where
-    by_test : (stays : Bool) → map kept_of (filter (λ attached. not (says_same spec attached)) hists) ≡ without_same spec (map kept_of hists)
-        → map kept_of (cond stays (a ∷ filter (λ attached. not (says_same spec attached)) hists) (filter (λ attached. not (says_same spec attached)) hists))
-        ≡ cond stays (kept_of a ∷ without_same spec (map kept_of hists)) (without_same spec (map kept_of hists))
-    by_test true rest = rw rest refl
-    by_test false rest = rest
+-- what is kept of the others where one is removed
+kept_without : (hists : List AttachedHist) (index : ℕ) → index < length hists → map kept_of (remove hists index) ≡ remove (map kept_of hists) index
+kept_without [] index inside = absurd (omega (arith, inside))
+kept_without (a ∷ hists) zero inside = refl
+kept_without (a ∷ hists) (suc index) inside = ap (λ (l : List KeptHist). kept_of a ∷ l) (kept_without hists index (omega (arith, inside)))
+
+-- what is kept of all where one was asked
+pub kept_asked : (hists : List AttachedHist) (index : ℕ) (action : Action) (read new : AttachedHist) → index < length hists
+    → read ≡ get_or hists index read → kept_of new ≡ asked action (kept_of read)
+    → map kept_of (set hists index new) ≡ asked_at index action (map kept_of hists)
+kept_asked [] index action read new inside here was = absurd (omega (arith, inside))
+kept_asked (a ∷ hists) zero action read new inside here was =
+    ap (λ (k : KeptHist). k ∷ map kept_of hists) (was ∙ ap (λ (b : AttachedHist). asked action (kept_of b)) here)
+kept_asked (a ∷ hists) (suc index) action read new inside here was =
+    ap (λ (l : List KeptHist). kept_of a ∷ l) (kept_asked hists index action read new (omega (arith, inside)) here was)
 
 -- those of an event that a text leaves
 kept_left : (append : Bool) (event : ℕ) (hists : List (List AttachedHist)) (read : List AttachedHist) → event < length hists → read ≡ get_or hists event []
@@ -85,22 +89,41 @@ hist_attached event append one value old read mine view within here is =
     hists_applied event append (AttachHist one) value old read mine old.triggers view within here refl
     (ap (map kept_of) is ∙ map-append kept_of (if append then read else []) (one ∷ [])) (λ f. refl)
 
--- those that say the same are removed
-pub hist_detached : (event : ℕ) (append : Bool) (spec : SpecSeen) (value old : InstanceSeen) (read mine : List AttachedHist) → old ≡ value
-    → event < length value.hists → read ≡ get_or old.hists event read
-    → mine ≡ filter (λ attached. not (says_same spec attached)) (if append then read else [])
-    → IsApplied (Triggers event append (DetachHist spec)) value (record old { hists = set old.hists event mine })
-hist_detached event append spec value old read mine view within here is =
-    hists_applied event append (DetachHist spec) value old read mine old.triggers view within here refl
-    (ap (map kept_of) is ∙ kept_without spec (if append then read else [])) (λ f. refl)
+-- one of so many that a text leaves: so it is one of those that are there
+pub one_of : (append : Bool) (event index : ℕ) (value old : InstanceSeen) (read : List AttachedHist) → old ≡ value → event < length value.hists
+    → read ≡ get_or old.hists event read → index < length (if append then get_or value.hists event [] else []) → index < length read
+one_of true event index value old read view within here one =
+    let inside : event < length old.hists = subst (λ (v : InstanceSeen). event < length v.hists) (sym view) within in
+    let is : read ≡ get_or value.hists event [] =
+    here ∙ get_or_default old.hists event read [] inside ∙ ap (λ (v : InstanceSeen). get_or v.hists event []) view in
+    subst (λ (l : List AttachedHist). index < length l) (sym is) one
+one_of false event index value old read view within here one = absurd (omega (arith, one))
 
--- those that say the same are asked
-pub hist_asked : (event : ℕ) (append : Bool) (spec : SpecSeen) (value old : InstanceSeen) (read mine : List AttachedHist) → old ≡ value
-    → event < length value.hists → read ≡ get_or old.hists event read
-    → map kept_of mine ≡ map (asked_same spec) (map kept_of (if append then read else []))
-    → IsApplied (Triggers event append (AskHist spec)) value (record old { hists = set old.hists event mine })
-hist_asked event append spec value old read mine view within here is =
-    hists_applied event append (AskHist spec) value old read mine old.triggers view within here refl is (λ f. refl)
+-- the one at an index is removed
+pub hist_detached : (event : ℕ) (append : Bool) (index : ℕ) (value old : InstanceSeen) (read mine : List AttachedHist) → old ≡ value
+    → event < length value.hists → read ≡ get_or old.hists event read → index < length (if append then get_or value.hists event [] else [])
+    → mine ≡ remove read index
+    → IsApplied (Triggers event append (DetachHist index)) value (record old { hists = set old.hists event mine })
+hist_detached event append index value old read mine view within here one is =
+    hists_applied event append (DetachHist index) value old read mine old.triggers view within here refl (by append one) (λ f. refl)
+  where
+    by : (a : Bool) → index < length (if a then get_or value.hists event [] else [])
+        → map kept_of mine ≡ remove (map kept_of (if a then read else [])) index
+    by true one = ap (map kept_of) is ∙ kept_without read index (one_of true event index value old read view within here one)
+    by false one = absurd (omega (arith, one))
+
+-- the one at an index is asked
+pub hist_asked : (event : ℕ) (append : Bool) (index : ℕ) (action : Action) (value old : InstanceSeen) (read mine : List AttachedHist) → old ≡ value
+    → event < length value.hists → read ≡ get_or old.hists event read → index < length (if append then get_or value.hists event [] else [])
+    → map kept_of mine ≡ asked_at index action (map kept_of read)
+    → IsApplied (Triggers event append (AskHist index action)) value (record old { hists = set old.hists event mine })
+hist_asked event append index action value old read mine view within here one is =
+    hists_applied event append (AskHist index action) value old read mine old.triggers view within here refl (by append one) (λ f. refl)
+  where
+    by : (a : Bool) → index < length (if a then get_or value.hists event [] else [])
+        → map kept_of mine ≡ asked_at index action (map kept_of (if a then read else []))
+    by true one = is
+    by false one = absurd (omega (arith, one))
 
 -- the event has a trigger for snapshots, and the instance a spare side
 pub attached : (event : ℕ) (append : Bool) (trigger : Trigger) (value old : InstanceSeen) (new : SidesSeen) (read mine : List AttachedHist) → old ≡ value

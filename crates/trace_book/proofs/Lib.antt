@@ -1,7 +1,9 @@
 pub mod HistEmitting
 pub mod HistSteps
 pub mod Attached
+pub mod OneSays
 pub mod Answering
+pub mod HistAnswering
 pub mod RecordBytes
 pub mod EachHist
 pub mod EachInstance

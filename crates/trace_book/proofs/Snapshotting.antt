@@ -282,7 +282,7 @@ snapshot-frees g name past append text i stands number none =
     let unarmed : has_trigger name past ≡ false = sym (trigger-there g name past i stands) ∙ none in (
       ap (spare_answer (has_trigger name past)) is ∙ ap (λ (in_use : Bool). spare_answer in_use (Some Frees)) unarmed,
       frees-effect g name past append text is unarmed,
-      λ i usable. tt,
+      λ i stands. tt,
     )
 
 pub snapshot-busy : (g : Config) (name : Option (List ℕ)) (past : List Request) (append : Bool) (text : List ℕ) (i : InstanceSeen)
@@ -302,7 +302,7 @@ snapshot-takes g name past append text number =
     let is = written-is text 1 number in (
       ap (spare_answer (has_trigger name past)) is,
       takes-effect g name past append text is,
-      λ i usable. tt,
+      λ i stands. tt,
     )
 
 -- neither 0 nor 1
@@ -321,7 +321,7 @@ snapshot-empties g name past append text n number none one =
     let is = written-is text n number ∙ ap Some (other-number n none one) in (
       ap (spare_answer (has_trigger name past)) is,
       empties-effect g name past append text is,
-      λ i usable. tt,
+      λ i stands. tt,
     )
 
 pub snapshot-bad : (g : Config) (name : Option (List ℕ)) (past : List Request) (append : Bool) (text : List ℕ) → written_number text ≡ None

@@ -2,7 +2,7 @@
 use Rattle.std.proofs.Common.{◌≡◌, ℕ, suc, ◌<◌, ◌==◌, Bool, true, false, if◌then◌else◌, unwrap_or, List, [], ◌∷◌, length, map, get_or, set, is_some, Option, Some, None, Result, Ok, Err, refl, sym, ap, ◌∙◌, subst, eq-eqb, eqb-true}
 use Rattle.std.specs.Option.{option_copied}
 use Rattle.std.proofs.lemmas.Bool.{false≢true}
-use Rattle.std.proofs.lemmas.List.{get_or-map, set-get_or}
+use Rattle.std.proofs.lemmas.List.{get_or-map, length-map, set-get_or}
 use Rattle.page_ring.specs.Events.{Event}
 use Rattle.trace_format.specs.Catalogs.{AreEvents}
 use Rattle.trace_format.specs.Definitions.{Definition}
@@ -23,7 +23,7 @@ use Rattle.trace_history.specs.Triggers.{trigger_of}
 use Rattle.trace_history.proofs.EventLists.{map-set, named_at}
 use Rattle.trace_history.proofs.Sides.{AreStaying, rings-stay}
 use Rattle.trace_book.specs.Attaching.{AreKept, IsTriggerChange, IsTriggerEffect, arms, write_of}
-use Rattle.trace_book.specs.Changes.{IsEffect, hists_changed, sides_changed, trigger_changed, triggers_after}
+use Rattle.trace_book.specs.Changes.{IsEffect, IsOfOne, hists_changed, sides_changed, trigger_changed, triggers_after}
 use Rattle.trace_book.specs.Commands.{IsWriteChange}
 use Rattle.trace_book.specs.Files.{name_at}
 use Rattle.trace_book.specs.Instances.{InstanceSeen, InstanceStandsFor, IsSpared, kept_as, kept_trigger, side_families}
@@ -40,6 +40,7 @@ use Rattle.trace_book.proofs.Effects.{same_instance}
 use Rattle.trace_book.proofs.HistSteps.{KeepsHists, kept-hists-calm}
 use Rattle.trace_book.proofs.Resolving.{name_at-is}
 use Rattle.trace_book.proofs.Snapshotting.{KeepsSettings, same-at, some-mapped, spare-or-new, spared-new, trigger-keeps}
+use Rattle.trace_book.proofs.Usable.{usable-stands}
 use Rattle.trace_book.proofs.Writes.{other-name}
 
 -- ---- a write to the trigger file of the event at a place
@@ -99,8 +100,8 @@ set-changed index append Keep olds old is = ap (set olds index) (sym is) ∙ set
 set-changed index append (Attach trigger) olds old is = refl
 set-changed index append Detach olds old is = refl
 set-changed index append (AttachHist attached) olds old is = ap (set olds index) (sym is) ∙ set-get_or olds index None
-set-changed index append (DetachHist spec) olds old is = ap (set olds index) (sym is) ∙ set-get_or olds index None
-set-changed index append (AskHist spec) olds old is = ap (set olds index) (sym is) ∙ set-get_or olds index None
+set-changed index append (DetachHist at) olds old is = ap (set olds index) (sym is) ∙ set-get_or olds index None
+set-changed index append (AskHist at action) olds old is = ap (set olds index) (sym is) ∙ set-get_or olds index None
 
 -- a trigger for snapshots that is there after a change that attaches none was there before it
 some-before : (change : TriggerChange) (old : Option Trigger) → arms change ≡ None → is_some (trigger_changed change old) ≡ true → is_some old ≡ true
@@ -108,8 +109,8 @@ some-before Keep old none some = some
 some-before (Attach trigger) old none some = absurd (cc)
 some-before Detach old none some = absurd (cc)
 some-before (AttachHist attached) old none some = some
-some-before (DetachHist spec) old none some = some
-some-before (AskHist spec) old none some = some
+some-before (DetachHist at) old none some = some
+some-before (AskHist at action) old none some = some
 
 pub trigger-effect : (g : Config) (name : Option (List ℕ)) (past : List Request) (index : ℕ) (written : Written) (change : TriggerChange)
     → AreEvents [] (declared_events past) → index < length (declared_events past)
@@ -195,8 +196,8 @@ trigger-effect g name past index written change distinct inside is = record {
         ∙ ap (λ (l : List (List Event)). (let f : SideFamilies = record { live = rings g name past; spare = Some l } in f)) (sym (spare-or-new g name past spared))
     sides Detach sets spared = same_sides sets
     sides (AttachHist attached) sets spared = same_sides sets
-    sides (DetachHist spec) sets spared = same_sides sets
-    sides (AskHist spec) sets spared = same_sides sets
+    sides (DetachHist at) sets spared = same_sides sets
+    sides (AskHist at action) sets spared = same_sides sets
 
     -- this event has a trigger after it only where it had one
     was_there : (c : TriggerChange) → arms c ≡ None → kept_trigger name (request ∷ past) here ≡ trigger_changed c (kept_trigger name past here)
@@ -229,8 +230,8 @@ trigger-effect g name past index written change distinct inside is = record {
     spared (Attach trigger) sets snapshot = λ before. spared-new g name past request (there sets)
     spared Detach sets snapshot = unarmed Detach refl sets snapshot
     spared (AttachHist attached) sets snapshot = unarmed (AttachHist attached) refl sets snapshot
-    spared (DetachHist spec) sets snapshot = unarmed (DetachHist spec) refl sets snapshot
-    spared (AskHist spec) sets snapshot = unarmed (AskHist spec) refl sets snapshot
+    spared (DetachHist at) sets snapshot = unarmed (DetachHist at) refl sets snapshot
+    spared (AskHist at action) sets snapshot = unarmed (AskHist at action) refl sets snapshot
 
 -- ---- what it answers
 
@@ -245,6 +246,26 @@ answer-is : (name : Option (List ℕ)) (past : List Request) (index : ℕ) (appe
     ≡ trigger_answer name past append text (event_at past index)
 answer-is name past index append text distinct inside = ap (named_trigger_answer name past append text) (found-event past index distinct inside)
 
+-- the hist triggers at a place are what is kept of the event's
+kept-there : (g : Config) (name : Option (List ℕ)) (past : List Request) (i : InstanceSeen) (index : ℕ) → InstanceStandsFor g name past i
+    → index < length (declared_events past) → index < length i.hists
+    → map kept_of (get_or i.hists index []) ≡ kept_hists name past (event_at past index)
+kept-there g name past i index stands inside within =
+    sym (get_or-map (λ (attached : List AttachedHist). map kept_of attached) i.hists index [] [] within)
+    ∙ ap (λ (hs : List (List KeptHist)). get_or hs index []) stands.hists
+    ∙ get_or-map (kept_hists name past) (declared_events past) index no_event [] inside
+
+-- so one of those is one of these
+one-stands : (g : Config) (name : Option (List ℕ)) (past : List Request) (i : InstanceSeen) (index : ℕ) (append : Bool) (change : TriggerChange)
+    → InstanceStandsFor g name past i → index < length (declared_events past) → index < length i.hists
+    → IsOfOne change (length (if append then kept_hists name past (event_at past index) else []))
+    → IsOfOne change (length (if append then get_or i.hists index [] else []))
+one-stands g name past i index append change stands inside within one = subst (IsOfOne change) (many append) one
+  where
+    many : (a : Bool) → length (if a then kept_hists name past (event_at past index) else []) ≡ length (if a then get_or i.hists index [] else [])
+    many true = ap length (sym (kept-there g name past i index stands inside within)) ∙ length-map (get_or i.hists index []) kept_of
+    many false = refl
+
 pub trigger-written : (g : Config) (name : Option (List ℕ)) (past : List Request) (index : ℕ) (event : Definition) (written : Written) (change : TriggerChange)
     → AreEvents [] (declared_events past) → index < length (declared_events past) → event ≡ get_or (declared_events past) index event
     → IsTriggerChange name past event written (Ok change)
@@ -255,7 +276,11 @@ trigger-written g name past index event written change distinct inside at is =
     subst (λ (e : Definition). IsTriggerChange name past e written (Ok change)) (at-place past index event inside at) is in (
       answer-is name past index written.append written.text.now distinct inside ∙ here.0,
       trigger-effect g name past index written change distinct inside here.1,
-      λ i usable. (rw usable.triggers inside, rw usable.hists inside),
+      λ i stands. let usable = usable-stands g name past i stands in (
+        rw usable.triggers inside,
+        rw usable.hists inside,
+        one-stands g name past i index written.append change stands inside (rw usable.hists inside) here.1.one,
+      ),
     )
 
 pub trigger-refused : (g : Config) (name : Option (List ℕ)) (past : List Request) (index : ℕ) (event : Definition) (written : Written) (refused : Refusal)
@@ -278,8 +303,6 @@ kept-at g name past i index event triggers stands inside within at snapshot hist
       ∙ get_or-map (kept_trigger name past) (declared_events past) index no_event None inside
       ∙ ap (kept_trigger name past) (sym (at-place past index event inside at));
   hists = ap (λ (hs : List AttachedHist). map kept_of hs) hists
-      ∙ sym (get_or-map (λ (attached : List AttachedHist). map kept_of attached) i.hists index [] [] within)
-      ∙ ap (λ (hs : List (List KeptHist)). get_or hs index []) stands.hists
-      ∙ get_or-map (kept_hists name past) (declared_events past) index no_event [] inside
+      ∙ kept-there g name past i index stands inside within
       ∙ ap (kept_hists name past) (sym (at-place past index event inside at));
 }

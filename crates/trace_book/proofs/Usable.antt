@@ -51,19 +51,21 @@ distinct-with_top names distinct = (differ_from_top names, distinct-some_names n
 
 -- ---- a state that stands for a past
 
-usable_instance : (g : Config) (state : State) (past : List Request) (name : Option (List ℕ)) (i : InstanceSeen) → state.catalog ≡ declared_events past
-    → InstanceStandsFor g name past i → IsUsableInstance g (length state.catalog) i
-usable_instance g state past name i events stands = record {
-  enabled = ap (λ (l : List Bool). length l) stands.enabled ∙ length-map (declared_events past) (λ (event : Definition). is_enabled name event.name past)
-      ∙ ap (λ (l : List Definition). length l) (sym events);
-  filters = ap (λ (l : List (Option Parsed)). length l) stands.filters ∙ length-map (declared_events past) (kept_filter name past)
-      ∙ ap (λ (l : List Definition). length l) (sym events);
-  triggers = ap (λ (l : List (Option Trigger)). length l) stands.triggers ∙ length-map (declared_events past) (kept_trigger name past)
-      ∙ ap (λ (l : List Definition). length l) (sym events);
+pub usable-stands : (g : Config) (name : Option (List ℕ)) (past : List Request) (i : InstanceSeen) → InstanceStandsFor g name past i
+    → IsUsableInstance g (length (declared_events past)) i
+usable-stands g name past i stands = record {
+  enabled = ap (λ (l : List Bool). length l) stands.enabled ∙ length-map (declared_events past) (λ (event : Definition). is_enabled name event.name past);
+  filters = ap (λ (l : List (Option Parsed)). length l) stands.filters ∙ length-map (declared_events past) (kept_filter name past);
+  triggers = ap (λ (l : List (Option Trigger)). length l) stands.triggers ∙ length-map (declared_events past) (kept_trigger name past);
   hists = sym (length-map i.hists (λ (attached : List AttachedHist). map kept_of attached)) ∙ ap (λ (l : List (List KeptHist)). length l) stands.hists
-      ∙ length-map (declared_events past) (kept_hists name past) ∙ ap (λ (l : List Definition). length l) (sym events);
+      ∙ length-map (declared_events past) (kept_hists name past);
   shaped = stands.shaped;
 }
+
+usable_instance : (g : Config) (state : State) (past : List Request) (name : Option (List ℕ)) (i : InstanceSeen) → state.catalog ≡ declared_events past
+    → InstanceStandsFor g name past i → IsUsableInstance g (length state.catalog) i
+usable_instance g state past name i events stands =
+    subst (λ (l : List Definition). IsUsableInstance g (length l) i) (sym events) (usable-stands g name past i stands)
 
 pub usable_from_stands : (g : Config) (state : State) (past : List Request) → IsInRange g → StandsFor g state past → length past ≤ 2 ^ 32
     → IsUsable g state

@@ -30,6 +30,7 @@ use Rattle.trace_book.proofs.Calm.{quiet-keep}
 use Rattle.trace_book.proofs.Effects.{own_write}
 use Rattle.trace_book.proofs.Filtering.{all-late, changed-map, cleared-all, no-event-refused}
 use Rattle.trace_book.proofs.Resolving.{name_at-is}
+use Rattle.trace_book.proofs.Usable.{usable-stands}
 use Rattle.trace_history.proofs.EventLists.{map-agrees, map-constant, map-set, named_at, one_place}
 
 -- ---- what changes
@@ -40,13 +41,13 @@ clears-trace g instance past text true = (
   refl,
   own_write g instance past (paths.OfInstance top.Trace) true text Keep tt quiet-keep
       (record { enabled = λ old. refl; filters = λ old. refl; overwrite = λ old. refl; tracing = λ old. refl; rings = λ old. refl }),
-  λ i usable. tt,
+  λ i stands. tt,
 )
 clears-trace g instance past text false = (
   refl,
   own_write g instance past (paths.OfInstance top.Trace) false text Clear tt (record { triggers = λ old. refl; hists = λ old. refl; sides = λ cpus pages page_bytes f. refl })
       (record { enabled = λ old. refl; filters = λ old. refl; overwrite = λ old. refl; tracing = λ old. refl; rings = λ old. refl }),
-  λ i usable. tt,
+  λ i stands. tt,
 )
 
 pub clears-cpu : (g : Config) (instance : Option (List ℕ)) (past : List Request) (text : List ℕ) (cpu : ℕ) → cpu < g.cpus → (append : Bool)
@@ -55,13 +56,13 @@ clears-cpu g instance past text cpu there true = (
   refl,
   own_write g instance past (paths.OfCpu cpu per_cpu.Trace) true text Keep tt quiet-keep
       (record { enabled = λ old. refl; filters = λ old. refl; overwrite = λ old. refl; tracing = λ old. refl; rings = λ old. refl }),
-  λ i usable. tt,
+  λ i stands. tt,
 )
 clears-cpu g instance past text cpu there false = (
   refl,
   own_write g instance past (paths.OfCpu cpu per_cpu.Trace) false text (ClearCpu cpu) tt (record { triggers = λ old. refl; hists = λ old. refl; sides = λ cpus pages page_bytes f. refl })
       (record { enabled = λ old. refl; filters = λ old. refl; overwrite = λ old. refl; tracing = λ old. refl; rings = λ old. refl }),
-  λ i usable. rw usable.shaped.live.cpus there,
+  λ i stands. rw stands.shaped.live.cpus there,
 )
 
 -- a write that empties no ring
@@ -104,7 +105,7 @@ sets-overwrite g instance past append text flag needed =
       rw is refl,
       own_write g instance past (paths.OfInstance top.Overwrite) append text (SetOverwrite flag) tt (record { triggers = λ old. refl; hists = λ old. refl; sides = λ cpus pages page_bytes f. refl })
           (record { enabled = λ old. refl; filters = λ old. refl; overwrite = λ old. rw is refl; tracing = λ old. refl; rings = λ old. same-rings append (paths.OfInstance top.Overwrite) old refl }),
-      λ i usable. tt,
+      λ i stands. tt,
     )
 
 pub sets-option : (g : Config) (instance : Option (List ℕ)) (past : List Request) (append : Bool) (text : List ℕ) (flag : Bool) → needed_flag (written_option text) ≡ Ok flag
@@ -115,7 +116,7 @@ sets-option g instance past append text flag needed =
       rw is refl,
       own_write g instance past (paths.OfInstance top.TraceOptions) append text (SetOverwrite flag) tt (record { triggers = λ old. refl; hists = λ old. refl; sides = λ cpus pages page_bytes f. refl })
           (record { enabled = λ old. refl; filters = λ old. refl; overwrite = λ old. rw is refl; tracing = λ old. refl; rings = λ old. same-rings append (paths.OfInstance top.TraceOptions) old refl }),
-      λ i usable. tt,
+      λ i stands. tt,
     )
 
 pub sets-tracing : (g : Config) (instance : Option (List ℕ)) (past : List Request) (append : Bool) (text : List ℕ) (flag : Bool) → needed_flag (written_tracing text) ≡ Ok flag
@@ -126,7 +127,7 @@ sets-tracing g instance past append text flag needed =
       rw is refl,
       own_write g instance past (paths.OfInstance top.TracingOn) append text (SetTracing flag) tt (record { triggers = λ old. refl; hists = λ old. refl; sides = λ cpus pages page_bytes f. refl })
           (record { enabled = λ old. refl; filters = λ old. refl; overwrite = λ old. refl; tracing = λ old. rw is refl; rings = λ old. same-rings append (paths.OfInstance top.TracingOn) old refl }),
-      λ i usable. tt,
+      λ i stands. tt,
     )
 
 -- an event has its own name, and no other's
@@ -160,7 +161,7 @@ switches-all g instance past append text flag distinct needed =
       rw is refl,
       own_write g instance past (paths.OfInstance top.EventsEnable) append text (SwitchAll flag) tt (record { triggers = λ old. refl; hists = λ old. refl; sides = λ cpus pages page_bytes f. refl })
           (record { enabled = enabled; filters = λ old. refl; overwrite = λ old. refl; tracing = λ old. refl; rings = λ old. same-rings append (paths.OfInstance top.EventsEnable) old refl }),
-      λ i usable. tt,
+      λ i stands. tt,
     )
 
 pub switches-one : (g : Config) (instance : Option (List ℕ)) (past : List Request) (append : Bool) (text : List ℕ) (index : ℕ) (flag : Bool) → AreEvents [] (declared_events past)
@@ -177,7 +178,7 @@ switches-one g instance past append text index flag distinct inside needed = (
         tracing = λ old. refl;
         rings = λ old. same-rings append (paths.OfEvent name per_event.Enable) old refl;
       }),
-  λ i usable. rw usable.enabled inside,
+  λ i stands. rw (usable-stands g instance past i stands).enabled inside,
 )
   where
     events : List Definition
@@ -216,7 +217,7 @@ sets-one g instance past append text index event kept distinct inside at written
         tracing = λ old. refl;
         rings = λ old. same-rings append (paths.OfEvent name per_event.Filter) old refl;
       }),
-  λ i usable. rw usable.filters inside,
+  λ i stands. rw (usable-stands g instance past i stands).filters inside,
 )
   where
     events : List Definition
@@ -281,7 +282,7 @@ clears-all g instance past append text distinct inside off =
       cleared-all text events inside off,
       own_write g instance past (paths.OfInstance top.EventsFilter) append text ClearFilters tt (record { triggers = λ old. refl; hists = λ old. refl; sides = λ cpus pages page_bytes f. refl })
           (record { enabled = λ old. refl; filters = filters; overwrite = λ old. refl; tracing = λ old. refl; rings = λ old. same-rings append (paths.OfInstance top.EventsFilter) old refl }),
-      λ i usable. tt,
+      λ i stands. tt,
     )
 
 pub sets-all : (g : Config) (instance : Option (List ℕ)) (past : List Request) (append : Bool) (text : List ℕ) (changes : Vec FilterChange Global) → AreEvents [] (declared_events past)
@@ -297,7 +298,7 @@ sets-all g instance past append text changes distinct on are done = (
         tracing = λ old. refl;
         rings = λ old. same-rings append (paths.OfInstance top.EventsFilter) old refl;
       }),
-  λ i usable. rw (are, usable.filters) (length-map events (change_of text)),
+  λ i stands. rw (are, (usable-stands g instance past i stands).filters) (length-map events (change_of text)),
 )
   where
     events : List Definition

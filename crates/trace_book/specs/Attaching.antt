@@ -17,7 +17,7 @@ use Rattle.trace_command.specs.declared.refusal.Refusal.{Refusal}
 use Rattle.trace_command.specs.declared.refusal.Refusal.TheVariants.{TriggerExists}
 use Rattle.trace_history.specs.History.{trigger_answer}
 use Rattle.trace_history.specs.Snapshots.{spare_armed}
-use Rattle.trace_book.specs.Changes.{hists_changed, trigger_changed}
+use Rattle.trace_book.specs.Changes.{IsOfOne, hists_changed, trigger_changed}
 use Rattle.trace_book.specs.Instances.{kept_trigger}
 use Rattle.trace_book.specs.KeptHists.{kept_hists, kept_of}
 use Rattle.trace_book.specs.declared.attach.EventTriggers.{EventTriggers}
@@ -44,6 +44,7 @@ pub record IsTriggerEffect (name : Option (List ℕ)) (past : List Request) (eve
   pub snapshot : kept_trigger name (write_of name event written ∷ past) event ≡ trigger_changed change (kept_trigger name past event)
   pub hists : kept_hists name (write_of name event written ∷ past) event
       ≡ hists_changed change (if written.append then kept_hists name past event else [])
+  pub one : IsOfOne change (length (if written.append then kept_hists name past event else []))
   pub spare : spare_armed (said_of event written.text.now) ≡ arms change
 
 abbrev pub IsTriggerChange : Option (List ℕ) → List Request → Definition → Written → Result TriggerChange Refusal → Type 0
@@ -77,10 +78,14 @@ IsAttached trigger = IsSaidChange (said.Attach trigger)
 abbrev pub IsAsked : SpecSeen → EventTriggers → Written → Result TriggerChange Refusal → Type 0
 IsAsked spec = IsSaidChange (said.Hist spec)
 
--- what is changed where one that is attached says the same
-abbrev pub asked_change : Action → SpecSeen → Result TriggerChange Refusal
-asked_change action.Attach spec = Err TriggerExists
-asked_change asked spec = Ok (AskHist spec)
+-- a hist trigger that is removed
+abbrev pub IsRemovedHist : SpecSeen → EventTriggers → Written → Result TriggerChange Refusal → Type 0
+IsRemovedHist spec = IsSaidChange (said.RemoveHist spec)
+
+-- what is changed where the one at an index says the same
+abbrev pub asked_change : ℕ → Action → Result TriggerChange Refusal
+asked_change index action.Attach = Err TriggerExists
+asked_change index asked = Ok (AskHist index asked)
 
 -- whether a hist trigger is attached where none says the same
 abbrev pub attaches : Action → Bool

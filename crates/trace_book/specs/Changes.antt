@@ -1,5 +1,6 @@
 -- What a request that is done changes: of one instance, and of the whole.
 use Rattle.std.specs.Prelude.{◌≡◌, ℕ, ◌<◌, min, slice_index_or, slice_set, replicate, Bool, true, false, List, [], ◌∷◌, ◌++◌, length, map, Option, Some, None, if◌then◌else◌, ⊤}
+use Rattle.std.specs.List.{remove}
 use Rattle.page_ring.specs.Events.{Event}
 use Rattle.trace_buffer.specs.Buffers as buffers
 use Rattle.trace_buffer.specs.Families.{with_cleared, all_cleared, cpu_readings, kept_count}
@@ -12,7 +13,7 @@ use Rattle.trace_snapshot.specs.Sides as snapshot
 use Rattle.trace_snapshot.specs.Sides.{SideFamilies, exchanged, spare_cleared, with_spare, without_spare}
 use Rattle.trace_history.specs.Settings.{can_take, declared_events, is_enabled, is_tracing, kept_filter, overwrites}
 use Rattle.trace_book.specs.Instances.{InstanceSeen, IsShaped, IsSpared, WereOffered, hists_kept, kept_trigger, side_families}
-use Rattle.trace_book.specs.KeptHists.{KeptHist, asked_same, kept_hists, kept_of, without_same}
+use Rattle.trace_book.specs.KeptHists.{KeptHist, asked_at, kept_hists, kept_of}
 use Rattle.trace_book.specs.declared.trigger.Trigger.{Trigger}
 use Rattle.trace_book.specs.declared.change.InstanceChange.{InstanceChange}
 use Rattle.trace_book.specs.declared.change.InstanceChange.TheVariants.{Switch, SwitchAll, SetFilter, SetFilters, ClearFilters, Triggers, SetOverwrite, SetTracing, Clear, ClearCpu, Take, TakeCpu, TakeSnapshot, FreeSpare, ClearSpare}
@@ -67,8 +68,8 @@ triggers_after change triggers = triggers
 -- the hist triggers of an event after a change, of those that `>` or `>>` left
 abbrev pub hists_changed : TriggerChange → List KeptHist → List KeptHist
 hists_changed (AttachHist attached) hists = hists ++ kept_of attached ∷ []
-hists_changed (DetachHist spec) hists = without_same spec hists
-hists_changed (AskHist spec) hists = map (asked_same spec) hists
+hists_changed (DetachHist index) hists = remove hists index
+hists_changed (AskHist index action) hists = asked_at index action hists
 hists_changed change hists = hists
 
 -- those of each event
@@ -101,12 +102,19 @@ sides_changed cpus pages page_bytes FreeSpare f = without_spare f
 sides_changed cpus pages page_bytes ClearSpare f = spare_cleared f
 sides_changed cpus pages page_bytes change f = record { live = rings_changed pages page_bytes change f.live; spare = f.spare }
 
+-- the hist trigger that a change of an event's triggers names is one of so many
+abbrev pub IsOfOne : TriggerChange → ℕ → Type 0
+IsOfOne (DetachHist index) many = index < many
+IsOfOne (AskHist index action) many = index < many
+IsOfOne change many = ⊤
+
 -- a change can be made: what it names is there
 abbrev pub IsLawful : InstanceSeen → InstanceChange → Type 0
 IsLawful i (Switch index flag) = index < length i.enabled
 IsLawful i (SetFilter index new) = index < length i.filters
 IsLawful i (SetFilters changes) = length changes.items ≡ length i.filters
 IsLawful i (Triggers index append change) = (index < length i.triggers) × (index < length i.hists)
+    × IsOfOne change (length (if append then slice_index_or i.hists index [] else []))
 IsLawful i (ClearCpu cpu) = cpu < buffers.cpus i.sides.live
 IsLawful i (TakeCpu cpu limit) = cpu < buffers.cpus i.sides.live
 IsLawful i change = ⊤

@@ -19,7 +19,6 @@ use Rattle.trace_history.specs.Settings.{declared_events, now_of, written_filter
 use Rattle.trace_book.specs.Instances.{InstanceSeen, InstanceStandsFor}
 use Rattle.trace_book.specs.KeptHists.{KeptHist}
 use Rattle.trace_book.specs.Changes.{IsEffect, IsLawful, rings_changed}
-use Rattle.trace_book.specs.States.{IsUsableInstance}
 use Rattle.trace_book.specs.declared.change.InstanceChange.{InstanceChange}
 use Rattle.trace_book.specs.declared.change.InstanceChange.TheVariants.{Keep, Take, TakeCpu}
 use Rattle.trace_book.specs.declared.read.Shown.{Shown}
@@ -33,7 +32,7 @@ use Rattle.trace_book.specs.declared.resolve.File.TheVariants as found
 abbrev pub IsWriteChange : Config → Option (List ℕ) → List Request → Bool → List ℕ → File → Result InstanceChange Refusal → Type 0
 IsWriteChange g name past append text file (Ok change) =
     (write_answer g name past append text file ≡ Ok Done) × IsEffect g name past (WriteFile name (Some file) append text) change
-    × ((i : InstanceSeen) → IsUsableInstance g (length (declared_events past)) i → IsLawful i change)
+    × ((i : InstanceSeen) → InstanceStandsFor g name past i → IsLawful i change)
 IsWriteChange g name past append text file (Err refusal) = IsRefusal refusal (write_answer g name past append text file)
 
 -- a value that has to be one

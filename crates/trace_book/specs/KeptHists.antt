@@ -1,6 +1,5 @@
 -- Hist triggers as an instance keeps them: what of them agrees with the requests, and what is done to them.
-use Rattle.std.specs.Prelude.{◌≡◌, ℕ, ◌<◌, ◌^◌, Bool, true, not, if◌then◌else◌, List, [], ◌∷◌, ◌++◌, length, map, slice_index_or, Option, Some}
-use Rattle.std.specs.List.{filter}
+use Rattle.std.specs.Prelude.{◌≡◌, ℕ, zero, suc, ◌<◌, ◌^◌, Bool, true, if◌then◌else◌, List, [], ◌∷◌, ◌++◌, length, map, slice_index_or, Option, Some}
 use Rattle.trace_format.specs.Operands.{Emission}
 use Rattle.trace_format.specs.Definitions.{Definition}
 use Rattle.trace_hist.specs.Groups.{Table, grouped}
@@ -48,12 +47,11 @@ asked action k = record {
   table = if empties (Some action) then grouped k.spec [] else k.table;
 }
 
-abbrev pub asked_same : SpecSeen → KeptHist → KeptHist
-asked_same spec k = if is_same spec k.spec then asked spec.action k else k
-
--- those that say the same are removed
-abbrev pub without_same : SpecSeen → List KeptHist → List KeptHist
-without_same spec hists = filter (λ k. not (is_same spec k.spec)) hists
+-- the one at an index is asked
+abbrev pub asked_at : ℕ → Action → List KeptHist → List KeptHist
+asked_at index action [] = []
+asked_at zero action (k ∷ hists) = asked action k ∷ hists
+asked_at (suc index) action (k ∷ hists) = k ∷ asked_at index action hists
 
 -- memory is at hand to count an emission, if the trigger's filter passes that
 abbrev pub CanCount : Emission → AttachedHist → Type 0

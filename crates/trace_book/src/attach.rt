@@ -1,7 +1,6 @@
 //! Trigger texts: what is changed by one that is written for an event (events.rst, "Event triggers"; histogram.rst, "hist triggers").
 
-ghost use Rattle.std.specs.Prelude.{◌≡◌, ◌≢◌, ◌<◌, ◌≤◌, false, not, ◌&&◌, ◌||◌, List, [], length, slice_index_or, None, option_copied, OnOk, IfErr};
-ghost use Rattle.std.specs.List.{list_any};
+ghost use Rattle.std.specs.Prelude.{◌≡◌, ◌≢◌, ◌<◌, ◌≤◌, false, if◌then◌else◌, [], length, position, slice_index_or, None, option_copied, OnOk, IfErr};
 ghost use Rattle.trace_trigger.specs.TriggerTexts.{HasFilter, is_hist_text};
 ghost use Rattle.trace_book.specs.Attaching as attaching;
 ghost use Rattle.trace_book.specs.KeptHists.{says_same};
@@ -58,10 +57,7 @@ impl EventTriggers<'_> {
             TriggerText::Remove if self.snapshot.is_some() => Ok(TriggerChange::Detach),
             TriggerText::Remove => Err(Refusal::NoSuchTrigger),
             TriggerText::Hist(spec) => self.asked(alloc, written, spec),
-            TriggerText::RemoveHist(spec) if self.removes(written.append, &spec) => {
-                Ok(TriggerChange::DetachHist(spec))
-            }
-            TriggerText::RemoveHist(_) => Err(Refusal::NoSuchTrigger),
+            TriggerText::RemoveHist(spec) => self.removed(written, &spec),
         }
     }
 
@@ -90,8 +86,8 @@ impl EventTriggers<'_> {
     ) -> Result<TriggerChange, Refusal>
         ensures { attaching.IsAsked spec self.entry written.entry result }
     {
-        if self.finds(written.append, &spec) {
-            return asked_again(spec);
+        if let Some(index) = self.position(written.append, &spec) {
+            return asked_again(index, spec.action());
         }
         if !attaches(spec.action()) {
             return Err(Refusal::NoSuchTrigger);
@@ -104,18 +100,29 @@ impl EventTriggers<'_> {
         }))
     }
 
-    // Whether one of those that are left says the same.
-    fn finds(self, append: bool, spec: &HistSpec) -> bool
-        ensures { result ≡ (append && list_any (says_same spec.now) self.entry.hists.now) }
+    // A hist trigger that is removed: the same one, but by `>`, which takes all of them away, nothing more.
+    fn removed(self, written: Written<'_>, spec: &HistSpec) -> Result<TriggerChange, Refusal>
+        ensures change { attaching.IsRemovedHist spec.now self.entry written.entry result }
+        ensures memory { IfErr result (λ r. r ≢ Refusal.Memory) }
     {
-        append && self.hists.has_same(spec)
+        if !written.append {
+            return Ok(TriggerChange::Keep);
+        }
+        match self.hists.position(spec) {
+            Some(index) => Ok(TriggerChange::DetachHist(index)),
+            None => Err(Refusal::NoSuchTrigger),
+        }
     }
 
-    // Whether a removal is done: by `>`, which takes all of them away, it always is.
-    fn removes(self, append: bool, spec: &HistSpec) -> bool
-        ensures { result ≡ (not append || list_any (says_same spec.now) self.entry.hists.now) }
+    // The index of the one that says the same, of those that are left.
+    fn position(self, append: bool, spec: &HistSpec) -> Option<usize>
+        ensures { result ≡ (if append then position (says_same spec.now) self.entry.hists.now else None) }
     {
-        !append || self.hists.has_same(spec)
+        if append {
+            self.hists.position(spec)
+        } else {
+            None
+        }
     }
 
     // Whether there is room for one more trigger.
@@ -138,14 +145,14 @@ impl EventTriggers<'_> {
 }
 
 // What is asked of a hist trigger that is attached.
-fn asked_again(spec: HistSpec) -> Result<TriggerChange, Refusal>
-    ensures { result ≡ attaching.asked_change spec.action spec }
+fn asked_again(index: usize, action: Action) -> Result<TriggerChange, Refusal>
+    ensures { result ≡ attaching.asked_change index action }
 {
-    match spec.action() {
+    match action {
         Action::Attach => Err(Refusal::TriggerExists),
-        Action::Pause => Ok(TriggerChange::AskHist(spec)),
-        Action::Continue => Ok(TriggerChange::AskHist(spec)),
-        Action::Clear => Ok(TriggerChange::AskHist(spec)),
+        Action::Pause | Action::Continue | Action::Clear => {
+            Ok(TriggerChange::AskHist(index, action))
+        }
     }
 }
 

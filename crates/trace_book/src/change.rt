@@ -9,7 +9,7 @@ use crate::state::Named;
 use crate::trigger::Trigger;
 use trace_filter::Filter;
 use trace_format::{EventDef, Row};
-use trace_hist::HistSpec;
+use trace_hist::Action;
 
 /// What a command changes that is no emission.
 #[derive(Drop)]
@@ -70,10 +70,10 @@ pub(crate) enum TriggerChange {
     Detach,
     /// The event gets one more hist trigger.
     AttachHist(AttachedHist),
-    /// The hist triggers that say the same are removed.
-    DetachHist(HistSpec),
-    /// What a text asks for is done to the hist triggers that say the same.
-    AskHist(HistSpec),
+    /// The hist trigger at this index, which says the same, is removed. The text is appended, since `>` leaves none.
+    DetachHist(usize),
+    /// What a text asks for is done to the hist trigger at this index, likewise.
+    AskHist(usize, Action),
 }
 
 /// What becomes of an event's filter.

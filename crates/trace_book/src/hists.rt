@@ -1,8 +1,7 @@
 //! The hist triggers of an event, as an instance keeps them (histogram.rst, "hist triggers").
 
-ghost use Rattle.std.specs.Prelude.{◌≡◌, ◌↔◌, ℕ, ◌<◌, ◌^◌, Bool, true, false, not, if◌then◌else◌, List, [], ◌∷◌, ◌++◌, length, map, All, OnOk, OnErr, IfOk};
-ghost use Rattle.std.specs.List.{filter, list_any};
-ghost use Rattle.trace_trigger.specs.SameSpecs.{is_same};
+ghost use Rattle.std.specs.Prelude.{◌≡◌, ℕ, ◌<◌, if◌then◌else◌, [], ◌∷◌, ◌++◌, length, map, position, All, OnOk, OnErr};
+ghost use Rattle.std.specs.List.{remove};
 ghost use Rattle.trace_book.specs.Commands.{shown_kept_hist};
 ghost use Rattle.trace_book.specs.KeptHists as kept;
 ghost use Rattle.trace_text.specs.ShownTriggers.{shown_trigger};
@@ -34,15 +33,6 @@ impl AttachedHist {
         ensures { shown_trigger result ≡ shown_kept_hist (kept.kept_of self.now) }
     {
         Shown::Hist(self.hist.spec(), &self.hist)
-    }
-
-    // Does what a text asks for, if that says the same.
-    fn ask_same(&mut self, spec: &HistSpec)
-        ensures { kept.kept_of self.new ≡ kept.asked_same spec.now (kept.kept_of self.old) }
-    {
-        if self.says_same(spec) {
-            self.ask(spec.action());
-        }
     }
 
     // Does what a text asks for that says the same.
@@ -111,11 +101,13 @@ impl EventHists {
         &self.hists
     }
 
-    /// Whether one of them says the same as another trigger of the event.
-    pub(crate) fn has_same(&self, spec: &HistSpec) -> bool
-        ensures { result ≡ list_any (kept.says_same spec.now) self.now }
+    /// The index of the one that says the same as another trigger of the event.
+    pub(crate) fn position(&self, spec: &HistSpec) -> Option<usize>
+        ensures { result ≡ position (kept.says_same spec.now) self.now }
     {
-        self.hists.iter().any(|attached| attached.says_same(spec))
+        self.hists
+            .iter()
+            .position(|attached| attached.says_same(spec))
     }
 
     /// Takes them all away, but not where a text is appended.
@@ -140,20 +132,20 @@ impl EventHists {
         Ok(())
     }
 
-    /// Removes those that say the same; where the text is not appended, the others too.
-    pub(crate) fn remove(&mut self, append: bool, spec: &HistSpec)
-        ensures { self.new ≡ filter (λ attached. not (kept.says_same spec.now attached)) (if append then self.old else []) }
+    /// Removes the one at an index.
+    pub(crate) fn remove(&mut self, index: usize)
+        requires { index < length self.old }
+        ensures { self.new ≡ remove self.old index }
     {
-        self.keep(append);
-        self.hists.retain(|attached| !attached.says_same(spec));
+        let _removed = self.hists.remove(index);
     }
 
-    /// Does what a text asks for, to those that say the same; where the text is not appended, all are taken away first.
-    pub(crate) fn ask(&mut self, append: bool, spec: &HistSpec)
-        ensures { map kept.kept_of self.new ≡ map (kept.asked_same spec.now) (map kept.kept_of (if append then self.old else [])) }
+    /// Does what a text asks for, to the one at an index.
+    pub(crate) fn ask(&mut self, index: usize, action: Action)
+        requires { index < length self.old }
+        ensures { map kept.kept_of self.new ≡ kept.asked_at index action (map kept.kept_of self.old) }
     {
-        self.keep(append);
-        ask_each(&mut self.hists, spec);
+        self.hists[index].ask(action);
     }
 
     /// Takes the memory that is needed to count a row.
@@ -171,15 +163,6 @@ impl EventHists {
         ensures { kept.AreHit (record { values = row.now.values; cpu = cpu; pid = pid }) (map kept.kept_of self.old) (map kept.kept_of self.new) }
     {
         hit_each(&mut self.hists, row, cpu, pid);
-    }
-}
-
-// Does what a text asks for, to those that say the same.
-fn ask_each(hists: &mut [AttachedHist], spec: &HistSpec)
-    ensures { map kept.kept_of hists.new ≡ map (kept.asked_same spec.now) (map kept.kept_of hists.old) }
-{
-    for i in 0..hists.len() {
-        hists[i].ask_same(spec);
     }
 }
 

@@ -2,7 +2,7 @@
 
 mod delivery;
 
-ghost use Rattle.std.specs.Prelude.{◌≡◌, ℕ, ◌%◌, ◌≤◌, ◌<◌, true, false, not, is_some, None, List, [], length, slice_index_or, option_copied, replicate, IfOk, OnOk, OnErr};
+ghost use Rattle.std.specs.Prelude.{◌≡◌, ℕ, ◌%◌, ◌≤◌, ◌<◌, true, false, not, is_some, None, if◌then◌else◌, List, [], length, slice_index_or, option_copied, replicate, IfOk, OnOk, OnErr};
 ghost use Rattle.std.specs.List.{list_all, list_any};
 ghost use Rattle.page_ring.specs.Events as event;
 ghost use Rattle.trace_buffer.specs.Buffers as buffers;
@@ -240,6 +240,7 @@ impl Instance {
     ) -> Result<(), AllocError>
         requires triggers { event < length self.old.triggers }
         requires hists { event < length self.old.hists }
+        requires one { changes.IsOfOne change (length (if append then slice_index_or self.old.hists event [] else [])) }
         ensures applied { OnOk result (changes.IsApplied (changed.Triggers event append change) self.old self.new) }
         ensures refused { OnErr result (self.new ≡ self.old) }
     {
@@ -255,8 +256,8 @@ impl Instance {
                 self.triggers[event] = None;
             }
             TriggerChange::AttachHist(attached) => self.hists[event].attach(append, attached)?,
-            TriggerChange::DetachHist(spec) => self.hists[event].remove(append, &spec),
-            TriggerChange::AskHist(spec) => self.hists[event].ask(append, &spec),
+            TriggerChange::DetachHist(index) => self.hists[event].remove(index),
+            TriggerChange::AskHist(index, action) => self.hists[event].ask(index, action),
         }
         Ok(())
     }

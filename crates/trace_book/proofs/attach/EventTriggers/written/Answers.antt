@@ -1,11 +1,9 @@
-use Rattle.std.proofs.Common.{◌≡◌, ◌⊎◌, inl, inr, not, ◌||◌, true, false, Ok, Err, is_some, rules}
-use Rattle.std.specs.List.{list_any}
+use Rattle.std.proofs.Common.{◌≡◌, ◌⊎◌, inl, inr, true, false, Ok, Err, is_some, rules}
 use Rattle.trace_command.specs.Refusals.{refusal_of_trigger}
 use Rattle.trace_trigger.specs.TriggerTexts.{HasFilter, is_hist_text, said_of}
 use Rattle.trace_trigger.specs.declared.fault.TriggerFault.TheVariants as fault
 use Rattle.trace_trigger.specs.declared.trigger.TriggerText.TheVariants as said
-use Rattle.trace_book.specs.KeptHists.{says_same}
-use Rattle.trace_book.proofs.Answering.{text-detaches, text-lacks, text-nothing, text-refused, text-removes, text-removes_none}
+use Rattle.trace_book.proofs.Answering.{text-detaches, text-lacks, text-nothing, text-refused}
 use Rattle.trace_book.proofs.TakenLate.{hist-begins, other-fault}
 use Rattle.trace_book.proofs.attach.EventTriggers.written.Goals as goal
 
@@ -44,18 +42,9 @@ returns-in-Hist-clause-change c = λ name past number are.
     c.asked.ensures c.args.event.now name past number are read
 
 pub returns-in-RemoveHist-clause-change : goal.returns-in-RemoveHist-clause-change
-returns-in-RemoveHist-clause-change c =
-    let spec = c.in-RemoveHist.spec in
-    let read : said_of c.args.event.now c.args.written.text.now ≡ Ok (said.RemoveHist spec) = search rules in
-    let at : (not c.args.written.append || list_any (says_same spec) c.args.self.hists.now) ≡ true = search rules in
-    text-removes c.args.event.now c.args.self c.args.written spec read at
-
-pub returns-in-RemoveHist-2-clause-change : goal.returns-in-RemoveHist-2-clause-change
-returns-in-RemoveHist-2-clause-change c =
-    let spec = c.in-RemoveHist-2.field-0 in
-    let read : said_of c.args.event.now c.args.written.text.now ≡ Ok (said.RemoveHist spec) = search rules in
-    let none : (not c.args.written.append || list_any (says_same spec) c.args.self.hists.now) ≡ false = search rules in
-    text-removes_none c.args.event.now c.args.self c.args.written spec read none
+returns-in-RemoveHist-clause-change c = λ name past number are.
+    let read : said_of c.args.event.now c.args.written.text.now ≡ Ok (said.RemoveHist c.in-RemoveHist.spec) = search rules in
+    c.removed.ensures.change c.args.event.now name past number are read
 
 pub returns-in_err-parse-clause-memory : goal.returns-in_err-parse-clause-memory
 returns-in_err-parse-clause-memory c = λ unfiltered plain.

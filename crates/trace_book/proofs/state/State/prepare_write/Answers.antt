@@ -28,7 +28,7 @@ returns-in_ok-written_change-in-Of-clause-prepared c = λ past number stands.
     let address : Address = paths.address_of c.args.path.now in
     let led = c.in_ok-resolve.ensures.resolved past stands in
     let resolved : IsResolved g state past address (Ok (Of c.in-Of.place c.in-Of.file)) = rw c.in-Of.is at led in
-    address-writes g state past address c.in-Of.place c.in-Of.file c.args.written.append c.args.written.text.now c.in_ok-written_change-in-Of.field-0 c.requires.usable stands resolved
+    address-writes g state past address c.in-Of.place c.in-Of.file c.args.written.append c.args.written.text.now c.in_ok-written_change-in-Of.field-0 stands resolved
     (c.in_ok-written_change-in-Of.ensures.change g address.instance past number stands.events c.requires.usable.distinct
     (stands-at g state past c.in-Of.place address.instance c.index.result.now stands resolved.1 c.index.ensures) resolved.3)
 
