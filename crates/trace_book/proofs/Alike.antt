@@ -3,7 +3,7 @@ use Rattle.std.proofs.Common.{ℕ, ◌<◌, ◌≤◌, ◌∙◌, List, [], leng
 use Rattle.std.proofs.lemmas.List.Elements.{All-same}
 use Rattle.trace_command.specs.Requests.{Request}
 use Rattle.trace_command.specs.declared.command.Config.{Config}
-use Rattle.trace_book.specs.Emissions.{IsStateAlike}
+use Rattle.trace_book.specs.private.Emissions.{IsStateAlike}
 use Rattle.trace_book.specs.Instances.{InstanceSeen, InstanceStandsFor, IsAlike, side_families}
 use Rattle.std.proofs.lemmas.List.{length-map}
 use Rattle.std.specs.List.{AllByRecursion, IsDistinct}

@@ -26,14 +26,14 @@ use Rattle.trace_history.specs.History.{asked_answer, hist_answer, new_hist_answ
 use Rattle.trace_history.specs.HistTriggers.{HistTrigger, has_same, hists_of}
 use Rattle.trace_history.specs.Triggers as triggers
 use Rattle.trace_history.specs.Triggers.{trigger_of}
-use Rattle.trace_book.specs.Attaching.{AreKept, IsAttached, IsChangeOf, kept_count}
+use Rattle.trace_book.specs.private.Attaching.{AreKept, IsAttached, IsChangeOf, kept_count}
 use Rattle.trace_book.specs.Instances as instances
 use Rattle.trace_book.specs.Instances.{kept_trigger}
 use Rattle.trace_book.specs.KeptHists.{KeptHist, kept_as, kept_hists, kept_of, says_same}
 use Rattle.trace_book.specs.declared.attach.EventTriggers.{EventTriggers}
 use Rattle.trace_book.specs.declared.change.TriggerChange.TheVariants.{Keep, Attach, Detach}
 use Rattle.trace_book.specs.declared.trigger.Trigger.{Trigger}
-use Rattle.trace_book.specs.declared.write.Written.{Written}
+use Rattle.trace_book.specs.declared.write.WrittenText.{WrittenText}
 use Rattle.trace_book.proofs.Attached.{hists-stay, left_by, snapshot-attached, snapshot-removed, snapshot-stays}
 use Rattle.trace_book.proofs.OneSays.{IsOnlyOne, found-only, some-position}
 use Rattle.trace_book.proofs.Snapshotting.{none-is, some-mapped, there-is}
@@ -184,7 +184,7 @@ said-refused append attached hists r fault.Memory is told = (
   λ early. absurd (said-late append attached hists r (λ bad. absurd (let h : fault.Memory ≡ fault.BadText = told bad in cc)) early),
 )
 
-pub text-refused : (event : Definition) (kept : EventTriggers) (written : Written) (faulty : TriggerFault)
+pub text-refused : (event : Definition) (kept : EventTriggers) (written : WrittenText) (faulty : TriggerFault)
     → (let a : Result TriggerText TriggerFault = Err faulty in IsAnswered a (said_of event written.text.now))
     → (said_of event written.text.now ≡ Err fault.BadText → faulty ≡ fault.BadText)
     → IsChangeOf event kept written (Err (refusal_of_trigger faulty))
@@ -194,7 +194,7 @@ text-refused event kept written faulty is told = λ name past number are.
 
 -- ---- nothing
 
-pub text-nothing : (event : Definition) (kept : EventTriggers) (written : Written) → said_of event written.text.now ≡ Ok said.Nothing
+pub text-nothing : (event : Definition) (kept : EventTriggers) (written : WrittenText) → said_of event written.text.now ≡ Ok said.Nothing
     → IsChangeOf event kept written (Ok Keep)
 text-nothing event kept written is = λ name past number are. (
   answered name past event written.append written.text.now (Ok said.Nothing) is,
@@ -216,7 +216,7 @@ no-snapshot : (name : Option (List ℕ)) (past : List Request) (event : Definiti
     → is_some kept.snapshot ≡ false → trigger_of name event past ≡ None
 no-snapshot name past event kept are none = none-is (trigger_of name event past) (has-snapshot name past event kept are ∙ none)
 
-pub attach-exists : (trigger : SnapshotTrigger) (kept : EventTriggers) (written : Written) → is_some kept.snapshot ≡ true
+pub attach-exists : (trigger : SnapshotTrigger) (kept : EventTriggers) (written : WrittenText) → is_some kept.snapshot ≡ true
     → IsAttached trigger kept written (Err refusal.TriggerExists)
 attach-exists trigger kept written some = λ event name past number are is.
     let there = some-snapshot name past event kept are some in
@@ -224,7 +224,7 @@ attach-exists trigger kept written some = λ event name past number are is.
     (answered name past event written.append written.text.now (Ok (said.Attach trigger)) is
     ∙ ap (λ (o : Option triggers.Trigger). said_answer written.append o (left_by name past event written.append) (Ok (said.Attach trigger))) there.1)
 
-attach-answer : (trigger : SnapshotTrigger) (kept : EventTriggers) (written : Written) (event : Definition) (name : Option (List ℕ)) (past : List Request)
+attach-answer : (trigger : SnapshotTrigger) (kept : EventTriggers) (written : WrittenText) (event : Definition) (name : Option (List ℕ)) (past : List Request)
     → AreKept name past event kept → is_some kept.snapshot ≡ false → said_of event written.text.now ≡ Ok (said.Attach trigger)
     → trigger_answer name past written.append written.text.now event ≡ room_answer (trigger_of name event past) (left_by name past event written.append)
 attach-answer trigger kept written event name past are none is =
@@ -233,7 +233,7 @@ attach-answer trigger kept written event name past are none is =
     ∙ ap (λ (o : Option triggers.Trigger). said_answer written.append o (left_by name past event written.append) (Ok (said.Attach trigger))) gone
     ∙ ap (λ (o : Option triggers.Trigger). room_answer o (left_by name past event written.append)) (sym gone)
 
-pub attach-full : (trigger : SnapshotTrigger) (kept : EventTriggers) (written : Written) → is_some kept.snapshot ≡ false
+pub attach-full : (trigger : SnapshotTrigger) (kept : EventTriggers) (written : WrittenText) → is_some kept.snapshot ≡ false
     → 4 ≤ kept_count kept written.append → IsAttached trigger kept written (Err refusal.TooMany)
 attach-full trigger kept written none many = λ event name past number are is.
     let full : 4 ≤ trigger_count (trigger_of name event past) (left_by name past event written.append) =
@@ -242,7 +242,7 @@ attach-full trigger kept written none many = λ event name past number are is.
     (attach-answer trigger kept written event name past are none is
     ∙ room-full (trigger_of name event past) (left_by name past event written.append) full)
 
-pub attach-done : (trigger : SnapshotTrigger) (kept : EventTriggers) (written : Written) → is_some kept.snapshot ≡ false
+pub attach-done : (trigger : SnapshotTrigger) (kept : EventTriggers) (written : WrittenText) → is_some kept.snapshot ≡ false
     → kept_count kept written.append < 4
     → IsAttached trigger kept written (Ok (Attach (record { number = written.number; left = trigger.count; filter = trigger.filter })))
 attach-done trigger kept written none few = λ event name past number are is.
@@ -259,7 +259,7 @@ attach-done trigger kept written none few = λ event name past number are is.
       },
     )
 
-pub text-detaches : (event : Definition) (kept : EventTriggers) (written : Written) → said_of event written.text.now ≡ Ok said.Remove
+pub text-detaches : (event : Definition) (kept : EventTriggers) (written : WrittenText) → said_of event written.text.now ≡ Ok said.Remove
     → is_some kept.snapshot ≡ true → IsChangeOf event kept written (Ok Detach)
 text-detaches event kept written is some = λ name past number are.
     let there = some-snapshot name past event kept are some in (
@@ -273,7 +273,7 @@ text-detaches event kept written is some = λ name past number are.
       },
     )
 
-pub text-lacks : (event : Definition) (kept : EventTriggers) (written : Written) → said_of event written.text.now ≡ Ok said.Remove
+pub text-lacks : (event : Definition) (kept : EventTriggers) (written : WrittenText) → said_of event written.text.now ≡ Ok said.Remove
     → is_some kept.snapshot ≡ false → IsChangeOf event kept written (Err refusal.NoSuchTrigger)
 text-lacks event kept written is none = λ name past number are.
     refused refusal.NoSuchTrigger (trigger_answer name past written.append written.text.now event)

@@ -18,15 +18,15 @@ use Rattle.trace_command.specs.declared.refusal.Refusal.{Refusal}
 use Rattle.trace_history.specs.History.{added_answer, answer_with_room, declaration_answer, declarations_text, file_answer, instance_answer, missing, read_answer, read_declaration_answer, write_answer}
 use Rattle.trace_history.specs.Settings.{declared_events, instance_names, is_there, is_same}
 use Rattle.trace_book.specs.Changes.{IsEffect}
-use Rattle.trace_book.specs.Commands.{IsRead, IsReadable, IsSource, IsWriteChange}
-use Rattle.trace_book.specs.Files.{HasEvent, IsAt, IsResolved, IsThere, file_at}
+use Rattle.trace_book.specs.private.Commands.{IsRead, IsReadable, IsSource, IsWriteChange}
+use Rattle.trace_book.specs.private.Files.{HasEvent, IsAt, IsResolved, IsThere, file_at}
 use Rattle.trace_book.specs.Instances.{InstanceSeen, InstanceStandsFor}
 use Rattle.trace_book.specs.States.{IsChanged, IsChangeOf, IsFresh, IsPlain, IsPrepared, IsUsable, IsUsableInstance, StandsFor}
 use Rattle.trace_book.specs.declared.change.Change.TheVariants.{Declare, Instance}
 use Rattle.trace_book.specs.declared.change.InstanceChange.{InstanceChange}
 use Rattle.trace_book.specs.declared.change.InstanceChange.TheVariants.{Keep}
 use Rattle.trace_book.specs.declared.read.Shown.{Shown}
-use Rattle.trace_book.specs.declared.read.Source.{Source}
+use Rattle.trace_book.specs.declared.read.FileSource.{FileSource}
 use Rattle.trace_book.specs.declared.resolve.File.{File}
 use Rattle.trace_book.specs.declared.resolve.File.TheVariants as file
 use Rattle.trace_book.specs.declared.resolve.Target.TheVariants as target
@@ -45,7 +45,7 @@ has_event cpus events (file.OfCpu cpu named) there = tt
 has_event cpus events (file.OfEvent event named) there = there
 
 -- and it can be read of an instance
-pub readable : (g : Config) (source : Source) (found : File) → IsUsableInstance g (length source.catalog.now) source.instance.now
+pub readable : (g : Config) (source : FileSource) (found : File) → IsUsableInstance g (length source.catalog.now) source.instance.now
     → IsThere g.cpus source.catalog.now found → IsReadable source found
 readable g source (file.OfInstance named) usable there = tt
 readable g source (file.OfCpu cpu named) usable there = omega (arith, there, usable.shaped.live.cpus)
@@ -320,7 +320,7 @@ address-lists g state past a limit result resolved is =
     subst (λ (f : Option paths.File). IsPrepared g past (ReadFile a.instance f limit) state result) (sym resolved.1) is
 
 -- what the instance at a place is read from
-pub is-source : (g : Config) (state : State) (past : List Request) (source : Source) (place : ℕ) (name : Option (List ℕ)) (n : Named)
+pub is-source : (g : Config) (state : State) (past : List Request) (source : FileSource) (place : ℕ) (name : Option (List ℕ)) (n : Named)
     → StandsFor g state past → IsAt state place name → source.catalog.now ≡ state.catalog → source.clock ≡ state.clock
     → n ≡ get_or state.instances.items place n → source.instance.now ≡ n.instance → IsSource g name past source
 is-source g state past source place name n stands at catalog clock is instance = record {

@@ -15,8 +15,8 @@ use Rattle.trace_history.specs.History.{missing}
 use Rattle.trace_history.specs.Rings.{rings, rings_after, rings_after_read, rings_after_write}
 use Rattle.trace_history.specs.Settings.{declared_events, event_named, event_named_in, filter_of, is_enabled, is_same, is_tracing, overwrites}
 use Rattle.trace_book.specs.Changes.{IsEffect, filters_after, IsLawful, rings_changed}
-use Rattle.trace_book.specs.Commands.{IsReading}
-use Rattle.trace_book.specs.Files.{IsThere, file_at, name_at}
+use Rattle.trace_book.specs.private.Commands.{IsReading}
+use Rattle.trace_book.specs.private.Files.{IsThere, file_at, name_at}
 use Rattle.trace_book.specs.States.{IsPlain, IsUsableInstance}
 use Rattle.trace_book.specs.Instances.{InstanceSeen}
 use Rattle.trace_book.specs.declared.change.InstanceChange.{InstanceChange}

@@ -23,12 +23,12 @@ use Rattle.trace_history.specs.Snapshots.{is_exchanged_by}
 use Rattle.trace_history.specs.Triggers as triggers
 use Rattle.trace_history.specs.Triggers.{acts, is_left, passes, times_left, trigger_of}
 use Rattle.trace_book.specs.Instances.{InstanceSeen, InstanceStandsFor, IsAlike, kept_as}
-use Rattle.trace_book.specs.Rows.{fires, kept_acts, kept_holds, records}
+use Rattle.trace_book.specs.private.Rows.{fires, kept_acts, kept_holds, records}
 use Rattle.trace_book.specs.KeptHists.{CanCount}
 use Rattle.trace_book.specs.declared.hists.AttachedHist.{AttachedHist}
 use Rattle.trace_book.specs.States.{AllReached, CanBeWritten, CanCountRow, CanEmit, EachCame, HasRoom, IsEmission, StandsFor, reach_at}
-use Rattle.trace_book.specs.Emissions.{AreReached, HasBytes, IsAhead, IsReadied, IsStateAlike}
-use Rattle.trace_book.specs.Found.{numbered}
+use Rattle.trace_book.specs.private.Emissions.{AreReached, HasBytes, IsAhead, IsReadied, IsStateAlike}
+use Rattle.trace_book.specs.private.Found.{numbered}
 use Rattle.trace_book.specs.declared.change.Pending.{Pending}
 use Rattle.trace_book.specs.declared.change.Reach.{Reach}
 use Rattle.trace_book.specs.declared.change.Reaches.{Reaches}

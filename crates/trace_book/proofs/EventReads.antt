@@ -16,12 +16,12 @@ use Rattle.trace_history.specs.Triggers as history
 use Rattle.trace_history.specs.Triggers.{trigger_of}
 use Rattle.trace_history.specs.Settings.{declared_events, event_named, filter_of, is_enabled, kept_filter}
 use Rattle.trace_text.specs.FormatText.{format_text}
-use Rattle.trace_book.specs.Commands.{IsSource, kept_in_order, shown_filter, shown_kept_hist}
+use Rattle.trace_book.specs.private.Commands.{IsSource, kept_in_order, shown_filter, shown_kept_hist}
 use Rattle.trace_book.specs.Instances.{HasShape, kept_as, kept_trigger}
 use Rattle.trace_book.specs.KeptHists.{KeptHist, kept_as as kept_hist, kept_hists, kept_of}
-use Rattle.trace_book.specs.Files.{name_at}
+use Rattle.trace_book.specs.private.Files.{name_at}
 use Rattle.trace_book.specs.declared.hists.AttachedHist.{AttachedHist}
-use Rattle.trace_book.specs.declared.read.Source.{Source}
+use Rattle.trace_book.specs.declared.read.FileSource.{FileSource}
 use Rattle.trace_book.specs.declared.trigger.Trigger.{Trigger}
 
 -- an event for places outside of a list
@@ -35,18 +35,18 @@ name-at_place (event ∷ events) zero d inside = refl
 name-at_place (event ∷ events) (suc i) d inside = name-at_place events i d (omega arith)
 
 -- a place of the catalog is one of the declared events
-inside-declared : (g : Config) (name : Option (List ℕ)) (past : List Request) (source : Source) (event : ℕ) → IsSource g name past source
+inside-declared : (g : Config) (name : Option (List ℕ)) (past : List Request) (source : FileSource) (event : ℕ) → IsSource g name past source
     → event < length source.catalog.now → event < length (declared_events past)
 inside-declared g name past source event is inside = rw (← is.events) inside
 
-name-declared : (g : Config) (name : Option (List ℕ)) (past : List Request) (source : Source) (event : ℕ) → IsSource g name past source
+name-declared : (g : Config) (name : Option (List ℕ)) (past : List Request) (source : FileSource) (event : ℕ) → IsSource g name past source
     → event < length source.catalog.now → (get_or (declared_events past) event no_event).name ≡ name_at source.catalog.now event
 name-declared g name past source event is inside =
     sym (name-at_place (declared_events past) event no_event (inside-declared g name past source event is inside))
     ∙ ap (λ (events : List Definition). name_at events event) (sym is.events)
 
 -- an event's switch
-pub enabled-at_place : (g : Config) (name : Option (List ℕ)) (past : List Request) (source : Source) (event : ℕ) → IsSource g name past source
+pub enabled-at_place : (g : Config) (name : Option (List ℕ)) (past : List Request) (source : FileSource) (event : ℕ) → IsSource g name past source
     → event < length source.catalog.now
     → get_or source.instance.now.enabled event false ≡ is_enabled name (name_at source.catalog.now event) past
 enabled-at_place g name past source event is inside =
@@ -62,7 +62,7 @@ shown-filter event None = refl
 shown-filter event (Some text) = refl
 
 -- an event's filter
-pub filter-at_place : (g : Config) (name : Option (List ℕ)) (past : List Request) (source : Source) (event : ℕ) → IsSource g name past source
+pub filter-at_place : (g : Config) (name : Option (List ℕ)) (past : List Request) (source : FileSource) (event : ℕ) → IsSource g name past source
     → event < length source.catalog.now
     → shown_filter (get_or source.instance.now.filters event None) ≡ filter_text (filter_of name (name_at source.catalog.now event) past)
 filter-at_place g name past source event is inside =
@@ -76,7 +76,7 @@ filter-at_place g name past source event is inside =
     at_place = get_or (declared_events past) event no_event
 
 -- an event's format
-pub format-at_place : (g : Config) (name : Option (List ℕ)) (past : List Request) (source : Source) (event : ℕ) (d : Definition)
+pub format-at_place : (g : Config) (name : Option (List ℕ)) (past : List Request) (source : FileSource) (event : ℕ) (d : Definition)
     → IsSource g name past source → event < length source.catalog.now
     → format_text (event + 1) (get_or source.catalog.now event d) ≡ format_of_event (event_named (name_at source.catalog.now event) past)
 format-at_place g name past source event d is inside =
@@ -121,7 +121,7 @@ shown-in_order name past event (Some t) hists =
     λ i. older i ++ shown_trigger past event t ∷ newer i
 
 -- an event's hist triggers
-kept-at_place : (g : Config) (name : Option (List ℕ)) (past : List Request) (source : Source) (event : ℕ) → IsSource g name past source
+kept-at_place : (g : Config) (name : Option (List ℕ)) (past : List Request) (source : FileSource) (event : ℕ) → IsSource g name past source
     → event < length source.catalog.now → event < length source.instance.now.hists
     → map kept_of (get_or source.instance.now.hists event []) ≡ kept_hists name past (get_or (declared_events past) event no_event)
 kept-at_place g name past source event is inside there =
@@ -130,7 +130,7 @@ kept-at_place g name past source event is inside there =
     ∙ get_or-map (kept_hists name past) (declared_events past) event no_event [] (inside-declared g name past source event is inside)
 
 -- an event's triggers
-pub triggers-at_place : (g : Config) (name : Option (List ℕ)) (past : List Request) (source : Source) (event : ℕ) → IsSource g name past source
+pub triggers-at_place : (g : Config) (name : Option (List ℕ)) (past : List Request) (source : FileSource) (event : ℕ) → IsSource g name past source
     → event < length source.catalog.now → event < length source.instance.now.hists
     → trigger_text (kept_in_order (get_or source.instance.now.triggers event None) (map kept_of (get_or source.instance.now.hists event [])))
     ≡ triggers_of_event name past (event_named (name_at source.catalog.now event) past)
@@ -151,7 +151,7 @@ triggers-at_place g name past source event is inside there =
     at_place = get_or (declared_events past) event no_event
 
 -- and its histograms
-pub hists-at_place : (g : Config) (name : Option (List ℕ)) (past : List Request) (source : Source) (event : ℕ) → IsSource g name past source
+pub hists-at_place : (g : Config) (name : Option (List ℕ)) (past : List Request) (source : FileSource) (event : ℕ) → IsSource g name past source
     → event < length source.catalog.now → event < length source.instance.now.hists
     → hist_text (map shown_kept_hist (map kept_of (get_or source.instance.now.hists event [])))
     ≡ hists_of_event name past (event_named (name_at source.catalog.now event) past)

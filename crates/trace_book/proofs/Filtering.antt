@@ -13,7 +13,7 @@ use Rattle.trace_command.specs.declared.command.Reply.TheVariants as reply
 use Rattle.trace_command.specs.declared.refusal.Refusal.{Refusal}
 use Rattle.trace_command.specs.declared.refusal.Refusal.TheVariants as refusal
 use Rattle.trace_book.specs.Changes.{change_of, changed_filter, changed_filters, is_set}
-use Rattle.trace_book.specs.Commands.{IsWrittenFilter}
+use Rattle.trace_book.specs.private.Commands.{IsWrittenFilter}
 use Rattle.trace_book.specs.declared.change.FilterChange.{FilterChange}
 use Rattle.trace_book.specs.declared.change.FilterChange.TheVariants as change
 

@@ -19,19 +19,19 @@ use Rattle.trace_history.specs.History.{asked_answer, new_hist_answer, remove_hi
 use Rattle.trace_history.specs.HistTriggers.{HistTrigger, is_pause}
 use Rattle.trace_history.specs.Triggers as triggers
 use Rattle.trace_history.specs.Triggers.{trigger_of}
-use Rattle.trace_book.specs.Attaching.{AreKept, IsAsked, IsRemovedHist, asked_change, attaches, kept_count}
+use Rattle.trace_book.specs.private.Attaching.{AreKept, IsAsked, IsRemovedHist, asked_change, attaches, kept_count}
 use Rattle.trace_book.specs.KeptHists.{KeptHist, kept_hists, kept_of, says_same}
 use Rattle.trace_book.specs.declared.attach.EventTriggers.{EventTriggers}
 use Rattle.trace_book.specs.declared.change.TriggerChange.TheVariants.{Keep, AttachHist, DetachHist, AskHist}
 use Rattle.trace_book.specs.declared.hists.AttachedHist.{AttachedHist}
-use Rattle.trace_book.specs.declared.write.Written.{Written}
+use Rattle.trace_book.specs.declared.write.WrittenText.{WrittenText}
 use Rattle.trace_book.proofs.Attached.{hists-asked, hists-attached, hists-removed, left_by, new_kept, snapshot-stays}
 use Rattle.trace_book.proofs.OneSays.{one-asked, one-removed, some-position, without_same}
 use Rattle.trace_book.proofs.Answering.{answered, count-left, done-late, has-same, has-same_left, only-left, refused, room-full, room-had, same_left}
 
 -- ---- what is attached and asked
 
-ask-answer : (spec : SpecSeen) (kept : EventTriggers) (written : Written) (same : Bool) (event : Definition) (name : Option (List ℕ)) (past : List Request)
+ask-answer : (spec : SpecSeen) (kept : EventTriggers) (written : WrittenText) (same : Bool) (event : Definition) (name : Option (List ℕ)) (past : List Request)
     → is_some (same_left spec kept written.append) ≡ same → AreKept name past event kept
     → said_of event written.text.now ≡ Ok (said.Hist spec)
     → trigger_answer name past written.append written.text.now event
@@ -42,7 +42,7 @@ ask-answer spec kept written same event name past at are is =
     (λ (b : Bool). if b then asked_answer spec.action else new_hist_answer (trigger_of name event past) (left_by name past event written.append) spec.action)
     (has-same_left name past event kept spec written.append are ∙ at)
 
-ask-refused : (spec : SpecSeen) (kept : EventTriggers) (written : Written) → is_some (same_left spec kept written.append) ≡ true
+ask-refused : (spec : SpecSeen) (kept : EventTriggers) (written : WrittenText) → is_some (same_left spec kept written.append) ≡ true
     → spec.action ≡ action.Attach → IsAsked spec kept written (Err refusal.TriggerExists)
 ask-refused spec kept written same attach = λ event name past number are is.
     refused refusal.TriggerExists (trigger_answer name past written.append written.text.now event)
@@ -54,7 +54,7 @@ asked-done action.Pause other = refl
 asked-done action.Continue other = refl
 asked-done action.Clear other = refl
 
-ask-done : (spec : SpecSeen) (kept : EventTriggers) (written : Written) (index : ℕ) → same_left spec kept written.append ≡ Some index
+ask-done : (spec : SpecSeen) (kept : EventTriggers) (written : WrittenText) (index : ℕ) → same_left spec kept written.append ≡ Some index
     → (spec.action ≡ action.Attach → ⊥) → IsAsked spec kept written (Ok (AskHist index spec.action))
 ask-done spec kept written index found other = λ event name past number are is.
     let same : is_some (same_left spec kept written.append) ≡ true = ap is_some found in
@@ -70,7 +70,7 @@ ask-done spec kept written index found other = λ event name past number are is.
     )
 
 -- what is asked of one that is attached
-pub ask-again : (spec : SpecSeen) (kept : EventTriggers) (written : Written) (index : ℕ) → same_left spec kept written.append ≡ Some index
+pub ask-again : (spec : SpecSeen) (kept : EventTriggers) (written : WrittenText) (index : ℕ) → same_left spec kept written.append ≡ Some index
     → IsAsked spec kept written (asked_change index spec.action)
 ask-again spec kept written index found = by spec.action refl
   where
@@ -100,14 +100,14 @@ new-attaches attached hists action.Pause attaching = refl
 new-attaches attached hists action.Continue attaching = absurd (cc)
 new-attaches attached hists action.Clear attaching = absurd (cc)
 
-pub ask-lacks : (spec : SpecSeen) (kept : EventTriggers) (written : Written) → same_left spec kept written.append ≡ None
+pub ask-lacks : (spec : SpecSeen) (kept : EventTriggers) (written : WrittenText) → same_left spec kept written.append ≡ None
     → attaches spec.action ≡ false → IsAsked spec kept written (Err refusal.NoSuchTrigger)
 ask-lacks spec kept written none lacking = λ event name past number are is.
     refused refusal.NoSuchTrigger (trigger_answer name past written.append written.text.now event)
     (ask-answer spec kept written false event name past (ap is_some none) are is
     ∙ new-lacks (trigger_of name event past) (left_by name past event written.append) spec.action lacking)
 
-room-answer : (spec : SpecSeen) (kept : EventTriggers) (written : Written) (event : Definition) (name : Option (List ℕ)) (past : List Request)
+room-answer : (spec : SpecSeen) (kept : EventTriggers) (written : WrittenText) (event : Definition) (name : Option (List ℕ)) (past : List Request)
     → same_left spec kept written.append ≡ None → attaches spec.action ≡ true → AreKept name past event kept
     → said_of event written.text.now ≡ Ok (said.Hist spec)
     → trigger_answer name past written.append written.text.now event ≡ room_answer (trigger_of name event past) (left_by name past event written.append)
@@ -115,7 +115,7 @@ room-answer spec kept written event name past none attaching are is =
     ask-answer spec kept written false event name past (ap is_some none) are is
     ∙ new-attaches (trigger_of name event past) (left_by name past event written.append) spec.action attaching
 
-pub ask-full : (spec : SpecSeen) (kept : EventTriggers) (written : Written) → same_left spec kept written.append ≡ None
+pub ask-full : (spec : SpecSeen) (kept : EventTriggers) (written : WrittenText) → same_left spec kept written.append ≡ None
     → attaches spec.action ≡ true → 4 ≤ kept_count kept written.append → IsAsked spec kept written (Err refusal.TooMany)
 ask-full spec kept written none attaching many = λ event name past number are is.
     let full : 4 ≤ trigger_count (trigger_of name event past) (left_by name past event written.append) =
@@ -124,7 +124,7 @@ ask-full spec kept written none attaching many = λ event name past number are i
     (room-answer spec kept written event name past none attaching are is
     ∙ room-full (trigger_of name event past) (left_by name past event written.append) full)
 
-pub ask-memory : (spec : SpecSeen) (kept : EventTriggers) (written : Written) → same_left spec kept written.append ≡ None
+pub ask-memory : (spec : SpecSeen) (kept : EventTriggers) (written : WrittenText) → same_left spec kept written.append ≡ None
     → attaches spec.action ≡ true → kept_count kept written.append < 4 → IsAsked spec kept written (Err refusal.Memory)
 ask-memory spec kept written none attaching few = λ event name past number are is.
     let room : trigger_count (trigger_of name event past) (left_by name past event written.append) < 4 =
@@ -133,7 +133,7 @@ ask-memory spec kept written none attaching few = λ event name past number are 
     (room-answer spec kept written event name past none attaching are is
     ∙ room-had (trigger_of name event past) (left_by name past event written.append) room)
 
-pub ask-attached : (spec : SpecSeen) (kept : EventTriggers) (written : Written) (attached : AttachedHist)
+pub ask-attached : (spec : SpecSeen) (kept : EventTriggers) (written : WrittenText) (attached : AttachedHist)
     → same_left spec kept written.append ≡ None → attaches spec.action ≡ true → kept_count kept written.append < 4
     → kept_of attached ≡ new_kept written.number spec → IsAsked spec kept written (Ok (AttachHist attached))
 ask-attached spec kept written attached none attaching few new = λ event name past number are is.
@@ -170,7 +170,7 @@ kept-new number hist spec is stands paused =
 
 -- ---- removals
 
-removed-answer : (append same : Bool) (event : Definition) (kept : EventTriggers) (written : Written) (spec : SpecSeen) (name : Option (List ℕ)) (past : List Request)
+removed-answer : (append same : Bool) (event : Definition) (kept : EventTriggers) (written : WrittenText) (spec : SpecSeen) (name : Option (List ℕ)) (past : List Request)
     → written.append ≡ append → list_any (says_same spec) kept.hists.now ≡ same → AreKept name past event kept
     → said_of event written.text.now ≡ Ok (said.RemoveHist spec)
     → trigger_answer name past written.append written.text.now event ≡ (if not append || same then Ok Done else Err refusal.NoSuchTrigger)
@@ -183,7 +183,7 @@ removed-answer false same event kept written spec name past appends is are says 
     ∙ ap (λ (b : Bool). remove_hist_answer b (left_by name past event b) spec) appends
 
 -- the same one
-pub remove-done : (spec : SpecSeen) (kept : EventTriggers) (written : Written) (index : ℕ) → written.append ≡ true
+pub remove-done : (spec : SpecSeen) (kept : EventTriggers) (written : WrittenText) (index : ℕ) → written.append ≡ true
     → position (says_same spec) kept.hists.now ≡ Some index → IsRemovedHist spec kept written (Ok (DetachHist index))
 remove-done spec kept written index appends found = λ event name past number are is.
     let same : list_any (says_same spec) kept.hists.now ≡ true = sym (some-position (says_same spec) kept.hists.now) ∙ ap is_some found in
@@ -200,7 +200,7 @@ remove-done spec kept written index appends found = λ event name past number ar
     )
 
 -- none says the same
-pub remove-lacks : (spec : SpecSeen) (kept : EventTriggers) (written : Written) → written.append ≡ true
+pub remove-lacks : (spec : SpecSeen) (kept : EventTriggers) (written : WrittenText) → written.append ≡ true
     → position (says_same spec) kept.hists.now ≡ None → IsRemovedHist spec kept written (Err refusal.NoSuchTrigger)
 remove-lacks spec kept written appends none = λ event name past number are is.
     let lacking : list_any (says_same spec) kept.hists.now ≡ false = sym (some-position (says_same spec) kept.hists.now) ∙ ap is_some none in
@@ -213,7 +213,7 @@ none-left : (spec : SpecSeen) (append : Bool) (hists : List KeptHist) → append
 none-left spec true hists is = absurd (false≢true (sym is))
 none-left spec false hists is = refl
 
-pub remove-keeps : (spec : SpecSeen) (kept : EventTriggers) (written : Written) → written.append ≡ false → IsRemovedHist spec kept written (Ok Keep)
+pub remove-keeps : (spec : SpecSeen) (kept : EventTriggers) (written : WrittenText) → written.append ≡ false → IsRemovedHist spec kept written (Ok Keep)
 remove-keeps spec kept written anew = λ event name past number are is. (
   removed-answer false (list_any (says_same spec) kept.hists.now) event kept written spec name past anew refl are is,
   record {

@@ -18,7 +18,7 @@ use Rattle.trace_command.specs.declared.command.Reply.{Reply}
 use Rattle.trace_command.specs.declared.refusal.Refusal.{Refusal}
 use Rattle.trace_command.specs.declared.refusal.Refusal.TheVariants.{NoSuchFile, NoSuchInstance}
 use Rattle.trace_history.specs.History.{file_answer, instance_answer, missing}
-use Rattle.trace_book.specs.Files.{IsAt, name_at}
+use Rattle.trace_book.specs.private.Files.{IsAt, name_at}
 use Rattle.trace_book.specs.States.{StandsFor, names_of}
 use Rattle.trace_book.specs.declared.state.Named.{Named}
 use Rattle.trace_book.specs.declared.state.State.{State}

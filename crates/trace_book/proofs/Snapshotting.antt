@@ -27,7 +27,7 @@ use Rattle.trace_history.specs.Triggers.{has_trigger, trigger_of}
 use Rattle.trace_history.proofs.EventLists.{map-agrees}
 use Rattle.trace_history.proofs.Sides.{rings-exchanged, rings-stay, side-has_all_cpus}
 use Rattle.trace_book.specs.Changes.{IsEffect}
-use Rattle.trace_book.specs.Commands.{IsWriteChange}
+use Rattle.trace_book.specs.private.Commands.{IsWriteChange}
 use Rattle.trace_book.specs.Instances.{InstanceSeen, InstanceStandsFor, IsSpared, kept_as, kept_trigger}
 use Rattle.trace_book.specs.KeptHists.{kept_hists}
 use Rattle.trace_book.specs.declared.change.InstanceChange.TheVariants.{ClearSpare, FreeSpare, TakeSnapshot}

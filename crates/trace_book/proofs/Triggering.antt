@@ -22,10 +22,10 @@ use Rattle.trace_history.specs.Snapshots.{has_spare, sets_spare, spare_armed}
 use Rattle.trace_history.specs.Triggers.{trigger_of}
 use Rattle.trace_history.proofs.EventLists.{map-set, named_at}
 use Rattle.trace_history.proofs.Sides.{AreStaying, rings-stay}
-use Rattle.trace_book.specs.Attaching.{AreKept, IsTriggerChange, IsTriggerEffect, arms, write_of}
+use Rattle.trace_book.specs.private.Attaching.{AreKept, IsTriggerChange, IsTriggerEffect, arms, write_of}
 use Rattle.trace_book.specs.Changes.{IsEffect, IsOfOne, hists_changed, sides_changed, trigger_changed, triggers_after}
-use Rattle.trace_book.specs.Commands.{IsWriteChange}
-use Rattle.trace_book.specs.Files.{name_at}
+use Rattle.trace_book.specs.private.Commands.{IsWriteChange}
+use Rattle.trace_book.specs.private.Files.{name_at}
 use Rattle.trace_book.specs.Instances.{InstanceSeen, InstanceStandsFor, IsSpared, kept_as, kept_trigger, side_families}
 use Rattle.trace_book.specs.KeptHists.{KeptHist, kept_hists, kept_of}
 use Rattle.trace_book.specs.declared.attach.EventTriggers.{EventTriggers}
@@ -34,7 +34,7 @@ use Rattle.trace_book.specs.declared.change.TriggerChange.{TriggerChange}
 use Rattle.trace_book.specs.declared.change.TriggerChange.TheVariants.{Keep, Attach, Detach, AttachHist, DetachHist, AskHist}
 use Rattle.trace_book.specs.declared.hists.AttachedHist.{AttachedHist}
 use Rattle.trace_book.specs.declared.trigger.Trigger.{Trigger}
-use Rattle.trace_book.specs.declared.write.Written.{Written}
+use Rattle.trace_book.specs.declared.write.WrittenText.{WrittenText}
 use Rattle.trace_book.proofs.Calm.{KeepsTrigger, kept-stays, no_event, same_families, spared-stays, trigger-stays}
 use Rattle.trace_book.proofs.Effects.{same_instance}
 use Rattle.trace_book.proofs.HistSteps.{KeepsHists, kept-hists-calm}
@@ -112,7 +112,7 @@ some-before (AttachHist attached) old none some = some
 some-before (DetachHist at) old none some = some
 some-before (AskHist at action) old none some = some
 
-pub trigger-effect : (g : Config) (name : Option (List ℕ)) (past : List Request) (index : ℕ) (written : Written) (change : TriggerChange)
+pub trigger-effect : (g : Config) (name : Option (List ℕ)) (past : List Request) (index : ℕ) (written : WrittenText) (change : TriggerChange)
     → AreEvents [] (declared_events past) → index < length (declared_events past)
     → IsTriggerEffect name past (event_at past index) written change
     → IsEffect g name past (trigger_request name past index written.append written.text.now) (Triggers index written.append change)
@@ -266,7 +266,7 @@ one-stands g name past i index append change stands inside within one = subst (I
     many true = ap length (sym (kept-there g name past i index stands inside within)) ∙ length-map (get_or i.hists index []) kept_of
     many false = refl
 
-pub trigger-written : (g : Config) (name : Option (List ℕ)) (past : List Request) (index : ℕ) (event : Definition) (written : Written) (change : TriggerChange)
+pub trigger-written : (g : Config) (name : Option (List ℕ)) (past : List Request) (index : ℕ) (event : Definition) (written : WrittenText) (change : TriggerChange)
     → AreEvents [] (declared_events past) → index < length (declared_events past) → event ≡ get_or (declared_events past) index event
     → IsTriggerChange name past event written (Ok change)
     → IsWriteChange g name past written.append written.text.now (paths.OfEvent (name_at (declared_events past) index) per_event.Trigger)
@@ -283,7 +283,7 @@ trigger-written g name past index event written change distinct inside at is =
       ),
     )
 
-pub trigger-refused : (g : Config) (name : Option (List ℕ)) (past : List Request) (index : ℕ) (event : Definition) (written : Written) (refused : Refusal)
+pub trigger-refused : (g : Config) (name : Option (List ℕ)) (past : List Request) (index : ℕ) (event : Definition) (written : WrittenText) (refused : Refusal)
     → AreEvents [] (declared_events past) → index < length (declared_events past) → event ≡ get_or (declared_events past) index event
     → IsTriggerChange name past event written (Err refused)
     → IsWriteChange g name past written.append written.text.now (paths.OfEvent (name_at (declared_events past) index) per_event.Trigger) (Err refused)

@@ -22,8 +22,8 @@ use Rattle.trace_command.specs.declared.command.Reply.TheVariants as reply
 use Rattle.trace_command.specs.declared.refusal.Refusal.{Refusal}
 use Rattle.trace_command.specs.declared.refusal.Refusal.TheVariants as refusal
 use Rattle.trace_book.specs.Changes.{change_of, changed_filter, changed_filters}
-use Rattle.trace_book.specs.Commands.{IsWriteChange, IsWrittenFilter, needed_flag}
-use Rattle.trace_book.specs.Files.{name_at}
+use Rattle.trace_book.specs.private.Commands.{IsWriteChange, IsWrittenFilter, needed_flag}
+use Rattle.trace_book.specs.private.Files.{name_at}
 use Rattle.trace_book.specs.declared.change.InstanceChange.TheVariants.{Keep, Switch, SwitchAll, SetFilter, SetFilters, ClearFilters, SetOverwrite, SetTracing, Clear, ClearCpu}
 use Rattle.trace_book.specs.declared.change.FilterChange.{FilterChange}
 use Rattle.trace_book.proofs.Calm.{quiet-keep}

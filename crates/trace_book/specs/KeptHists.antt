@@ -1,11 +1,11 @@
 -- Hist triggers as an instance keeps them: what of them agrees with the requests, and what is done to them.
-use Rattle.std.specs.Prelude.{◌≡◌, ℕ, zero, suc, ◌<◌, ◌^◌, Bool, true, if◌then◌else◌, List, [], ◌∷◌, ◌++◌, length, map, slice_index_or, Option, Some}
+use Rattle.std.specs.Prelude.{◌≡◌, ℕ, zero, suc, ◌<◌, Bool, true, if◌then◌else◌, List, [], ◌∷◌, ◌++◌, length, map, slice_index_or, Option, Some}
 use Rattle.trace_format.specs.Operands.{Emission}
 use Rattle.trace_format.specs.Definitions.{Definition}
 use Rattle.trace_hist.specs.Groups.{Table, grouped}
 use Rattle.trace_trigger.specs.HistSpecs.{SpecSeen}
 use Rattle.trace_hist.specs.Hits.{Hit, hit_of}
-use Rattle.trace_hist.specs.Hists.{IsReserved, counted}
+use Rattle.trace_hist.specs.Hists.{IsReserved, HasRoom}
 use Rattle.trace_trigger.specs.SameSpecs.{is_same, is_passed}
 use Rattle.trace_trigger.specs.declared.spec.Action.{Action}
 use Rattle.trace_command.specs.Requests.{Request}
@@ -57,9 +57,9 @@ asked_at (suc index) action (k ∷ hists) = k ∷ asked_at index action hists
 abbrev pub CanCount : Emission → AttachedHist → Type 0
 CanCount emission attached = is_passed attached.hist.spec.filter emission ≡ true → IsReserved attached.hist emission
 
--- fewer than 2^32 rows were counted
+-- one row more may be counted
 abbrev pub HasRoomToCount : AttachedHist → Type 0
-HasRoomToCount attached = counted attached.hist < 2 ^ 32
+HasRoomToCount attached = HasRoom attached.hist
 
 -- the rows that it counts of an emission
 abbrev pub rows_counted : KeptHist → Emission → List Hit

@@ -1,13 +1,8 @@
 pub mod KeptHists
 pub mod Instances
 pub mod Changes
-pub mod Attaching
-pub mod Rows
 pub mod States
-pub mod Files
-pub mod Found
-pub mod Commands
-pub mod Emissions
 pub mod BookSeen
 pub mod Books
 pub mod Bases
+pub mod private

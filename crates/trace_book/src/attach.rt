@@ -2,14 +2,14 @@
 
 ghost use Rattle.std.specs.Prelude.{◌≡◌, ◌≢◌, ◌<◌, ◌≤◌, false, if◌then◌else◌, [], length, position, slice_index_or, None, option_copied, OnOk, IfErr};
 ghost use Rattle.trace_trigger.specs.TriggerTexts.{HasFilter, is_hist_text};
-ghost use Rattle.trace_book.specs.Attaching as attaching;
+ghost use Rattle.trace_book.specs.private.Attaching as attaching;
 ghost use Rattle.trace_book.specs.KeptHists.{says_same};
 
 use crate::change::TriggerChange;
 use crate::hists::{AttachedHist, EventHists};
 use crate::instance::Instance;
 use crate::trigger::Trigger;
-use crate::write::Written;
+use crate::write::WrittenText;
 use std::alloc::Global;
 use trace_command::Refusal;
 use trace_format::EventDef;
@@ -45,7 +45,7 @@ impl EventTriggers<'_> {
         self,
         alloc: Global,
         event: &EventDef,
-        written: Written<'_>,
+        written: WrittenText<'_>,
     ) -> Result<TriggerChange, Refusal>
         ensures change { attaching.IsChangeOf event.now self.entry written.entry result }
         ensures memory { (HasFilter written.entry.text.now → ⊥) → is_hist_text written.entry.text.now ≡ false
@@ -64,7 +64,7 @@ impl EventTriggers<'_> {
     // A trigger for snapshots, of which an event has at most one.
     fn attached(
         self,
-        written: Written<'_>,
+        written: WrittenText<'_>,
         trigger: SnapshotTrigger,
     ) -> Result<TriggerChange, Refusal>
         ensures change { attaching.IsAttached trigger self.entry written.entry result }
@@ -81,7 +81,7 @@ impl EventTriggers<'_> {
     fn asked(
         self,
         alloc: Global,
-        written: Written<'_>,
+        written: WrittenText<'_>,
         spec: HistSpec,
     ) -> Result<TriggerChange, Refusal>
         ensures { attaching.IsAsked spec self.entry written.entry result }
@@ -101,7 +101,7 @@ impl EventTriggers<'_> {
     }
 
     // A hist trigger that is removed: the same one, but by `>`, which takes all of them away, nothing more.
-    fn removed(self, written: Written<'_>, spec: &HistSpec) -> Result<TriggerChange, Refusal>
+    fn removed(self, written: WrittenText<'_>, spec: &HistSpec) -> Result<TriggerChange, Refusal>
         ensures change { attaching.IsRemovedHist spec.now self.entry written.entry result }
         ensures memory { IfErr result (λ r. r ≢ Refusal.Memory) }
     {

@@ -9,7 +9,7 @@ ghost use Rattle.trace_command.specs.Requests.{Request, Emission};
 ghost use Rattle.trace_command.specs.declared.command.Config.{Config};
 ghost use Rattle.trace_format.specs.Cells.{size_of_all};
 ghost use Rattle.trace_record.specs.Record.{record_size};
-ghost use Rattle.trace_book.specs.Emissions as emissions;
+ghost use Rattle.trace_book.specs.private.Emissions as emissions;
 ghost use Rattle.trace_book.specs.Instances.{IsAlike};
 ghost use Rattle.trace_book.specs.declared.change.Pending.{Pending as PendingHere};
 ghost use Rattle.trace_book.specs.States.{StandsFor, IsPreparedEmission, IsUsable, EachCame, CanCountRow, AllReached};

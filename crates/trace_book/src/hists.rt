@@ -2,7 +2,7 @@
 
 ghost use Rattle.std.specs.Prelude.{◌≡◌, ℕ, ◌<◌, if◌then◌else◌, [], ◌∷◌, ◌++◌, length, map, position, All, OnOk, OnErr};
 ghost use Rattle.std.specs.List.{remove};
-ghost use Rattle.trace_book.specs.Commands.{shown_kept_hist};
+ghost use Rattle.trace_book.specs.private.Commands.{shown_kept_hist};
 ghost use Rattle.trace_book.specs.KeptHists as kept;
 ghost use Rattle.trace_text.specs.ShownTriggers.{shown_trigger};
 

@@ -12,10 +12,10 @@ ghost use Rattle.trace_history.specs.Settings.{is_there, ticks};
 ghost use Rattle.trace_book.specs.States.{StandsFor, IsPrepared, IsUsable};
 
 use crate::change::{Change, InstanceChange};
-use crate::read::{Shown, Source, declarations, read_file};
+use crate::read::{FileSource, Shown, declarations, read_file};
 use crate::resolve::Target;
 use crate::state::{Prepared, State};
-use crate::write::{Written, written_change};
+use crate::write::{WrittenText, written_change};
 use std::alloc::Global;
 use trace_command::{Command, Config, Refusal, Reply};
 use trace_format::EventDef;
@@ -45,7 +45,7 @@ impl State {
             Command::Write { path, append, text } => {
                 let text = text.as_bytes();
                 let append = *append;
-                let written = Written {
+                let written = WrittenText {
                     number,
                     append,
                     text,
@@ -63,7 +63,7 @@ impl State {
         alloc: Global,
         config: &Config,
         path: &[u8],
-        written: Written<'_>,
+        written: WrittenText<'_>,
     ) -> Result<Prepared, Refusal>
         requires usable { IsUsable config.now self.now }
         ensures prepared { (past : List Request) → length past ≡ written.entry.number → StandsFor config.now self.now past
@@ -135,7 +135,7 @@ impl State {
         match self.resolve(config, path)? {
             Target::Declarations => self.read_declarations(alloc, limit),
             Target::Of(place, file) => {
-                let source = Source {
+                let source = FileSource {
                     catalog: &self.catalog,
                     clock: self.clock,
                     instance: &self.instances[place].instance,

@@ -15,8 +15,8 @@ ghost use Rattle.trace_text.specs.FormatText as texts;
 ghost use Rattle.trace_text.specs.TriggerText.{trigger_text as trigger_text_of};
 ghost use Rattle.trace_text.specs.HistText.{hist_text as hist_text_of};
 ghost use Rattle.trace_book.specs.KeptHists.{kept_of};
-ghost use Rattle.trace_book.specs.Commands.{HasAll, IsRead, IsReadable, IsSource, kept_in_order, shown_kept_hist};
-ghost use Rattle.trace_book.specs.Files.{IsThere, file_at, name_at};
+ghost use Rattle.trace_book.specs.private.Commands.{HasAll, IsRead, IsReadable, IsSource, kept_in_order, shown_kept_hist};
+ghost use Rattle.trace_book.specs.private.Files.{IsThere, file_at, name_at};
 
 use crate::change::InstanceChange;
 use crate::hists::EventHists;
@@ -41,7 +41,7 @@ pub(crate) struct Shown {
 
 /// What all files are read from: the declared events, the clock, and an instance.
 #[derive(Clone, Copy)]
-pub(crate) struct Source<'a> {
+pub(crate) struct FileSource<'a> {
     pub catalog: &'a Catalog,
     pub clock: u64,
     pub instance: &'a Instance,
@@ -50,7 +50,7 @@ pub(crate) struct Source<'a> {
 /// Reads a file of an instance.
 pub(crate) fn read_file(
     alloc: Global,
-    source: Source<'_>,
+    source: FileSource<'_>,
     file: File,
     limit: Option<u64>,
 ) -> Result<Shown, Refusal>
@@ -81,7 +81,11 @@ pub(crate) fn read_file(
 }
 
 // What a file of the instance itself shows that is read whole. Of one that isn't, nothing.
-fn text_of_instance(alloc: Global, source: Source<'_>, file: TopFile) -> Result<Text, AllocError>
+fn text_of_instance(
+    alloc: Global,
+    source: FileSource<'_>,
+    file: TopFile,
+) -> Result<Text, AllocError>
     ensures { (g : Config) (name : Option (List ℕ)) (past : List Request)
         → IsSource g name past source.entry
         → IfOk result (λ text. text ≡ history.text_of g name past (paths.OfInstance file)) }
@@ -101,7 +105,7 @@ fn text_of_instance(alloc: Global, source: Source<'_>, file: TopFile) -> Result<
 // Likewise for a file of a CPU.
 fn text_of_cpu(
     alloc: Global,
-    source: Source<'_>,
+    source: FileSource<'_>,
     cpu: u32,
     file: CpuFile,
 ) -> Result<Text, AllocError>
@@ -120,7 +124,7 @@ fn text_of_cpu(
 // Likewise for a file of an event.
 fn text_of_event(
     alloc: Global,
-    source: Source<'_>,
+    source: FileSource<'_>,
     event: usize,
     file: EventFile,
 ) -> Result<Text, AllocError>
@@ -142,7 +146,7 @@ fn text_of_event(
 
 // The trace of one CPU or of all.
 #[tactic(auto, unfolding(trace_history::specs::History::shown_trace))]
-fn trace(alloc: Global, source: Source<'_>, cpu: Option<u32>) -> Result<Text, AllocError>
+fn trace(alloc: Global, source: FileSource<'_>, cpu: Option<u32>) -> Result<Text, AllocError>
     requires { IfSome cpu (λ cpu. cpu < buffers.cpus source.instance.now.sides.live) }
     ensures { (g : Config) (name : Option (List ℕ)) (past : List Request)
         → IsSource g name past source.entry
@@ -160,7 +164,7 @@ fn trace(alloc: Global, source: Source<'_>, cpu: Option<u32>) -> Result<Text, Al
 }
 
 #[tactic(auto, unfolding(trace_history::specs::History::cpu_stats_text))]
-fn stats(alloc: Global, source: Source<'_>, cpu: u32) -> Result<Text, AllocError>
+fn stats(alloc: Global, source: FileSource<'_>, cpu: u32) -> Result<Text, AllocError>
     requires { cpu < buffers.cpus source.instance.now.sides.live }
     ensures { (g : Config) (name : Option (List ℕ)) (past : List Request)
         → IsSource g name past source.entry
@@ -184,7 +188,7 @@ fn format(alloc: Global, catalog: &Catalog, event: usize) -> Result<Text, AllocE
 
 // What the spare side keeps.
 #[tactic(auto, unfolding(trace_history::specs::History::shown_snapshot))]
-fn snapshot(alloc: Global, source: Source<'_>) -> Result<Text, AllocError>
+fn snapshot(alloc: Global, source: FileSource<'_>) -> Result<Text, AllocError>
     ensures { (g : Config) (name : Option (List ℕ)) (past : List Request)
         → IsSource g name past source.entry
         → IfOk result (λ text. text ≡ history.shown_snapshot g name past) }
@@ -235,7 +239,7 @@ pub(crate) fn declarations(alloc: Global, catalog: &Catalog) -> Result<Text, All
 
 // What the pipe of all CPUs gives, up to a limit. The string is built before anything is consumed.
 #[tactic(auto, unfolding(trace_history::specs::History::shown_pipe))]
-fn read_pipe(alloc: Global, source: Source<'_>, limit: Option<u64>) -> Result<Shown, Refusal>
+fn read_pipe(alloc: Global, source: FileSource<'_>, limit: Option<u64>) -> Result<Shown, Refusal>
     ensures { (g : Config) (name : Option (List ℕ)) (past : List Request)
         → IsSource g name past source.entry → IsRead g name past limit (paths.OfInstance top.TracePipe) result }
 {
@@ -253,7 +257,7 @@ fn read_pipe(alloc: Global, source: Source<'_>, limit: Option<u64>) -> Result<Sh
 #[tactic(auto, unfolding(trace_history::specs::History::shown_cpu_pipe))]
 fn read_cpu_pipe(
     alloc: Global,
-    source: Source<'_>,
+    source: FileSource<'_>,
     cpu: u32,
     limit: Option<u64>,
 ) -> Result<Shown, Refusal>

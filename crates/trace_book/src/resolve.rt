@@ -10,8 +10,8 @@ ghost use Rattle.trace_command.specs.declared.command.Config.{Config};
 ghost use Rattle.trace_history.specs.Declarations.{IsPlaceOf};
 ghost use Rattle.trace_history.specs.Settings.{declared_events, event_named_in, numbered_event, is_same};
 ghost use Rattle.trace_format.specs.Catalogs.{id_of};
-ghost use Rattle.trace_book.specs.Files as files;
-ghost use Rattle.trace_book.specs.Found.{numbered};
+ghost use Rattle.trace_book.specs.private.Files as files;
+ghost use Rattle.trace_book.specs.private.Found.{numbered};
 ghost use Rattle.trace_book.specs.States.{StandsFor};
 
 use crate::state::{Named, State};

@@ -3,7 +3,7 @@
 ghost use Rattle.std.specs.Prelude.{◌≡◌, ◌++◌, nat_lt, not, map, slice_index_or, OnOk, IfOk, option_copied};
 ghost use Rattle.std.specs.List.{filter};
 ghost use Rattle.trace_text.specs.ShownTriggers.{shown_trigger};
-ghost use Rattle.trace_book.specs.Commands.{kept_in_order, shown_kept_hist};
+ghost use Rattle.trace_book.specs.private.Commands.{kept_in_order, shown_kept_hist};
 ghost use Rattle.trace_book.specs.KeptHists.{KeptHist, kept_of};
 
 use crate::hists::AttachedHist;

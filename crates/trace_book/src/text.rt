@@ -4,7 +4,7 @@ ghost use Rattle.std.specs.Prelude.{◌≡◌, ◌≤◌, ◌++◌, length, opti
 ghost use Rattle.std.specs.List.{flat_map};
 ghost use Rattle.trace_history.specs.History as history;
 ghost use Rattle.trace_text.specs.DeclarationText as texts;
-ghost use Rattle.trace_book.specs.Commands.{shown_filter};
+ghost use Rattle.trace_book.specs.private.Commands.{shown_filter};
 
 use crate::resolve::event_at;
 use std::alloc::{AllocError, Global};
@@ -51,7 +51,7 @@ pub(crate) fn mixture_text(alloc: Global, none_on: bool, some_off: bool) -> Resu
 }
 
 /// A filter.
-#[tactic(auto, unfolding(crate::specs::Commands::shown_filter))]
+#[tactic(auto, unfolding(crate::specs::private::Commands::shown_filter))]
 pub(crate) fn filter_text(alloc: Global, filter: Option<&Filter>) -> Result<Text, AllocError>
     ensures { IfOk result (λ text. text ≡ shown_filter (option_copied filter.entry)) }
 {

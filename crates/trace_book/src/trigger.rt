@@ -2,9 +2,9 @@
 
 ghost use Rattle.std.specs.Prelude.{◌≡◌, ◌-◌, Some, option_copied};
 ghost use Rattle.trace_history.specs.Triggers as triggers;
-ghost use Rattle.trace_book.specs.Rows.{kept_acts, kept_holds};
+ghost use Rattle.trace_book.specs.private.Rows.{kept_acts, kept_holds};
 ghost use Rattle.trace_book.specs.States.{counted_down};
-ghost use Rattle.trace_book.specs.Commands.{shown_kept};
+ghost use Rattle.trace_book.specs.private.Commands.{shown_kept};
 ghost use Rattle.trace_text.specs.ShownTriggers.{shown_trigger};
 
 use trace_filter::Filter;
@@ -68,7 +68,7 @@ fn is_left(left: Option<u32>) -> bool
 }
 
 /// Whether an emission passes a filter, if there is one.
-#[tactic(auto, unfolding(crate::specs::Rows::kept_holds))]
+#[tactic(auto, unfolding(crate::specs::private::Rows::kept_holds))]
 pub(crate) fn passes(filter: Option<&Filter>, row: &Row, cpu: u32, pid: i32) -> bool
     ensures { result ≡ kept_holds (option_copied filter.entry) row.now cpu pid }
 {

@@ -14,8 +14,8 @@ ghost use Rattle.trace_history.specs.LateMemory.{WriteTakesMemoryLate};
 ghost use Rattle.trace_history.specs.Settings as settings;
 ghost use Rattle.trace_history.specs.Settings.{declared_events};
 ghost use Rattle.trace_book.specs.Changes.{change_of, is_set};
-ghost use Rattle.trace_book.specs.Commands.{IsWriteChange, IsWrittenFilter, needed_flag};
-ghost use Rattle.trace_book.specs.Files.{HasEvent, IsThere, file_at, name_at};
+ghost use Rattle.trace_book.specs.private.Commands.{IsWriteChange, IsWrittenFilter, needed_flag};
+ghost use Rattle.trace_book.specs.private.Files.{HasEvent, IsThere, file_at, name_at};
 ghost use Rattle.trace_book.specs.Instances.{InstanceStandsFor};
 ghost use Rattle.trace_book.specs.declared.change.InstanceChange.TheVariants as change;
 
@@ -31,7 +31,7 @@ use trace_lex::{trim, written_number};
 
 /// A text that is written to a file, as the request of this number (how many requests were done before it), and whether it is appended.
 #[derive(Clone, Copy)]
-pub(crate) struct Written<'a> {
+pub(crate) struct WrittenText<'a> {
     pub number: u64,
     pub append: bool,
     pub text: &'a [u8],
@@ -43,7 +43,7 @@ pub(crate) fn written_change(
     catalog: &Catalog,
     instance: &Instance,
     file: File,
-    written: Written<'_>,
+    written: WrittenText<'_>,
 ) -> Result<InstanceChange, Refusal>
     requires few { length catalog.now ≤ 64 }
     requires event { HasEvent catalog.now file }
@@ -69,7 +69,7 @@ fn change_of_instance(
     catalog: &Catalog,
     instance: &Instance,
     file: TopFile,
-    written: Written<'_>,
+    written: WrittenText<'_>,
 ) -> Result<InstanceChange, Refusal>
     requires few { length catalog.now ≤ 64 }
     ensures change { (g : Config) (name : Option (List ℕ)) (past : List Request) → catalog.now ≡ declared_events past → AreEvents [] catalog.now
@@ -77,7 +77,7 @@ fn change_of_instance(
         → IsWriteChange g name past written.entry.append written.entry.text.now (paths.OfInstance file) result }
     ensures memory { WriteTakesMemoryLate (paths.OfInstance file) written.entry.text.now → IfErr result (λ r. r ≢ Refusal.Memory) }
 {
-    let Written { text, append, .. } = written;
+    let WrittenText { text, append, .. } = written;
     match file {
         TopFile::Trace => Ok(cleared(append, InstanceChange::Clear)),
         TopFile::Overwrite => Ok(InstanceChange::SetOverwrite(needed(written_flag(text))?)),
@@ -109,7 +109,7 @@ fn change_of_event(
     instance: &Instance,
     event: usize,
     file: EventFile,
-    written: Written<'_>,
+    written: WrittenText<'_>,
 ) -> Result<InstanceChange, Refusal>
     requires few { length catalog.now ≤ 64 }
     requires event { event < length catalog.now }
@@ -120,7 +120,7 @@ fn change_of_event(
         → IsWriteChange g name past written.entry.append written.entry.text.now (paths.OfEvent (name_at catalog.now event) file) result }
     ensures memory { WriteTakesMemoryLate (paths.OfEvent (name_at catalog.now event) file) written.entry.text.now → IfErr result (λ r. r ≢ Refusal.Memory) }
 {
-    let Written { text, append, .. } = written;
+    let WrittenText { text, append, .. } = written;
     match file {
         EventFile::Enable => Ok(InstanceChange::Switch(event, needed(written_flag(text))?)),
         EventFile::Filter => {

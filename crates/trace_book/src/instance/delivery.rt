@@ -4,8 +4,8 @@ ghost use Rattle.std.specs.Prelude.{◌≡◌, ◌≤◌, ◌<◌, true, is_some
 ghost use Rattle.trace_record.specs.Record.{IsRecord};
 ghost use Rattle.trace_buffer.specs.Buffers as buffers;
 ghost use Rattle.trace_book.specs.Instances.{IsAlike};
-ghost use Rattle.trace_book.specs.Rows as rows;
-ghost use Rattle.trace_book.specs.Rows.{kept_holds};
+ghost use Rattle.trace_book.specs.private.Rows as rows;
+ghost use Rattle.trace_book.specs.private.Rows.{kept_holds};
 ghost use Rattle.trace_book.specs.States.{CanCountRow, CanFire, HasFewRows, row_of, IsDelivered, IsOffered, IsExchanged, IsWritable, IsWritten, HasRoom, HasFew};
 
 use super::Instance;
@@ -33,7 +33,7 @@ impl Instance {
 
     /// What an emission of the event at this place does here: whether it is recorded, and whether it makes the event's snapshot trigger act.
     /// It is recorded where tracing is on, the event is enabled, and its filter passes. The trigger heeds its own filter alone.
-    #[tactic(auto, unfolding(crate::specs::Rows::kept_holds))]
+    #[tactic(auto, unfolding(crate::specs::private::Rows::kept_holds))]
     pub(crate) fn reach(&self, event: usize, row: &Row, cpu: u32, pid: i32) -> Reach
         requires enabled { event < length self.now.enabled }
         requires filters { event < length self.now.filters }

@@ -1,5 +1,5 @@
 use Rattle.std.proofs.Common.{arith, refl, ◌∙◌, length-set, get_or-set_other, ◌≢◌}
-use Rattle.trace_book.specs.Emissions.{HasBytes, IsReadied}
+use Rattle.trace_book.specs.private.Emissions.{HasBytes, IsReadied}
 use Rattle.trace_book.specs.States.{reach_at}
 use Rattle.trace_book.proofs.EachInstance.{came_all, came_more, held_more, names_more}
 use Rattle.trace_book.proofs.Emitting.{readied-self}

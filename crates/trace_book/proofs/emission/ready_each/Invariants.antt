@@ -1,5 +1,5 @@
 use Rattle.std.proofs.Common.{◌≡◌, ℕ, ◌≤◌, ◌<◌, length, slice_index_or}
-use Rattle.trace_book.specs.Emissions.{HasBytes, IsReadied}
+use Rattle.trace_book.specs.private.Emissions.{HasBytes, IsReadied}
 use Rattle.trace_book.specs.States.{reach_at}
 use Rattle.trace_book.specs.declared.state.Named.{Named}
 use Rattle.trace_book.proofs.emission.ready_each.Given as goal

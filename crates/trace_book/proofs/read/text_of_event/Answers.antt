@@ -2,7 +2,7 @@ use Rattle.std.proofs.Common.{◌≡◌, List, [], ℕ, map, IfOk, ap, ◌∙◌
 use Rattle.trace_format.specs.Definitions.{Definition}
 use Rattle.trace_history.specs.History.{flag_text}
 use Rattle.trace_text.specs.HistText.{hist_text}
-use Rattle.trace_book.specs.Commands.{shown_filter, shown_kept_hist}
+use Rattle.trace_book.specs.private.Commands.{shown_filter, shown_kept_hist}
 use Rattle.trace_book.specs.KeptHists.{kept_of}
 use Rattle.trace_book.specs.declared.hists.AttachedHist.{AttachedHist}
 use Rattle.trace_book.proofs.EventReads.{enabled-at_place, filter-at_place, format-at_place, hists-at_place, triggers-at_place}

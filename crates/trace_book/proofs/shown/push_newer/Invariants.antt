@@ -1,6 +1,6 @@
 use Rattle.std.proofs.Common.{◌≡◌, ◌++◌, nat_lt, not, drop, filter, map}
 use Rattle.trace_text.specs.ShownTriggers.{shown_trigger}
-use Rattle.trace_book.specs.Commands.{shown_kept_hist}
+use Rattle.trace_book.specs.private.Commands.{shown_kept_hist}
 use Rattle.trace_book.specs.KeptHists.{KeptHist, kept_of}
 use Rattle.trace_book.proofs.shown.push_newer.Given as goal
 

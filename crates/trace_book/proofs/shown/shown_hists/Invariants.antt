@@ -1,6 +1,6 @@
 use Rattle.std.proofs.Common.{◌≡◌, ◌++◌, drop, map}
 use Rattle.trace_text.specs.ShownTriggers.{shown_trigger}
-use Rattle.trace_book.specs.Commands.{shown_kept_hist}
+use Rattle.trace_book.specs.private.Commands.{shown_kept_hist}
 use Rattle.trace_book.specs.KeptHists.{kept_of}
 use Rattle.trace_book.proofs.shown.shown_hists.Given as goal
 

@@ -1,6 +1,6 @@
 use Rattle.std.proofs.Common.{◌≡◌, ◌<◌, length, get_or, Ok, Err, arith, rules}
 use Rattle.trace_history.specs.Settings.{declared_events, written_flag}
-use Rattle.trace_book.specs.Commands.{needed_flag}
+use Rattle.trace_book.specs.private.Commands.{needed_flag}
 use Rattle.trace_book.proofs.Writes.{no-switch, switches-one, sets-one, refuses-one}
 use Rattle.trace_book.proofs.Triggering.{kept-at, trigger-refused, trigger-written}
 use Rattle.trace_book.proofs.write.change_of_event.Goals as goal

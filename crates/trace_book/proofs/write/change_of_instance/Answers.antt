@@ -1,6 +1,6 @@
 use Rattle.std.proofs.Common.{◌≡◌, Ok, Err, rules}
 use Rattle.trace_history.specs.Settings.{written_flag, written_option, written_tracing}
-use Rattle.trace_book.specs.Commands.{needed_flag}
+use Rattle.trace_book.specs.private.Commands.{needed_flag}
 use Rattle.trace_book.proofs.Writes.{clears-trace, no-switch, no-option, no-number, sets-overwrite, sets-option, sets-tracing, switches-all}
 use Rattle.trace_book.proofs.write.change_of_instance.Goals as goal
 

@@ -1,6 +1,6 @@
 use Rattle.std.proofs.Common.{◌≡◌, true, false, None, Some, Err, rules}
 use Rattle.trace_command.specs.declared.refusal.Refusal.TheVariants as refusal
-use Rattle.trace_book.specs.Attaching as attaching
+use Rattle.trace_book.specs.private.Attaching as attaching
 use Rattle.trace_book.proofs.Answering.{same_left}
 use Rattle.trace_book.proofs.HistAnswering.{ask-again, ask-attached, ask-full, ask-lacks, ask-memory, kept-new}
 use Rattle.trace_book.proofs.attach.EventTriggers.asked.Goals as goal

@@ -2,8 +2,8 @@ use Rattle.std.proofs.Common.{◌≡◌, ◌<◌, ◌≤◌, ℕ, List, All, Ok,
 use Rattle.std.proofs.lemmas.Int.{to_z-of_z}
 use Rattle.trace_format.specs.Rows.{row_of}
 use Rattle.trace_record.specs.Record.{record_size}
-use Rattle.trace_book.specs.Emissions.{AreReached, IsAhead}
-use Rattle.trace_book.specs.Found.{numbered}
+use Rattle.trace_book.specs.private.Emissions.{AreReached, IsAhead}
+use Rattle.trace_book.specs.private.Found.{numbered}
 use Rattle.trace_book.specs.declared.change.Pending.{Pending}
 use Rattle.trace_book.proofs.Emitting.{named-found, answers-emission, is-emission, ready-emission, fit-at}
 use Rattle.trace_command.specs.Requests.{Emission}

@@ -1,8 +1,8 @@
 use Rattle.std.proofs.Common.{◌≡◌, Ok, Err, rules}
 use Rattle.trace_command.specs.Paths as paths
 use Rattle.trace_command.specs.Paths.{Address}
-use Rattle.trace_book.specs.Commands.{IsWriteChange}
-use Rattle.trace_book.specs.Files.{IsResolved, file_at}
+use Rattle.trace_book.specs.private.Commands.{IsWriteChange}
+use Rattle.trace_book.specs.private.Files.{IsResolved, file_at}
 use Rattle.trace_book.specs.declared.resolve.Target.TheVariants.{Declarations, Of}
 use Rattle.trace_book.proofs.Dispatch.{address-writes, address-write_refused, stands-at}
 use Rattle.trace_book.proofs.state.State.prepare_write.Goals as goal

@@ -2,7 +2,7 @@ use Rattle.std.proofs.Common.{◌≡◌, Option, Some, None, Ok, Err, refl, sym,
 use Rattle.trace_command.specs.Paths as paths
 use Rattle.trace_command.specs.Paths.{Address}
 use Rattle.trace_command.specs.FileNames.{file_at}
-use Rattle.trace_book.specs.Files.{IsFound}
+use Rattle.trace_book.specs.private.Files.{IsFound}
 use Rattle.trace_book.specs.declared.resolve.File.{File}
 use Rattle.trace_book.proofs.Resolving.{found-there, lost-there, no-instance, no-file, missing-file}
 use Rattle.trace_book.proofs.state.State.resolve.Goals as goal

@@ -2,7 +2,7 @@ use Rattle.std.proofs.Common.{◌≡◌, ℕ, ◌+◌, ◌<◌, List, length, ge
 use Rattle.std.proofs.lemmas.Int.{to_z-of_z}
 use Rattle.trace_history.specs.Emissions.{record_bytes}
 use Rattle.trace_book.specs.States.{AllReached, EachCame, HasRoom}
-use Rattle.trace_book.specs.Emissions.{IsReadied}
+use Rattle.trace_book.specs.private.Emissions.{IsReadied}
 use Rattle.trace_book.specs.Instances.{IsAlike}
 use Rattle.trace_book.specs.declared.change.Pending.{Pending}
 use Rattle.trace_book.specs.declared.state.Named.{Named}

@@ -22,7 +22,7 @@ use Rattle.trace_book.specs.Changes.{IsEffect, IsLawful, rings_changed}
 use Rattle.trace_book.specs.declared.change.InstanceChange.{InstanceChange}
 use Rattle.trace_book.specs.declared.change.InstanceChange.TheVariants.{Keep, Take, TakeCpu}
 use Rattle.trace_book.specs.declared.read.Shown.{Shown}
-use Rattle.trace_book.specs.declared.read.Source.{Source}
+use Rattle.trace_book.specs.declared.read.FileSource.{FileSource}
 use Rattle.trace_book.specs.declared.resolve.File.{File as Found}
 use Rattle.trace_book.specs.declared.trigger.Trigger.{Trigger}
 use Rattle.trace_text.specs.TriggerText as texts
@@ -80,14 +80,14 @@ kept_in_order (Some t) hists =
     ++ shown_kept t ∷ map shown_kept_hist (filter (λ (k : KeptHist). not (nat_lt k.number t.number)) hists)
 
 -- what files are read from agrees with the requests done so far: the events, the clock and the instance of this name
-pub record IsSource (g : Config) (name : Option (List ℕ)) (past : List Request) (source : Source) : Type 0 where
+pub record IsSource (g : Config) (name : Option (List ℕ)) (past : List Request) (source : FileSource) : Type 0 where
   pub events : source.catalog.now ≡ declared_events past
   pub distinct : AreEvents [] (declared_events past)
   pub clock : source.clock ≡ now_of past
   pub instance : InstanceStandsFor g name past source.instance.now
 
 -- an event is there for a read: in the catalog, and in each list that the instance has over the events
-pub record HasAll (source : Source) (event : ℕ) : Type 0 where
+pub record HasAll (source : FileSource) (event : ℕ) : Type 0 where
   pub declared : event < length source.catalog.now
   pub enabled : event < length source.instance.now.enabled
   pub filters : event < length source.instance.now.filters
@@ -95,7 +95,7 @@ pub record HasAll (source : Source) (event : ℕ) : Type 0 where
   pub hists : event < length source.instance.now.hists
 
 -- the CPU or the event of a file is there for a read
-abbrev pub IsReadable : Source → Found → Type 0
+abbrev pub IsReadable : FileSource → Found → Type 0
 IsReadable source (found.OfInstance file) = ⊤
 IsReadable source (found.OfCpu cpu file) = cpu < buffers.cpus source.instance.now.sides.live
 IsReadable source (found.OfEvent event file) = HasAll source event

@@ -5,7 +5,7 @@ use Rattle.trace_format.specs.Cells.{Cells}
 use Rattle.trace_record.specs.Record.{IsRecord}
 use Rattle.trace_history.specs.Emissions.{record_bytes}
 use Rattle.trace_book.specs.Instances.{InstanceSeen, IsAlike}
-use Rattle.trace_book.specs.Rows.{reach_of}
+use Rattle.trace_book.specs.private.Rows.{reach_of}
 use Rattle.trace_book.specs.States.{AllReached, EachCame, HasRoom}
 use Rattle.trace_book.specs.declared.change.Pending.{Pending}
 use Rattle.trace_book.specs.declared.change.Reach.{Reach}

@@ -23,7 +23,7 @@ use Rattle.trace_book.specs.KeptHists.{kept_hists, kept_of}
 use Rattle.trace_book.specs.declared.attach.EventTriggers.{EventTriggers}
 use Rattle.trace_book.specs.declared.change.TriggerChange.{TriggerChange}
 use Rattle.trace_book.specs.declared.change.TriggerChange.TheVariants.{Attach, AskHist}
-use Rattle.trace_book.specs.declared.write.Written.{Written}
+use Rattle.trace_book.specs.declared.write.WrittenText.{WrittenText}
 
 -- what is kept of an event's triggers agrees with the requests
 pub record AreKept (name : Option (List ℕ)) (past : List Request) (event : Definition) (triggers : EventTriggers) : Type 0 where
@@ -31,7 +31,7 @@ pub record AreKept (name : Option (List ℕ)) (past : List Request) (event : Def
   pub hists : map kept_of triggers.hists.now ≡ kept_hists name past event
 
 -- the request that writes a text to the event's trigger file
-abbrev pub write_of : Option (List ℕ) → Definition → Written → Request
+abbrev pub write_of : Option (List ℕ) → Definition → WrittenText → Request
 write_of name event written = WriteFile name (Some (OfEvent event.name per_event.Trigger)) written.append written.text.now
 
 -- whether there is a spare after a change: a hist trigger needs none
@@ -40,20 +40,20 @@ arms (Attach trigger) = Some true
 arms change = None
 
 -- a change says of an event's triggers what the definitions say of such a request
-pub record IsTriggerEffect (name : Option (List ℕ)) (past : List Request) (event : Definition) (written : Written) (change : TriggerChange) : Type 0 where
+pub record IsTriggerEffect (name : Option (List ℕ)) (past : List Request) (event : Definition) (written : WrittenText) (change : TriggerChange) : Type 0 where
   pub snapshot : kept_trigger name (write_of name event written ∷ past) event ≡ trigger_changed change (kept_trigger name past event)
   pub hists : kept_hists name (write_of name event written ∷ past) event
       ≡ hists_changed change (if written.append then kept_hists name past event else [])
   pub one : IsOfOne change (length (if written.append then kept_hists name past event else []))
   pub spare : spare_armed (said_of event written.text.now) ≡ arms change
 
-abbrev pub IsTriggerChange : Option (List ℕ) → List Request → Definition → Written → Result TriggerChange Refusal → Type 0
+abbrev pub IsTriggerChange : Option (List ℕ) → List Request → Definition → WrittenText → Result TriggerChange Refusal → Type 0
 IsTriggerChange name past event written (Ok change) =
     (trigger_answer name past written.append written.text.now event ≡ Ok Done) × IsTriggerEffect name past event written change
 IsTriggerChange name past event written (Err refusal) = IsRefusal refusal (trigger_answer name past written.append written.text.now event)
 
 -- what a text changes, after as many requests as its number says
-abbrev pub IsChangeOf : Definition → EventTriggers → Written → Result TriggerChange Refusal → Type 0
+abbrev pub IsChangeOf : Definition → EventTriggers → WrittenText → Result TriggerChange Refusal → Type 0
 IsChangeOf event triggers written result =
     (name : Option (List ℕ)) (past : List Request) → length past ≡ written.number → AreKept name past event triggers
     → IsTriggerChange name past event written result
@@ -65,21 +65,21 @@ abbrev pub kept_count : EventTriggers → Bool → ℕ
 kept_count triggers append = (if append then length triggers.hists.now else 0) + (if is_some triggers.snapshot then 1 else 0)
 
 -- what is changed by a text that says this
-abbrev pub IsSaidChange : TriggerText → EventTriggers → Written → Result TriggerChange Refusal → Type 0
+abbrev pub IsSaidChange : TriggerText → EventTriggers → WrittenText → Result TriggerChange Refusal → Type 0
 IsSaidChange what triggers written result =
     (event : Definition) (name : Option (List ℕ)) (past : List Request) → length past ≡ written.number → AreKept name past event triggers
     → said_of event written.text.now ≡ Ok what → IsTriggerChange name past event written result
 
 -- a trigger for snapshots
-abbrev pub IsAttached : SnapshotTrigger → EventTriggers → Written → Result TriggerChange Refusal → Type 0
+abbrev pub IsAttached : SnapshotTrigger → EventTriggers → WrittenText → Result TriggerChange Refusal → Type 0
 IsAttached trigger = IsSaidChange (said.Attach trigger)
 
 -- a hist trigger
-abbrev pub IsAsked : SpecSeen → EventTriggers → Written → Result TriggerChange Refusal → Type 0
+abbrev pub IsAsked : SpecSeen → EventTriggers → WrittenText → Result TriggerChange Refusal → Type 0
 IsAsked spec = IsSaidChange (said.Hist spec)
 
 -- a hist trigger that is removed
-abbrev pub IsRemovedHist : SpecSeen → EventTriggers → Written → Result TriggerChange Refusal → Type 0
+abbrev pub IsRemovedHist : SpecSeen → EventTriggers → WrittenText → Result TriggerChange Refusal → Type 0
 IsRemovedHist spec = IsSaidChange (said.RemoveHist spec)
 
 -- what is changed where the one at an index says the same

@@ -1,0 +1,7 @@
+-- Words of private functions and of proofs: no public clause cites them.
+pub mod Attaching
+pub mod Commands
+pub mod Emissions
+pub mod Files
+pub mod Found
+pub mod Rows
