@@ -10,7 +10,7 @@ use Rattle.trace_buffer.specs.Buffers.{Seen}
 use Rattle.trace_text.specs.SnapshotText.{SpareHasShape}
 use Rattle.trace_text.specs.HistText.{hist_text}
 use Rattle.trace_text.specs.TriggerText.{trigger_text}
-use Rattle.trace_history.specs.History.{filter_text, format_of_event, hists_of_event, in_order, shown_hist, shown_trigger, triggers_of_event}
+use Rattle.trace_history.specs.FileTexts.{filter_text, format_of_event, hists_of_event, in_order, shown_hist, shown_trigger, triggers_of_event}
 use Rattle.trace_history.specs.HistTriggers.{HistTrigger, hists_of}
 use Rattle.trace_history.specs.Triggers as history
 use Rattle.trace_history.specs.Triggers.{trigger_of}

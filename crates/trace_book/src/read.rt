@@ -6,7 +6,7 @@ ghost use Rattle.trace_command.specs.Paths as paths;
 ghost use Rattle.trace_command.specs.declared.command.Config.{Config};
 ghost use Rattle.trace_command.specs.declared.file_name.CpuFile.TheVariants as per_cpu;
 ghost use Rattle.trace_command.specs.declared.file_name.TopFile.TheVariants as top;
-ghost use Rattle.trace_history.specs.History as history;
+ghost use Rattle.trace_history.specs.FileTexts as file_texts;
 ghost use Rattle.trace_history.specs.Settings.{declared_events};
 ghost use Rattle.trace_buffer.specs.Buffers as buffers;
 ghost use Rattle.trace_format.specs.Definitions.{Definition};
@@ -88,7 +88,7 @@ fn text_of_instance(
 ) -> Result<Text, AllocError>
     ensures { (g : Config) (name : Option (List ℕ)) (past : List Request)
         → IsSource g name past source.entry
-        → IfOk result (λ text. text ≡ history.text_of g name past (paths.OfInstance file)) }
+        → IfOk result (λ text. text ≡ file_texts.text_of g name past (paths.OfInstance file)) }
 {
     let instance = source.instance;
     match file {
@@ -112,7 +112,7 @@ fn text_of_cpu(
     requires { cpu < buffers.cpus source.instance.now.sides.live }
     ensures { (g : Config) (name : Option (List ℕ)) (past : List Request)
         → IsSource g name past source.entry
-        → IfOk result (λ text. text ≡ history.text_of g name past (paths.OfCpu cpu file)) }
+        → IfOk result (λ text. text ≡ file_texts.text_of g name past (paths.OfCpu cpu file)) }
 {
     match file {
         CpuFile::Trace => trace(alloc, source, Some(cpu)),
@@ -132,7 +132,7 @@ fn text_of_event(
     requires event { HasAll source event }
     ensures { (g : Config) (name : Option (List ℕ)) (past : List Request)
         → IsSource g name past source.entry
-        → IfOk result (λ text. text ≡ history.text_of g name past (paths.OfEvent (name_at source.entry.catalog.now event) file)) }
+        → IfOk result (λ text. text ≡ file_texts.text_of g name past (paths.OfEvent (name_at source.entry.catalog.now event) file)) }
 {
     let instance = source.instance;
     match file {
@@ -145,12 +145,12 @@ fn text_of_event(
 }
 
 // The trace of one CPU or of all.
-#[tactic(auto, unfolding(trace_history::specs::History::shown_trace))]
+#[tactic(auto, unfolding(trace_history::specs::FileTexts::shown_trace))]
 fn trace(alloc: Global, source: FileSource<'_>, cpu: Option<u32>) -> Result<Text, AllocError>
     requires { IfSome cpu (λ cpu. cpu < buffers.cpus source.instance.now.sides.live) }
     ensures { (g : Config) (name : Option (List ℕ)) (past : List Request)
         → IsSource g name past source.entry
-        → IfOk result (λ text. text ≡ history.shown_trace g name past cpu) }
+        → IfOk result (λ text. text ≡ file_texts.shown_trace g name past cpu) }
 {
     let mut out = Vec::new(alloc);
     trace_text(
@@ -163,12 +163,12 @@ fn trace(alloc: Global, source: FileSource<'_>, cpu: Option<u32>) -> Result<Text
     Ok(Text::from(out))
 }
 
-#[tactic(auto, unfolding(trace_history::specs::History::cpu_stats_text))]
+#[tactic(auto, unfolding(trace_history::specs::FileTexts::cpu_stats_text))]
 fn stats(alloc: Global, source: FileSource<'_>, cpu: u32) -> Result<Text, AllocError>
     requires { cpu < buffers.cpus source.instance.now.sides.live }
     ensures { (g : Config) (name : Option (List ℕ)) (past : List Request)
         → IsSource g name past source.entry
-        → IfOk result (λ text. text ≡ history.cpu_stats_text g name past cpu) }
+        → IfOk result (λ text. text ≡ file_texts.cpu_stats_text g name past cpu) }
 {
     let mut out = Vec::new(alloc);
     stats_text(alloc, source.instance.stats(cpu), source.clock, &mut out)?;
@@ -187,11 +187,11 @@ fn format(alloc: Global, catalog: &Catalog, event: usize) -> Result<Text, AllocE
 }
 
 // What the spare side keeps.
-#[tactic(auto, unfolding(trace_history::specs::History::shown_snapshot))]
+#[tactic(auto, unfolding(trace_history::specs::FileTexts::shown_snapshot))]
 fn snapshot(alloc: Global, source: FileSource<'_>) -> Result<Text, AllocError>
     ensures { (g : Config) (name : Option (List ℕ)) (past : List Request)
         → IsSource g name past source.entry
-        → IfOk result (λ text. text ≡ history.shown_snapshot g name past) }
+        → IfOk result (λ text. text ≡ file_texts.shown_snapshot g name past) }
 {
     let mut out = Vec::new(alloc);
     snapshot_text(alloc, source.catalog, source.instance.sides(), &mut out)?;
@@ -226,11 +226,11 @@ fn histograms(alloc: Global, hists: &EventHists) -> Result<Text, AllocError>
 }
 
 /// The declarations of all events, one on each line.
-#[tactic(auto, unfolding(trace_history::specs::History::declarations_text))]
+#[tactic(auto, unfolding(trace_history::specs::FileTexts::declarations_text))]
 pub(crate) fn declarations(alloc: Global, catalog: &Catalog) -> Result<Text, AllocError>
     requires few { length catalog.now ≤ 64 }
     ensures { (past : List Request) → catalog.now ≡ declared_events past
-        → IfOk result (λ text. text ≡ history.declarations_text past) }
+        → IfOk result (λ text. text ≡ file_texts.declarations_text past) }
 {
     let mut out = Vec::new(alloc);
     push_declarations(alloc, catalog, &mut out)?;
@@ -238,7 +238,7 @@ pub(crate) fn declarations(alloc: Global, catalog: &Catalog) -> Result<Text, All
 }
 
 // What the pipe of all CPUs gives, up to a limit. The string is built before anything is consumed.
-#[tactic(auto, unfolding(trace_history::specs::History::shown_pipe))]
+#[tactic(auto, unfolding(trace_history::specs::FileTexts::shown_pipe))]
 fn read_pipe(alloc: Global, source: FileSource<'_>, limit: Option<u64>) -> Result<Shown, Refusal>
     ensures { (g : Config) (name : Option (List ℕ)) (past : List Request)
         → IsSource g name past source.entry → IsRead g name past limit (paths.OfInstance top.TracePipe) result }
@@ -254,7 +254,7 @@ fn read_pipe(alloc: Global, source: FileSource<'_>, limit: Option<u64>) -> Resul
 }
 
 // Likewise for a CPU's pipe.
-#[tactic(auto, unfolding(trace_history::specs::History::shown_cpu_pipe))]
+#[tactic(auto, unfolding(trace_history::specs::FileTexts::shown_cpu_pipe))]
 fn read_cpu_pipe(
     alloc: Global,
     source: FileSource<'_>,

@@ -2,7 +2,7 @@
 
 ghost use Rattle.std.specs.Prelude.{◌≡◌, ◌≤◌, ◌++◌, length, option_copied, IfOk, OnOk};
 ghost use Rattle.std.specs.List.{flat_map};
-ghost use Rattle.trace_history.specs.History as history;
+ghost use Rattle.trace_history.specs.FileTexts as file_texts;
 ghost use Rattle.trace_text.specs.DeclarationText as texts;
 ghost use Rattle.trace_book.specs.private.Commands.{shown_filter};
 
@@ -14,9 +14,9 @@ use trace_lex::Text;
 use trace_text::declaration_text;
 
 /// A switch.
-#[tactic(auto, unfolding(trace_history::specs::History::flag_text))]
+#[tactic(auto, unfolding(trace_history::specs::FileTexts::flag_text))]
 pub(crate) fn flag_text(alloc: Global, flag: bool) -> Result<Text, AllocError>
-    ensures { IfOk result (λ text. text ≡ history.flag_text flag) }
+    ensures { IfOk result (λ text. text ≡ file_texts.flag_text flag) }
 {
     if flag {
         Text::from_slice(alloc, b"1\n".as_slice())
@@ -26,9 +26,9 @@ pub(crate) fn flag_text(alloc: Global, flag: bool) -> Result<Text, AllocError>
 }
 
 /// The word of an option.
-#[tactic(auto, unfolding(trace_history::specs::History::option_text))]
+#[tactic(auto, unfolding(trace_history::specs::FileTexts::option_text))]
 pub(crate) fn option_text(alloc: Global, flag: bool) -> Result<Text, AllocError>
-    ensures { IfOk result (λ text. text ≡ history.option_text flag) }
+    ensures { IfOk result (λ text. text ≡ file_texts.option_text flag) }
 {
     if flag {
         Text::from_slice(alloc, b"overwrite\n".as_slice())
@@ -38,9 +38,9 @@ pub(crate) fn option_text(alloc: Global, flag: bool) -> Result<Text, AllocError>
 }
 
 /// A mixture of switches.
-#[tactic(auto, unfolding(trace_history::specs::History::mixture_text))]
+#[tactic(auto, unfolding(trace_history::specs::FileTexts::mixture_text))]
 pub(crate) fn mixture_text(alloc: Global, none_on: bool, some_off: bool) -> Result<Text, AllocError>
-    ensures { IfOk result (λ text. text ≡ history.mixture_text none_on some_off) }
+    ensures { IfOk result (λ text. text ≡ file_texts.mixture_text none_on some_off) }
 {
     match (none_on, some_off) {
         (true, false) => Text::from_slice(alloc, b"?\n".as_slice()),

@@ -27,7 +27,8 @@ use Rattle.trace_text.specs.TriggerText.{hist_line, trigger_line, available_trig
 use Rattle.trace_trigger.specs.TriggerTexts.{count_of, condition_of, snapshot_said, said_of}
 use Rattle.trace_trigger.specs.TriggerTexts.{trigger_of as said_trigger}
 use Rattle.trace_command.specs.Paths.{top_file, option_file, events_file, system_file, cpu_file, event_file, mount_point, below_mount_point, address_of, instance_of}
-use Rattle.trace_history.specs.History.{emission_answer, declaration_answer, switch_answer, filter_answer, tracing_answer, snapshot_answer, trigger_answer, flag_text, cpu_stats_text, shown_snapshot, named_answer, answer}
+use Rattle.trace_history.specs.FileTexts.{flag_text, cpu_stats_text, shown_snapshot}
+use Rattle.trace_history.specs.History.{emission_answer, declaration_answer, switch_answer, filter_answer, tracing_answer, snapshot_answer, trigger_answer, named_answer, answer}
 use Rattle.trace_history.specs.Emissions.{record_bytes, filter_holds}
 use Rattle.trace_history.specs.Settings.{written_flag, clears_filter, can_take, written_option, written_tracing}
 use Rattle.trace_history.specs.Snapshots.{written_snapshot}

@@ -20,7 +20,8 @@ use Rattle.trace_text.specs.RecordText.{line_start, cell_text, row_line, record_
 use Rattle.trace_text.specs.StatsText.{stats_line, stats_text}
 use Rattle.trace_text.specs.TraceText.{lost_line, trace_title, trace_head}
 use Rattle.trace_command.specs.Paths.{top_file, option_file, events_file, system_file, cpu_file, event_file, mount_point, below_mount_point, address_of, instance_of}
-use Rattle.trace_history.specs.History.{emission_answer, declaration_answer, switch_answer, filter_answer, filter_of_all_answer, option_answer, tracing_answer, snapshot_answer, flag_text, cpu_stats_text, shown_trace, shown_pipe, shown_cpu_pipe, option_text, declarations_text, mixture_text, filter_text, named_answer, answer}
+use Rattle.trace_history.specs.FileTexts.{flag_text, cpu_stats_text, shown_trace, shown_pipe, shown_cpu_pipe, option_text, declarations_text, mixture_text, filter_text}
+use Rattle.trace_history.specs.History.{emission_answer, declaration_answer, switch_answer, filter_answer, filter_of_all_answer, option_answer, tracing_answer, snapshot_answer, named_answer, answer}
 use Rattle.trace_history.specs.Emissions.{record_bytes, filter_holds}
 use Rattle.trace_history.specs.Settings.{written_flag, clears_filter, can_take, written_option, written_tracing}
 use Rattle.trace_history.specs.Snapshots.{written_snapshot}

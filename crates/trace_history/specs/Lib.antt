@@ -5,6 +5,7 @@ pub mod Triggers
 pub mod HistTriggers
 pub mod Snapshots
 pub mod Rings
+pub mod FileTexts
 pub mod History
 pub mod LateMemory
 pub mod Laws

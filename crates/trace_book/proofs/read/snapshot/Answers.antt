@@ -1,5 +1,5 @@
 use Rattle.std.proofs.Common.{refl}
-use Rattle.trace_history.specs.History.{shown_snapshot}
+use Rattle.trace_history.specs.FileTexts.{shown_snapshot}
 use Rattle.trace_book.specs.Instances.{side_families}
 use Rattle.trace_book.proofs.EventReads.{spare-shape}
 use Rattle.trace_book.proofs.read.snapshot.Goals as goal

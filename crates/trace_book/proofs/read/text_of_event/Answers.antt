@@ -1,6 +1,6 @@
 use Rattle.std.proofs.Common.{◌≡◌, List, [], ℕ, map, IfOk, ap, ◌∙◌, subst}
 use Rattle.trace_format.specs.Definitions.{Definition}
-use Rattle.trace_history.specs.History.{flag_text}
+use Rattle.trace_history.specs.FileTexts.{flag_text}
 use Rattle.trace_text.specs.HistText.{hist_text}
 use Rattle.trace_book.specs.private.Commands.{shown_filter, shown_kept_hist}
 use Rattle.trace_book.specs.KeptHists.{kept_of}
