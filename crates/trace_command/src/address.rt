@@ -2,7 +2,6 @@
 
 ghost use Rattle.std.specs.Prelude.{◌≡◌, [], ◌∷◌, Some, None};
 ghost use Rattle.std.specs.Option.{option_map};
-ghost use Rattle.trace_lex.specs.Decimals.{value_after};
 ghost use Rattle.trace_command.specs.Paths as paths;
 ghost use Rattle.trace_command.specs.FileNames.{address_at, bytes_now, cpu_at, file_at, parts_of};
 
