@@ -1,5 +1,5 @@
 -- The parts of a block, one after the other, and what all of them come to.
-use Rattle.std.proofs.Common.{◌≡◌, ◌≢◌, ℕ, zero, suc, ◌+◌, ◌-◌, ◌*◌, ◌≤◌, ◌<◌, ◌^◌, ◌⊎◌, inl, inr, List, [], ◌∷◌, ◌++◌, map, take, drop, length, get_or, All, Any, Option, Some, None, refl, sym, ap, ◌∙◌, subst, append-nil, arith, add-one}
+use Rattle.std.proofs.Common.{◌≡◌, ◌≢◌, ℕ, zero, suc, ◌+◌, ◌-◌, ◌*◌, ◌≤◌, ◌<◌, ◌^◌, ◌⊎◌, inl, inr, Bool, List, [], ◌∷◌, ◌++◌, map, take, drop, length, get_or, All, Any, Option, Some, None, refl, sym, ap, ◌∙◌, subst, append-nil, arith, add-one}
 use Rattle.std.proofs.Math.Nat.{pow-suc}
 use Rattle.std.proofs.lemmas.Nat.{pow_pos}
 use Rattle.std.proofs.lemmas.List.{take_all, take-append-drop, map-append, append_cancel_left, drop_at}
@@ -12,12 +12,14 @@ use Rattle.trace_history.specs.History.{IsLegal}
 use Rattle.trace_history.specs.Blocks.{Trail, StandsIn, IsBlock, IsUnworn}
 use Rattle.trace_book.specs.Bases.{numbers_of}
 use Rattle.trace_workers.specs.BlockRuns.{trails_of, Begins, IsAfterBlock}
+use Rattle.trace_workers.specs.Gates.{HasReply, LetsBegunPass}
 use Rattle.trace_workers.specs.PartRuns.{HasRun, begun_trail, begun_trails, AreWhole, SeesCallers, told_fault}
 use Rattle.trace_command.specs.declared.command.Command.{Command}
 use Rattle.trace_command.specs.declared.command.Config.{Config}
 use Rattle.trace_command.specs.declared.command.Entry.{Entry}
 use Rattle.trace_workers.specs.declared.fault.BlockFault.{BlockFault}
 use Rattle.trace_workers.specs.declared.fault.BlockFault.TheVariants.{Memory, Stopped, NoThread}
+use Rattle.trace_workers.specs.declared.gate.Point.{Point}
 use Rattle.trace_workers.specs.declared.part.Part.{Part}
 
 -- ---- names
@@ -48,6 +50,12 @@ begun_push [] (p ∷ done) commands part same = absurd (omega (arith, same))
 begun_push (c ∷ parts) [] commands part same = absurd (omega (arith, same))
 begun_push (c ∷ parts) (p ∷ done) commands part same =
     ap (λ (ts : List Trail). begun_trail p.by c p.replies.items ∷ ts) (begun_push parts done commands part (omega (arith, same)))
+
+pub length-begun : (parts : List (List Command)) (done : List Part) → length done ≡ length parts → length (begun_trails parts done) ≡ length done
+length-begun [] [] same = refl
+length-begun [] (p ∷ done) same = absurd (omega (arith, same))
+length-begun (c ∷ parts) [] same = absurd (omega (arith, same))
+length-begun (c ∷ parts) (p ∷ done) same = omega (arith, length-begun parts done (omega (arith, same)))
 
 pub whole_push : (parts : List (List Command)) (done : List Part) (commands : List Command) (part : Part) → AreWhole parts done
     → length part.replies.items ≡ length commands → AreWhole (parts ++ commands ∷ []) (done ++ part ∷ [])
@@ -166,9 +174,16 @@ unfolding nothing_of
 nothing_begins n [] = tt
 nothing_begins n (commands ∷ parts) = ((commands, refl), nothing_begins (n + 1) parts)
 
-pub not_begun : (v : View Entry) (parts : List (List Command)) → HasAllNames v
-    → (trails : List Trail) × AllZip Begins parts trails × IsAfterBlock v v trails
-not_begun v parts names =
+-- so there is no reply
+nothing_replied : (n : ℕ) (parts : List (List Command)) (thread call : ℕ) → HasReply (nothing_of n parts) thread call → ⊥
+unfolding nothing_of
+nothing_replied n [] thread call has = omega (arith, has.0)
+nothing_replied n (commands ∷ parts) zero call has = omega (arith, has.1)
+nothing_replied n (commands ∷ parts) (suc thread) call has = nothing_replied (n + 1) parts thread call (omega (arith, has.0), has.1)
+
+pub not_begun : (v : View Entry) (parts : List (List Command)) (may : ℕ → ℕ → Point → Bool → Type 0) → HasAllNames v
+    → (trails : List Trail) × AllZip Begins parts trails × IsAfterBlock v v trails × LetsBegunPass may trails
+not_begun v parts may names =
     let trails = nothing_of 0 parts in (
       trails,
       nothing_begins 0 parts,
@@ -187,5 +202,9 @@ not_begun v parts names =
         callers = λ g is. All-nil (λ (entry : Entry). Any (λ (trail : Trail). trail.by ≡ entry.by) trails);
         legal = λ g is legal. subst (λ (es : List Entry). IsLegal g es) (sym (append-nil v.seen)) legal;
         unworn = λ left. nothing_all (λ (trail : Trail). IsUnworn trail.replies) (λ n. All-nil _) 0 parts;
+      },
+      record {
+        asking = λ thread call has. absurd (nothing_replied 0 parts thread call has);
+        answered = λ thread call has. absurd (nothing_replied 0 parts thread (call + 1) has);
       },
     )

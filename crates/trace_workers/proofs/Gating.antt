@@ -1,11 +1,12 @@
 -- What a gate answered, command by command and part by part.
-use Rattle.std.proofs.Common.{◌≡◌, ◌≢◌, ℕ, ◌+◌, ◌<◌, ◌⊎◌, inl, inr, Bool, true, false, List, [], ◌∷◌, ◌++◌, length, Result, Option, Some, None, refl, sym, subst, arith, length-append}
+use Rattle.std.proofs.Common.{◌≡◌, ◌≢◌, ℕ, ◌+◌, ◌<◌, ◌⊎◌, inl, inr, Bool, true, false, List, [], ◌∷◌, ◌++◌, length, Result, Option, Some, None, map, get_or, refl, sym, ◌∙◌, subst, arith, length-append}
 use Rattle.std.proofs.lemmas.Bool.{cases_lt}
-use Rattle.std.proofs.lemmas.List.{get_or_append_left, get_or_push}
+use Rattle.std.proofs.lemmas.List.{get_or_append_left, get_or_push, map-append, length-map}
+use Rattle.trace_history.specs.Blocks.{Trail}
 use Rattle.trace_command.specs.declared.command.Command.{Command}
 use Rattle.trace_command.specs.declared.command.Reply.{Reply}
 use Rattle.trace_command.specs.declared.refusal.Refusal.{Refusal}
-use Rattle.trace_workers.specs.Gates.{HasCommand, LetsAllPass, StopsOne}
+use Rattle.trace_workers.specs.Gates.{HasCommand, HasReply, LetsAllPass, LetsBegunPass, StopsOne}
 use Rattle.trace_workers.specs.PartRuns.{IsGated, told_fault}
 use Rattle.trace_workers.specs.declared.fault.BlockFault.{BlockFault}
 use Rattle.trace_workers.specs.declared.fault.BlockFault.TheVariants.{Memory, Stopped, NoThread}
@@ -107,6 +108,42 @@ pass_push may all parts commands thread grown is before here = λ t call point h
           let same = get_or_push parts commands [] t (omega (arith, next, is)) in
           subst (λ n. may n call point true) (sym next) (here call point (rw same at has'.1))
     ]
+
+-- no part was begun
+pub begun_pass_none : (may : ℕ → ℕ → Point → Bool → Type 0) → LetsBegunPass may []
+begun_pass_none may = record { asking = λ thread call has. absurd (omega (arith, has.0)); answered = λ thread call has. absurd (omega (arith, has.0)) }
+
+-- a reply of one part more is one of those before, or its own
+reply_push : (trails : List Trail) (trail : Trail) (thread call : ℕ) → HasReply (trails ++ trail ∷ []) thread call
+    → HasReply trails thread call ⊎ ((thread ≡ length trails) × (call < length trail.replies))
+reply_push trails trail thread call has =
+    let each : List (List Answer) = map (λ (t : Trail). t.replies) trails in
+    let grown : map (λ (t : Trail). t.replies) (trails ++ trail ∷ []) ≡ each ++ trail.replies ∷ [] = map-append (λ (t : Trail). t.replies) trails (trail ∷ []) in
+    let many : length each ≡ length trails = length-map trails (λ (t : Trail). t.replies) in
+    let own : call < length (get_or (each ++ trail.replies ∷ []) thread []) = rw grown at has.1 in
+    elim (cases_lt thread (length trails)) [
+      | inl below ↦ inl (below, rw (get_or_append_left each (trail.replies ∷ []) [] thread (omega (arith, below, many))) at own)
+      | inr above ↦
+          let next : thread ≡ length trails = omega (arith, has.0, above, length-append trails (trail ∷ [])) in
+          inr (next, rw (get_or_push each trail.replies [] thread (omega (arith, next, many))) at own)
+    ]
+
+-- one part more
+pub begun_pass_push : (may : ℕ → ℕ → Point → Bool → Type 0) (trails : List Trail) (trail : Trail) (thread : ℕ) (commands : List Command)
+    (fault : Option BlockFault) → length trails ≡ thread → LetsBegunPass may trails → IsGated (may thread) commands trail.replies fault
+    → LetsBegunPass may (trails ++ trail ∷ [])
+begun_pass_push may trails trail thread commands fault is before gated = record {
+  asking = λ t call has.
+      elim (reply_push trails trail t call has) [
+        | inl earlier ↦ before.asking t call earlier
+        | inr own ↦ subst (λ (n : ℕ). may n call Asking true) (sym (own.0 ∙ is)) (gated.asking call own.1)
+      ];
+  answered = λ t call has.
+      elim (reply_push trails trail t (call + 1) has) [
+        | inl earlier ↦ before.answered t call earlier
+        | inr own ↦ subst (λ (n : ℕ). may n call Answered true) (sym (own.0 ∙ is)) (gated.answered call (omega (arith, own.1)) (λ e. own.1))
+      ];
+}
 
 -- one of the parts before was stopped
 pub stops_before : (may : ℕ → ℕ → Point → Bool → Type 0) (all parts : List (List Command)) (commands : List Command)

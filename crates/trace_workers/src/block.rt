@@ -17,7 +17,7 @@ ghost use Rattle.ticket_lock.specs.Calls.{view_of, IsOf};
 ghost use Rattle.ticket_lock.specs.Views.{HasAllNames};
 ghost use Rattle.trace_history.specs.Blocks.{Trail};
 ghost use Rattle.trace_workers.specs.BlockRuns.{trails_of, Begins, IsAfterBlock};
-ghost use Rattle.trace_workers.specs.Gates.{LetsAllPass, StopsOne};
+ghost use Rattle.trace_workers.specs.Gates.{LetsAllPass, LetsBegunPass, StopsOne};
 ghost use Rattle.trace_workers.specs.PartRuns.{HasRun, HasAsked, IsGated, AreWhole, SeesCallers, begun_trails};
 ghost use Rattle.trace_workers.specs.declared.fault.BlockFault.TheVariants.{Stopped};
 
@@ -68,6 +68,7 @@ fn run_parts<'s, E, R: Threads + Wait + Sync, G: Gate + Sync>(
     ensures whole { result.fault ≡ None → AreWhole (map (λ part. part.items) parts.items) result.done.items }
     ensures callers { SeesCallers (view_of pass) (view_of result.pass) }
     ensures open { G.is_open gate.now ≡ true → result.fault ≢ Some Stopped }
+    ensures begun { LetsBegunPass (G.may_answer gate.now) (begun_trails (map (λ part. part.items) parts.items) result.done.items) }
     ensures gate { result.fault ≡ None → LetsAllPass (G.may_answer gate.now) (map (λ part. part.items) parts.items) }
     ensures stopped { result.fault ≡ Some Stopped → StopsOne (G.may_answer gate.now) (map (λ part. part.items) parts.items) }
 {
@@ -149,11 +150,12 @@ pub fn run_block<R: Threads + Wait + Sync, G: Gate + Sync>(
     // Each part's replies are the trail of its commands, from what the root had seen on.
     ensures done { IfOk result.1 (λ done. (vec_len done ≡ vec_len parts)
         × IsAfterBlock (view_of root) (view_of result.0) (trails_of (map (λ part. part.items) parts.items) done.items)) }
-    // After a fault the same is true of the first commands of each part, with some replies.
+    // After a fault the same is true of the first commands of each part, with some replies. The gate let each come so far.
     ensures fault { IfErr result.1 (λ fault. (trails : List Trail) × AllZip Begins (map (λ part. part.items) parts.items) trails
-        × IsAfterBlock (view_of root) (view_of result.0) trails) }
+        × IsAfterBlock (view_of root) (view_of result.0) trails × LetsBegunPass (G.may_answer gate.now) trails) }
     ensures open { G.is_open gate.now ≡ true → IfErr result.1 (λ fault. fault ≢ Stopped) }
-    // The gate was asked for each command, before it and after it, by its own indexes: it can be told from what it may answer there.
+    // The gate was asked at both points of each command, by its own indexes: it can be told from what it may answer there. That it was asked at
+    // `Asking` before the command, and at `Answered` after it, is not said.
     ensures gate { IfOk result.1 (λ done. LetsAllPass (G.may_answer gate.now) (map (λ part. part.items) parts.items)) }
     ensures stopped { IfErr result.1 (λ fault. fault ≡ Stopped
         → StopsOne (G.may_answer gate.now) (map (λ part. part.items) parts.items)) }
@@ -176,6 +178,7 @@ pub fn run_block<R: Threads + Wait + Sync, G: Gate + Sync>(
                 × (result.fault ≡ None → AreWhole (map (λ part. part.items) parts.items) result.done.items)
                 × SeesCallers (view_of root) (view_of result.pass)
                 × (G.is_open gate.entry.now ≡ true → result.fault ≢ Some Stopped)
+                × LetsBegunPass (G.may_answer gate.entry.now) (begun_trails (map (λ part. part.items) parts.items) result.done.items)
                 × (result.fault ≡ None → LetsAllPass (G.may_answer gate.entry.now) (map (λ part. part.items) parts.items))
                 × (result.fault ≡ Some Stopped → StopsOne (G.may_answer gate.entry.now) (map (λ part. part.items) parts.items)) }
         { run_parts(scope, rt, alloc, lock, root, parts, done, gate, missed) },

@@ -4,10 +4,10 @@ use Rattle.ticket_lock.specs.Calls.{view_of}
 use Rattle.trace_workers.specs.PartRuns.{HasAsked, IsGated, begun_trail, begun_trails}
 use Rattle.trace_command.specs.declared.command.Command.{Command}
 use Rattle.trace_workers.specs.declared.fault.BlockFault.TheVariants.{Stopped}
-use Rattle.trace_workers.proofs.Gating.{gated_whole, pass_push, stops_before, stops_last, told_stopped}
+use Rattle.trace_workers.proofs.Gating.{gated_whole, pass_push, begun_pass_none, begun_pass_push, stops_before, stops_last, told_stopped}
 use Rattle.trace_workers.proofs.Joining.{run_meet}
 use Rattle.trace_workers.proofs.Working.{run_none}
-use Rattle.trace_workers.proofs.Blocking.{names_left, map_push, begun_none, begun_push, whole_push, told_none}
+use Rattle.trace_workers.proofs.Blocking.{names_left, map_push, begun_none, begun_push, length-begun, whole_push, told_none}
 use Rattle.trace_workers.proofs.block.+run_parts.Goals as goal
 use Rattle.trace_workers.proofs.block.+run_parts.Goals.{in-Ok-started, in-Err}
 
@@ -53,6 +53,34 @@ returns-clause-run g t c =
     rw trails
     (run_meet v a b (view_of others.result.pass) (view_of returned.pass) (view_of c.join-2.result) (begun_trails before others.result.done.items)
     (begun_trail b.low commands replies) (omega (arith, some)) c.in-Ok.ensures.halves others.ensures.run acts.run c.join-2.ensures.met)
+
+-- no part is left, so none was begun
+pub returns-in_default-clause-begun : goal.returns-in_default-clause-begun
+returns-in_default-clause-begun g t c =
+    rw (c.requires.empty, begun_none (map (λ part. part.items) c.args.parts.items)) (begun_pass_none (g.G.Gate.may_answer c.args.gate.now))
+
+-- the gate let the parts before this one pass as far as they came, and this one
+pub returns-clause-begun : goal.returns-clause-begun
+returns-clause-begun g t c =
+    let b = view_of c.in-Ok.upper in
+    let may = g.G.Gate.may_answer c.args.gate.now in
+    let others = c.run_parts-others in
+    let returned = c.match-started.returned.0 in
+    let commands = c.in-Some.commands.items in
+    let replies = returned.part.replies.items in
+    let thread = vec_len c.pop.new.self in
+    let before : List (List Command) = map (λ part. part.items) c.pop.new.self.items in
+    let gated : IsGated (may thread) commands replies returned.fault =
+    elim c.match-started.branch [ in-Ok-started w ↦ search rules | in-Err w ↦ search rules ] in
+    let parts : map (λ part. part.items) c.args.parts.items ≡ before ++ commands ∷ [] =
+    map_push (λ part. part.items) c.args.parts.items c.pop.new.self.items c.in-Some.commands c.in-Some.ensures.items in
+    let many : length before ≡ length c.pop.new.self.items = length-map c.pop.new.self.items (λ part. part.items) in
+    let same : length others.result.done.items ≡ length before = others.ensures.length ∙ sym many in
+    let counted : length (begun_trails before others.result.done.items) ≡ thread =
+    omega (arith, length-begun before others.result.done.items same, many, c.pop.new.self.ok.0) in
+    rw (parts, c.push_reserved.ensures.items, begun_push before others.result.done.items commands returned.part same)
+    (begun_pass_push may (begun_trails before others.result.done.items) (begun_trail returned.part.by commands replies) thread commands returned.fault counted
+    others.ensures.begun gated)
 
 -- without a fault each of them is whole
 pub returns-clause-whole : goal.returns-clause-whole

@@ -1,6 +1,7 @@
 use Rattle.std.proofs.Common.{◌≡◌, ◌∙◌, map, length, List, sym, arith, rules, vec_len, None, ◌+◌}
 use Rattle.std.proofs.lemmas.List.{length-map}
 use Rattle.ticket_lock.specs.Calls.{view_of}
+use Rattle.trace_workers.specs.Gates.{LetsBegunPass}
 use Rattle.trace_workers.specs.PartRuns.{begun_trails, HasRun, AreWhole, SeesCallers}
 use Rattle.trace_command.specs.declared.command.Command.{Command}
 use Rattle.trace_workers.proofs.Blocking.{not_begun, comes, whole_begun, begun_begins}
@@ -8,7 +9,7 @@ use Rattle.trace_workers.proofs.block.run_block.Goals as goal
 
 pub returns-in_default-clause-fault : goal.returns-in_default-clause-fault
 returns-in_default-clause-fault g c =
-    not_begun (view_of c.args.root) (map (λ part. part.items) c.args.parts.items) c.requires.names
+    not_begun (view_of c.args.root) (map (λ part. part.items) c.args.parts.items) (g.G.Gate.may_answer c.args.gate.now) c.requires.names
 
 -- all parts ran
 pub returns-in-None-clause-done : goal.returns-in-None-clause-done
@@ -35,8 +36,10 @@ returns-clause-fault g c =
     let parts : List (List Command) = map (λ part. part.items) c.args.parts.items in
     let runs : HasRun v w (begun_trails parts ended.done.items) = search rules in
     let callers : SeesCallers v w = search rules in
-    let many : length ended.done.items ≡ length c.args.parts.items = search rules in (
+    let many : length ended.done.items ≡ length c.args.parts.items = search rules in
+    let passed : LetsBegunPass (g.G.Gate.may_answer c.args.gate.now) (begun_trails parts ended.done.items) = search rules in (
       begun_trails parts ended.done.items,
       begun_begins parts ended.done.items (many ∙ sym (length-map c.args.parts.items (λ part. part.items))),
       comes v w (begun_trails parts ended.done.items) c.requires.names callers ended.pass.bounded runs,
+      passed,
     )
