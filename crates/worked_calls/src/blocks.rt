@@ -94,21 +94,29 @@ fn count_by(book: &Book, by: u32) -> usize {
     book.entries().iter().filter(|entry| entry.by == by).count()
 }
 
-// A gate that answers `false` once it is asked at one place.
+// A gate that answers `false` when it is asked at one point of one command for the first time, and `true` otherwise. So a worker that asked there
+// again after the `false` would go on.
 #[derive(Drop)]
 struct Stop {
     thread: u32,
     call: u64,
     point: Point,
+    arrivals: AtomicU64,
 }
 
 impl Gate for Stop {
-    ghost use Rattle.std.specs.Prelude.{false};
+    ghost use Rattle.std.specs.Prelude.{◌≡◌, false};
 
     ghost is_open = { λ _. false };
 
+    ghost may_answer = { λ stop thread call point answer. answer ≡ false
+        → (thread ≡ stop.thread) × (call ≡ stop.call) × (point ≡ stop.point) };
+
     fn arrive(&self, thread: u32, call: u64, point: Point) -> bool {
-        thread != self.thread || call != self.call || point != self.point
+        if thread != self.thread || call != self.call || point != self.point {
+            return true;
+        }
+        self.arrivals.fetch_add(1, Ordering::SeqCst) > 0
     }
 }
 
@@ -121,9 +129,11 @@ fn a_gate_stops_a_part_at_each_point(rt: HostRuntime) -> Result<(), Fail> {
                     thread,
                     call,
                     point,
+                    arrivals: AtomicU64::new(0),
                 };
                 let outcome = run(&rt, rt.alloc(), &gate)?;
                 assert!(rt; matches!(outcome.replies, Err(BlockFault::Stopped)));
+                assert_eq!(rt; gate.arrivals.load(Ordering::SeqCst), 1);
                 assert!(rt; outcome.all_names);
                 let stopped = if thread == 0 { 16384 } else { 32768 };
                 let other = if thread == 0 { 32768 } else { 16384 };
@@ -199,9 +209,11 @@ impl Meeting {
 }
 
 impl Gate for Meeting {
-    ghost use Rattle.std.specs.Prelude.{false};
+    ghost use Rattle.std.specs.Prelude.{◌≡◌, ◌≢◌, true, false};
 
     ghost is_open = { λ _. false };
+
+    ghost may_answer = { λ _ _ call _ answer. call ≢ 0 → answer ≡ true };
 
     fn arrive(&self, thread: u32, call: u64, point: Point) -> bool {
         self.of(thread)

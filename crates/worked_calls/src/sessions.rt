@@ -80,7 +80,12 @@ struct StopsAt {
 }
 
 impl Gate for StopsAt {
+    ghost use Rattle.std.specs.Prelude.{◌≡◌, ◌↔◌};
+
     ghost is_open = { λ _. false };
+
+    ghost may_answer = { λ gate thread call point answer. (answer ≡ false)
+        ↔ ((thread ≡ gate.thread) × (call ≡ gate.call) × (point ≡ gate.point)) };
 
     fn arrive(&self, thread: u32, call: u64, point: Point) -> bool {
         thread != self.thread || call != self.call || point != self.point
