@@ -56,7 +56,7 @@ any-map test f (x ∷ xs) = ap (λ (b : Bool). test (f x) || b) (any-map test f 
 pub has-same : (name : Option (List ℕ)) (past : List Request) (event : Definition) (kept : EventTriggers) (spec : SpecSeen) → AreKept name past event kept
     → has_same spec (hists_of name event past) ≡ list_any (says_same spec) kept.hists.now
 has-same name past event kept spec are =
-    sym (any-map (λ (k : KeptHist). is_same spec k.spec) (kept_as name past event) (hists_of name event past))
+    sym (any-map (λ (k : KeptHist). is_same spec k.spec) (kept_as name past) (hists_of name event past))
     ∙ ap (list_any (λ (k : KeptHist). is_same spec k.spec)) (sym are.hists)
     ∙ any-map (λ (k : KeptHist). is_same spec k.spec) kept_of kept.hists.now
 
@@ -78,7 +78,7 @@ only-left name past event kept spec index false are found = absurd (none-some in
 many-left : (name : Option (List ℕ)) (past : List Request) (event : Definition) (kept : EventTriggers) (append : Bool) → AreKept name past event kept
     → length (left_by name past event append) ≡ (if append then length kept.hists.now else 0)
 many-left name past event kept true are =
-    sym (length-map (hists_of name event past) (kept_as name past event)) ∙ ap length (sym are.hists) ∙ length-map kept.hists.now kept_of
+    sym (length-map (hists_of name event past) (kept_as name past)) ∙ ap length (sym are.hists) ∙ length-map kept.hists.now kept_of
 many-left name past event kept false are = refl
 
 pub count-left : (name : Option (List ℕ)) (past : List Request) (event : Definition) (kept : EventTriggers) (append : Bool) → AreKept name past event kept
@@ -200,7 +200,7 @@ text-nothing event kept written is = λ name past number are. (
   answered name past event written.append written.text.now (Ok said.Nothing) is,
   record {
     snapshot = snapshot-stays name past event written.append written.text.now (Ok said.Nothing) is refl;
-    hists = hists-stay name past event written.append written.text.now (Ok said.Nothing) is (λ t. refl) refl;
+    hists = hists-stay name past event are.id written.append written.text.now (Ok said.Nothing) are.named is (λ t. refl) refl;
     one = tt;
     spare = rw is refl;
   },
@@ -253,7 +253,7 @@ attach-done trigger kept written none few = λ event name past number are is.
       record {
         snapshot = snapshot-attached name past event written.append written.text.now trigger is
             ∙ ap (λ (n : ℕ). (let t : Option Trigger = Some (record { number = n; left = trigger.count; filter = trigger.filter }) in t)) number;
-        hists = hists-stay name past event written.append written.text.now (Ok (said.Attach trigger)) is (λ t. refl) refl;
+        hists = hists-stay name past event are.id written.append written.text.now (Ok (said.Attach trigger)) are.named is (λ t. refl) refl;
         one = tt;
         spare = rw is refl;
       },
@@ -267,7 +267,7 @@ text-detaches event kept written is some = λ name past number are.
           ∙ ap (λ (o : Option triggers.Trigger). said_answer written.append o (left_by name past event written.append) (Ok said.Remove)) there.1,
       record {
         snapshot = snapshot-removed name past event written.append written.text.now is;
-        hists = hists-stay name past event written.append written.text.now (Ok said.Remove) is (λ t. refl) refl;
+        hists = hists-stay name past event are.id written.append written.text.now (Ok said.Remove) are.named is (λ t. refl) refl;
         one = tt;
         spare = rw is refl;
       },

@@ -13,7 +13,7 @@ use Rattle.trace_command.specs.declared.file_name.EventFile.TheVariants as per_e
 use Rattle.trace_command.specs.declared.file_name.TopFile.TheVariants as top
 use Rattle.trace_snapshot.specs.Sides.{SideFamilies}
 use Rattle.trace_history.specs.Emissions.{emitted}
-use Rattle.trace_history.specs.HistTriggers.{written_to}
+use Rattle.trace_history.proofs.OwnFiles.{own_written}
 use Rattle.trace_history.specs.Rings.{other_rings, rings, rings_after, rings_after_write, spare_after, spare_rings}
 use Rattle.trace_history.specs.Settings.{declared_events, is_enabled, is_same, is_tracing, kept_filter, makes, overwrites, set_by, sets_filter, sets_overwrite, sets_tracing, switches}
 use Rattle.trace_history.specs.Snapshots.{exchanges, has_spare, sets_spare}
@@ -102,7 +102,7 @@ pub record IsCalm (name : Option (List ℕ)) (past : List Request) (request : Re
   pub stays : exchanges name past request ≡ false
   pub sets : set_by name (sets_spare past) request ≡ None
   pub untouched : (g : Config) (family : List (List Event)) → spare_after g name request family ≡ family
-  pub unwritten : (event : Definition) → written_to name event request ≡ None
+  pub unwritten : (event : Definition) → own_written name event request ≡ None
   pub quiet : emitted past request ≡ None
 
 pub calm-triggers : (name : Option (List ℕ)) (past : List Request) (request : Request) → IsCalm name past request
@@ -233,7 +233,7 @@ calm-write name other past file append text quiet = record {
     untouched (paths.OfInstance top.Snapshot) is g family = absurd is
     untouched _ is g family = refl
 
-    unwritten : (f : paths.File) → IsQuietFile f → (event : Definition) → written_to other event (WriteFile name (Some f) append text) ≡ None
+    unwritten : (f : paths.File) → IsQuietFile f → (event : Definition) → own_written other event (WriteFile name (Some f) append text) ≡ None
     unwritten (paths.OfEvent e per_event.Trigger) is event = absurd is
     unwritten _ is event = refl
 
@@ -258,7 +258,7 @@ calm-other_write name other past file append text is = record {
     untouched (paths.OfInstance top.Snapshot) g family = rw is refl
     untouched _ g family = refl
 
-    unwritten : (f : paths.File) (event : Definition) → written_to other event (WriteFile name (Some f) append text) ≡ None
+    unwritten : (f : paths.File) (event : Definition) → own_written other event (WriteFile name (Some f) append text) ≡ None
     unwritten (paths.OfEvent e per_event.Trigger) event = rw is refl
     unwritten _ event = refl
 

@@ -88,36 +88,36 @@ format-at_place g name past source event d is inside =
     rw (called, named, next, is.events) refl
 
 -- the kept hist triggers of a test are shown as those that were attached
-shown-hists : (name : Option (List ℕ)) (past : List Request) (event : Definition) (test : KeptHist → Bool) (hists : List HistTrigger)
-    → map shown_kept_hist (filter test (map (kept_hist name past event) hists))
-    ≡ map (shown_hist name past event) (filter (λ (h : HistTrigger). test (kept_hist name past event h)) hists)
-shown-hists name past event test [] = refl
-shown-hists name past event test (h ∷ hists) = by (test (kept_hist name past event h)) (shown-hists name past event test hists)
+shown-hists : (name : Option (List ℕ)) (past : List Request) (test : KeptHist → Bool) (hists : List HistTrigger)
+    → map shown_kept_hist (filter test (map (kept_hist name past) hists))
+    ≡ map (shown_hist name past) (filter (λ (h : HistTrigger). test (kept_hist name past h)) hists)
+shown-hists name past test [] = refl
+shown-hists name past test (h ∷ hists) = by (test (kept_hist name past h)) (shown-hists name past test hists)
   where
     kept : List KeptHist
-    kept = filter test (map (kept_hist name past event) hists)
+    kept = filter test (map (kept_hist name past) hists)
 
     those : List HistTrigger
-    those = filter (λ (t : HistTrigger). test (kept_hist name past event t)) hists
+    those = filter (λ (t : HistTrigger). test (kept_hist name past t)) hists
 
-    by : (passes : Bool) → map shown_kept_hist kept ≡ map (shown_hist name past event) those
-        → map shown_kept_hist (if passes then kept_hist name past event h ∷ kept else kept)
-        ≡ map (shown_hist name past event) (if passes then h ∷ those else those)
-    by true rest = λ i. shown_hist name past event h ∷ rest i
+    by : (passes : Bool) → map shown_kept_hist kept ≡ map (shown_hist name past) those
+        → map shown_kept_hist (if passes then kept_hist name past h ∷ kept else kept)
+        ≡ map (shown_hist name past) (if passes then h ∷ those else those)
+    by true rest = λ i. shown_hist name past h ∷ rest i
     by false rest = rest
 
-all-hists : (name : Option (List ℕ)) (past : List Request) (event : Definition) (hists : List HistTrigger)
-    → map shown_kept_hist (map (kept_hist name past event) hists) ≡ map (shown_hist name past event) hists
-all-hists name past event [] = refl
-all-hists name past event (h ∷ hists) = λ i. shown_hist name past event h ∷ all-hists name past event hists i
+all-hists : (name : Option (List ℕ)) (past : List Request) (hists : List HistTrigger)
+    → map shown_kept_hist (map (kept_hist name past) hists) ≡ map (shown_hist name past) hists
+all-hists name past [] = refl
+all-hists name past (h ∷ hists) = λ i. shown_hist name past h ∷ all-hists name past hists i
 
 -- kept triggers are shown in the order of those that were attached
 shown-in_order : (name : Option (List ℕ)) (past : List Request) (event : Definition) (t : Option history.Trigger) (hists : List HistTrigger)
-    → kept_in_order (option_map (kept_as past event) t) (map (kept_hist name past event) hists) ≡ in_order name past event t hists
-shown-in_order name past event None hists = all-hists name past event hists
+    → kept_in_order (option_map (kept_as past event) t) (map (kept_hist name past) hists) ≡ in_order name past event t hists
+shown-in_order name past event None hists = all-hists name past hists
 shown-in_order name past event (Some t) hists =
-    let older = shown-hists name past event (λ (k : KeptHist). nat_lt k.number t.number) hists in
-    let newer = shown-hists name past event (λ (k : KeptHist). not (nat_lt k.number t.number)) hists in
+    let older = shown-hists name past (λ (k : KeptHist). nat_lt k.number t.number) hists in
+    let newer = shown-hists name past (λ (k : KeptHist). not (nat_lt k.number t.number)) hists in
     λ i. older i ++ shown_trigger past event t ∷ newer i
 
 -- an event's hist triggers
@@ -160,7 +160,7 @@ hists-at_place g name past source event is inside there =
     let named = named_at (declared_events past) event no_event is.distinct within in
     let called : name_at source.catalog.now event ≡ at_place.name = sym (name-declared g name past source event is inside) in
     ap (λ (kept : List KeptHist). hist_text (map shown_kept_hist kept)) (kept-at_place g name past source event is inside there)
-    ∙ ap hist_text (all-hists name past at_place (hists_of name at_place past))
+    ∙ ap hist_text (all-hists name past (hists_of name at_place past))
     ∙ sym (ap (λ (n : List ℕ). hists_of_event name past (event_named n past)) called ∙ ap (hists_of_event name past) named)
   where
     at_place : Definition

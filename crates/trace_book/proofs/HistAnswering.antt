@@ -62,7 +62,7 @@ ask-done spec kept written index found other = λ event name past number are is.
       ask-answer spec kept written true event name past same are is ∙ asked-done spec.action other,
       record {
         snapshot = snapshot-stays name past event written.append written.text.now (Ok (said.Hist spec)) is refl;
-        hists = hists-asked name past event written.append written.text.now spec is (has-same_left name past event kept spec written.append are ∙ same)
+        hists = hists-asked name past event are.id written.append written.text.now spec are.named is (has-same_left name past event kept spec written.append are ∙ same)
             ∙ one-asked spec (if written.append then kept_hists name past event else []) index only;
         one = only.inside;
         spare = rw is refl;
@@ -144,7 +144,7 @@ ask-attached spec kept written attached none attaching few new = λ event name p
           ∙ room-had (trigger_of name event past) (left_by name past event written.append) room,
       record {
         snapshot = snapshot-stays name past event written.append written.text.now (Ok (said.Hist spec)) is refl;
-        hists = hists-attached name past event written.append written.text.now spec is (has-same_left name past event kept spec written.append are ∙ ap is_some none)
+        hists = hists-attached name past event are.id written.append written.text.now spec are.named is (has-same_left name past event kept spec written.append are ∙ ap is_some none)
             ∙ ap (λ (n : ℕ). before ++ new_kept n spec ∷ []) number
             ∙ ap (λ (k : KeptHist). before ++ k ∷ []) (sym new);
         one = tt;
@@ -192,7 +192,7 @@ remove-done spec kept written index appends found = λ event name past number ar
       removed-answer true true event kept written spec name past appends same are is,
       record {
         snapshot = snapshot-stays name past event written.append written.text.now (Ok (said.RemoveHist spec)) is refl;
-        hists = hists-removed name past event written.append written.text.now spec is
+        hists = hists-removed name past event are.id written.append written.text.now spec are.named is
             ∙ one-removed spec (if written.append then kept_hists name past event else []) index only;
         one = only.inside;
         spare = rw is refl;
@@ -218,7 +218,7 @@ remove-keeps spec kept written anew = λ event name past number are is. (
   removed-answer false (list_any (says_same spec) kept.hists.now) event kept written spec name past anew refl are is,
   record {
     snapshot = snapshot-stays name past event written.append written.text.now (Ok (said.RemoveHist spec)) is refl;
-    hists = hists-removed name past event written.append written.text.now spec is ∙ none-left spec written.append (kept_hists name past event) anew;
+    hists = hists-removed name past event are.id written.append written.text.now spec are.named is ∙ none-left spec written.append (kept_hists name past event) anew;
     one = tt;
     spare = rw is refl;
   },

@@ -13,12 +13,13 @@ use Rattle.trace_trigger.specs.SameSpecs.{is_passed}
 use Rattle.trace_command.specs.Requests.{Request, Emission}
 use Rattle.trace_history.specs.Declarations.{IsPlaceOf}
 use Rattle.trace_history.specs.Emissions.{Emitted, emitted}
-use Rattle.trace_history.specs.HistTriggers.{HistTrigger, counted_by, counted_hit, counted_row, hists_of, hits_of, is_paused, table_of}
+use Rattle.trace_history.specs.HistTriggers.{HistTrigger, counted_hit, counted_row, hists_of, hits_of, is_of, is_paused, table_of}
 use Rattle.trace_history.specs.Settings.{declared_events}
 use Rattle.trace_history.specs.Triggers.{passes}
 use Rattle.trace_book.specs.KeptHists.{AreHit, IsHit, KeptHist, kept_as, kept_hists, rows_counted}
 use Rattle.trace_book.specs.States.{WereOfferedRow}
-use Rattle.trace_book.proofs.HistSteps.{AreBelow, KeepsHists, hists-calm, hits-calm, map-each, numbers-below, paused-calm}
+use Rattle.trace_history.proofs.TableSteps.{own_counted}
+use Rattle.trace_book.proofs.HistSteps.{IsStaying, KeepsHists, Stay, all-stay, hists-calm, hits-calm, map-each, paused-calm}
 
 -- an emission writes to no trigger file
 pub emission-keeps : (name : Option (List ℕ)) (ename : List ℕ) (cpu : ℕ) (pid : ℤ) (pairs : List Pair) (event : Definition)
@@ -27,30 +28,33 @@ emission-keeps name ename cpu pid pairs event = record { alive = refl; unwritten
 
 -- ---- events that it does not emit
 
-none-of-other : (event : Definition) (t : HistTrigger) (paused : Bool) (e : Emitted) → bytes_eq event.name e.k.event.name ≡ false
-    → counted_by event t paused (Some e) ≡ []
-none-of-other event t true e differ = refl
-none-of-other event t false e differ = rw differ refl
+none-of-other : (event : Definition) (t : HistTrigger) (paused : Bool) (e : Emitted) → is_of event t ≡ true → bytes_eq event.name e.k.event.name ≡ false
+    → own_counted t paused (Some e) ≡ []
+none-of-other event t true e named differ = refl
+none-of-other event t false e named differ =
+    let names : event.name ≡ t.event.name = (bytes_eq-Decides event.name t.event.name).0 named in
+    let apart : bytes_eq t.event.name e.k.event.name ≡ false = ap (λ (n : List ℕ). bytes_eq n e.k.event.name) (sym names) ∙ differ in
+    rw apart refl
 
 other-as : (name : Option (List ℕ)) (past : List Request) (ename : List ℕ) (cpu : ℕ) (pid : ℤ) (pairs : List Pair) (e : Emitted) (event : Definition)
-    (t : HistTrigger) → t.number < length past → emitted past (Emission ename cpu pid pairs) ≡ Some e → bytes_eq event.name e.k.event.name ≡ false
-    → kept_as name (Emission ename cpu pid pairs ∷ past) event t ≡ kept_as name past event t
-other-as name past ename cpu pid pairs e event t older is differ =
+    (t : HistTrigger) → IsStaying name past (Emission ename cpu pid pairs) event t → emitted past (Emission ename cpu pid pairs) ≡ Some e
+    → bytes_eq event.name e.k.event.name ≡ false → kept_as name (Emission ename cpu pid pairs ∷ past) t ≡ kept_as name past t
+other-as name past ename cpu pid pairs e event t stays is differ =
     let request : Request = Emission ename cpu pid pairs in
     let keeps = emission-keeps name ename cpu pid pairs event in
-    let paused = paused-calm name past request event t older keeps in
-    let hits : hits_of name event t (request ∷ past) ≡ hits_of name event t past =
-    hits-calm name past request event t older keeps
-    ∙ ap (λ o. hits_of name event t past ++ counted_by event t (is_paused name event t past) o) is
-    ∙ ap (λ rows. hits_of name event t past ++ rows) (none-of-other event t (is_paused name event t past) e differ)
-    ∙ append-nil (hits_of name event t past) in
+    let paused = paused-calm name past request event t stays keeps in
+    let hits : hits_of name t.table (request ∷ past) ≡ hits_of name t.table past =
+    hits-calm name past request event t stays keeps
+    ∙ ap (λ o. hits_of name t.table past ++ own_counted t (is_paused name t.table past) o) is
+    ∙ ap (λ rows. hits_of name t.table past ++ rows) (none-of-other event t (is_paused name t.table past) e stays.before.named differ)
+    ∙ append-nil (hits_of name t.table past) in
     λ i. record { number = t.number; spec = t.spec; paused = paused i; table = grouped t.spec (hits i) }
 
 other-each : (name : Option (List ℕ)) (past : List Request) (ename : List ℕ) (cpu : ℕ) (pid : ℤ) (pairs : List Pair) (e : Emitted) (event : Definition)
-    (hists : List HistTrigger) → AreBelow (length past) hists → emitted past (Emission ename cpu pid pairs) ≡ Some e
+    (hists : List HistTrigger) → Stay name past (Emission ename cpu pid pairs) event hists → emitted past (Emission ename cpu pid pairs) ≡ Some e
     → bytes_eq event.name e.k.event.name ≡ false
-    → AllByRecursion (λ t. kept_as name (Emission ename cpu pid pairs ∷ past) event t ≡ kept_as name past event t) hists
-other-each name past ename cpu pid pairs e event [] below is differ = below
+    → AllByRecursion (λ t. kept_as name (Emission ename cpu pid pairs ∷ past) t ≡ kept_as name past t) hists
+other-each name past ename cpu pid pairs e event [] stay is differ = tt
 other-each name past ename cpu pid pairs e event (t ∷ hists) (first, rest) is differ =
     (other-as name past ename cpu pid pairs e event t first is differ, other-each name past ename cpu pid pairs e event hists rest is differ)
 
@@ -59,25 +63,25 @@ pub other-hists : (name : Option (List ℕ)) (past : List Request) (ename : List
     → kept_hists name (Emission ename cpu pid pairs ∷ past) event ≡ kept_hists name past event
 other-hists name past ename cpu pid pairs e event is differ =
     let request : Request = Emission ename cpu pid pairs in
-    ap (map (kept_as name (request ∷ past) event)) (hists-calm name past request event (emission-keeps name ename cpu pid pairs event))
-    ∙ map-each (kept_as name (request ∷ past) event) (kept_as name past event) (hists_of name event past)
-    (other-each name past ename cpu pid pairs e event (hists_of name event past) (numbers-below name event past) is differ)
+    let keeps = emission-keeps name ename cpu pid pairs event in
+    ap (map (kept_as name (request ∷ past))) (hists-calm name past request event keeps)
+    ∙ map-each (kept_as name (request ∷ past)) (kept_as name past) (hists_of name event past)
+    (other-each name past ename cpu pid pairs e event (hists_of name event past) (all-stay name past request event keeps) is differ)
 
 -- ---- the event that it emits
-
-self : (name : List ℕ) → bytes_eq name name ≡ true
-self name = (bytes_eq-Decides name name).1 refl
 
 passes-same : (filter : Option Parsed) (e : Emitted) → passes filter e ≡ is_passed filter (counted_row e)
 passes-same None e = refl
 passes-same (Some f) e = refl
 
 -- the rows that a trigger of its event counts are those that the kept one counts
-counted-same : (event : Definition) (t : HistTrigger) (paused : Bool) (e : Emitted) (k : KeptHist) → event ≡ e.k.event → k.spec ≡ t.spec → k.paused ≡ paused
-    → counted_by event t paused (Some e) ≡ rows_counted k (counted_row e)
-counted-same event t true e k own spec paused = rw paused refl
-counted-same event t false e k own spec paused =
-    let named : bytes_eq event.name e.k.event.name ≡ true = ap (λ (d : Definition). bytes_eq d.name e.k.event.name) own ∙ self e.k.event.name in
+counted-same : (event : Definition) (t : HistTrigger) (paused : Bool) (e : Emitted) (k : KeptHist) → is_of event t ≡ true → event ≡ e.k.event
+    → k.spec ≡ t.spec → k.paused ≡ paused → own_counted t paused (Some e) ≡ rows_counted k (counted_row e)
+counted-same event t true e k its own spec paused = rw paused refl
+counted-same event t false e k its own spec paused =
+    let names : t.event.name ≡ e.k.event.name =
+    sym ((bytes_eq-Decides event.name t.event.name).0 its) ∙ ap (λ (d : Definition). d.name) own in
+    let named : bytes_eq t.event.name e.k.event.name ≡ true = (bytes_eq-Decides t.event.name e.k.event.name).1 names in
     rw (paused, spec, named) (by (passes t.spec.filter e) (is_passed t.spec.filter (counted_row e)) (passes-same t.spec.filter e))
   where
     by : (one other : Bool) → one ≡ other
@@ -89,33 +93,34 @@ counted-same event t false e k own spec paused =
 
 -- one that was hit is what the requests say
 hit-as : (name : Option (List ℕ)) (past : List Request) (ename : List ℕ) (cpu : ℕ) (pid : ℤ) (pairs : List Pair) (e : Emitted) (event : Definition)
-    (t : HistTrigger) (new : KeptHist) → t.number < length past → emitted past (Emission ename cpu pid pairs) ≡ Some e → event ≡ e.k.event
-    → IsHit (counted_row e) (kept_as name past event t) new → new ≡ kept_as name (Emission ename cpu pid pairs ∷ past) event t
-hit-as name past ename cpu pid pairs e event t new older is own hit =
+    (t : HistTrigger) (new : KeptHist) → IsStaying name past (Emission ename cpu pid pairs) event t
+    → emitted past (Emission ename cpu pid pairs) ≡ Some e → event ≡ e.k.event
+    → IsHit (counted_row e) (kept_as name past t) new → new ≡ kept_as name (Emission ename cpu pid pairs ∷ past) t
+hit-as name past ename cpu pid pairs e event t new stays is own hit =
     let request : Request = Emission ename cpu pid pairs in
     let keeps = emission-keeps name ename cpu pid pairs event in
-    let was = is_paused name event t past in
-    let paused : new.paused ≡ is_paused name event t (request ∷ past) = hit.paused ∙ sym (paused-calm name past request event t older keeps) in
-    let hits : hits_of name event t (request ∷ past) ≡ hits_of name event t past ++ rows_counted (kept_as name past event t) (counted_row e) =
-    hits-calm name past request event t older keeps
-    ∙ ap (λ o. hits_of name event t past ++ counted_by event t was o) is
-    ∙ ap (λ rows. hits_of name event t past ++ rows) (counted-same event t was e (kept_as name past event t) own refl refl) in
-    let table : new.table ≡ table_of name event t (request ∷ past) =
-    hit.table (hits_of name event t past) refl ∙ ap (grouped t.spec) (sym hits) in
+    let was = is_paused name t.table past in
+    let paused : new.paused ≡ is_paused name t.table (request ∷ past) = hit.paused ∙ sym (paused-calm name past request event t stays keeps) in
+    let hits : hits_of name t.table (request ∷ past) ≡ hits_of name t.table past ++ rows_counted (kept_as name past t) (counted_row e) =
+    hits-calm name past request event t stays keeps
+    ∙ ap (λ o. hits_of name t.table past ++ own_counted t was o) is
+    ∙ ap (λ rows. hits_of name t.table past ++ rows) (counted-same event t was e (kept_as name past t) stays.before.named own refl refl) in
+    let table : new.table ≡ table_of name t (request ∷ past) =
+    hit.table (hits_of name t.table past) refl ∙ ap (grouped t.spec) (sym hits) in
     λ i. record { number = hit.number i; spec = hit.spec i; paused = paused i; table = table i }
 
 hit-each : (name : Option (List ℕ)) (past : List Request) (ename : List ℕ) (cpu : ℕ) (pid : ℤ) (pairs : List Pair) (e : Emitted) (event : Definition)
-    (hists : List HistTrigger) (new : List KeptHist) → AreBelow (length past) hists → emitted past (Emission ename cpu pid pairs) ≡ Some e
-    → event ≡ e.k.event → AreHit (counted_row e) (map (kept_as name past event) hists) new
-    → new ≡ map (kept_as name (Emission ename cpu pid pairs ∷ past) event) hists
+    (hists : List HistTrigger) (new : List KeptHist) → Stay name past (Emission ename cpu pid pairs) event hists
+    → emitted past (Emission ename cpu pid pairs) ≡ Some e → event ≡ e.k.event → AreHit (counted_row e) (map (kept_as name past) hists) new
+    → new ≡ map (kept_as name (Emission ename cpu pid pairs ∷ past)) hists
 hit-each name past ename cpu pid pairs e event [] [] below is own hit = refl
 hit-each name past ename cpu pid pairs e event [] (k ∷ new) below is own hit = absurd (omega (arith, hit.many))
 hit-each name past ename cpu pid pairs e event (t ∷ hists) [] below is own hit = absurd (omega (arith, hit.many))
 hit-each name past ename cpu pid pairs e event (t ∷ hists) (k ∷ new) (first, rest) is own hit =
     let request : Request = Emission ename cpu pid pairs in
-    let one : k ≡ kept_as name (request ∷ past) event t =
+    let one : k ≡ kept_as name (request ∷ past) t =
     hit-as name past ename cpu pid pairs e event t k first is own (hit.each 0 k (omega arith)) in
-    let others : AreHit (counted_row e) (map (kept_as name past event) hists) new = record {
+    let others : AreHit (counted_row e) (map (kept_as name past) hists) new = record {
       many = omega (arith, hit.many);
       each = λ j d inside. hit.each (suc j) d (omega (arith, inside));
     } in
@@ -127,8 +132,9 @@ pub own-hists : (name : Option (List ℕ)) (past : List Request) (ename : List �
     → AreHit (counted_row e) (kept_hists name past event) new → new ≡ kept_hists name (Emission ename cpu pid pairs ∷ past) event
 own-hists name past ename cpu pid pairs e event new is own hit =
     let request : Request = Emission ename cpu pid pairs in
-    hit-each name past ename cpu pid pairs e event (hists_of name event past) new (numbers-below name event past) is own hit
-    ∙ ap (map (kept_as name (request ∷ past) event)) (sym (hists-calm name past request event (emission-keeps name ename cpu pid pairs event)))
+    let keeps = emission-keeps name ename cpu pid pairs event in
+    hit-each name past ename cpu pid pairs e event (hists_of name event past) new (all-stay name past request event keeps) is own hit
+    ∙ ap (map (kept_as name (request ∷ past))) (sym (hists-calm name past request event keeps))
 
 -- ---- all events
 

@@ -13,7 +13,7 @@ use Rattle.trace_trigger.specs.HistSpecs.{SpecSeen, written_of}
 use Rattle.trace_trigger.specs.SameSpecs.{IsSame, filter_text, is_same, same_filter, same_sort_key}
 use Rattle.trace_trigger.specs.declared.spec.SortKey.{SortKey}
 use Rattle.trace_command.specs.Requests.{Request}
-use Rattle.trace_history.specs.HistTriggers.{HistTrigger, hists_of}
+use Rattle.trace_history.specs.HistTriggers.{HistTrigger, hists_of, new_hist}
 use Rattle.trace_history.proofs.HistTriggers.{hist_triggers_differ}
 use Rattle.trace_book.specs.KeptHists.{KeptHist, asked, asked_at, kept_as, kept_hists, kept_of, says_same}
 use Rattle.trace_book.specs.declared.hists.AttachedHist.{AttachedHist}
@@ -175,10 +175,9 @@ some-position {A = A} test xs = is-some (nat_lt (position_or_len test xs) (lengt
     is-some false = refl
 
 -- a hist trigger of a history at an index, by what is kept of it
-spec-at : (name : Option (List ℕ)) (past : List Request) (event : Definition) (hists : List HistTrigger) (k : ℕ) (d : KeptHist) → k < length hists
-    → (get_or (map (kept_as name past event) hists) k d).spec ≡ (get_or hists k (record { number = d.number; spec = d.spec })).spec
-spec-at name past event hists k d within =
-    ap (λ (h : KeptHist). h.spec) (get_or-map (kept_as name past event) hists k (record { number = d.number; spec = d.spec }) d within)
+spec-at : (name : Option (List ℕ)) (past : List Request) (hists : List HistTrigger) (k : ℕ) (t : HistTrigger) (d : KeptHist) → k < length hists
+    → (get_or (map (kept_as name past) hists) k d).spec ≡ (get_or hists k t).spec
+spec-at name past hists k t d within = ap (λ (h : KeptHist). h.spec) (get_or-map (kept_as name past) hists k t d within)
 
 -- one that is read where none is
 none_kept : SpecSeen → KeptHist
@@ -201,7 +200,7 @@ found-only name past event spec attached index are found = record {
     hists = hists_of name event past
 
     many : length kept ≡ length hists
-    many = length-map hists (kept_as name past event)
+    many = length-map hists (kept_as name past)
 
     there : (d : KeptHist) → (index < length kept) × (is_same spec (get_or kept index d).spec ≡ true)
     there d =
@@ -212,11 +211,11 @@ found-only name past event spec attached index are found = record {
     -- two that say the same as the text are one
     apart : (k : ℕ) (d : KeptHist) → k < length kept → (k ≡ index → ⊥) → is_same spec (get_or kept k d).spec ≡ true → ⊥
     apart k d within other is =
-        let t : HistTrigger = record { number = d.number; spec = d.spec } in
+        let t : HistTrigger = new_hist d.number event d.spec in
         let inside : index < length hists = omega (arith, (there d).0, many) in
         let below : k < length hists = omega (arith, within, many) in
-        let one : is_same spec (get_or hists k t).spec ≡ true = ap (is_same spec) (sym (spec-at name past event hists k d below)) ∙ is in
-        let found : is_same spec (get_or hists index t).spec ≡ true = ap (is_same spec) (sym (spec-at name past event hists index d inside)) ∙ (there d).1 in
+        let one : is_same spec (get_or hists k t).spec ≡ true = ap (is_same spec) (sym (spec-at name past hists k t d below)) ∙ is in
+        let found : is_same spec (get_or hists index t).spec ≡ true = ap (is_same spec) (sym (spec-at name past hists index t d inside)) ∙ (there d).1 in
         elim (cases_order k index) [
           | inl same ↦ other same
           | inr (inl before) ↦ hist_triggers_differ name event past k index t before inside (both-same spec _ _ one found)

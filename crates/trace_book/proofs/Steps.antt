@@ -25,7 +25,9 @@ use Rattle.trace_history.specs.Triggers as triggers
 use Rattle.trace_history.specs.Triggers.{sets_trigger, trigger_of}
 use Rattle.trace_history.proofs.Events.{named_in-fewer}
 use Rattle.trace_history.specs.HistTriggers as watched
-use Rattle.trace_history.specs.HistTriggers.{HistTrigger, Written, hists_of, written_to}
+use Rattle.trace_history.specs.HistTriggers.{HistTrigger, Written, hists_of}
+use Rattle.trace_history.proofs.EventHists.{hists_of-after, hists_of-made, own_after}
+use Rattle.trace_history.proofs.OwnFiles.{own-none, own_written}
 use Rattle.trace_book.specs.KeptHists.{KeptHist, kept_as as kept_hist, kept_hists, kept_of}
 use Rattle.trace_book.specs.declared.hists.AttachedHist.{AttachedHist}
 use Rattle.trace_book.specs.Changes.{IsApplied, IsEffect, flags_after, filters_after, hists_after, triggers_after, overwrite_after, tracing_after}
@@ -125,7 +127,7 @@ and-false false = refl
 
 -- nor writes its trigger file
 not_written : (g : Config) (past : List Request) (request : Request) (reply : Reply) (name : Option (List ℕ)) (event : Definition)
-    → answer_with_room g past request ≡ Ok reply → event_named event.name past ≡ None → written_to name event request ≡ None
+    → answer_with_room g past request ≡ Ok reply → event_named event.name past ≡ None → own_written name event request ≡ None
 not_written g past (WriteFile other (Some (OfEvent n per_event.Trigger)) append text) reply name event given none =
     let differ : bytes_eq event.name n ≡ false = other_name past event.name n none (is_known _ _ NoSuchEvent NoSuchInstance _ reply given) in
     let unwritten : (is_same name other && bytes_eq event.name n) ≡ false =
@@ -163,12 +165,15 @@ pub unwatched_after : (g : Config) (past : List Request) (request : Request) (re
     → answer_with_room g past request ≡ Ok reply → event_named event.name past ≡ None → hists_of name event past ≡ []
     → hists_of name event (request ∷ past) ≡ []
 unwatched_after g past request reply name event given none is =
-    by (makes name request) (written_to name event request) (not_written g past request reply name event given none)
+    by (makes name request) refl
   where
-    by : (new : Bool) (written : Option Written) → written ≡ None
-        → cond new [] (watched.hists_after event (length past) written (hists_of name event past)) ≡ []
-    by true written unwritten = refl
-    by false written unwritten = rw unwritten is
+    by : (new : Bool) → makes name request ≡ new → hists_of name event (request ∷ past) ≡ []
+    by true made = hists_of-made name event past request made
+    by false alive =
+        hists_of-after name event past request alive
+        ∙ ap (λ (o : Option Written). own_after (length past) o (hists_of name event past))
+        (own-none name event past request (not_written g past request reply name event given none))
+        ∙ is
 
 -- ---- an instance
 
@@ -260,7 +265,7 @@ declared-stands g name past request event i declared effect off none idle unwatc
       (sym idle));
   hists = rw declared (map-append (λ (attached : List AttachedHist). map kept_of attached) i.hists ([] ∷ [])
       ∙ ap (λ (kept : List (List KeptHist)). kept ++ [] ∷ []) (stands.hists ∙ sym effect.hists)
-      ∙ ap (λ (hists : List HistTrigger). map (kept_hists name (request ∷ past)) (declared_events past) ++ map (kept_hist name (request ∷ past) event) hists ∷ [])
+      ∙ ap (λ (hists : List HistTrigger). map (kept_hists name (request ∷ past)) (declared_events past) ++ map (kept_hist name (request ∷ past)) hists ∷ [])
       (sym unwatched) ∙ sym (map-append (kept_hists name (request ∷ past)) (declared_events past) (event ∷ [])));
   overwrite = stands.overwrite ∙ sym effect.overwrite;
   tracing = stands.tracing ∙ sym effect.tracing;

@@ -17,7 +17,7 @@ use Rattle.trace_command.specs.declared.refusal.Refusal.{Refusal}
 use Rattle.trace_snapshot.specs.Sides.{SideFamilies}
 use Rattle.trace_history.specs.History.{named_trigger_answer, trigger_answer}
 use Rattle.trace_history.specs.Rings.{other_rings, rings, rings_after, rings_after_write}
-use Rattle.trace_history.specs.Settings.{declared_events, event_named, set_by}
+use Rattle.trace_history.specs.Settings.{NumberedEvent, declared_events, event_named, set_by}
 use Rattle.trace_history.specs.Snapshots.{has_spare, sets_spare, spare_armed}
 use Rattle.trace_history.specs.Triggers.{trigger_of}
 use Rattle.trace_history.proofs.EventLists.{map-set, named_at}
@@ -295,10 +295,18 @@ trigger-refused g name past index event written refused distinct inside at is =
 
 -- what is kept at a place agrees with the requests
 pub kept-at : (g : Config) (name : Option (List ℕ)) (past : List Request) (i : InstanceSeen) (index : ℕ) (event : Definition) (triggers : EventTriggers)
-    → InstanceStandsFor g name past i → index < length (declared_events past) → index < length i.hists → event ≡ get_or (declared_events past) index event
+    → InstanceStandsFor g name past i → AreEvents [] (declared_events past) → index < length (declared_events past) → index < length i.hists
+    → event ≡ get_or (declared_events past) index event
     → option_copied triggers.snapshot ≡ get_or i.triggers index None → triggers.hists.now ≡ get_or i.hists index []
     → AreKept name past event triggers
-kept-at g name past i index event triggers stands inside within at snapshot hists = record {
+kept-at g name past i index event triggers stands distinct inside within at snapshot hists = record {
+  id = suc index;
+  named =
+      let here : event ≡ event_at past index = at-place past index event inside at in
+      ap (λ (e : Definition). event_named e.name past) here
+      ∙ ap (λ (n : List ℕ). event_named n past) (name_at-is (declared_events past) index no_event inside)
+      ∙ found-event past index distinct inside
+      ∙ ap (λ (e : Definition). (let k : Option NumberedEvent = Some (record { id = suc index; event = e }) in k)) (sym here);
   snapshot = snapshot ∙ ap (λ (ts : List (Option Trigger)). get_or ts index None) stands.triggers
       ∙ get_or-map (kept_trigger name past) (declared_events past) index no_event None inside
       ∙ ap (kept_trigger name past) (sym (at-place past index event inside at));

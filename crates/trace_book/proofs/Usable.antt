@@ -19,7 +19,9 @@ use Rattle.trace_trigger.specs.HistSpecs.{SpecSeen}
 use Rattle.trace_hist.specs.Hists.{counted}
 use Rattle.trace_hist.specs.Hits.{Hit}
 use Rattle.trace_history.specs.Emissions.{Emitted, emitted}
-use Rattle.trace_history.specs.HistTriggers.{HistTrigger, asked_by, counted_by, counted_hit, empties, hists_of, hits_of, is_paused, written_to}
+use Rattle.trace_history.specs.HistTriggers.{HistTrigger, asked_by, counted_by, empties, hist_triggers, hists_of, hits_of, is_paused}
+use Rattle.trace_history.proofs.EventHists.{tables-own}
+use Rattle.trace_history.proofs.Tables.{HaveOwnTables, one-at_most}
 use Rattle.trace_history.specs.Triggers.{passes}
 use Rattle.trace_book.specs.KeptHists.{HasRoomToCount, KeptHist, kept_as, kept_hists, kept_of}
 use Rattle.trace_book.specs.declared.hists.AttachedHist.{AttachedHist}
@@ -100,44 +102,38 @@ all_counted spec hits =
     let among : Hit → Bool = λ hit. is_among (admitted spec.size hits) hit.key in
     length-filter_both among (λ (hit : Hit). not (among hit)) (λ (hit : Hit). refl) hits
 
--- and a trigger counts at most one row of a request
-one_counted : (event : Definition) (t : HistTrigger) (paused : Bool) (e : Option Emitted) → length (counted_by event t paused e) ≤ 1
-one_counted event t true e = omega arith
-one_counted event t false None = omega arith
-one_counted event t false (Some e) = by (bytes_eq event.name e.k.event.name && passes t.spec.filter e)
-  where
-    by : (meets : Bool) → length (map (counted_hit t) (if meets then e ∷ [] else [])) ≤ 1
-    by true = omega arith
-    by false = omega arith
+-- and a table counts at most one row of a request
+one_counted : (table : ℕ) (paused : Bool) (hists : List HistTrigger) (e : Option Emitted) → HaveOwnTables hists
+    → length (counted_by table paused hists e) ≤ 1
+one_counted table true hists e own = omega arith
+one_counted table false hists e own = one-at_most table e hists own
 
-hits_within : (name : Option (List ℕ)) (event : Definition) (t : HistTrigger) (past : List Request) → length (hits_of name event t past) ≤ length past
-hits_within name event t [] = omega arith
-hits_within name event t (request ∷ past) =
-    by (nat_lt t.number (length past)) (empties (asked_by event t (written_to name event request))) (hits_within name event t past)
+hits_within : (name : Option (List ℕ)) (table : ℕ) (past : List Request) → length (hits_of name table past) ≤ length past
+hits_within name table [] = omega arith
+hits_within name table (request ∷ past) = by (empties (asked_by name table past request)) (hits_within name table past)
   where
-    by : (older emptied : Bool) → length (hits_of name event t past) ≤ length past
-        → length (if older then (if emptied then [] else hits_of name event t past ++ counted_by event t (is_paused name event t past) (emitted past request)) else [])
+    by : (emptied : Bool) → length (hits_of name table past) ≤ length past
+        → length (if emptied then [] else hits_of name table past ++ counted_by table (is_paused name table past) (hist_triggers name past) (emitted past request))
         ≤ length (request ∷ past)
-    by false emptied before = omega arith
-    by true true before = omega arith
-    by true false before =
-        let one = one_counted event t (is_paused name event t past) (emitted past request) in
-        let all = length-append (hits_of name event t past) (counted_by event t (is_paused name event t past) (emitted past request)) in
+    by true before = omega arith
+    by false before =
+        let one = one_counted table (is_paused name table past) (hist_triggers name past) (emitted past request) (tables-own name past) in
+        let all = length-append (hits_of name table past) (counted_by table (is_paused name table past) (hist_triggers name past) (emitted past request)) in
         omega (arith, before, one, all)
 
-few_kept : (name : Option (List ℕ)) (event : Definition) (past : List Request) (hists : List HistTrigger) (attached : List AttachedHist)
-    → map kept_of attached ≡ map (kept_as name past event) hists → length past < 2 ^ 32 → All HasRoomToCount attached
-few_kept name event past [] [] same short = λ k d inside. absurd (omega (arith, inside))
-few_kept name event past [] (a ∷ attached) same short = absurd (cc)
-few_kept name event past (t ∷ hists) [] same short = absurd (cc)
-few_kept name event past (t ∷ hists) (a ∷ attached) same short =
-    let first : kept_of a ≡ kept_as name past event t = cc in
-    let rest : map kept_of attached ≡ map (kept_as name past event) hists = cc in
-    let table : a.hist.table ≡ grouped t.spec (hits_of name event t past) = ap (λ (k : KeptHist). k.table) first in
-    let all = all_counted t.spec (hits_of name event t past) in
-    let within = hits_within name event t past in
+few_kept : (name : Option (List ℕ)) (past : List Request) (hists : List HistTrigger) (attached : List AttachedHist)
+    → map kept_of attached ≡ map (kept_as name past) hists → length past < 2 ^ 32 → All HasRoomToCount attached
+few_kept name past [] [] same short = λ k d inside. absurd (omega (arith, inside))
+few_kept name past [] (a ∷ attached) same short = absurd (cc)
+few_kept name past (t ∷ hists) [] same short = absurd (cc)
+few_kept name past (t ∷ hists) (a ∷ attached) same short =
+    let first : kept_of a ≡ kept_as name past t = cc in
+    let rest : map kept_of attached ≡ map (kept_as name past) hists = cc in
+    let table : a.hist.table ≡ grouped t.spec (hits_of name t.table past) = ap (λ (k : KeptHist). k.table) first in
+    let all = all_counted t.spec (hits_of name t.table past) in
+    let within = hits_within name t.table past in
     let few : counted a.hist < 2 ^ 32 = rw table (omega (arith, all, within, short)) in
-    All-cons HasRoomToCount a attached few (few_kept name event past hists attached rest short)
+    All-cons HasRoomToCount a attached few (few_kept name past hists attached rest short)
 
 few_rows : (name : Option (List ℕ)) (past : List Request) (events : List Definition) (hists : List (List AttachedHist))
     → map (λ (attached : List AttachedHist). map kept_of attached) hists ≡ map (kept_hists name past) events → length past < 2 ^ 32
@@ -148,7 +144,7 @@ few_rows name past (event ∷ events) [] same short = absurd (cc)
 few_rows name past (event ∷ events) (h ∷ hists) same short =
     let first : map kept_of h ≡ kept_hists name past event = cc in
     let rest : map (λ (attached : List AttachedHist). map kept_of attached) hists ≡ map (kept_hists name past) events = cc in
-    All-cons (λ (attached : List AttachedHist). All HasRoomToCount attached) h hists (few_kept name event past (hists_of name event past) h first short)
+    All-cons (λ (attached : List AttachedHist). All HasRoomToCount attached) h hists (few_kept name past (hists_of name event past) h first short)
     (few_rows name past events hists rest short)
 
 pub few_rows_from_stands : (g : Config) (state : State) (past : List Request) → StandsFor g state past → length past < 2 ^ 32

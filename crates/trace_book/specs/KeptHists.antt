@@ -28,13 +28,13 @@ says_same spec attached = is_same spec attached.hist.spec
 
 -- ---- what the requests say
 
--- a hist trigger of an event as the requests have it
-abbrev pub kept_as : Option (List ℕ) → List Request → Definition → HistTrigger → KeptHist
-kept_as name past event t = record { number = t.number; spec = t.spec; paused = is_paused name event t past; table = table_of name event t past }
+-- a hist trigger as the requests have it
+abbrev pub kept_as : Option (List ℕ) → List Request → HistTrigger → KeptHist
+kept_as name past t = record { number = t.number; spec = t.spec; paused = is_paused name t.table past; table = table_of name t past }
 
 -- those of an event, in the order in which they were attached
 abbrev pub kept_hists : Option (List ℕ) → List Request → Definition → List KeptHist
-kept_hists name past event = map (kept_as name past event) (hists_of name event past)
+kept_hists name past event = map (kept_as name past) (hists_of name event past)
 
 -- ---- what is done to them
 

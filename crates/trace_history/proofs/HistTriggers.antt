@@ -1,9 +1,10 @@
 -- The hist triggers of an event: no two say the same, they are in the order in which they were attached, and there are few.
-use Rattle.std.proofs.Common.{◌≡◌, ℕ, zero, suc, ◌+◌, ◌<◌, ◌≤◌, nat_lt, Bool, true, false, not, ◌&&◌, if◌then◌else◌, List, [], ◌∷◌, ◌++◌, length, All, bytes_eq, Option, None, Some, unwrap_or, IsOk, Result, Ok, Err, refl, sym, ap, ◌∙◌, subst, arith, true≢false, ltb-true}
+use Rattle.std.proofs.Common.{◌≡◌, ℕ, zero, suc, ◌+◌, ◌<◌, ◌≤◌, nat_lt, Bool, true, false, not, ◌&&◌, if◌then◌else◌, List, [], ◌∷◌, ◌++◌, length, get_or, All, bytes_eq, Option, None, Some, option_map, unwrap_or, IsOk, Result, Ok, Err, refl, sym, ap, ◌∙◌, subst, arith, true≢false, ltb-true}
 use Rattle.std.specs.Bool.{beq}
 use Rattle.std.specs.Cmp.Lexicographic.{pointwise}
-use Rattle.std.specs.List.{AllPairs, filter}
+use Rattle.std.specs.List.{AllByRecursion, AllPairs, filter}
 use Rattle.std.specs.Option.{option_to_list}
+use Rattle.std.proofs.lemmas.Bool.{false≢true}
 use Rattle.std.proofs.lemmas.List.{length-append}
 use Rattle.std.proofs.lemmas.List.Elements.{All-nil, All-append, All-filter}
 use Rattle.std.proofs.lemmas.List.Filters.{length-filter_both}
@@ -26,12 +27,14 @@ use Rattle.trace_command.specs.declared.command.Config.{Config}
 use Rattle.trace_command.specs.declared.command.Entry.{Entry}
 use Rattle.trace_command.specs.declared.file_name.EventFile.TheVariants as per_event
 use Rattle.trace_history.specs.History.{answer_with_room, missing_event, unless_refused, named_trigger_answer, trigger_answer, said_answer, new_hist_answer, room_answer, trigger_count, requests_of, IsLegalNewestFirst}
-use Rattle.trace_history.specs.HistTriggers.{HistTrigger, Written, says_same, has_same, kept_by, hists_said, written_to, hists_after, hists_of}
+use Rattle.trace_history.specs.HistTriggers.{HistTrigger, Written, says_same, has_same, is_of, kept_by, left_by, those_of, new_hist, hist_triggers, hists_said, written_for, written_to, hists_after, hists_of}
 use Rattle.trace_history.specs.Laws.{AtMostFourTriggers, HistTriggersDiffer, HistTriggersAreInOrder}
 use Rattle.trace_history.specs.Settings.{NumberedEvent, is_same, makes, set_by, event_named, declares, declared_events}
 use Rattle.trace_history.specs.Triggers.{Trigger, written_trigger, sets_trigger, trigger_of}
+use Rattle.trace_history.proofs.EventHists.{hists_of-after, hists_of-made, own_after, own_said}
 use Rattle.trace_history.proofs.Events.{named_in-fewer, place_of_id}
 use Rattle.trace_history.proofs.LegalEvents.{done-had_room, asked-done, named_in-more, named-is_numbered}
+use Rattle.trace_history.proofs.OwnFiles.{OwnWritten, as_written, own-declared, own-none, own_written, trigger_after, trigger_of-after}
 use Rattle.trace_history.proofs.Spares.{same-instance}
 
 -- ---- lists
@@ -85,43 +88,43 @@ same-back left right same =
 abbrev Differ : HistTrigger → HistTrigger → Type 0
 Differ earlier later = IsSame earlier.spec later.spec → ⊥
 
-differ-new : (number : ℕ) (spec : SpecSeen) (hists : List HistTrigger) → has_same spec hists ≡ false
-    → All (λ t. Differ t (let new : HistTrigger = record { number = number; spec = spec } in new)) hists
-differ-new number spec hists none k d within same =
-    true≢false (sym (list_any_at (says_same spec) hists k d within (same-back _ spec same)) ∙ none)
+differ-new : (spec : SpecSeen) (new : HistTrigger) (hists : List HistTrigger) → new.spec ≡ spec → has_same spec hists ≡ false → All (λ t. Differ t new) hists
+differ-new spec new hists is none k d within same =
+    true≢false (sym (list_any_at (says_same spec) hists k d within (same-back _ spec (subst (IsSame (get_or hists k d).spec) is same))) ∙ none)
 
-differ-said : (number : ℕ) (hists : List HistTrigger) (said : Result TriggerText TriggerFault) → AllPairs Differ hists
-    → AllPairs Differ (hists_said number hists said)
-differ-said number hists (Ok (Hist spec)) pairs = by (has_same spec hists) refl
+differ-said : (number : ℕ) (event : Definition) (hists : List HistTrigger) (said : Result TriggerText TriggerFault) → AllPairs Differ hists
+    → AllPairs Differ (own_said number event hists said)
+differ-said number event hists (Ok (Hist spec)) pairs = by (has_same spec hists) refl
   where
     by : (same : Bool) → has_same spec hists ≡ same
-        → AllPairs Differ (if same then hists else hists ++ record { number = number; spec = spec } ∷ [])
+        → AllPairs Differ (if same then hists else hists ++ new_hist number event spec ∷ [])
     by true is = pairs
-    by false is = pairs-push Differ hists (record { number = number; spec = spec }) (differ-new number spec hists is) pairs
-differ-said number hists (Ok (RemoveHist spec)) pairs = AllPairs-filter Differ (λ t. not (says_same spec t)) hists pairs
-differ-said number hists (Ok (Attach spec)) pairs = pairs
-differ-said number hists (Ok Remove) pairs = pairs
-differ-said number hists (Ok Nothing) pairs = pairs
-differ-said number hists (Err fault) pairs = pairs
+    by false is = pairs-push Differ hists (new_hist number event spec) (differ-new spec (new_hist number event spec) hists refl is) pairs
+differ-said number event hists (Ok (RemoveHist spec)) pairs = AllPairs-filter Differ (λ t. not (says_same spec t)) hists pairs
+differ-said number event hists (Ok (Attach spec)) pairs = pairs
+differ-said number event hists (Ok Remove) pairs = pairs
+differ-said number event hists (Ok Nothing) pairs = pairs
+differ-said number event hists (Err fault) pairs = pairs
 
 differ-kept : (append : Bool) (hists : List HistTrigger) → AllPairs Differ hists → AllPairs Differ (kept_by append hists)
 differ-kept true hists pairs = pairs
 differ-kept false hists pairs = pairs-none Differ
 
-differ-after : (event : Definition) (number : ℕ) (written : Option Written) (hists : List HistTrigger) → AllPairs Differ hists
-    → AllPairs Differ (hists_after event number written hists)
-differ-after event number None hists pairs = pairs
-differ-after event number (Some w) hists pairs =
-    differ-said number (kept_by w.append hists) (said_of event w.text) (differ-kept w.append hists pairs)
+differ-after : (number : ℕ) (written : Option Written) (hists : List HistTrigger) → AllPairs Differ hists
+    → AllPairs Differ (own_after number written hists)
+differ-after number None hists pairs = pairs
+differ-after number (Some w) hists pairs =
+    differ-said number w.event (kept_by w.append hists) (said_of w.event w.text) (differ-kept w.append hists pairs)
 
 pub hist_triggers_differ : HistTriggersDiffer
 hist_triggers_differ instance event [] = pairs-none Differ
-hist_triggers_differ instance event (request ∷ past) = by (makes instance request) (hist_triggers_differ instance event past)
+hist_triggers_differ instance event (request ∷ past) = by (makes instance request) refl (hist_triggers_differ instance event past)
   where
-    by : (new : Bool) → AllPairs Differ (hists_of instance event past)
-        → AllPairs Differ (if new then [] else hists_after event (length past) (written_to instance event request) (hists_of instance event past))
-    by true before = pairs-none Differ
-    by false before = differ-after event (length past) (written_to instance event request) (hists_of instance event past) before
+    by : (new : Bool) → makes instance request ≡ new → AllPairs Differ (hists_of instance event past) → AllPairs Differ (hists_of instance event (request ∷ past))
+    by true made before = subst (AllPairs Differ) (sym (hists_of-made instance event past request made)) (pairs-none Differ)
+    by false alive before =
+        subst (AllPairs Differ) (sym (hists_of-after instance event past request alive))
+        (differ-after (length past) (written_for event (written_to instance past request)) (hists_of instance event past) before)
 
 -- ---- the order in which they were attached
 
@@ -139,91 +142,60 @@ none-in_order number = record { pairs = pairs-none Before; all = All-nil (λ t. 
 later-in_order : (number : ℕ) (hists : List HistTrigger) → AreInOrder number hists → AreInOrder (suc number) hists
 later-in_order number hists are = record { pairs = are.pairs; all = λ k d within. let less = are.all k d within in omega (arith, less) }
 
-said-in_order : (number : ℕ) (hists : List HistTrigger) (said : Result TriggerText TriggerFault) → AreInOrder number hists
-    → AreInOrder (suc number) (hists_said number hists said)
-said-in_order number hists (Ok (Hist spec)) are = by (has_same spec hists)
+said-in_order : (number : ℕ) (event : Definition) (hists : List HistTrigger) (said : Result TriggerText TriggerFault) → AreInOrder number hists
+    → AreInOrder (suc number) (own_said number event hists said)
+said-in_order number event hists (Ok (Hist spec)) are = by (has_same spec hists)
   where
     new : HistTrigger
-    new = record { number = number; spec = spec }
+    new = new_hist number event spec
 
     last : All (λ t. t.number < suc number) (new ∷ [])
     last zero d within = omega arith
     last (suc k) d within = absurd (omega (arith, within))
 
-    by : (same : Bool) → AreInOrder (suc number) (if same then hists else hists ++ record { number = number; spec = spec } ∷ [])
+    by : (same : Bool) → AreInOrder (suc number) (if same then hists else hists ++ new_hist number event spec ∷ [])
     by true = later-in_order number hists are
     by false = record {
       pairs = pairs-push Before hists new are.all are.pairs;
       all = All-append (λ t. t.number < suc number) hists (new ∷ []) (later-in_order number hists are).all last;
     }
-said-in_order number hists (Ok (RemoveHist spec)) are = record {
+said-in_order number event hists (Ok (RemoveHist spec)) are = record {
   pairs = AllPairs-filter Before (λ t. not (says_same spec t)) hists are.pairs;
   all = All-filter (λ t. not (says_same spec t)) (λ t. t.number < suc number) hists (later-in_order number hists are).all;
 }
-said-in_order number hists (Ok (Attach spec)) are = later-in_order number hists are
-said-in_order number hists (Ok Remove) are = later-in_order number hists are
-said-in_order number hists (Ok Nothing) are = later-in_order number hists are
-said-in_order number hists (Err fault) are = later-in_order number hists are
+said-in_order number event hists (Ok (Attach spec)) are = later-in_order number hists are
+said-in_order number event hists (Ok Remove) are = later-in_order number hists are
+said-in_order number event hists (Ok Nothing) are = later-in_order number hists are
+said-in_order number event hists (Err fault) are = later-in_order number hists are
 
 kept-in_order : (append : Bool) (number : ℕ) (hists : List HistTrigger) → AreInOrder number hists → AreInOrder number (kept_by append hists)
 kept-in_order true number hists are = are
 kept-in_order false number hists are = none-in_order number
 
-after-in_order : (event : Definition) (number : ℕ) (written : Option Written) (hists : List HistTrigger) → AreInOrder number hists
-    → AreInOrder (suc number) (hists_after event number written hists)
-after-in_order event number None hists are = later-in_order number hists are
-after-in_order event number (Some w) hists are =
-    said-in_order number (kept_by w.append hists) (said_of event w.text) (kept-in_order w.append number hists are)
+after-in_order : (number : ℕ) (written : Option Written) (hists : List HistTrigger) → AreInOrder number hists
+    → AreInOrder (suc number) (own_after number written hists)
+after-in_order number None hists are = later-in_order number hists are
+after-in_order number (Some w) hists are =
+    said-in_order number w.event (kept_by w.append hists) (said_of w.event w.text) (kept-in_order w.append number hists are)
 
 are-in_order : (instance : Option (List ℕ)) (event : Definition) (past : List Request) → AreInOrder (length past) (hists_of instance event past)
 are-in_order instance event [] = none-in_order 0
-are-in_order instance event (request ∷ past) = by (makes instance request) (are-in_order instance event past)
+are-in_order instance event (request ∷ past) = by (makes instance request) refl (are-in_order instance event past)
   where
-    by : (new : Bool) → AreInOrder (length past) (hists_of instance event past) → AreInOrder (suc (length past))
-        (if new then [] else hists_after event (length past) (written_to instance event request) (hists_of instance event past))
-    by true before = none-in_order (suc (length past))
-    by false before = after-in_order event (length past) (written_to instance event request) (hists_of instance event past) before
+    by : (new : Bool) → makes instance request ≡ new → AreInOrder (length past) (hists_of instance event past)
+        → AreInOrder (suc (length past)) (hists_of instance event (request ∷ past))
+    by true made before = subst (AreInOrder (suc (length past))) (sym (hists_of-made instance event past request made)) (none-in_order (suc (length past)))
+    by false alive before =
+        subst (AreInOrder (suc (length past))) (sym (hists_of-after instance event past request alive))
+        (after-in_order (length past) (written_for event (written_to instance past request)) (hists_of instance event past) before)
 
 pub hist_triggers_are_in_order : HistTriggersAreInOrder
 hist_triggers_are_in_order instance event past = let are = are-in_order instance event past in (are.pairs, are.all)
 
--- ---- the trigger for snapshots after a request
-
-abbrev pub trigger_after : Definition → ℕ → Option Written → Option Trigger → Option Trigger
-trigger_after event number None attached = attached
-trigger_after event number (Some w) attached = unwrap_or (written_trigger number (said_of event w.text)) attached
-
-pub trigger_of-after : (instance : Option (List ℕ)) (event : Definition) (past : List Request) (request : Request) → makes instance request ≡ false
-    → trigger_of instance event (request ∷ past) ≡ trigger_after event (length past) (written_to instance event request) (trigger_of instance event past)
-trigger_of-after instance event past request alive = rw alive (set-after request)
-  where
-    attached : Option Trigger
-    attached = trigger_of instance event past
-
-    set-after : (r : Request) → unwrap_or (set_by instance (sets_trigger event past) r) attached ≡ trigger_after event (length past) (written_to instance event r) attached
-    set-after (WriteFile other (Some (OfEvent name per_event.Trigger)) append text) = by (is_same instance other) (bytes_eq event.name name)
-      where
-        by : (same named : Bool)
-            → unwrap_or (if same then (if named then written_trigger (length past) (said_of event text) else None) else None) attached
-            ≡ trigger_after event (length past) (if same && named then Some (record { append = append; text = text }) else None) attached
-        by true true = refl
-        by true false = refl
-        by false named = refl
-    set-after (WriteFile other (Some file) append text) = by (is_same instance other)
-      where
-        by : (same : Bool) → unwrap_or (if same then sets_trigger event past file text else None) attached ≡ attached
-        by true = refl
-        by false = refl
-    set-after r = refl
-
-pub hists_of-after : (instance : Option (List ℕ)) (event : Definition) (past : List Request) (request : Request) → makes instance request ≡ false
-    → hists_of instance event (request ∷ past) ≡ hists_after event (length past) (written_to instance event request) (hists_of instance event past)
-hists_of-after instance event past request alive = rw alive refl
-
 -- ---- what is written to a trigger file and done
 
-pub written-said : (g : Config) (instance : Option (List ℕ)) (past : List Request) (request : Request) (k : NumberedEvent) (w : Written)
-    → IsOk (answer_with_room g past request) → event_named k.event.name past ≡ Some k → written_to instance k.event request ≡ Some w
+pub written-said : (g : Config) (instance : Option (List ℕ)) (past : List Request) (request : Request) (k : NumberedEvent) (w : OwnWritten)
+    → IsOk (answer_with_room g past request) → event_named k.event.name past ≡ Some k → own_written instance k.event request ≡ Some w
     → IsOk (said_answer w.append (trigger_of instance k.event past) (kept_by w.append (hists_of instance k.event past)) (said_of k.event w.text))
 unfolding trigger_answer
 written-said g instance past (WriteFile other (Some (OfEvent name per_event.Trigger)) append text) k w done there is =
@@ -243,7 +215,7 @@ written-said g instance past (WriteFile other (Some (OfEvent name per_event.Trig
         let told_here : IsOk (trigger_answer instance past append text k.event) =
         subst (λ (i : Option (List ℕ)). IsOk (trigger_answer i past append text k.event)) here told in
         let what : record { append = append; text = text } ≡ w = cc in
-        subst (λ (v : Written). IsOk (said_answer v.append (trigger_of instance k.event past) (kept_by v.append (hists_of instance k.event past)) (said_of k.event v.text)))
+        subst (λ (v : OwnWritten). IsOk (said_answer v.append (trigger_of instance k.event past) (kept_by v.append (hists_of instance k.event past)) (said_of k.event v.text)))
         what told_here
     by true false same named h = absurd (cc)
     by false named same other_named h = absurd (cc)
@@ -251,14 +223,14 @@ written-said g instance past _ k w done there is = absurd (cc)
 
 -- nothing is written for an event that is not declared
 pub written-none : (g : Config) (instance : Option (List ℕ)) (past : List Request) (request : Request) (event : Definition)
-    → IsOk (answer_with_room g past request) → event_named event.name past ≡ None → written_to instance event request ≡ None
+    → IsOk (answer_with_room g past request) → event_named event.name past ≡ None → own_written instance event request ≡ None
 written-none g instance past (WriteFile other (Some (OfEvent name per_event.Trigger)) append text) event done none =
     by (is_same instance other) (bytes_eq event.name name) refl
   where
     asked : IsOk (unless_refused (missing_event past name) (named_trigger_answer other past append text (event_named name past)))
     asked = asked-done other past (unless_refused (missing_event past name) (named_trigger_answer other past append text (event_named name past))) done
 
-    what : Written
+    what : OwnWritten
     what = record { append = append; text = text }
 
     by : (same named : Bool) → bytes_eq event.name name ≡ named → (if same && named then Some what else None) ≡ None
@@ -274,6 +246,10 @@ written-none g instance past _ event done none = refl
 
 abbrev IsFew : Option Trigger → List HistTrigger → Type 0
 IsFew attached hists = trigger_count attached hists ≤ 4
+
+few-same : (attached other : Option Trigger) (hists others : List HistTrigger) → attached ≡ other → hists ≡ others → IsFew other others → IsFew attached hists
+few-same attached other hists others triggers lists few =
+    subst (λ (l : List HistTrigger). IsFew attached l) (sym lists) (subst (λ (t : Option Trigger). IsFew t others) (sym triggers) few)
 
 count-more : (attached : Option Trigger) (hists : List HistTrigger) (new : HistTrigger)
     → trigger_count attached (hists ++ new ∷ []) ≡ trigger_count attached hists + 1
@@ -311,27 +287,28 @@ new-had_room attached hists action.Pause done = room-had attached hists done
 new-had_room attached hists action.Continue done = absurd (cc)
 new-had_room attached hists action.Clear done = absurd (cc)
 
-few-said : (append : Bool) (number : ℕ) (attached : Option Trigger) (hists : List HistTrigger) (said : Result TriggerText TriggerFault) → IsFew attached hists
-    → IsOk (said_answer append attached hists said) → IsFew (unwrap_or (written_trigger number said) attached) (hists_said number hists said)
-few-said append number attached hists (Err fault) few done = absurd (cc)
-few-said append number attached hists (Ok Nothing) few done = few
-few-said append number None hists (Ok (Attach spec)) few done = let less = room-had None hists done in omega (arith, less)
-few-said append number (Some t) hists (Ok (Attach spec)) few done = absurd (cc)
-few-said append number None hists (Ok Remove) few done = absurd (cc)
-few-said append number (Some t) hists (Ok Remove) few done = omega (arith, few)
-few-said append number attached hists (Ok (Hist spec)) few done = by (has_same spec hists) refl
+few-said : (append : Bool) (number : ℕ) (event : Definition) (attached : Option Trigger) (hists : List HistTrigger)
+    (said : Result TriggerText TriggerFault) → IsFew attached hists
+    → IsOk (said_answer append attached hists said) → IsFew (unwrap_or (written_trigger number said) attached) (own_said number event hists said)
+few-said append number event attached hists (Err fault) few done = absurd (cc)
+few-said append number event attached hists (Ok Nothing) few done = few
+few-said append number event None hists (Ok (Attach spec)) few done = let less = room-had None hists done in omega (arith, less)
+few-said append number event (Some t) hists (Ok (Attach spec)) few done = absurd (cc)
+few-said append number event None hists (Ok Remove) few done = absurd (cc)
+few-said append number event (Some t) hists (Ok Remove) few done = omega (arith, few)
+few-said append number event attached hists (Ok (Hist spec)) few done = by (has_same spec hists) refl
   where
     new : HistTrigger
-    new = record { number = number; spec = spec }
+    new = new_hist number event spec
 
-    by : (same : Bool) → has_same spec hists ≡ same → IsFew attached (if same then hists else hists ++ record { number = number; spec = spec } ∷ [])
+    by : (same : Bool) → has_same spec hists ≡ same → IsFew attached (if same then hists else hists ++ new_hist number event spec ∷ [])
     by true is = few
     by false is =
         let asked : IsOk (new_hist_answer attached hists spec.action) = rw is at done in
         let less = new-had_room attached hists spec.action asked in
         let more = count-more attached hists new in
         omega (arith, less, more)
-few-said append number attached hists (Ok (RemoveHist spec)) few done = count-left attached hists spec few
+few-said append number event attached hists (Ok (RemoveHist spec)) few done = count-left attached hists spec few
 
 -- an event has no triggers before it is declared, and few after that
 record AreFew (instance : Option (List ℕ)) (past : List Request) (k : NumberedEvent) : Type 0 where
@@ -343,8 +320,8 @@ few-after : (g : Config) (instance : Option (List ℕ)) (past : List Request) (r
     → AreFew instance past k → AreFew instance (request ∷ past) k
 few-after g instance past request k done before = record { no_trigger = no_trigger; no_hists = no_hists; few = few }
   where
-    written : Option Written
-    written = written_to instance k.event request
+    written : Option OwnWritten
+    written = own_written instance k.event request
 
     more : List Definition
     more = option_to_list (declares request)
@@ -353,14 +330,15 @@ few-after g instance past request k done before = record { no_trigger = no_trigg
     none_left true new none = rw new refl
     none_left false new none =
         trigger_of-after instance k.event past request new
-        ∙ ap (λ (o : Option Written). trigger_after k.event (length past) o (trigger_of instance k.event past)) (written-none g instance past request k.event done none)
+        ∙ ap (λ (o : Option OwnWritten). trigger_after k.event (length past) o (trigger_of instance k.event past)) (written-none g instance past request k.event done none)
         ∙ before.no_trigger none
 
     no_hists_left : (new : Bool) → makes instance request ≡ new → event_named k.event.name past ≡ None → hists_of instance k.event (request ∷ past) ≡ []
-    no_hists_left true new none = rw new refl
+    no_hists_left true new none = hists_of-made instance k.event past request new
     no_hists_left false new none =
         hists_of-after instance k.event past request new
-        ∙ ap (λ (o : Option Written). hists_after k.event (length past) o (hists_of instance k.event past)) (written-none g instance past request k.event done none)
+        ∙ ap (λ (o : Option Written). own_after (length past) o (hists_of instance k.event past))
+        (own-none instance k.event past request (written-none g instance past request k.event done none))
         ∙ before.no_hists none
 
     fewer : event_named k.event.name (request ∷ past) ≡ None → event_named k.event.name past ≡ None
@@ -372,11 +350,12 @@ few-after g instance past request k done before = record { no_trigger = no_trigg
     no_hists : event_named k.event.name (request ∷ past) ≡ None → hists_of instance k.event (request ∷ past) ≡ []
     no_hists none = no_hists_left (makes instance request) refl (fewer none)
 
-    by_written : event_named k.event.name past ≡ Some k → (o : Option Written) → written ≡ o
-        → IsFew (trigger_after k.event (length past) o (trigger_of instance k.event past)) (hists_after k.event (length past) o (hists_of instance k.event past))
+    by_written : event_named k.event.name past ≡ Some k → (o : Option OwnWritten) → written ≡ o
+        → IsFew (trigger_after k.event (length past) o (trigger_of instance k.event past))
+        (own_after (length past) (option_map (as_written k.event) o) (hists_of instance k.event past))
     by_written there None is = before.few there
     by_written there (Some w) is =
-        few-said w.append (length past) (trigger_of instance k.event past) (kept_by w.append (hists_of instance k.event past)) (said_of k.event w.text)
+        few-said w.append (length past) k.event (trigger_of instance k.event past) (kept_by w.append (hists_of instance k.event past)) (said_of k.event w.text)
         (count-kept w.append (trigger_of instance k.event past) (hists_of instance k.event past) (before.few there))
         (written-said g instance past request k w done there is)
 
@@ -384,14 +363,21 @@ few-after g instance past request k done before = record { no_trigger = no_trigg
         → IsFew (trigger_of instance k.event (request ∷ past)) (hists_of instance k.event (request ∷ past))
     by_life there true new = rw new (omega arith)
     by_life there false new =
-        rw (trigger_of-after instance k.event past request new, hists_of-after instance k.event past request new) (by_written there written refl)
+        few-same (trigger_of instance k.event (request ∷ past)) (trigger_after k.event (length past) written (trigger_of instance k.event past))
+        (hists_of instance k.event (request ∷ past)) (own_after (length past) (option_map (as_written k.event) written) (hists_of instance k.event past))
+        (trigger_of-after instance k.event past request new)
+        (hists_of-after instance k.event past request new
+        ∙ ap (λ (o : Option Written). own_after (length past) o (hists_of instance k.event past)) (own-declared instance k.event past request k there refl))
+        (by_written there written refl)
 
     few : event_named k.event.name (request ∷ past) ≡ Some k → IsFew (trigger_of instance k.event (request ∷ past)) (hists_of instance k.event (request ∷ past))
     few there = by (event_named k.event.name past) refl
       where
         by : (old : Option NumberedEvent) → event_named k.event.name past ≡ old
             → IsFew (trigger_of instance k.event (request ∷ past)) (hists_of instance k.event (request ∷ past))
-        by None none = rw (none_left (makes instance request) refl none, no_hists_left (makes instance request) refl none) (omega arith)
+        by None none =
+            few-same (trigger_of instance k.event (request ∷ past)) None (hists_of instance k.event (request ∷ past)) []
+            (none_left (makes instance request) refl none) (no_hists_left (makes instance request) refl none) (omega arith)
         by (Some old) was =
             let e : Some old ≡ Some k = sym (named_in-more k.event.name (declared_events past) more old was) ∙ there in
             by_life (was ∙ e) (makes instance request) refl

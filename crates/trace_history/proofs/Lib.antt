@@ -6,7 +6,11 @@ pub mod Exchanges
 pub mod Families
 pub mod CountedRows
 pub mod HistTriggerExamples
+pub mod Tables
+pub mod EventHists
+pub mod OwnFiles
 pub mod HistTriggers
+pub mod TableSteps
 pub mod KeptEmissions
 pub mod LegalEvents
 pub mod OwnAnswers

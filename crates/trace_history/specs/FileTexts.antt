@@ -82,20 +82,20 @@ abbrev pub shown_trigger : List Request → Definition → Trigger → texts.Tri
 shown_trigger past event t = texts.Snapshot (times_left event t past) (option_map (λ (filter : Parsed). filter.text) t.spec.filter)
 
 -- a hist trigger as its files show it
-abbrev pub shown_hist : Option (List ℕ) → List Request → Definition → HistTrigger → texts.Trigger
-shown_hist instance past event t = texts.Hist (record {
+abbrev pub shown_hist : Option (List ℕ) → List Request → HistTrigger → texts.Trigger
+shown_hist instance past t = texts.Hist (record {
   spec = t.spec;
-  paused = is_paused instance event t past;
-  table = table_of instance event t past;
+  paused = is_paused instance t.table past;
+  table = table_of instance t past;
   rules = t.spec.sort_sources;
 })
 
 -- triggers in the order in which they were attached: the hist triggers that are older than the one for snapshots, that one, and the newer ones
 abbrev pub in_order : Option (List ℕ) → List Request → Definition → Option Trigger → List HistTrigger → List texts.Trigger
-in_order instance past event None hists = map (shown_hist instance past event) hists
+in_order instance past event None hists = map (shown_hist instance past) hists
 in_order instance past event (Some t) hists =
-    map (shown_hist instance past event) (filter (λ h. nat_lt h.number t.number) hists)
-    ++ shown_trigger past event t ∷ map (shown_hist instance past event) (filter (λ h. not (nat_lt h.number t.number)) hists)
+    map (shown_hist instance past) (filter (λ h. nat_lt h.number t.number) hists)
+    ++ shown_trigger past event t ∷ map (shown_hist instance past) (filter (λ h. not (nat_lt h.number t.number)) hists)
 
 -- the triggers of an event; its name is one that was declared
 abbrev pub triggers_of_event : Option (List ℕ) → List Request → Option NumberedEvent → List ℕ
@@ -106,7 +106,7 @@ triggers_of_event instance past (Some k) =
 -- its histograms
 abbrev pub hists_of_event : Option (List ℕ) → List Request → Option NumberedEvent → List ℕ
 hists_of_event instance past None = []
-hists_of_event instance past (Some k) = hist_text (map (shown_hist instance past k.event) (hists_of instance k.event past))
+hists_of_event instance past (Some k) = hist_text (map (shown_hist instance past) (hists_of instance k.event past))
 
 -- what a file shows that is read whole; of a pipe, and of the filter of all events, nothing
 abbrev pub text_of : Config → Option (List ℕ) → List Request → File → List ℕ

@@ -1,6 +1,8 @@
--- The hist triggers of an instance's events, and the emissions that they count (histogram.rst, "hist triggers"). The newest request comes first.
-use Rattle.std.specs.Prelude.{ℕ, nat_lt, Bool, true, false, not, ◌&&◌, if◌then◌else◌, List, [], ◌∷◌, ◌++◌, length, map, Option, Some, None, Result, Ok}
-use Rattle.std.specs.List.{filter, list_any}
+-- The hist triggers of an instance's events, their tables, and the emissions that these count (histogram.rst, "hist triggers"). The newest request
+-- comes first.
+use Rattle.std.specs.Prelude.{ℕ, ◌==◌, Bool, true, false, not, ◌&&◌, if◌then◌else◌, List, [], ◌∷◌, ◌++◌, length, map, Option, Some, None, Result, Ok}
+use Rattle.std.specs.List.{filter, flat_map, list_any}
+use Rattle.std.specs.Option.{option_map}
 use Rattle.std.specs.Str.{bytes_eq}
 use Rattle.trace_format.specs.Operands.{Emission}
 use Rattle.trace_format.specs.Definitions.{Definition}
@@ -18,15 +20,26 @@ use Rattle.trace_command.specs.Paths.{OfEvent}
 use Rattle.trace_command.specs.Requests.{Request, WriteFile}
 use Rattle.trace_command.specs.declared.file_name.EventFile.TheVariants as per_event
 use Rattle.trace_history.specs.Emissions.{Emitted, emitted}
-use Rattle.trace_history.specs.Settings.{is_same, makes}
+use Rattle.trace_history.specs.Settings.{NumberedEvent, event_named, is_same, makes}
 use Rattle.trace_history.specs.Triggers.{met_by}
 
 -- ---- triggers that are attached
 
--- a hist trigger is known by how many requests were done before the one that attached it; with it comes what that one says of it
+-- a hist trigger of an event is known by how many requests were done before the one that attached it; with it comes what that one says of it, and
+-- which table counts its rows. Each has a table of its own, known by the trigger's number.
 pub record HistTrigger : Type 0 where
+  pub event : Definition
   pub number : ℕ
   pub spec : SpecSeen
+  pub table : ℕ
+
+-- whether it is one of an event; events are told apart by their names
+abbrev pub is_of : Definition → HistTrigger → Bool
+is_of event t = bytes_eq event.name t.event.name
+
+-- those of an event
+abbrev pub those_of : Definition → List HistTrigger → List HistTrigger
+those_of event hists = filter (is_of event) hists
 
 -- whether a hist trigger says the same as a text: it has the same keys, values, sort keys and filter
 abbrev pub says_same : SpecSeen → HistTrigger → Bool
@@ -36,68 +49,94 @@ says_same spec t = is_same_spec spec t.spec
 abbrev pub has_same : SpecSeen → List HistTrigger → Bool
 has_same spec hists = list_any (says_same spec) hists
 
--- `>` takes an event's hist triggers away before the text takes effect, `>>` keeps them
+-- `>` takes an event's hist triggers away before the text takes effect, `>>` keeps them: what is left of the event's own
 abbrev pub kept_by : Bool → List HistTrigger → List HistTrigger
 kept_by append hists = if append then hists else []
 
--- the hist triggers after a text that is written by the request of this number: one is attached if none says the same, or the same one is removed.
--- Any other text leaves those that are there.
-abbrev pub hists_said : ℕ → List HistTrigger → Result TriggerText TriggerFault → List HistTrigger
-hists_said number hists (Ok (Hist spec)) = if has_same spec hists then hists else hists ++ record { number = number; spec = spec } ∷ []
-hists_said number hists (Ok (RemoveHist spec)) = filter (λ t. not (says_same spec t)) hists
-hists_said number hists said = hists
+-- and what of all
+abbrev pub left_by : Definition → Bool → List HistTrigger → List HistTrigger
+left_by event append hists = if append then hists else filter (λ t. not (is_of event t)) hists
 
--- the text that a request writes to the trigger file of an event of an instance, and whether by `>>`
+-- the one that a text attaches to an event, as the request of this number
+abbrev pub new_hist : ℕ → Definition → SpecSeen → HistTrigger
+new_hist number event spec = record { event = event; number = number; spec = spec; table = number }
+
+-- the hist triggers after a text that the request of this number writes for an event: one is attached if none of the event says the same, or the same
+-- one is removed. Any other text leaves those that are there.
+abbrev pub hists_said : ℕ → Definition → List HistTrigger → Result TriggerText TriggerFault → List HistTrigger
+hists_said number event hists (Ok (Hist spec)) = if has_same spec (those_of event hists) then hists else hists ++ new_hist number event spec ∷ []
+hists_said number event hists (Ok (RemoveHist spec)) = filter (λ t. not (is_of event t && says_same spec t)) hists
+hists_said number event hists said = hists
+
+-- what a request writes to the trigger file of an event of an instance: which event that is of those declared before, whether it is by `>>`, and the
+-- text
 pub record Written : Type 0 where
+  pub event : Definition
   pub append : Bool
   pub text : List ℕ
 
-abbrev pub written_to : Option (List ℕ) → Definition → Request → Option Written
-written_to instance event (WriteFile other (Some (OfEvent name per_event.Trigger)) append text) =
-    if is_same instance other && bytes_eq event.name name then Some (record { append = append; text = text }) else None
-written_to instance event request = None
+abbrev pub written_to : Option (List ℕ) → List Request → Request → Option Written
+written_to instance past (WriteFile other (Some (OfEvent name per_event.Trigger)) append text) =
+    if is_same instance other then option_map (λ (k : NumberedEvent). record { event = k.event; append = append; text = text }) (event_named name past)
+    else None
+written_to instance past request = None
+
+-- what of it is for an event
+abbrev pub written_for : Definition → Option Written → Option Written
+written_for event None = None
+written_for event (Some w) = if bytes_eq w.event.name event.name then Some w else None
 
 -- the hist triggers after the request of this number, which writes this, if anything
-abbrev pub hists_after : Definition → ℕ → Option Written → List HistTrigger → List HistTrigger
-hists_after event number None hists = hists
-hists_after event number (Some w) hists = hists_said number (kept_by w.append hists) (said_of event w.text)
+abbrev pub hists_after : ℕ → Option Written → List HistTrigger → List HistTrigger
+hists_after number None hists = hists
+hists_after number (Some w) hists = hists_said number w.event (left_by w.event w.append hists) (said_of w.event w.text)
 
--- the hist triggers of an event, in the order in which they were attached
+-- the hist triggers of all events of an instance, in the order in which they were attached
+abbrev pub hist_triggers : Option (List ℕ) → List Request → List HistTrigger
+hist_triggers instance [] = []
+hist_triggers instance (request ∷ past) =
+    if makes instance request then [] else hists_after (length past) (written_to instance past request) (hist_triggers instance past)
+
+-- those of an event
 abbrev pub hists_of : Option (List ℕ) → Definition → List Request → List HistTrigger
-hists_of instance event [] = []
-hists_of instance event (request ∷ past) =
-    if makes instance request then [] else hists_after event (length past) (written_to instance event request) (hists_of instance event past)
+hists_of instance event past = those_of event (hist_triggers instance past)
 
 -- ---- pauses
 
--- what a text asks of a trigger that says the same
-abbrev pub asked_of : HistTrigger → Result TriggerText TriggerFault → Option Action
-asked_of t (Ok (Hist spec)) = if says_same spec t then Some spec.action else None
-asked_of t said = None
-
--- what a request asks of a trigger of an event
-abbrev pub asked_by : Definition → HistTrigger → Option Written → Option Action
-asked_by event t None = None
-asked_by event t (Some w) = asked_of t (said_of event w.text)
+-- whether a text speaks of a table through one of these triggers, which is the one that says the same
+abbrev pub speaks_of : SpecSeen → ℕ → HistTrigger → Bool
+speaks_of spec table t = says_same spec t && (t.table == table)
 
 abbrev pub is_pause : Action → Bool
 is_pause Pause = true
 is_pause action = false
 
--- whether a trigger is paused after it was asked for something
+-- what a text asks of a table, where an event has these hist triggers after it: one of them says the same, be it that the text attached it
+abbrev pub asked_of : ℕ → List HistTrigger → Result TriggerText TriggerFault → Option Action
+asked_of table hists (Ok (Hist spec)) = if list_any (speaks_of spec table) hists then Some spec.action else None
+asked_of table hists said = None
+
+-- what is written asks of a table, where an instance has these hist triggers after it
+abbrev pub asked_in : ℕ → List HistTrigger → Option Written → Option Action
+asked_in table hists None = None
+asked_in table hists (Some w) = asked_of table (those_of w.event hists) (said_of w.event w.text)
+
+-- what a request asks of a table
+abbrev pub asked_by : Option (List ℕ) → ℕ → List Request → Request → Option Action
+asked_by instance table past request = asked_in table (hist_triggers instance (request ∷ past)) (written_to instance past request)
+
+-- whether a table is paused after it was asked for something
 abbrev pub paused_after : Option Action → Bool → Bool
 paused_after (Some Pause) paused = true
 paused_after (Some Continue) paused = false
 paused_after asked paused = paused
 
--- whether a trigger is paused: as it was attached, and since then as it was asked
-abbrev pub is_paused : Option (List ℕ) → Definition → HistTrigger → List Request → Bool
-is_paused instance event t [] = is_pause t.spec.action
-is_paused instance event t (request ∷ past) =
-    if nat_lt t.number (length past) then paused_after (asked_by event t (written_to instance event request)) (is_paused instance event t past)
-    else is_pause t.spec.action
+-- whether a table is paused: as it was asked last, by the text too that made it
+abbrev pub is_paused : Option (List ℕ) → ℕ → List Request → Bool
+is_paused instance table [] = false
+is_paused instance table (request ∷ past) = paused_after (asked_by instance table past request) (is_paused instance table past)
 
--- ---- the emissions that a trigger counts
+-- ---- the emissions that a table counts
 
 -- what a histogram takes of an emission
 abbrev pub counted_row : Emitted → Emission
@@ -107,25 +146,27 @@ counted_row e = record { values = e.row.values; cpu = e.cpu; pid = e.pid }
 abbrev pub counted_hit : HistTrigger → Emitted → Hit
 counted_hit t e = hit_of t.spec (counted_row e)
 
--- the rows of a request that a trigger counts: of an emission that it meets while it is not paused
-abbrev pub counted_by : Definition → HistTrigger → Bool → Option Emitted → List Hit
-counted_by event t true e = []
-counted_by event t false e = map (counted_hit t) (met_by event t.spec.filter e)
+-- the rows that a table counts of an emission: those that its triggers meet
+abbrev pub met_in : ℕ → Option Emitted → HistTrigger → List Hit
+met_in table e t = if t.table == table then map (counted_hit t) (met_by t.event t.spec.filter e) else []
 
--- whether what is asked for empties the histogram
+-- and none while it is paused
+abbrev pub counted_by : ℕ → Bool → List HistTrigger → Option Emitted → List Hit
+counted_by table true hists e = []
+counted_by table false hists e = flat_map (met_in table e) hists
+
+-- whether what is asked for empties the table
 abbrev pub empties : Option Action → Bool
 empties (Some Clear) = true
 empties asked = false
 
--- the rows that a trigger counted since it was attached or last emptied, the newest last
-abbrev pub hits_of : Option (List ℕ) → Definition → HistTrigger → List Request → List Hit
-hits_of instance event t [] = []
-hits_of instance event t (request ∷ past) =
-    if nat_lt t.number (length past)
-    then (if empties (asked_by event t (written_to instance event request)) then []
-    else hits_of instance event t past ++ counted_by event t (is_paused instance event t past) (emitted past request))
-    else []
+-- the rows that a table counted since it was made or last emptied, the newest last
+abbrev pub hits_of : Option (List ℕ) → ℕ → List Request → List Hit
+hits_of instance table [] = []
+hits_of instance table (request ∷ past) =
+    if empties (asked_by instance table past request) then []
+    else hits_of instance table past ++ counted_by table (is_paused instance table past) (hist_triggers instance past) (emitted past request)
 
--- its entries and totals
-abbrev pub table_of : Option (List ℕ) → Definition → HistTrigger → List Request → Table
-table_of instance event t past = grouped t.spec (hits_of instance event t past)
+-- the entries and totals of a trigger's table
+abbrev pub table_of : Option (List ℕ) → HistTrigger → List Request → Table
+table_of instance t past = grouped t.spec (hits_of instance t.table past)

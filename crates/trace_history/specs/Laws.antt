@@ -1,7 +1,7 @@
 -- What the words of the answers mean in legal histories, and after any requests what pipe reads consume and which records snapshots move. The newest
 -- entry comes first.
-use Rattle.std.specs.Prelude.{◌≡◌, ◌↔◌, ℕ, ◌==◌, ◌<◌, ◌≤◌, ℤ, Bool, IsTrue, true, false, ◌&&◌, is_some, bytes_eq, List, [], ◌∷◌, ◌++◌, length, map, All, Option, Some, None, Ok}
-use Rattle.std.specs.List.{AllPairs, filter, list_any}
+use Rattle.std.specs.Prelude.{◌≡◌, ◌↔◌, ℕ, ◌==◌, ◌<◌, ◌≤◌, ℤ, Bool, IsTrue, true, false, ◌&&◌, ◌||◌, is_some, bytes_eq, List, [], ◌∷◌, ◌++◌, length, map, All, Option, Some, None, Ok}
+use Rattle.std.specs.List.{AllPairs, Contains, filter, list_any}
 use Rattle.page_ring.specs.Account.{Reading}
 use Rattle.trace_buffer.specs.Families.{CpuReading, on_cpu, cpu_readings}
 use Rattle.trace_lex.specs.Decimals.{written_number}
@@ -27,7 +27,7 @@ use Rattle.trace_history.specs.Rings.{new_rings, with_emitted, rings, other_ring
 use Rattle.trace_history.specs.Settings.{NumberedEvent, event_named, declared_events, filter_of, is_same, makes}
 use Rattle.trace_history.specs.Snapshots.{exchanges, has_spare}
 use Rattle.trace_history.specs.Triggers.{acts, passes, trigger_of, has_trigger}
-use Rattle.trace_history.specs.HistTriggers.{HistTrigger, hists_of, written_to, asked_by, is_paused, empties, counted_hit, hits_of}
+use Rattle.trace_history.specs.HistTriggers.{HistTrigger, hist_triggers, hists_of, written_to, written_for, asked_by, is_pause, is_paused, empties, counted_hit, hits_of}
 use Rattle.trace_command.specs.declared.command.Config.{Config}
 use Rattle.trace_command.specs.declared.command.Entry.{Entry}
 
@@ -182,75 +182,90 @@ HistTriggersAreInOrder =
     → AllPairs (λ earlier later. earlier.number < later.number) (hists_of instance event past)
     × All (λ t. t.number < length past) (hists_of instance event past)
 
--- whether a request asks something of a hist trigger, and whether it empties it
-abbrev pub asks : Option (List ℕ) → Definition → HistTrigger → Request → Bool
-asks instance event t request = is_some (asked_by event t (written_to instance event request))
+-- whether a request asks something of a table, and whether it empties it
+abbrev pub asks : Option (List ℕ) → ℕ → List Request → Request → Bool
+asks instance table past request = is_some (asked_by instance table past request)
 
-abbrev pub clears : Option (List ℕ) → Definition → HistTrigger → Request → Bool
-clears instance event t request = empties (asked_by event t (written_to instance event request))
+abbrev pub clears : Option (List ℕ) → ℕ → List Request → Request → Bool
+clears instance table past request = empties (asked_by instance table past request)
+
+-- whether one of later requests does, each after those before it
+abbrev pub some_later : (List Request → Request → Bool) → List Request → List Request → Bool
+some_later test [] past = false
+some_later test (request ∷ later) past = test (later ++ past) request || some_later test later past
 
 -- whether a hist trigger meets an emission: it is one of its event, and its filter holds
-abbrev pub meets : Definition → HistTrigger → Emitted → Bool
-meets event t e = bytes_eq event.name e.k.event.name && passes t.spec.filter e
+abbrev pub meets : HistTrigger → Emitted → Bool
+meets t e = bytes_eq t.event.name e.k.event.name && passes t.spec.filter e
 
--- a row is that of an emission that a trigger met after it was attached and last emptied, and while it was not paused
-pub record IsRowOfEmission (instance : Option (List ℕ)) (event : Definition) (t : HistTrigger) (past : List Request) (row : Hit) : Type 0 where
+-- a row is that of an emission that a trigger of a table met, which was there then, after the table was last emptied, and while it was not paused
+pub record IsRowOfEmission (instance : Option (List ℕ)) (table : ℕ) (past : List Request) (row : Hit) : Type 0 where
   pub later : List Request
   pub request : Request
   pub before : List Request
   pub cut : past ≡ later ++ request ∷ before
-  pub attached : t.number < length before
-  pub kept : list_any (clears instance event t) later ≡ false
-  pub active : is_paused instance event t before ≡ false
+  pub kept : some_later (clears instance table) later (request ∷ before) ≡ false
+  pub active : is_paused instance table before ≡ false
   pub e : Emitted
   pub emission : emitted before request ≡ Some e
-  pub met : meets event t e ≡ true
+  pub t : HistTrigger
+  pub there : Contains (hist_triggers instance before) t
+  pub counts : t.table ≡ table
+  pub met : meets t e ≡ true
   pub shown : row ≡ counted_hit t e
 
--- each row that a trigger counted is that of such an emission
+-- each row that a table counted is that of such an emission
 abbrev pub CountedRowsAreOfEmissions : Type 0
 CountedRowsAreOfEmissions =
-    (instance : Option (List ℕ)) (event : Definition) (t : HistTrigger) (past : List Request)
-    → All (IsRowOfEmission instance event t past) (hits_of instance event t past)
+    (instance : Option (List ℕ)) (table : ℕ) (past : List Request) → All (IsRowOfEmission instance table past) (hits_of instance table past)
 
 -- When such an emission comes, its row is counted once, after the rows that were counted before it. Whether the emission was recorded is not asked:
 -- its event may be disabled, the event's filter may not hold, recording may be off.
 abbrev pub EmissionsAreCountedOnce : Type 0
 EmissionsAreCountedOnce =
-    (instance : Option (List ℕ)) (event : Definition) (t : HistTrigger) (past : List Request) (request : Request) (e : Emitted)
-    → t.number < length past → is_paused instance event t past ≡ false → emitted past request ≡ Some e → meets event t e ≡ true
-    → hits_of instance event t (request ∷ past) ≡ hits_of instance event t past ++ counted_hit t e ∷ []
+    (instance : Option (List ℕ)) (past : List Request) (request : Request) (e : Emitted) → emitted past request ≡ Some e
+    → All (λ t. is_paused instance t.table past ≡ false → meets t e ≡ true
+    → hits_of instance t.table (request ∷ past) ≡ hits_of instance t.table past ++ counted_hit t e ∷ []) (hist_triggers instance past)
 
--- and until the trigger is emptied it stays counted there, whatever else is done
+-- and until the table is emptied it stays counted there, whatever else is done
 abbrev pub EmissionsAreCounted : Type 0
 EmissionsAreCounted =
-    (instance : Option (List ℕ)) (event : Definition) (t : HistTrigger) (later : List Request) (request : Request) (before : List Request) (e : Emitted)
-    → t.number < length before → list_any (clears instance event t) later ≡ false → is_paused instance event t before ≡ false
-    → emitted before request ≡ Some e → meets event t e ≡ true
-    → (rest : List Hit) × (hits_of instance event t (later ++ request ∷ before) ≡ hits_of instance event t before ++ counted_hit t e ∷ rest)
+    (instance : Option (List ℕ)) (later : List Request) (request : Request) (before : List Request) (e : Emitted) → emitted before request ≡ Some e
+    → All (λ t. some_later (clears instance t.table) later (request ∷ before) ≡ false → is_paused instance t.table before ≡ false → meets t e ≡ true
+    → (rest : List Hit) × (hits_of instance t.table (later ++ request ∷ before) ≡ hits_of instance t.table before ++ counted_hit t e ∷ rest))
+    (hist_triggers instance before)
 
--- until something is asked of a trigger that is paused, it stays so and counts nothing, whatever else is done
+-- until something is asked of a table that is paused, it stays so and counts nothing, whatever else is done
 abbrev pub PausesCountNothing : Type 0
 PausesCountNothing =
-    (instance : Option (List ℕ)) (event : Definition) (t : HistTrigger) (later past : List Request)
-    → t.number < length past → is_paused instance event t past ≡ true → list_any (asks instance event t) later ≡ false
-    → (is_paused instance event t (later ++ past) ≡ true) × (hits_of instance event t (later ++ past) ≡ hits_of instance event t past)
+    (instance : Option (List ℕ)) (table : ℕ) (later past : List Request) → is_paused instance table past ≡ true
+    → some_later (asks instance table) later past ≡ false
+    → (is_paused instance table (later ++ past) ≡ true) × (hits_of instance table (later ++ past) ≡ hits_of instance table past)
 
--- where a trigger is asked to be emptied, no row is left, and it is paused if it was before
+-- where a trigger is asked to empty its table, no row is left, and the table is paused if it was before
 abbrev pub ClearsLeaveNone : Type 0
 ClearsLeaveNone =
-    (instance : Option (List ℕ)) (event : Definition) (t : HistTrigger) (past : List Request) (text : List ℕ) (spec : SpecSeen)
-    → t.number < length past → said_of event text ≡ Ok (Hist spec) → IsSame spec t.spec → spec.action ≡ Clear
-    → (hits_of instance event t (WriteFile instance (Some (OfEvent event.name per_event.Trigger)) true text ∷ past) ≡ [])
-    × (is_paused instance event t (WriteFile instance (Some (OfEvent event.name per_event.Trigger)) true text ∷ past) ≡ is_paused instance event t past)
+    (instance : Option (List ℕ)) (past : List Request) (text : List ℕ) (spec : SpecSeen)
+    → All (λ t. said_of t.event text ≡ Ok (Hist spec) → IsSame spec t.spec → spec.action ≡ Clear
+    → (hits_of instance t.table (WriteFile instance (Some (OfEvent t.event.name per_event.Trigger)) true text ∷ past) ≡ [])
+    × (is_paused instance t.table (WriteFile instance (Some (OfEvent t.event.name per_event.Trigger)) true text ∷ past) ≡ is_paused instance t.table past))
+    (hist_triggers instance past)
 
--- A request that does not make the instance and does not write to the event's own trigger file in it leaves which hist triggers there are and which
--- of them are paused, and what they counted too, unless it is an emission: no switch and no filter of the event and nothing that another instance is
--- asked changes them.
+-- A request that does not make the instance and does not write to an event's trigger file in it leaves which hist triggers of the event there are and
+-- which of their tables are paused, and what these counted too, unless it is an emission: no switch and no filter of the event and nothing that another
+-- instance is asked changes them.
 abbrev pub OtherRequestsLeaveHistTriggers : Type 0
 OtherRequestsLeaveHistTriggers =
-    (instance : Option (List ℕ)) (event : Definition) (t : HistTrigger) (past : List Request) (request : Request)
-    → makes instance request ≡ false → written_to instance event request ≡ None → t.number < length past
+    (instance : Option (List ℕ)) (event : Definition) (past : List Request) (request : Request)
+    → makes instance request ≡ false → written_for event (written_to instance past request) ≡ None
     → (hists_of instance event (request ∷ past) ≡ hists_of instance event past)
-    × (is_paused instance event t (request ∷ past) ≡ is_paused instance event t past)
-    × (emitted past request ≡ None → hits_of instance event t (request ∷ past) ≡ hits_of instance event t past)
+    × All (λ t. (is_paused instance t.table (request ∷ past) ≡ is_paused instance t.table past)
+    × (emitted past request ≡ None → hits_of instance t.table (request ∷ past) ≡ hits_of instance t.table past)) (hists_of instance event past)
+
+-- a table begins with no row counted, and paused if the text that makes it asks for that
+abbrev pub TablesBeginEmpty : Type 0
+TablesBeginEmpty =
+    (instance : Option (List ℕ)) (past : List Request) (request : Request)
+    → All (λ t. t.table ≡ length past
+    → (hits_of instance t.table (request ∷ past) ≡ []) × (is_paused instance t.table (request ∷ past) ≡ is_pause t.spec.action))
+    (hist_triggers instance (request ∷ past))

@@ -16,6 +16,7 @@ use Rattle.trace_command.specs.declared.file_name.EventFile.TheVariants as per_e
 use Rattle.trace_command.specs.declared.refusal.Refusal.{Refusal}
 use Rattle.trace_command.specs.declared.refusal.Refusal.TheVariants.{TriggerExists}
 use Rattle.trace_history.specs.History.{trigger_answer}
+use Rattle.trace_history.specs.Settings.{event_named}
 use Rattle.trace_history.specs.Snapshots.{spare_armed}
 use Rattle.trace_book.specs.Changes.{IsOfOne, hists_changed, trigger_changed}
 use Rattle.trace_book.specs.Instances.{kept_trigger}
@@ -25,8 +26,10 @@ use Rattle.trace_book.specs.declared.change.TriggerChange.{TriggerChange}
 use Rattle.trace_book.specs.declared.change.TriggerChange.TheVariants.{Attach, AskHist}
 use Rattle.trace_book.specs.declared.write.WrittenText.{WrittenText}
 
--- what is kept of an event's triggers agrees with the requests
+-- the event is declared, and what is kept of its triggers agrees with the requests
 pub record AreKept (name : Option (List ℕ)) (past : List Request) (event : Definition) (triggers : EventTriggers) : Type 0 where
+  pub id : ℕ
+  pub named : event_named event.name past ≡ Some (record { id = id; event = event })
   pub snapshot : option_copied triggers.snapshot ≡ kept_trigger name past event
   pub hists : map kept_of triggers.hists.now ≡ kept_hists name past event
 

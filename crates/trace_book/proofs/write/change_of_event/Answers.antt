@@ -45,7 +45,7 @@ returns-in_err-change-in-Trigger-clause-change c = λ g name past number events 
     let within : index < length c.args.instance.now.hists = omega (arith, inside, c.requires.hists) in
     let event = c.event_at-in-Trigger.result.now in
     let at : event ≡ get_or (declared_events past) index event = rw events at c.event_at-in-Trigger.ensures in
-    let kept = kept-at g name past c.args.instance.now index event c.of-triggers.result stands (rw events at inside) within at
+    let kept = kept-at g name past c.args.instance.now index event c.of-triggers.result stands (rw events at distinct) (rw events at inside) within at
     c.of-triggers.ensures.snapshot c.of-triggers.ensures.hists in
     let out : c.from_residual-in_err-change-in-Trigger.result ≡ Err refused = search rules in
     rw (out, c.in-Trigger.is, events)
@@ -59,7 +59,7 @@ returns-in_ok-change-in-Trigger-clause-change c = λ g name past number events d
     let within : index < length c.args.instance.now.hists = omega (arith, inside, c.requires.hists) in
     let event = c.event_at-in-Trigger.result.now in
     let at : event ≡ get_or (declared_events past) index event = rw events at c.event_at-in-Trigger.ensures in
-    let kept = kept-at g name past c.args.instance.now index event c.of-triggers.result stands (rw events at inside) within at
+    let kept = kept-at g name past c.args.instance.now index event c.of-triggers.result stands (rw events at distinct) (rw events at inside) within at
     c.of-triggers.ensures.snapshot c.of-triggers.ensures.hists in
     rw (c.in-Trigger.is, events)
     (trigger-written g name past index event c.args.written c.in_ok-change-in-Trigger.change (rw events at distinct) (rw events at inside) at
