@@ -1,5 +1,5 @@
 -- Hist triggers one request later: those that are there before and after it, and what an own trigger file that is not written leaves of them.
-use Rattle.std.proofs.Common.{◌≡◌, ℕ, Bool, true, false, if◌then◌else◌, List, [], ◌∷◌, ◌++◌, length, map, Option, None, Some, refl, ap, ◌∙◌, subst, append-nil}
+use Rattle.std.proofs.Common.{◌≡◌, ℕ, false, if◌then◌else◌, List, [], ◌∷◌, ◌++◌, length, map, Option, None, refl, ap, ◌∙◌, subst, append-nil}
 use Rattle.std.specs.List.{AllByRecursion}
 use Rattle.trace_format.specs.Definitions.{Definition}
 use Rattle.trace_hist.specs.Groups.{grouped}

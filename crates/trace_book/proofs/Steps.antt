@@ -24,7 +24,6 @@ use Rattle.trace_history.specs.Settings.{declares, declared_events, event_named,
 use Rattle.trace_history.specs.Triggers as triggers
 use Rattle.trace_history.specs.Triggers.{sets_trigger, trigger_of}
 use Rattle.trace_history.proofs.Events.{named_in-fewer}
-use Rattle.trace_history.specs.HistTriggers as watched
 use Rattle.trace_history.specs.HistTriggers.{HistTrigger, Written, hists_of}
 use Rattle.trace_history.proofs.EventHists.{hists_of-after, hists_of-made, own_after}
 use Rattle.trace_history.proofs.OwnFiles.{own-none, own_written}

@@ -1,5 +1,5 @@
 -- A state that stands for a past is fit for one more command, and a new state stands for none.
-use Rattle.std.proofs.Common.{◌≡◌, ℕ, ◌+◌, ◌<◌, ◌≤◌, ◌^◌, nat_lt, Bool, true, false, not, ◌&&◌, if◌then◌else◌, List, [], ◌∷◌, ◌++◌, length, length-append, map, All, Option, Some, None, refl, sym, ap, ◌∙◌, subst, arith}
+use Rattle.std.proofs.Common.{◌≡◌, ℕ, ◌+◌, ◌<◌, ◌≤◌, ◌^◌, Bool, true, false, not, if◌then◌else◌, List, [], ◌∷◌, ◌++◌, length, length-append, map, All, Option, Some, None, refl, sym, ap, ◌∙◌, subst, arith}
 use Rattle.std.proofs.lemmas.List.{length-map}
 use Rattle.std.proofs.lemmas.List.Elements.{All-cons, All-nil, All-same}
 use Rattle.std.specs.List.{AllByRecursion, IsDistinct}
@@ -22,7 +22,6 @@ use Rattle.trace_history.specs.Emissions.{Emitted, emitted}
 use Rattle.trace_history.specs.HistTriggers.{HistTrigger, asked_by, counted_by, empties, hist_triggers, hists_of, hits_of, is_paused}
 use Rattle.trace_history.proofs.EventHists.{tables-own}
 use Rattle.trace_history.proofs.Tables.{HaveOwnTables, one-at_most}
-use Rattle.trace_history.specs.Triggers.{passes}
 use Rattle.trace_book.specs.KeptHists.{HasRoomToCount, KeptHist, kept_as, kept_hists, kept_of}
 use Rattle.trace_book.specs.declared.hists.AttachedHist.{AttachedHist}
 use Rattle.trace_book.specs.States.{HasFew, HasFewRows, IsUsable, IsUsableInstance, StandsFor, names_of}

@@ -1,20 +1,18 @@
 -- The hist triggers of one event, one request later: only what is written to the event's own trigger file changes which there are.
-use Rattle.std.proofs.Common.{◌≡◌, ℕ, suc, ◌<◌, Bool, true, false, not, ◌&&◌, if◌then◌else◌, List, [], ◌∷◌, ◌++◌, length, bytes_eq, Option, None, Some, Result, Ok, Err, option_map, refl, sym, ap, ◌∙◌, arith, append-nil}
+use Rattle.std.proofs.Common.{◌≡◌, ℕ, suc, Bool, true, false, not, ◌&&◌, if◌then◌else◌, List, [], ◌∷◌, ◌++◌, length, bytes_eq, Option, None, Some, Result, Ok, Err, refl, sym, ap, ◌∙◌, arith, append-nil}
 use Rattle.std.specs.List.{AllByRecursion, filter}
 use Rattle.std.proofs.lemmas.Bool.{false≢true}
 use Rattle.std.proofs.lemmas.List.Elements.{filter-append}
 use Rattle.std.proofs.lemmas.Slice.Eq.{bytes_eq-Decides}
 use Rattle.trace_format.specs.Definitions.{Definition}
-use Rattle.trace_trigger.specs.HistSpecs.{SpecSeen}
 use Rattle.trace_trigger.specs.TriggerTexts.{said_of}
 use Rattle.trace_trigger.specs.declared.fault.TriggerFault.{TriggerFault}
 use Rattle.trace_trigger.specs.declared.trigger.TriggerText.{TriggerText}
 use Rattle.trace_trigger.specs.declared.trigger.TriggerText.TheVariants.{Nothing, Attach, Remove, Hist, RemoveHist}
-use Rattle.trace_command.specs.Paths.{OfEvent}
-use Rattle.trace_command.specs.Requests.{Request, WriteFile}
+use Rattle.trace_command.specs.Requests.{Request}
 use Rattle.trace_history.specs.HistTriggers.{HistTrigger, Written, has_same, hist_triggers, hists_after, hists_of, hists_said, is_of, kept_by, left_by, new_hist, says_same, those_of, written_for, written_to}
-use Rattle.trace_history.specs.Settings.{NumberedEvent, event_named, is_same, makes}
-use Rattle.trace_history.proofs.Tables.{AreMadeBefore, HaveOwnTables, IsOneOf, each-one, made-filter, made-later, made-push, one-filter, own-filter, own-push}
+use Rattle.trace_history.specs.Settings.{makes}
+use Rattle.trace_history.proofs.Tables.{AreMadeBefore, HaveOwnTables, IsOneOf, each-one, made-filter, made-later, made-push, own-filter, own-push}
 
 -- ---- what becomes of an event's own hist triggers
 
@@ -101,7 +99,7 @@ differ-back one other differ = by (bytes_eq other one) refl
 
 -- ---- a text for the event
 
-own-left : (event : Definition) (append : Bool) (hists : List HistTrigger) → those_of event (left_by event append hists) ≡ kept_by append (those_of event hists)
+pub own-left : (event : Definition) (append : Bool) (hists : List HistTrigger) → those_of event (left_by event append hists) ≡ kept_by append (those_of event hists)
 own-left event true hists = refl
 own-left event false hists = filter-none (is_of event) (λ t. not (is_of event t)) (λ t is. ap not is) hists
 

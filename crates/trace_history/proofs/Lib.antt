@@ -11,6 +11,7 @@ pub mod EventHists
 pub mod OwnFiles
 pub mod HistTriggers
 pub mod TableSteps
+pub mod AttachedHists
 pub mod KeptEmissions
 pub mod LegalEvents
 pub mod OwnAnswers

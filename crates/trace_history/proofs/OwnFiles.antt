@@ -1,39 +1,23 @@
 -- What a request writes to the trigger file of one event, declared or not; and that each hist trigger is of a declared event.
-use Rattle.std.proofs.Common.{◌≡◌, ℕ, zero, suc, ◌+◌, ◌<◌, ◌≤◌, nat_lt, Bool, true, false, not, ◌&&◌, if◌then◌else◌, List, [], ◌∷◌, ◌++◌, length, get_or, All, bytes_eq, Option, None, Some, option_map, unwrap_or, IsOk, Result, Ok, Err, refl, sym, ap, ◌∙◌, subst, arith, true≢false, ltb-true}
-use Rattle.std.specs.Bool.{beq}
-use Rattle.std.specs.Cmp.Lexicographic.{pointwise}
-use Rattle.std.specs.List.{AllByRecursion, AllPairs, filter}
+use Rattle.std.proofs.Common.{◌≡◌, ℕ, Bool, true, false, not, ◌&&◌, if◌then◌else◌, List, [], ◌∷◌, ◌++◌, length, bytes_eq, Option, None, Some, option_map, unwrap_or, Result, Ok, Err, refl, sym, ap, ◌∙◌}
+use Rattle.std.specs.List.{AllByRecursion, filter}
 use Rattle.std.specs.Option.{option_to_list}
 use Rattle.std.proofs.lemmas.Bool.{false≢true}
-use Rattle.std.proofs.lemmas.List.{length-append}
-use Rattle.std.proofs.lemmas.List.Elements.{All-nil, All-append, All-filter}
-use Rattle.std.proofs.lemmas.List.Filters.{length-filter_both}
-use Rattle.std.proofs.lemmas.List.Folds.{list_any_at}
-use Rattle.std.proofs.lemmas.List.Kept.{AllPairs-cons, AllPairs-filter}
 use Rattle.std.proofs.lemmas.Slice.Eq.{bytes_eq-Decides}
 use Rattle.trace_format.specs.Definitions.{Definition}
-use Rattle.trace_trigger.specs.HistSpecs.{SpecSeen, written_of}
-use Rattle.trace_trigger.specs.SameSpecs.{IsSame, is_same as is_same_spec, same_sort_key, same_filter, filter_text}
-use Rattle.trace_trigger.specs.declared.spec.Action.{Action}
-use Rattle.trace_trigger.specs.declared.spec.Action.TheVariants as action
-use Rattle.trace_trigger.specs.declared.spec.SortKey.{SortKey}
+use Rattle.trace_trigger.specs.HistSpecs.{SpecSeen}
 use Rattle.trace_trigger.specs.TriggerTexts.{said_of}
 use Rattle.trace_trigger.specs.declared.fault.TriggerFault.{TriggerFault}
 use Rattle.trace_trigger.specs.declared.trigger.TriggerText.{TriggerText}
 use Rattle.trace_trigger.specs.declared.trigger.TriggerText.TheVariants.{Nothing, Attach, Remove, Hist, RemoveHist}
 use Rattle.trace_command.specs.Paths.{OfEvent}
 use Rattle.trace_command.specs.declared.file_name.EventFile.TheVariants as per_event
-use Rattle.trace_command.specs.Requests.{Request, WriteFile, request_of}
-use Rattle.trace_command.specs.declared.command.Config.{Config}
-use Rattle.trace_command.specs.declared.command.Entry.{Entry}
-use Rattle.trace_history.specs.History.{answer_with_room, missing_event, unless_refused, named_trigger_answer, trigger_answer, said_answer, new_hist_answer, room_answer, trigger_count, requests_of, IsLegalNewestFirst}
-use Rattle.trace_history.specs.HistTriggers.{HistTrigger, Written, says_same, has_same, is_of, kept_by, left_by, those_of, new_hist, hist_triggers, hists_said, written_for, written_to, hists_after, hists_of}
+use Rattle.trace_command.specs.Requests.{Request, WriteFile}
+use Rattle.trace_history.specs.HistTriggers.{HistTrigger, Written, says_same, has_same, is_of, left_by, those_of, new_hist, hist_triggers, hists_said, written_for, written_to, hists_after}
 use Rattle.trace_history.specs.Settings.{NumberedEvent, is_same, makes, set_by, event_named, declares, declared_events}
 use Rattle.trace_history.specs.Triggers.{Trigger, written_trigger, sets_trigger, trigger_of}
-use Rattle.trace_history.proofs.EventHists.{hists_of-after, hists_of-made, own_after, own_said}
-use Rattle.trace_history.proofs.Events.{named_in-fewer, place_of_id}
-use Rattle.trace_history.proofs.LegalEvents.{done-had_room, asked-done, named_in-more, named-is_numbered}
-use Rattle.trace_history.proofs.Spares.{same-instance}
+use Rattle.trace_history.proofs.Events.{place_of_id}
+use Rattle.trace_history.proofs.LegalEvents.{named_in-more, named-is_numbered}
 
 -- ---- names
 

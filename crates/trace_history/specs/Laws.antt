@@ -1,6 +1,6 @@
 -- What the words of the answers mean in legal histories, and after any requests what pipe reads consume and which records snapshots move. The newest
 -- entry comes first.
-use Rattle.std.specs.Prelude.{◌≡◌, ◌↔◌, ℕ, ◌==◌, ◌<◌, ◌≤◌, ℤ, Bool, IsTrue, true, false, ◌&&◌, ◌||◌, is_some, bytes_eq, List, [], ◌∷◌, ◌++◌, length, map, All, Option, Some, None, Ok}
+use Rattle.std.specs.Prelude.{◌≡◌, ◌↔◌, ℕ, ◌==◌, ◌<◌, ◌≤◌, ℤ, Bool, IsTrue, true, false, not, ◌&&◌, ◌||◌, is_some, bytes_eq, List, [], ◌∷◌, ◌++◌, length, map, All, Option, Some, None, Result, Ok}
 use Rattle.std.specs.List.{AllPairs, Contains, filter, list_any}
 use Rattle.page_ring.specs.Account.{Reading}
 use Rattle.trace_buffer.specs.Families.{CpuReading, on_cpu, cpu_readings}
@@ -14,7 +14,9 @@ use Rattle.trace_trigger.specs.SameSpecs.{IsSame}
 use Rattle.trace_trigger.specs.declared.spec.Action.TheVariants.{Clear}
 use Rattle.trace_text.specs.RecordText.{record_line, row_line}
 use Rattle.trace_trigger.specs.TriggerTexts.{said_of}
-use Rattle.trace_trigger.specs.declared.trigger.TriggerText.TheVariants.{Hist}
+use Rattle.trace_trigger.specs.declared.fault.TriggerFault.{TriggerFault}
+use Rattle.trace_trigger.specs.declared.trigger.TriggerText.{TriggerText}
+use Rattle.trace_trigger.specs.declared.trigger.TriggerText.TheVariants.{Hist, RemoveHist}
 use Rattle.trace_command.specs.Configs.{IsInRange}
 use Rattle.trace_history.specs.History.{trigger_count, requests_of, IsLegalNewestFirst}
 use Rattle.trace_command.specs.Paths.{OfInstance, OfCpu, OfEvent}
@@ -27,7 +29,7 @@ use Rattle.trace_history.specs.Rings.{new_rings, with_emitted, rings, other_ring
 use Rattle.trace_history.specs.Settings.{NumberedEvent, event_named, declared_events, filter_of, is_same, makes}
 use Rattle.trace_history.specs.Snapshots.{exchanges, has_spare}
 use Rattle.trace_history.specs.Triggers.{acts, passes, trigger_of, has_trigger}
-use Rattle.trace_history.specs.HistTriggers.{HistTrigger, hist_triggers, hists_of, written_to, written_for, asked_by, is_pause, is_paused, empties, counted_hit, hits_of}
+use Rattle.trace_history.specs.HistTriggers.{HistTrigger, Written, hist_triggers, hists_of, is_of, says_same, has_same, kept_by, new_hist, written_to, written_for, asked_by, is_pause, is_paused, empties, counted_hit, hits_of}
 use Rattle.trace_command.specs.declared.command.Config.{Config}
 use Rattle.trace_command.specs.declared.command.Entry.{Entry}
 
@@ -182,17 +184,55 @@ HistTriggersAreInOrder =
     → AllPairs (λ earlier later. earlier.number < later.number) (hists_of instance event past)
     × All (λ t. t.number < length past) (hists_of instance event past)
 
+-- whether one of later requests does something, each after those before it
+abbrev pub some_later : (List Request → Request → Bool) → List Request → List Request → Bool
+some_later test [] past = false
+some_later test (request ∷ later) past = test (later ++ past) request || some_later test later past
+
+-- a request attaches a hist trigger: what it writes for the trigger's event says what the trigger says, and none says the same of those that are left
+pub record IsAttachedBy (instance : Option (List ℕ)) (t : HistTrigger) (past : List Request) (request : Request) : Type 0 where
+  pub alive : makes instance request ≡ false
+  pub append : Bool
+  pub text : List ℕ
+  pub written : written_to instance past request ≡ Some (record { event = t.event; append = append; text = text })
+  pub said : said_of t.event text ≡ Ok (Hist t.spec)
+  pub new : has_same t.spec (kept_by append (hists_of instance t.event past)) ≡ false
+  pub is : t ≡ new_hist (length past) t.event t.spec
+
+-- whether a text removes a hist trigger
+abbrev pub removes : HistTrigger → Result TriggerText TriggerFault → Bool
+removes t (Ok (RemoveHist spec)) = says_same spec t
+removes t said = false
+
+-- whether what is written takes a hist trigger away: it is for its event, and by `>`, or it removes the trigger
+abbrev pub takes : HistTrigger → Option Written → Bool
+takes t None = false
+takes t (Some w) = is_of w.event t && (not w.append || removes t (said_of w.event w.text))
+
+-- whether a request does, which may also make the instance anew
+abbrev pub takes_away : Option (List ℕ) → HistTrigger → List Request → Request → Bool
+takes_away instance t past request = makes instance request || takes t (written_to instance past request)
+
+-- a hist trigger was attached, and not taken away since
+pub record IsAttached (instance : Option (List ℕ)) (t : HistTrigger) (past : List Request) : Type 0 where
+  pub later : List Request
+  pub request : Request
+  pub before : List Request
+  pub cut : past ≡ later ++ request ∷ before
+  pub by : IsAttachedBy instance t before request
+  pub stays : some_later (takes_away instance t) later (request ∷ before) ≡ false
+
+-- the hist triggers that are there are just those that were attached and not taken away since
+abbrev pub HistTriggersAreThoseAttached : Type 0
+HistTriggersAreThoseAttached =
+    (instance : Option (List ℕ)) (t : HistTrigger) (past : List Request) → Contains (hist_triggers instance past) t ↔ IsAttached instance t past
+
 -- whether a request asks something of a table, and whether it empties it
 abbrev pub asks : Option (List ℕ) → ℕ → List Request → Request → Bool
 asks instance table past request = is_some (asked_by instance table past request)
 
 abbrev pub clears : Option (List ℕ) → ℕ → List Request → Request → Bool
 clears instance table past request = empties (asked_by instance table past request)
-
--- whether one of later requests does, each after those before it
-abbrev pub some_later : (List Request → Request → Bool) → List Request → List Request → Bool
-some_later test [] past = false
-some_later test (request ∷ later) past = test (later ++ past) request || some_later test later past
 
 -- whether a hist trigger meets an emission: it is one of its event, and its filter holds
 abbrev pub meets : HistTrigger → Emitted → Bool

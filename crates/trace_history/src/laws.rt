@@ -5,7 +5,7 @@ ghost use Rattle.trace_history.specs.Examples.{small, IsAnswered, merged_reads, 
 ghost use Rattle.trace_history.specs.SnapshotExamples.{two_snapshots, counted_trigger, unlimited_trigger, removed_trigger, trigger_of_disabled_event, refused_triggers, sides_of_an_instance};
 ghost use Rattle.trace_history.specs.HistTriggerExamples.{shown_triggers, refused_hist_triggers, paused_and_cleared, counted_unrecorded, histograms_of_an_instance, removed_hist_triggers, hist_triggers_anew, four_triggers, triggers_of_two_events};
 ghost use Rattle.trace_history.specs.SettingExamples.{switched, filters_of_all, options_of_an_instance, recorded_by_its_settings, emptied, refused_in_order, eight_instances, short, full_history};
-ghost use Rattle.trace_history.specs.Laws.{FiltersAreOfTheirEvents, FiltersHoldAsTheirTrees, RecordsShowTheirRows, KeptRecordsShowEmissions, KeptSpareRecordsShowEmissions, SnapshotsSwapTheSides, TriggersSwapTheSides, SnapshotsStay, TriggersHaveTheirSpare, SparesBeginEmpty, PipeReadsConsumeWhatTheyShow, WholePipeReadsConsumeWhatTheyShow, AtMostFourTriggers, HistTriggersDiffer, HistTriggersAreInOrder, CountedRowsAreOfEmissions, EmissionsAreCountedOnce, EmissionsAreCounted, PausesCountNothing, ClearsLeaveNone, OtherRequestsLeaveHistTriggers, TablesBeginEmpty};
+ghost use Rattle.trace_history.specs.Laws.{FiltersAreOfTheirEvents, FiltersHoldAsTheirTrees, RecordsShowTheirRows, KeptRecordsShowEmissions, KeptSpareRecordsShowEmissions, SnapshotsSwapTheSides, TriggersSwapTheSides, SnapshotsStay, TriggersHaveTheirSpare, SparesBeginEmpty, PipeReadsConsumeWhatTheyShow, WholePipeReadsConsumeWhatTheyShow, AtMostFourTriggers, HistTriggersDiffer, HistTriggersAreInOrder, CountedRowsAreOfEmissions, EmissionsAreCountedOnce, EmissionsAreCounted, PausesCountNothing, ClearsLeaveNone, OtherRequestsLeaveHistTriggers, TablesBeginEmpty, HistTriggersAreThoseAttached};
 ghost use Rattle.trace_history.specs.TrailLaws.{TrailsHoldDoneCallsOnce, EachCallIsAnswered, LoneCallersAreAnswered, WornIsNoAnswer, MemoryIsNoAnswer};
 ghost use Rattle.trace_history.specs.TrailExamples.{FirstMakes, SecondMakes, ExactlyOneMakes};
 
@@ -54,10 +54,11 @@ pub fn pipe_reads_consume_what_they_show()
     trace_buffer::laws::reads_consume_what_they_take();
 }
 
-/// In a legal history an event has at most four triggers in an instance. No two of its hist triggers say the same, and they are in the order in
-/// which they were attached.
+/// In a legal history an event has at most four triggers in an instance. Its hist triggers are those that were attached and not taken away since; no
+/// two of them say the same, and they are in the order in which they were attached.
 pub fn triggers_are_few_and_differ()
     ensures few { AtMostFourTriggers }
+    ensures attached { HistTriggersAreThoseAttached }
     ensures differ { HistTriggersDiffer }
     ensures order { HistTriggersAreInOrder }
 {}

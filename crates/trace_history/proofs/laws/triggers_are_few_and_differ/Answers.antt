@@ -1,4 +1,5 @@
 use Rattle.trace_history.proofs.HistTriggers.{at_most_four_triggers, hist_triggers_differ, hist_triggers_are_in_order}
+use Rattle.trace_history.proofs.AttachedHists.{hist_triggers_are_those_attached}
 use Rattle.trace_history.proofs.laws.triggers_are_few_and_differ.Goals as goal
 
 pub returns-clause-few : goal.returns-clause-few
@@ -9,3 +10,6 @@ returns-clause-differ c = hist_triggers_differ
 
 pub returns-clause-order : goal.returns-clause-order
 returns-clause-order c = hist_triggers_are_in_order
+
+pub returns-clause-attached : goal.returns-clause-attached
+returns-clause-attached c = hist_triggers_are_those_attached
