@@ -66,8 +66,12 @@ class Starter:
         return run(self.words(words, settings, command), **how)
 
     def begin(self, words):
-        """Starts it, and waits for nothing."""
-        return subprocess.Popen(self.words(words), stdin=subprocess.DEVNULL, stdout=subprocess.PIPE, stderr=subprocess.PIPE)
+        """Starts it, and waits for nothing. What these tests were started by may have had SIGHUP ignored (nohup), which a shell could not trap."""
+
+        def heed():
+            signal.signal(signal.SIGHUP, signal.SIG_DFL)
+
+        return subprocess.Popen(self.words(words), stdin=subprocess.DEVNULL, stdout=subprocess.PIPE, stderr=subprocess.PIPE, preexec_fn=heed)
 
     def calls(self):
         """A line for each call of an `rt` that notes them."""
