@@ -2,7 +2,7 @@
 
 from cases.running import TOP, Outcome, case_of
 
-BESIDE = (".args", ".stdout", ".status", ".explained")
+BESIDE = (".args", ".stdout", ".status", ".explained", ".bars")
 
 
 def scripts_of(folder):

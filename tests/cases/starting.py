@@ -10,13 +10,14 @@ from collections import Counter
 from contextlib import contextmanager
 from pathlib import Path
 
+from cases.drawn import DRAWN, LINES
 from cases.running import BAD_VALUE, FAILED, SECONDS, SMALL, TOP, Case, Outcome, differences, quoted, run
 from cases.scripts import wanted
 from cases.words import bad_configurations, named, refusing, unopened_scripts, versioned, word_cases, wrong_words
 
 USAGE = b"""\
-usage: ./tracectl [--try] [--explain] [--cpus N] [--pages N] [--page-bytes N] SCRIPT
-       ./tracectl [--try] [--explain] [--cpus N] [--pages N] [--page-bytes N] -c LINE ..
+usage: ./tracectl [--try] [--explain] [--bars] [--cpus N] [--pages N] [--page-bytes N] SCRIPT
+       ./tracectl [--try] [--explain] [--bars] [--cpus N] [--pages N] [--page-bytes N] -c LINE ..
 """
 
 # What stands where `rt` is looked for. It runs in a crate's folder, two below the top.
@@ -25,7 +26,7 @@ LINKING = '[ "$1" != run ] || cp ../../kept out/tracectl'
 NOTING = 'echo "$PWD" >> ../../calls; sleep 0.1; ' + LINKING  # that was called
 HANGING = 'echo $$ >> ../../calls; exec sleep 100'
 TRYING = r'''[ "$*" = "try --steps 1" ] && ! grep -q clap ../../crates.txt || exit 1
-words=$(sed -nE 's/^ *(cpus|pages|page_bytes): ([0-9]+),$/--\1 \2/p; s/^use explained::.*/--explain/p' src/main.rt | tr _ -)
+words=$(sed -nE 's/^ *(cpus|pages|page_bytes): ([0-9]+),$/--\1 \2/p; s/^use explained::.*/--explain/p; s/^use drawn::.*/--bars/p' src/main.rt | tr _ -)
 "${0%/*}/../kept" $words -
 status=$?
 echo "run=ended status=$status proved=no" >&2
@@ -42,11 +43,12 @@ class Starter:
         self.top = Path(top)
         self.built = self.top / "crates" / "tracectl" / "out" / "tracectl"
         self.source = self.top / "crates" / "trace_words" / "src" / "words.rt"
-        explained = self.top / "crates" / "tracectl" / "src" / "explained.rt"
-        for place in (self.built.parent, self.source.parent, explained.parent, self.top / "commands"):
+        sources = self.top / "crates" / "tracectl" / "src"
+        for place in (self.built.parent, self.source.parent, sources, self.top / "commands"):
             place.mkdir(parents=True)
         shutil.copy(str(TOP / "crates" / "trace_words" / "src" / "words.rt"), str(self.source))
-        shutil.copy(str(TOP / "crates" / "tracectl" / "src" / "explained.rt"), str(explained))
+        for name in ("bars.rt", "drawn.rt", "explained.rt"):
+            shutil.copy(str(TOP / "crates" / "tracectl" / "src" / name), str(sources))
         shutil.copy(str(TOP / "tracectl"), top)
         shutil.copy(str(TOP / "crates.txt"), top)
         shutil.copy(str(program), str(self.built if is_built else self.top / "kept"))
@@ -140,6 +142,8 @@ def unbuilt_cases():
         want = want._replace(stderr=TRIED + want.stderr)
         return Case("unbuilt: ./tracectl " + named(words), lambda program: differences(started(words, rt=TRYING, is_built=False)(program), want))
 
+    refused, told = b"! %d: N1 NoSuchFile\n" % (len(LINES) + 1), b"  cat nothing\n  no file has this path\n"
+    both = Outcome(1, DRAWN.stdout + refused, DRAWN.stderr + told)
     wrong = [words for words, _ in wrong_words()] + [["--pages", "--try", "2", "-"], ["-c", "--try", "cat trace"], ["--cpus", "-1", "-"], ["--nonsense=1", "-"]]
     return (
         [Case("unbuilt: ./tracectl " + named(words), naming(words)) for words in wrong]
@@ -161,6 +165,8 @@ def unbuilt_cases():
             tried(["--cpus=3", "--try", "-c", "emit 3 7 tick n=1"], Outcome(1, b"! 1: N20 NoSuchCpu\n", b"")),
             tried(["--try", "-c", "emit 2 7 tick n=1", "--cpus", "3"], Outcome(1, b"! 1: N5 NoSuchEvent\n", b"")),
             tried(["-c", "cat nothing", "--explain", "--try"], Outcome(1, b"! 1: N1 NoSuchFile\n", b"  cat nothing\n  no file has this path\n")),
+            tried(["--bars", "-c"] + LINES + ["--try"], DRAWN),
+            tried(["--try", "--explain", "-c"] + LINES + ["cat nothing", "--bars"], both),
             Case("--try runs the session as the program does", session_of_the_first_look),
         ]
     )
@@ -170,7 +176,7 @@ def session_of_the_first_look(_):
     """The program that the starter writes for --try, which nothing checks, calls what the main function of crates/tracectl calls."""
     main, first_look = (TOP / "crates" / "tracectl" / "src" / "main.rt").read_text(), (TOP / "tracectl").read_text()
     calls = [set(re.findall(r"run_session\((?:&rt|threads), (.*?),? ?\)", " ".join(text.split()).replace("( ", "("))) for text in (main, first_look)]
-    made = [set(re.findall(r"(?:Explained|Output)::new\([a-z.(), ]*\)", text)) for text in (main, first_look)]
+    made = [set(re.findall(r"(?:Drawn|Explained|Output)::new\([a-z.(), ]*\)", text.replace("$", ""))) for text in (main, first_look)]
     return [] if calls[0] == calls[1] and made[0] == made[1] and calls[0] else ["other calls: %s %s" % (calls, made)]
 
 

@@ -27,7 +27,7 @@ def helping(got, program):
     """What is wrong with a help that was asked for: the three lines that it shows do what it says."""
     found = differences(got._replace(stdout=b""), Outcome(0, b"", b""))
     text = got.stdout.decode()
-    found += ["help lacks %s" % quoted(part) for part in ("--cpus <N>", "--page-bytes <N>", "[default: 4080]", "--explain ", "-c <LINE>...", "Exit status:") if part not in text]
+    found += ["help lacks %s" % quoted(part) for part in ("--cpus <N>", "--page-bytes <N>", "[default: 4080]", "--explain ", "--bars ", "-c <LINE>...", "Exit status:") if part not in text]
     lines, shown = [], None
     for line in text.splitlines():
         if line.startswith("These three lines"):
@@ -66,6 +66,9 @@ def wrong_words():
         (["--explain", "-", "--explain"], "cannot be used multiple times"),
         (["--explain=yes", "-"], "unexpected value 'yes' for '--explain' found"),
         (["--explain"], "required arguments were not provided"),
+        (["--bars", "--explain", "-", "--bars"], "cannot be used multiple times"),
+        (["--bars=#", "-"], "unexpected value '#' for '--bars' found"),
+        (["-c", "--bars"], "a value is required for '-c <LINE>...'"),
         (["--pages", "1", "--nonsense", "-"], "unexpected argument '--nonsense' found"),
         (["--pages", "1", "missing", "extra"], "unexpected argument 'extra' found"),
     ]

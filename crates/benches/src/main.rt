@@ -1,9 +1,11 @@
-//! Measures the ticket lock beside a mutex.
+//! Measures the ticket lock beside a mutex, and puts into a ring.
 //!
 //! Without words it makes short runs and prints how many turns were taken. With `turns` it prints the turns per second of 1, 2, 4 and 8 threads at a
-//! count, under the ticket lock and under a mutex, and how many turns of the mutex go on one of the lock.
+//! count, under the ticket lock and under a mutex, and how many turns of the mutex go on one of the lock. With `puts PAGE-BYTES COUNT` it puts so many
+//! records into a ring, so that its instructions can be counted.
 #![tactic(auto)]
 
+mod puts;
 mod run;
 mod turns;
 
@@ -33,12 +35,18 @@ fn measure_turns<R: Threads + Wait + Clock + Print + AllocGlobal + Sync>(rt: &R)
     Ok(())
 }
 
+fn put_records<R: Print + AllocGlobal>(rt: &R, page_bytes: &str, count: &str) -> Result<()> {
+    let stats = puts::put_many(rt.alloc(), page_bytes == "4080", count.parse::<u32>()?)?;
+    println!(rt; "entries {}, overrun {}", stats.entries, stats.overrun)?;
+    Ok(())
+}
+
 fn main(rt: HostRuntime) -> Result<()> {
-    let Some(word) = env::args(&rt)?.nth(1) else {
-        return show_counts(&rt);
-    };
-    match word.as_str() {
-        "turns" => measure_turns(&rt),
-        _ => Err(anyhow!("the word is turns")),
+    let words: Vec<String> = env::args(&rt)?.skip(1).collect(rt.alloc())?;
+    match words.len() {
+        0 => show_counts(&rt),
+        1 if words[0].as_str() == "turns" => measure_turns(&rt),
+        3 if words[0].as_str() == "puts" => put_records(&rt, words[1].as_str(), words[2].as_str()),
+        _ => Err(anyhow!("the words are turns, or puts PAGE-BYTES COUNT")),
     }
 }

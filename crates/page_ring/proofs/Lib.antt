@@ -1,6 +1,9 @@
+mod PackedFacts
+mod PageBytesFacts
 mod PageFacts
 mod SoundFacts
 mod Moves
+mod BufferFacts
 mod Steps
 mod Bridge
 mod Stands

@@ -1,28 +1,29 @@
 -- What an append and a move of the tail leave: the unread records, and the pages in order.
-use Rattle.std.proofs.Common.{◌≡◌, ◌≢◌, ℕ, ◌+◌, ◌<◌, ◌≤◌, true, false, if◌then◌else◌, List, [], ◌∷◌, ◌++◌, length, map, flat_map, sum_by, Option, Some, None, refl, sym, ap, ◌∙◌, inl, inr, arith, append_assoc}
-use Rattle.std.specs.Vec.{vec_len}
-use Rattle.std.proofs.Common.{Vec, Global}
+use Rattle.std.proofs.Common.{◌≡◌, ◌≢◌, ℕ, ◌+◌, ◌<◌, ◌≤◌, true, false, List, [], ◌∷◌, ◌++◌, length, map, flat_map, sum_by, Option, Some, None, refl, sym, ap, ◌∙◌, subst, inl, inr, arith, append_assoc}
 use Rattle.std.proofs.lemmas.Bool.{cases_Bool, eqb-true, eqb-false, false≢true}
 use Rattle.std.proofs.lemmas.Bool.Decides.{leb_tells}
 use Rattle.std.proofs.lemmas.List.{append-nil, map-append}
 use Rattle.std.proofs.lemmas.List.Sums.{sum_by_push}
 use Rattle.std.proofs.lemmas.List.Concat.{flat_map-append}
-use Rattle.page_ring.specs.declared.pages.Stored.{Stored}
-use Rattle.page_ring.specs.declared.pages.Page.{Page}
+use Rattle.page_ring.specs.StoredPage.{Stored, StoredPage}
 use Rattle.page_ring.specs.declared.pages.Pages.{Pages}
 use Rattle.page_ring.specs.Cut.{Accepted}
 use Rattle.page_ring.specs.Account.{is_reader_page}
 use Rattle.page_ring.specs.Pages.{on_page, stored, kept_in, bytes_on, IsCircle, cleared}
+use Rattle.page_ring.specs.PageBuffers.{SameBuffers}
+use Rattle.page_ring.specs.Writes.{MovesTail, Appends as WritesTo}
 use Rattle.page_ring.specs.Sound.{IsArranged, page_after}
 use Rattle.page_ring.proofs.PageFacts.{circle_moved, circle_lower}
 
--- what `append` ensures
+-- a record of this number is written on the tail page
 pub record Appends (old new : Pages) (number : ℕ) (bytes : List ℕ) : Type 0 where
   pub tail_number : new.tail.number ≡ old.tail.number
   pub tail_filled : new.tail.filled ≡ old.tail.filled + length bytes
-  pub tail_records : map (on_page old.tail.number) new.tail.records.items ≡ map (on_page old.tail.number) old.tail.records.items ++ record { number = number; page = old.tail.number; bytes = bytes } ∷ []
+  pub tail_records : map (on_page old.tail.number) new.tail.records ≡ map (on_page old.tail.number) old.tail.records ++ record { number = number; page = old.tail.number; bytes = bytes } ∷ []
+  pub tail_next : new.tail.next ≡ number + 1
   pub circle : new.circle.items ≡ old.circle.items
   pub reader : new.reader ≡ old.reader
+  pub buffers : SameBuffers old new
 
 pub stored_appended : (old new : Pages) (number : ℕ) (bytes : List ℕ) → Appends old new number bytes → stored new.tail ≡ stored old.tail ++ record { number = number; page = old.tail.number; bytes = bytes } ∷ []
 stored_appended old new number bytes h = rw (h.tail_number) h.tail_records
@@ -45,16 +46,8 @@ arranged_appended pages reader old new number bytes h a = record {
       h.tail_filled ∙ ap (λ (n : ℕ). n + length bytes) was ∙ sym (ap (sum_by (λ r. length r.bytes)) (stored_appended old new number bytes h) ∙ sum_by_push (λ (r : Accepted). length r.bytes) (stored old.tail) _);
 }
 
--- what `move_tail` ensures
-pub record MovesTail (pages : ℕ) (reader_page : Option ℕ) (old new : Pages) : Type 0 where
-  pub tail_number : new.tail.number ≡ old.tail.number + 1
-  pub tail_filled : new.tail.filled ≡ 0
-  pub tail_records : new.tail.records.items ≡ []
-  pub reader : new.reader ≡ (if is_reader_page reader_page old.tail.number then old.tail else old.reader)
-  pub circle : new.circle.items ≡ cleared pages old.tail.number old.circle.items ++ (if is_reader_page reader_page old.tail.number then [] else old.tail ∷ [])
-
 -- behind a reader on the tail page there is no circle
-pub no_circle : (pages tail low : ℕ) (ps : List Page) → tail < low → IsCircle pages tail low ps → ps ≡ []
+pub no_circle : (pages tail low : ℕ) (ps : List StoredPage) → tail < low → IsCircle pages tail low ps → ps ≡ []
 no_circle pages tail low [] l h = refl
 no_circle pages tail low (p ∷ ps) l h = let a : low ≤ p.number = h.0 in let b : p.number < tail = h.1 in absurd (omega arith)
 
@@ -88,7 +81,7 @@ kept_moved pages reader old new h a =
           let on_tail = is_reader_page-true reader old.tail.number t in
           let beyond : old.tail.number < page_after reader = rw on_tail (omega arith) in
           let circle = no_circle pages old.tail.number (page_after reader) old.circle.items beyond a.circle in
-          let first = no_reader reader old.tail.number old.reader.number old.reader.records.items on_tail a.reader in
+          let first = no_reader reader old.tail.number old.reader.number old.reader.records on_tail a.reader in
           let reader_is : new.reader ≡ old.tail = rw t at h.reader in
           let circle_is : new.circle.items ≡ [] = rw (t, circle) at h.circle in
           rw (reader_is, circle_is, h.tail_records, circle, first, append-nil) (append-nil (stored old.tail))
@@ -98,7 +91,7 @@ kept_moved pages reader old new h a =
           rw (reader_is, circle_is, h.tail_records, flat_map-append, append-nil, append-nil) (sym (append_assoc (stored old.reader) _ (stored old.tail)))
     ]
 
-pub moved_circle : (pages tail low : ℕ) (ps : List Page) (old : Page) → 2 ≤ pages → low ≤ tail → IsCircle pages tail low ps → old.number ≡ tail → old.filled ≡ bytes_on old → 0 < length old.records.items → IsCircle pages (tail + 1) low (cleared pages tail ps ++ old ∷ [])
+pub moved_circle : (pages tail low : ℕ) (ps : List StoredPage) (old : StoredPage) → 2 ≤ pages → low ≤ tail → IsCircle pages tail low ps → old.number ≡ tail → old.filled ≡ bytes_on old → 0 < length old.records → IsCircle pages (tail + 1) low (cleared pages tail ps ++ old ∷ [])
 moved_circle pages tail low [] old two l h n f e = circle_moved pages tail low [] old two l h (λ k. absurd (omega arith)) n f e
 moved_circle pages tail low (head ∷ rest) old two l h n f e =
     let a : low ≤ head.number = h.0 in
@@ -135,18 +128,26 @@ arranged_moved pages reader old new two filled h a =
           let whole = a.tail_unread f in
           record {
             reader_behind = behind;
-            circle = rw (circle_is, h.tail_number) (moved_circle pages old.tail.number (page_after reader) old.circle.items old.tail two (is_reader_page-false reader old.tail.number f low) a.circle refl whole (has_records old.tail.number old.tail.filled old.tail.records.items filled whole));
+            circle = rw (circle_is, h.tail_number) (moved_circle pages old.tail.number (page_after reader) old.circle.items old.tail two (is_reader_page-false reader old.tail.number f low) a.circle refl whole (has_records old.tail.number old.tail.filled old.tail.records filled whole));
             reader = λ k. let was = a.reader (rw reader_is at k) in rw (reader_is, h.tail_number) (was.0, let less : old.reader.number < old.tail.number = was.1 in omega arith);
             tail_unread = λ _. unread;
           }
     ]
 
--- from the clauses of `append`
-pub appends_from : (old new : Pages) (number : ℕ) (bytes : Vec ℕ Global) (rec : List ℕ) → bytes.items ≡ rec → new.tail.number ≡ old.tail.number → new.tail.filled ≡ old.tail.filled + vec_len bytes → new.tail.records.items ≡ old.tail.records.items ++ record { number = number; bytes = bytes } ∷ [] → new.circle ≡ old.circle → new.reader ≡ old.reader → Appends old new number rec
-appends_from old new number bytes rec same n f rs circle reader = record {
-  tail_number = n;
-  tail_filled = f ∙ ap (λ (k : ℕ). old.tail.filled + k) (bytes.ok.0 ∙ ap length same);
-  tail_records = rw (rs, map-append) (ap (λ (b : List ℕ). map (on_page old.tail.number) old.tail.records.items ++ record { number = number; page = old.tail.number; bytes = b } ∷ []) same);
-  circle = rw circle refl;
-  reader = reader;
+-- from what `append` ensures
+pub appends_from : (old new : Pages) (number : ℕ) (bytes : List ℕ) → old.tail.next ≡ number → WritesTo old new bytes → Appends old new number bytes
+appends_from old new number bytes next h = record {
+  tail_number = h.tail.number;
+  tail_filled = h.tail.filled;
+  tail_records = ap (map (on_page old.tail.number)) h.tail.records ∙ rw (map-append, next) refl;
+  tail_next = h.tail.next ∙ ap (λ (n : ℕ). n + 1) next;
+  circle = ap (λ (p : Pages). p.circle.items) h.others;
+  reader = ap (λ (p : Pages). p.reader) h.others;
+  buffers = subst (SameBuffers old) (sym h.others) (record {
+    count = λ pages b. record { count = b.count; circle_room = b.circle_room; spare_room = b.spare_room };
+    room = λ page_bytes b.
+        let enough : page_bytes ≤ old.tail.room = b.tail in
+        let more : old.tail.room ≤ new.tail.room = h.tail.room in
+        record { reader = b.reader; circle = b.circle; tail = omega arith; spare = b.spare };
+  });
 }

@@ -1,17 +1,16 @@
 -- What the pages of a ring keep and lose where the tail moves on.
-use Rattle.std.proofs.Common.{◌≡◌, ℕ, ◌+◌, ◌*◌, ◌<◌, ◌≤◌, leb, eqb, Bool, true, false, not, List, [], ◌∷◌, ◌++◌, length, map, filter, flat_map, sum_by, Option, Some, None, refl, sym, ap, ◌∙◌, inl, inr, arith, length-append}
+use Rattle.std.proofs.Common.{◌≡◌, ℕ, ◌+◌, ◌*◌, ◌<◌, ◌≤◌, nat_lt, leb, eqb, Bool, true, false, not, List, [], ◌∷◌, ◌++◌, length, map, filter, flat_map, sum_by, Option, Some, None, refl, sym, ap, ◌∙◌, inl, inr, arith, length-append}
 use Rattle.std.specs.List.{AllByRecursion}
-use Rattle.std.proofs.lemmas.Bool.{le-leb, lt-leb, ne_eqb, cases_Bool, eq-eqb, and_right, not_from_true, not_from_false}
+use Rattle.std.proofs.lemmas.Bool.{le-leb, lt-leb, lt-ltb, ne_eqb, cases_Bool, eq-eqb, and_right, not_from_true, not_from_false}
 use Rattle.std.proofs.lemmas.Bool.Decides.{leb_tells}
 use Rattle.std.proofs.lemmas.List.{append-nil, length-map}
 use Rattle.std.proofs.lemmas.List.Elements.{filter-append}
 use Rattle.std.proofs.lemmas.List.Sums.{sum_by-cons}
 use Rattle.std.proofs.lemmas.List.Concat.{flat_map-append}
-use Rattle.page_ring.specs.declared.pages.Stored.{Stored}
-use Rattle.page_ring.specs.declared.pages.Page.{Page}
+use Rattle.page_ring.specs.StoredPage.{Stored, StoredPage}
 use Rattle.page_ring.specs.Cut.{Accepted}
 use Rattle.page_ring.specs.Account.{is_overrun}
-use Rattle.page_ring.specs.Pages.{on_page, stored, bytes_on, IsCircle, overrun_head, cleared}
+use Rattle.page_ring.specs.Pages.{on_page, stored, bytes_on, IsCircle, head_is_in_the_way, overrun_head, cleared}
 use Rattle.page_ring.specs.Sound.{IsRising, IsStorable, page_after}
 
 -- a filter that keeps all, and one that keeps none
@@ -58,24 +57,24 @@ far_gone pages (Some reader) n page rs h k =
     all_stored (λ r. is_overrun pages (Some reader) n r ≡ true) page (λ r. rw (le-leb (page + pages) n h, ne_eqb reader page (λ e. absurd (omega arith)))) rs
 
 -- the circle's pages are all near the tail
-pub circle_left_at_tail : (pages tail low : ℕ) (reader : Option ℕ) (ps : List Page) → IsCircle pages tail low ps → AreLeft pages reader tail (flat_map stored ps)
+pub circle_left_at_tail : (pages tail low : ℕ) (reader : Option ℕ) (ps : List StoredPage) → IsCircle pages tail low ps → AreLeft pages reader tail (flat_map stored ps)
 circle_left_at_tail pages tail low reader [] h = tt
 circle_left_at_tail pages tail low reader (p ∷ ps) h =
-    all_append _ (stored p) (flat_map stored ps) (near_left pages reader tail p.number p.records.items h.2) (circle_left_at_tail pages tail (p.number + 1) reader ps h.5)
+    all_append _ (stored p) (flat_map stored ps) (near_left pages reader tail p.number p.records h.2) (circle_left_at_tail pages tail (p.number + 1) reader ps h.5)
 
 -- so they are near the next page, but for the head page
-pub circle_left_at_next : (pages tail low : ℕ) (reader : Option ℕ) (ps : List Page) → IsCircle pages tail low ps → tail + 1 < low + pages → AreLeft pages reader (tail + 1) (flat_map stored ps)
+pub circle_left_at_next : (pages tail low : ℕ) (reader : Option ℕ) (ps : List StoredPage) → IsCircle pages tail low ps → tail + 1 < low + pages → AreLeft pages reader (tail + 1) (flat_map stored ps)
 circle_left_at_next pages tail low reader [] h k = tt
 circle_left_at_next pages tail low reader (p ∷ ps) h k =
     let l : low ≤ p.number = h.0 in
-    all_append _ (stored p) (flat_map stored ps) (near_left pages reader (tail + 1) p.number p.records.items (omega arith)) (circle_left_at_next pages tail (p.number + 1) reader ps h.5 (omega arith))
+    all_append _ (stored p) (flat_map stored ps) (near_left pages reader (tail + 1) p.number p.records (omega arith)) (circle_left_at_next pages tail (p.number + 1) reader ps h.5 (omega arith))
 
-pub circle_lower : (pages tail low low' : ℕ) (ps : List Page) → low ≤ low' → IsCircle pages tail low' ps → IsCircle pages tail low ps
+pub circle_lower : (pages tail low low' : ℕ) (ps : List StoredPage) → low ≤ low' → IsCircle pages tail low' ps → IsCircle pages tail low ps
 circle_lower pages tail low low' [] l h = tt
 circle_lower pages tail low low' (p ∷ ps) l h = let k : low' ≤ p.number = h.0 in (omega arith, h.1, h.2, h.3, h.4, h.5)
 
 -- the tail moves on, and its old page joins the circle
-pub circle_moved : (pages tail low : ℕ) (ps : List Page) (old : Page) → 2 ≤ pages → low ≤ tail → IsCircle pages tail low ps → ((0 < length ps) → tail + 1 < low + pages) → old.number ≡ tail → old.filled ≡ bytes_on old → 0 < length old.records.items → IsCircle pages (tail + 1) low (ps ++ old ∷ [])
+pub circle_moved : (pages tail low : ℕ) (ps : List StoredPage) (old : StoredPage) → 2 ≤ pages → low ≤ tail → IsCircle pages tail low ps → ((0 < length ps) → tail + 1 < low + pages) → old.number ≡ tail → old.filled ≡ bytes_on old → 0 < length old.records → IsCircle pages (tail + 1) low (ps ++ old ∷ [])
 circle_moved pages tail low [] old two l h k n f e =
     (omega arith, omega arith, omega arith, f, e, tt)
 circle_moved pages tail low (p ∷ ps) old two l h k n f e =
@@ -85,14 +84,14 @@ circle_moved pages tail low (p ∷ ps) old two l h k n f e =
     (a, omega arith, omega arith, h.3, h.4, circle_moved pages tail (p.number + 1) ps old two (omega arith) h.5 (λ _. omega arith) n f e)
 
 -- the head page goes if it is in the way, and the others stay
-pub circle_split : (pages tail : ℕ) (reader : Option ℕ) (ps : List Page) → IsCircle pages tail (page_after reader) ps → AreGone pages reader (tail + 1) (flat_map stored (overrun_head pages tail ps)) × AreLeft pages reader (tail + 1) (flat_map stored (cleared pages tail ps)) × (ps ≡ overrun_head pages tail ps ++ cleared pages tail ps)
+pub circle_split : (pages tail : ℕ) (reader : Option ℕ) (ps : List StoredPage) → IsCircle pages tail (page_after reader) ps → AreGone pages reader (tail + 1) (flat_map stored (overrun_head pages tail ps)) × AreLeft pages reader (tail + 1) (flat_map stored (cleared pages tail ps)) × (ps ≡ overrun_head pages tail ps ++ cleared pages tail ps)
 circle_split pages tail reader [] h = (tt, tt, refl)
 circle_split pages tail reader (head ∷ rest) h =
     let low : page_after reader ≤ head.number = h.0 in
     let near : tail < head.number + pages = h.2 in
     elim (leb_tells (head.number + pages) (tail + 1)) [
       | inl t ↦ rw (t.0) (
-        all_append _ (stored head) [] (far_gone pages reader (tail + 1) head.number head.records.items t.1 low) tt,
+        all_append _ (stored head) [] (far_gone pages reader (tail + 1) head.number head.records t.1 low) tt,
         circle_left_at_next pages tail (head.number + 1) reader rest h.5 (omega arith),
         refl,
       )
@@ -112,7 +111,7 @@ filter_gone p r g l t hr hg hl ht =
     )
 
 -- what the kept records lose and keep where the tail moves on
-pub moved_records : (pages tail : ℕ) (reader : Option ℕ) (r t : List Accepted) (ps : List Page) → IsCircle pages tail (page_after reader) ps → AreLeft pages reader (tail + 1) r → AreLeft pages reader (tail + 1) t → (filter (is_overrun pages reader (tail + 1)) ((r ++ flat_map stored ps) ++ t) ≡ flat_map stored (overrun_head pages tail ps)) × (filter (λ x. not (is_overrun pages reader (tail + 1) x)) ((r ++ flat_map stored ps) ++ t) ≡ (r ++ flat_map stored (cleared pages tail ps)) ++ t)
+pub moved_records : (pages tail : ℕ) (reader : Option ℕ) (r t : List Accepted) (ps : List StoredPage) → IsCircle pages tail (page_after reader) ps → AreLeft pages reader (tail + 1) r → AreLeft pages reader (tail + 1) t → (filter (is_overrun pages reader (tail + 1)) ((r ++ flat_map stored ps) ++ t) ≡ flat_map stored (overrun_head pages tail ps)) × (filter (λ x. not (is_overrun pages reader (tail + 1) x)) ((r ++ flat_map stored ps) ++ t) ≡ (r ++ flat_map stored (cleared pages tail ps)) ++ t)
 moved_records pages tail reader r t ps h hr ht =
     let s = circle_split pages tail reader ps h in
     let parts : flat_map stored ps ≡ flat_map stored (overrun_head pages tail ps) ++ flat_map stored (cleared pages tail ps) =
@@ -121,7 +120,7 @@ moved_records pages tail reader r t ps h hr ht =
     rw parts f
 
 -- how many records and bytes go with the head page
-pub lost_count : (pages tail : ℕ) (ps : List Page) → sum_by (λ p. length p.records.items) (overrun_head pages tail ps) ≡ length (flat_map stored (overrun_head pages tail ps))
+pub lost_count : (pages tail : ℕ) (ps : List StoredPage) → sum_by (λ p. length p.records) (overrun_head pages tail ps) ≡ length (flat_map stored (overrun_head pages tail ps))
 lost_count pages tail [] = refl
 lost_count pages tail (head ∷ rest) =
     elim (cases_Bool (leb (head.number + pages) (tail + 1))) [
@@ -129,11 +128,21 @@ lost_count pages tail (head ∷ rest) =
       | inr f ↦ rw f refl
     ]
 
-pub lost_size : (pages tail low : ℕ) (ps : List Page) → IsCircle pages tail low ps → sum_by (λ p. p.filled) (overrun_head pages tail ps) ≡ sum_by (λ r. length r.bytes) (flat_map stored (overrun_head pages tail ps))
+pub lost_size : (pages tail low : ℕ) (ps : List StoredPage) → IsCircle pages tail low ps → sum_by (λ p. p.filled) (overrun_head pages tail ps) ≡ sum_by (λ r. length r.bytes) (flat_map stored (overrun_head pages tail ps))
 lost_size pages tail low [] h = refl
 lost_size pages tail low (head ∷ rest) h =
     elim (cases_Bool (leb (head.number + pages) (tail + 1))) [
       | inl t ↦ rw t (rw append-nil (omega (arith, h.3)))
+      | inr f ↦ rw f refl
+    ]
+
+-- a head page that is in the way has records
+pub loses_head : (pages tail low : ℕ) (ps : List StoredPage) → IsCircle pages tail low ps → head_is_in_the_way pages tail ps ≡ nat_lt 0 (length (flat_map stored (overrun_head pages tail ps)))
+loses_head pages tail low [] h = refl
+loses_head pages tail low (head ∷ rest) h =
+    let some : 0 < length head.records = h.4 in
+    elim (cases_Bool (leb (head.number + pages) (tail + 1))) [
+      | inl t ↦ rw (t, append-nil, length-map) (sym (lt-ltb 0 (length head.records) some))
       | inr f ↦ rw f refl
     ]
 
@@ -175,6 +184,6 @@ storable_size (x ∷ xs) h =
     rw sum_by-cons (omega arith)
 
 -- each page of the circle has records
-pub circle_nonempty : (pages tail low : ℕ) (ps : List Page) → IsCircle pages tail low ps → AllByRecursion (λ p. 0 < length p.records.items) ps
+pub circle_nonempty : (pages tail low : ℕ) (ps : List StoredPage) → IsCircle pages tail low ps → AllByRecursion (λ p. 0 < length p.records) ps
 circle_nonempty pages tail low [] h = tt
 circle_nonempty pages tail low (p ∷ ps) h = (h.4, circle_nonempty pages tail (p.number + 1) ps h.5)

@@ -1,22 +1,21 @@
 -- What follows for a sound ring.
-use Rattle.std.proofs.Common.{◌≡◌, ℕ, ◌+◌, ◌-◌, ◌<◌, ◌≤◌, not, List, [], ◌∷◌, ◌++◌, length, map, flat_map, sum_by, Option, Some, refl, sym, ap, ◌∙◌, subst, arith, length-append}
-use Rattle.std.specs.List.{AllByRecursion}
+use Rattle.std.proofs.Common.{◌≡◌, ℕ, ◌+◌, ◌-◌, ◌<◌, ◌≤◌, nat_lt, not, List, [], ◌∷◌, ◌++◌, length, map, flat_map, sum_by, Option, Some, refl, sym, ap, ◌∙◌, subst, arith, length-append}
 use Rattle.std.proofs.lemmas.Bool.{not_from_false}
-use Rattle.std.proofs.Common.{Vec, Global, ◌^◌}
-use Rattle.std.specs.declared.collections.VecDeque.{VecDeque}
+use Rattle.std.proofs.Common.{◌^◌}
 use Rattle.std.proofs.lemmas.List.Filters.{length-filter_both, sum_by-filter_both}
 use Rattle.std.proofs.lemmas.List.Sums.{sum_by_push}
 use Rattle.page_ring.specs.declared.pages.Pages.{Pages}
-use Rattle.page_ring.specs.declared.pages.Stored.{Stored}
+use Rattle.page_ring.specs.StoredPage.{Stored}
 use Rattle.page_ring.specs.declared.rings.Ring.TheInside.{Inside}
 use Rattle.page_ring.specs.Cut.{Accepted}
 use Rattle.page_ring.specs.Account.{is_overrun}
-use Rattle.page_ring.specs.Pages.{on_page, stored, kept_in, overrun_head, cleared}
-use Rattle.page_ring.specs.Sound.{IsSound, IsArranged, seen, IsRising, IsStorable, page_after}
+use Rattle.page_ring.specs.Pages.{on_page, stored, kept_in, head_is_in_the_way, overrun_head, cleared}
+use Rattle.page_ring.specs.Sound.{IsSound, seen, IsStorable, page_after}
 use Rattle.page_ring.specs.private.Step.{overrun_by, left_by, appended, moved}
 use Rattle.page_ring.specs.Shown.{Shown}
-use Rattle.page_ring.proofs.Moves.{MovesTail, Appends, kept_with, kept_moved, arranged_moved, arranged_appended}
-use Rattle.page_ring.proofs.PageFacts.{AreLeft, all_append, all_weaker, near_left, reader_left, circle_left_at_tail, filter_none, filter_all, moved_records, lost_count, lost_size, storable_size, rising_push, rising_filter, all_filter}
+use Rattle.page_ring.specs.Writes.{MovesTail}
+use Rattle.page_ring.proofs.Moves.{Appends, kept_appended, kept_with, kept_moved, arranged_moved, arranged_appended}
+use Rattle.page_ring.proofs.PageFacts.{AreLeft, all_append, all_weaker, near_left, reader_left, circle_left_at_tail, filter_none, filter_all, moved_records, lost_count, lost_size, loses_head, storable_size, rising_push, rising_filter, all_filter}
 
 -- what stands on the reader page is never overrun
 pub on_reader_left : (pages : ℕ) (reader : Option ℕ) (n page : ℕ) (rs : List Stored) → (0 < length rs → reader ≡ Some page) → AreLeft pages reader n (map (on_page page) rs)
@@ -30,9 +29,9 @@ all_left_at_tail a s =
     let n = a.pages.tail.number in
     all_append _ (stored a.pages.reader ++ flat_map stored a.pages.circle.items) (stored a.pages.tail)
     (all_append _ (stored a.pages.reader) (flat_map stored a.pages.circle.items)
-    (on_reader_left a.page_count a.reader_page n a.pages.reader.number a.pages.reader.records.items (λ k. (s.arranged.reader k).0))
+    (on_reader_left a.page_count a.reader_page n a.pages.reader.number a.pages.reader.records (λ k. (s.arranged.reader k).0))
     (circle_left_at_tail a.page_count n (page_after a.reader_page) a.reader_page a.pages.circle.items s.arranged.circle))
-    (near_left a.page_count a.reader_page n n a.pages.tail.records.items (let k : 2 ≤ a.page_count = s.two_pages in omega arith))
+    (near_left a.page_count a.reader_page n n a.pages.tail.records (let k : 2 ≤ a.page_count = s.two_pages in omega arith))
 
 pub none_at_tail : (a : Inside) → IsSound a → overrun_by a.page_count (seen a).shown a.pages.tail.number ≡ []
 none_at_tail a s = filter_none _ (kept_in a.pages) (all_left_at_tail a s)
@@ -46,15 +45,20 @@ pub at_next : (a : Inside) → IsSound a → (overrun_by a.page_count (seen a).s
 at_next a s =
     let n = a.pages.tail.number in
     moved_records a.page_count n a.reader_page (stored a.pages.reader) (stored a.pages.tail) a.pages.circle.items s.arranged.circle
-    (on_reader_left a.page_count a.reader_page (n + 1) a.pages.reader.number a.pages.reader.records.items (λ k. (s.arranged.reader k).0))
-    (near_left a.page_count a.reader_page (n + 1) n a.pages.tail.records.items (let k : 2 ≤ a.page_count = s.two_pages in omega arith))
+    (on_reader_left a.page_count a.reader_page (n + 1) a.pages.reader.number a.pages.reader.records (λ k. (s.arranged.reader k).0))
+    (near_left a.page_count a.reader_page (n + 1) n a.pages.tail.records (let k : 2 ≤ a.page_count = s.two_pages in omega arith))
 
-pub lost_at_next : (a : Inside) → IsSound a → (lost : ℕ) → lost ≡ sum_by (λ p. length p.records.items) (overrun_head a.page_count a.pages.tail.number a.pages.circle.items) → lost ≡ length (overrun_by a.page_count (seen a).shown (a.pages.tail.number + 1))
+pub lost_at_next : (a : Inside) → IsSound a → (lost : ℕ) → lost ≡ sum_by (λ p. length p.records) (overrun_head a.page_count a.pages.tail.number a.pages.circle.items) → lost ≡ length (overrun_by a.page_count (seen a).shown (a.pages.tail.number + 1))
 lost_at_next a s lost h =
     h ∙ lost_count a.page_count a.pages.tail.number a.pages.circle.items ∙ ap length (sym (at_next a s).0)
 
+-- something goes exactly if the head page is in the way
+pub loses_at_next : (a : Inside) → IsSound a → head_is_in_the_way a.page_count a.pages.tail.number a.pages.circle.items ≡ nat_lt 0 (length (overrun_by a.page_count (seen a).shown (a.pages.tail.number + 1)))
+loses_at_next a s =
+    loses_head a.page_count a.pages.tail.number (page_after a.reader_page) a.pages.circle.items s.arranged.circle ∙ ap (λ (xs : List Accepted). nat_lt 0 (length xs)) (sym (at_next a s).0)
+
 -- the counts of what goes are within the counts of all
-pub lost_le_entries : (a : Inside) → IsSound a → (lost : ℕ) → lost ≡ sum_by (λ p. length p.records.items) (overrun_head a.page_count a.pages.tail.number a.pages.circle.items) → lost + length (left_by a.page_count (seen a).shown (a.pages.tail.number + 1)) ≡ a.entries
+pub lost_le_entries : (a : Inside) → IsSound a → (lost : ℕ) → lost ≡ sum_by (λ p. length p.records) (overrun_head a.page_count a.pages.tail.number a.pages.circle.items) → lost + length (left_by a.page_count (seen a).shown (a.pages.tail.number + 1)) ≡ a.entries
 lost_le_entries a s lost h =
     let gone = lost_at_next a s lost h in
     let both = length-filter_both (is_overrun a.page_count a.reader_page (a.pages.tail.number + 1)) (λ r. not (is_overrun a.page_count a.reader_page (a.pages.tail.number + 1) r)) (λ _. refl) (kept_in a.pages) in
@@ -77,65 +81,82 @@ bytes_small a s =
     let offered : a.accepted + a.dropped ≤ 2 ^ 32 = s.offered in
     omega arith
 
--- a ring stays sound where a record joins what is left
-pub sound_put : (a : Inside) (p : Pages) (left : List Accepted) (entries size : ℕ) (spare : VecDeque Stored Global) (buffer : Vec ℕ Global) (bytes : List ℕ)
-    → IsSound a → kept_in p ≡ left ++ record { number = a.accepted; page = p.tail.number; bytes = bytes } ∷ []
-    → IsRising a.next a.accepted left → AllByRecursion IsStorable left → entries ≡ length left → size ≡ sum_by (λ r. length r.bytes) left → entries ≤ a.entries
-    → IsArranged a.page_count a.reader_page p → p.tail.number ≤ a.accepted + 1 → p.tail.filled ≤ a.page_bytes
-    → 16 ≤ length bytes → length bytes ≤ 4080 → a.accepted + a.dropped < 2 ^ 32 → buffer.items ≡ []
-    → IsSound (record a { pages = p; entries = entries + 1; bytes = size + length bytes; accepted = a.accepted + 1; ready = 0; spare = spare; buffer = buffer })
-sound_put a p left entries size spare buffer bytes s kept numbered storable count sum less arranged number filled head short few no_buffer = record {
-  two_pages = s.two_pages;
-  few_pages = s.few_pages;
-  short_pages = s.short_pages;
-  entries = rw (kept, length-append) (omega arith);
-  bytes = rw (kept, sum_by_push (λ (r : Accepted). length r.bytes)) (omega arith);
-  numbered = rw kept (rising_push a.next a.accepted _ left s.next refl numbered);
-  storable = rw kept (all_append IsStorable left _ storable ((head, short), tt));
-  next = let k : a.next ≤ a.accepted = s.next in omega arith;
-  counted = let k : a.read + a.entries ≤ a.accepted = s.counted in omega arith;
-  offered = omega arith;
-  tail_number = number;
-  tail_filled = filled;
-  arranged = arranged;
-  buffer = no_buffer;
-  room = λ k. absurd (omega arith);
-}
+-- what the kept records are once the tail has moved on
+pub kept_left : (a : Inside) (p : Pages) → IsSound a → MovesTail a.page_count a.reader_page a.pages p → kept_in p ≡ left_by a.page_count (seen a).shown (a.pages.tail.number + 1)
+kept_left a p s moves = kept_moved a.page_count a.reader_page a.pages p moves s.arranged ∙ sym (at_next a s).1
 
--- a move of the tail and an append
-pub kept_next : (a : Inside) (mid end : Pages) (bytes : List ℕ) → IsSound a → MovesTail a.page_count a.reader_page a.pages mid → Appends mid end a.accepted bytes → kept_in end ≡ left_by a.page_count (seen a).shown (a.pages.tail.number + 1) ++ record { number = a.accepted; page = end.tail.number; bytes = bytes } ∷ []
-kept_next a mid end bytes s moves did =
-    kept_with mid end a.accepted bytes did ∙ ap (λ (xs : List Accepted). xs ++ record { number = a.accepted; page = end.tail.number; bytes = bytes } ∷ []) (kept_moved a.page_count a.reader_page a.pages mid moves s.arranged ∙ sym (at_next a s).1)
+shown_from : (x y : Shown) → x.kept ≡ y.kept → x.last_page ≡ y.last_page → x.last_filled ≡ y.last_filled → record y { kept = x.kept; last_page = x.last_page; last_filled = x.last_filled } ≡ y
+shown_from x y k p f = rw (k, p, f) refl
 
-pub sound_next : (a : Inside) (mid end : Pages) (lost lost_bytes : ℕ) (spare : VecDeque Stored Global) (buffer : Vec ℕ Global) (bytes : List ℕ)
-    → IsSound a → lost ≡ sum_by (λ p. length p.records.items) (overrun_head a.page_count a.pages.tail.number a.pages.circle.items)
+-- a ring stays sound where a record is written on the tail page
+pub sound_appended : (a : Inside) (p : Pages) (bytes : List ℕ) → IsSound a → Appends a.pages p a.accepted bytes
+    → 16 ≤ length bytes → a.pages.tail.filled + length bytes ≤ a.page_bytes → a.accepted + a.dropped < 2 ^ 32
+    → IsSound (record a { pages = p; entries = a.entries + 1; bytes = a.bytes + length bytes; accepted = a.accepted + 1 })
+sound_appended a p bytes s did head fits few =
+    let kept = kept_with a.pages p a.accepted bytes did in
+    let short : a.page_bytes ≤ 4080 = s.short_pages in
+    let count : a.entries ≡ length (kept_in a.pages) = s.entries in
+    let sum : a.bytes ≡ sum_by (λ r. length r.bytes) (kept_in a.pages) = s.bytes in
+    let number : p.tail.number ≡ a.pages.tail.number = did.tail_number in
+    let filled : p.tail.filled ≡ a.pages.tail.filled + length bytes = did.tail_filled in
+    let behind : a.pages.tail.number ≤ a.accepted = s.tail_number in
+    record {
+      two_pages = s.two_pages;
+      few_pages = s.few_pages;
+      short_pages = s.short_pages;
+      entries = rw (kept, length-append) (omega arith);
+      bytes = rw (kept, sum_by_push (λ (r : Accepted). length r.bytes)) (omega arith);
+      numbered = rw kept (rising_push a.next a.accepted _ (kept_in a.pages) s.next refl s.numbered);
+      storable = rw kept (all_append IsStorable (kept_in a.pages) _ s.storable ((head, omega arith), tt));
+      next = let k : a.next ≤ a.accepted = s.next in omega arith;
+      counted = let k : a.read + a.entries ≤ a.accepted = s.counted in omega arith;
+      offered = omega arith;
+      tail_number = omega arith;
+      tail_begun = λ _. omega arith;
+      tail_filled = omega arith;
+      tail_next = did.tail_next;
+      arranged = arranged_appended a.page_count a.reader_page a.pages p a.accepted bytes did s.arranged;
+      buffers = did.buffers.count a.page_count s.buffers;
+      room = did.buffers.room a.page_bytes s.room;
+    }
+
+pub shown_appended : (a : Inside) (p : Pages) (bytes : List ℕ) → Appends a.pages p a.accepted bytes → (seen (record a { pages = p; accepted = a.accepted + 1 })).shown ≡ appended (seen a).shown bytes
+shown_appended a p bytes did =
+    shown_from (seen (record a { pages = p; accepted = a.accepted + 1 })).shown (appended (seen a).shown bytes) (kept_appended a.pages p a.accepted bytes did) did.tail_number did.tail_filled
+
+-- and where the tail moves on
+pub sound_moved : (a : Inside) (p : Pages) (lost lost_bytes : ℕ) → IsSound a → lost ≡ sum_by (λ p. length p.records) (overrun_head a.page_count a.pages.tail.number a.pages.circle.items)
     → lost_bytes ≡ sum_by (λ p. p.filled) (overrun_head a.page_count a.pages.tail.number a.pages.circle.items)
-    → MovesTail a.page_count a.reader_page a.pages mid → Appends mid end a.accepted bytes
-    → 16 ≤ length bytes → length bytes ≤ a.page_bytes → a.page_bytes < a.pages.tail.filled + length bytes → a.accepted + a.dropped < 2 ^ 32 → buffer.items ≡ []
-    → IsSound (record a { pages = end; entries = a.entries - lost + 1; bytes = a.bytes - lost_bytes + length bytes; accepted = a.accepted + 1; ready = 0; spare = spare; buffer = buffer })
-sound_next a mid end lost lost_bytes spare buffer bytes s gone gone_bytes moves did head fits full few no_buffer =
+    → 0 < a.pages.tail.filled → MovesTail a.page_count a.reader_page a.pages p
+    → IsSound (record a { pages = p; entries = a.entries - lost; bytes = a.bytes - lost_bytes })
+sound_moved a p lost lost_bytes s gone gone_bytes filled moves =
     let left = left_by a.page_count (seen a).shown (a.pages.tail.number + 1) in
+    let kept : kept_in p ≡ left = kept_left a p s moves in
     let count = lost_le_entries a s lost gone in
     let sum = lost_le_bytes a s lost_bytes gone_bytes in
-    let two : 2 ≤ a.page_count = s.two_pages in
-    let short : a.page_bytes ≤ 4080 = s.short_pages in
-    let behind : a.pages.tail.number ≤ a.accepted = s.tail_number in
-    let number : mid.tail.number ≡ a.pages.tail.number + 1 = moves.tail_number in
-    let same : end.tail.number ≡ mid.tail.number = did.tail_number in
-    let none : mid.tail.filled ≡ 0 = moves.tail_filled in
-    let filled : end.tail.filled ≡ mid.tail.filled + length bytes = did.tail_filled in
-    sound_put a end left (a.entries - lost) (a.bytes - lost_bytes) spare buffer bytes s (kept_next a mid end bytes s moves did)
-    (rising_filter _ a.next a.accepted (kept_in a.pages) s.numbered) (all_filter IsStorable _ (kept_in a.pages) s.storable) (omega arith) (omega arith) (omega arith)
-    (arranged_appended a.page_count a.reader_page mid end a.accepted bytes did (arranged_moved a.page_count a.reader_page a.pages mid two (omega arith) moves s.arranged))
-    (omega arith) (omega arith) head (omega arith) few no_buffer
+    let number : p.tail.number ≡ a.pages.tail.number + 1 = moves.tail_number in
+    let none : p.tail.filled ≡ 0 = moves.tail_filled in
+    let begun : a.pages.tail.number < a.accepted = s.tail_begun filled in
+    record {
+      two_pages = s.two_pages;
+      few_pages = s.few_pages;
+      short_pages = s.short_pages;
+      entries = rw kept (omega arith);
+      bytes = rw kept (omega arith);
+      numbered = rw kept (rising_filter _ a.next a.accepted (kept_in a.pages) s.numbered);
+      storable = rw kept (all_filter IsStorable _ (kept_in a.pages) s.storable);
+      next = s.next;
+      counted = let k : a.read + a.entries ≤ a.accepted = s.counted in omega arith;
+      offered = s.offered;
+      tail_number = omega arith;
+      tail_begun = λ k. absurd (omega arith);
+      tail_filled = omega arith;
+      tail_next = moves.tail_next ∙ s.tail_next;
+      arranged = arranged_moved a.page_count a.reader_page a.pages p s.two_pages filled moves s.arranged;
+      buffers = moves.buffers.count a.page_count s.buffers;
+      room = moves.buffers.room a.page_bytes s.room;
+    }
 
-pub shown_next : (a : Inside) (mid end : Pages) (bytes : List ℕ) → IsSound a → MovesTail a.page_count a.reader_page a.pages mid → Appends mid end a.accepted bytes → (seen (record a { pages = end; accepted = a.accepted + 1 })).shown ≡ appended (moved a.page_count (seen a).shown) bytes
-shown_next a mid end bytes s moves did =
-    let number : end.tail.number ≡ a.pages.tail.number + 1 = did.tail_number ∙ moves.tail_number in
-    let filled : end.tail.filled ≡ 0 + length bytes = did.tail_filled ∙ ap (λ (n : ℕ). n + length bytes) moves.tail_filled in
-    let kept : kept_in end ≡ left_by a.page_count (seen a).shown (a.pages.tail.number + 1) ++ record { number = a.accepted; page = a.pages.tail.number + 1; bytes = bytes } ∷ [] =
-    kept_next a mid end bytes s moves did ∙ ap (λ (n : ℕ). left_by a.page_count (seen a).shown (a.pages.tail.number + 1) ++ record { number = a.accepted; page = n; bytes = bytes } ∷ []) number in
-    shown_from (seen (record a { pages = end; accepted = a.accepted + 1 })).shown (appended (moved a.page_count (seen a).shown) bytes) kept number filled
-  where
-    shown_from : (x y : Shown) → x.kept ≡ y.kept → x.last_page ≡ y.last_page → x.last_filled ≡ y.last_filled → record y { kept = x.kept; last_page = x.last_page; last_filled = x.last_filled } ≡ y
-    shown_from x y k p f = rw (k, p, f) refl
+pub shown_moved : (a : Inside) (p : Pages) → IsSound a → MovesTail a.page_count a.reader_page a.pages p → (seen (record a { pages = p })).shown ≡ moved a.page_count (seen a).shown
+shown_moved a p s moves =
+    shown_from (seen (record a { pages = p })).shown (moved a.page_count (seen a).shown) (kept_left a p s moves) moves.tail_number moves.tail_filled

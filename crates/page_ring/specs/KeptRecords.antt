@@ -4,7 +4,7 @@ use Rattle.page_ring.specs.Account.{Reading, readings_from}
 use Rattle.page_ring.specs.Pages.{on_page}
 use Rattle.page_ring.specs.Unread.{unread_left}
 use Rattle.page_ring.specs.Sound.{IsRising}
-use Rattle.page_ring.specs.declared.rings.KeptRecords.TheInside.{Inside}
+use Rattle.page_ring.specs.declared.kept_records.KeptRecords.TheInside.{Inside}
 
 abbrev pub readings_left : Inside → List Reading
 readings_left it = readings_from it.next (map (on_page 0) (unread_left it.unread))

@@ -1,9 +1,7 @@
 -- The definitions once more, in the words of the subject.
 use Rattle.std.specs.Prelude.{◌≡◌, ◌≢◌, ◌↔◌, ℕ, ◌+◌, ◌<◌, ◌≤◌, Bool, true, false, not, ◌&&◌, List, [], ◌∷◌, ◌++◌, length, drop, take, map, filter, count_by, sum_by, All, Option, Some, IsSomeAnd, slice_get, replicate}
 use Rattle.std.specs.List.{range_with_len}
-use Rattle.trace_record.specs.declared.head.Head.{Head}
 use Rattle.page_ring.specs.declared.rings.RingStats.{RingStats}
-use Rattle.trace_record.specs.Record.{head_of, timestamp}
 use Rattle.page_ring.specs.Events.{Event, Put, Take}
 use Rattle.page_ring.specs.Cut.{Accepted, cut, filled, last_page}
 use Rattle.page_ring.specs.Account.{Account, account, accepts, kept, is_taken, reader_page, readings_of, stats_of, first, Reading}

@@ -2,7 +2,14 @@ pub mod Events
 pub mod Cut
 pub mod Account
 pub mod Shown
+pub mod StoredPage
+pub mod Packed
+pub mod PageBytes
+pub mod PageRecords
+pub mod PageReads
 pub mod Pages
+pub mod PageBuffers
+pub mod Writes
 pub mod Sound
 pub mod Reads
 pub mod Unread

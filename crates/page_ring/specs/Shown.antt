@@ -16,12 +16,11 @@ pub record Shown : Type 0 where
   pub last_page : ℕ
   pub last_filled : ℕ
 
--- a ring as contracts see it: its shape, its visible facts, and the length of record that memory is at hand for
+-- a ring as contracts see it: its shape and its visible facts
 pub record Seen : Type 0 where
   pub pages : ℕ
   pub page_bytes : ℕ
   pub shown : Shown
-  pub ready : ℕ
 
 -- the visible facts of an account
 unfoldable pub shown_by : ℕ → Account → Shown

@@ -1,12 +1,11 @@
 -- How a ring's fields show, and what is true of them at every moment.
 use Rattle.std.specs.Prelude.{◌≡◌, ℕ, ◌+◌, ◌^◌, ◌<◌, ◌≤◌, List, [], ◌∷◌, length, sum_by, Option, Some, None, false, ⊤}
-use Rattle.std.specs.Vec.{vec_capacity}
-use Rattle.std.specs.VecDeque.{deque_len, deque_capacity}
 use Rattle.std.specs.List.{AllByRecursion}
 use Rattle.page_ring.specs.Cut.{Accepted}
 use Rattle.page_ring.specs.Shown.{Seen}
 use Rattle.page_ring.specs.Pages.{kept_in, bytes_on, IsCircle}
 use Rattle.page_ring.specs.Account.{is_reader_page}
+use Rattle.page_ring.specs.PageBuffers.{HasBuffers, IsRoomy}
 use Rattle.page_ring.specs.declared.pages.Pages.{Pages}
 use Rattle.page_ring.specs.declared.rings.Ring.TheInside.{Inside}
 
@@ -24,7 +23,6 @@ seen a = record {
     last_page = a.pages.tail.number;
     last_filled = a.pages.tail.filled;
   };
-  ready = a.ready;
 }
 
 -- the numbers of the records rise, from `low` up to but not including `high`
@@ -46,7 +44,7 @@ page_after (Some page) = page + 1
 pub record IsArranged (pages : ℕ) (reader_page : Option ℕ) (p : Pages) : Type 0 where
   pub reader_behind : page_after reader_page ≤ p.tail.number + 1
   pub circle : IsCircle pages p.tail.number (page_after reader_page) p.circle.items
-  pub reader : 0 < length p.reader.records.items → (reader_page ≡ Some p.reader.number) × (p.reader.number < p.tail.number)
+  pub reader : 0 < length p.reader.records → (reader_page ≡ Some p.reader.number) × (p.reader.number < p.tail.number)
   pub tail_unread : is_reader_page reader_page p.tail.number ≡ false → p.tail.filled ≡ bytes_on p.tail
 
 pub record IsSound (a : Inside) : Type 0 where
@@ -61,7 +59,9 @@ pub record IsSound (a : Inside) : Type 0 where
   pub counted : a.read + a.entries ≤ a.accepted
   pub offered : a.accepted + a.dropped ≤ 2 ^ 32
   pub tail_number : a.pages.tail.number ≤ a.accepted
+  pub tail_begun : 0 < a.pages.tail.filled → a.pages.tail.number < a.accepted
   pub tail_filled : a.pages.tail.filled ≤ a.page_bytes
+  pub tail_next : a.pages.tail.next ≡ a.accepted
   pub arranged : IsArranged a.page_count a.reader_page a.pages
-  pub buffer : a.buffer.items ≡ []
-  pub room : 0 < a.ready → (deque_len a.pages.circle < deque_capacity a.pages.circle) × (deque_len a.pages.tail.records < deque_capacity a.pages.tail.records) × (deque_len a.spare < deque_capacity a.spare) × (a.ready ≤ vec_capacity a.buffer)
+  pub buffers : HasBuffers a.page_count a.pages
+  pub room : IsRoomy a.page_bytes a.pages

@@ -7,9 +7,12 @@
 //! `laws` says it once more in the words of the subject.
 #![tactic(auto)]
 
+mod kept_records;
 pub mod laws;
+mod page;
 mod pages;
 mod rings;
 
-pub use rings::{Kept, KeptRecords, Put, Ring, RingStats};
+pub use kept_records::KeptRecords;
+pub use rings::{Kept, Put, Ring, RingStats};
 pub use trace_record::{Head, read_head, write_head};

@@ -14,17 +14,16 @@
 //!   page that is being read can't be overwritten, and the circle has all its pages for the writer.
 //! - If only the tail page has records, it is the page that is swapped out. It is the reader page and the tail page in one until the tail moves on.
 //!
-//! Which page a record is on depends on sizes alone, so `specs/Cut.antt` says it of the list of accepted records. The code keeps of each page its
-//! number, how many bytes came onto it, and its unread records; it keeps no page of the circle that has none.
+//! Which page a record is on depends on sizes alone, so `specs/Cut.antt` says it of the list of accepted records. The code has P + 1 pages of bytes for
+//! a circle of P, all made by `new`, and no other storage for records: `page.rt` has one of them, and `pages.rt` tells which of them is where. What the
+//! ring shows of all records together is counted as it changes.
 //!
 //! A public call and its step (`put` and `put_step`) are one body and two proofs: the step says what becomes of the visible facts, by the pages, and the
 //! public clause what that means for the list of all puts and reads, by the step alone.
 #![tactic(auto)]
 
-ghost use Rattle.std.specs.Prelude.{◌≡◌, ℕ, ◌+◌, ◌<◌, ◌≤◌, ◌^◌, ◌%◌, [], ◌∷◌, ◌++◌, length, max, List, nat_le, All, IfOk, OnOk, OnErr, IsNone};
-ghost use Rattle.std.specs.Vec.{vec_capacity};
+ghost use Rattle.std.specs.Prelude.{◌≡◌, ℕ, ◌+◌, ◌<◌, ◌≤◌, ◌^◌, ◌%◌, [], ◌∷◌, ◌++◌, length, List, not, ◌&&◌, nat_le, nat_lt, All, IfOk, IsNone};
 ghost use Rattle.std.specs.Option.{option_map};
-ghost use Rattle.std.specs.Iterator.{YieldsFirstBy, item_count};
 ghost use Rattle.trace_record.specs.Record.{IsRecord, timestamp};
 ghost use Rattle.page_ring.specs.Events as event;
 ghost use Rattle.page_ring.specs.Account.{put_answer, readings_of, stats_of, first, first_timestamp};
@@ -33,11 +32,10 @@ ghost use Rattle.std.specs.List.{AllByRecursion};
 ghost use Rattle.page_ring.specs.Shown.{StandsFor, offered};
 ghost use Rattle.page_ring.specs.private.Step.{after_put, put_answer_shown, without_first, readings_shown, stats_shown, overrun_by, left_by, appended, moved};
 
-use crate::pages::{Page, Pages, Stored, Unread};
+use crate::kept_records::KeptRecords;
+use crate::pages::Pages;
 use std::alloc::{AllocError, Global};
-use std::collections::VecDeque;
 use std::marker::Model;
-use std::mem;
 use trace_record::timestamp;
 
 /// What became of a record that was put (the two modes of "The Generic Ring Buffer" in
@@ -78,10 +76,9 @@ pub struct Kept<'a> {
     pub rec: &'a [u8],
 }
 
-/// A ring of records for one CPU ("The Generic Ring Buffer" of ring-buffer-design.rst).
+/// A ring of records for one CPU ("The Generic Ring Buffer" of ring-buffer-design.rst). It takes its memory when it is made, and none afterwards.
 #[derive(Drop)]
 pub struct Ring {
-    alloc: Global,
     page_count: u64,
     page_bytes: u64,
     pages: Pages,
@@ -94,12 +91,6 @@ pub struct Ring {
     accepted: u64,
     dropped: u64,
     read: u64,
-    // Up to what length memory is at hand for a record: a slot in the circle, in the tail page and
-    // in a spare list of records, and a buffer. The spare list is that of the page that was lost last;
-    // the buffers of the records that it still has are used for the next ones.
-    ready: usize,
-    spare: VecDeque<Stored>,
-    buffer: Vec<u8>,
 }
 
 impl Model for Ring {
@@ -127,16 +118,10 @@ impl Ring {
         ensures page_bytes { IfOk result (λ ring. ring.page_bytes ≡ page_bytes) }
         ensures offered { IfOk result (λ ring. offered ring ≡ 0) }
     {
-        let circle = VecDeque::with_capacity(alloc, pages as usize)?;
         Ok(Ring {
-            alloc,
             page_count: pages as u64,
             page_bytes: page_bytes as u64,
-            pages: Pages {
-                reader: Page::new(alloc, 0),
-                circle,
-                tail: Page::new(alloc, 0),
-            },
+            pages: Pages::new(alloc, pages, page_bytes)?,
             reader_page: None,
             next: 0,
             entries: 0,
@@ -144,27 +129,7 @@ impl Ring {
             accepted: 0,
             dropped: 0,
             read: 0,
-            ready: 0,
-            spare: VecDeque::new(alloc),
-            buffer: Vec::new(alloc),
         })
-    }
-
-    /// Makes room for one record of up to `len` bytes, until the next `clear`, `put` or `take`. All
-    /// that can be seen stays as it was, also where memory is refused.
-    pub fn ready(&mut self, len: usize) -> Result<(), AllocError>
-        ensures stands { (events : List event.Event) → StandsFor self.old events
-            → StandsFor self.new events }
-        ensures seen { self.new ≡ record self.old { ready = self.new.ready } }
-        ensures room { OnOk result (self.new.ready ≡ max self.old.ready len) }
-        ensures err { OnErr result (self.new ≡ self.old) }
-    {
-        self.pages.circle.reserve(1)?;
-        self.pages.tail.records.reserve(1)?;
-        self.spare.reserve(1)?;
-        self.buffer.reserve(len)?;
-        self.ready = self.ready.max(len);
-        Ok(())
     }
 
     /// Writes a record on the tail page, or where it doesn't fit there on the next page. Where that
@@ -173,7 +138,6 @@ impl Ring {
     pub fn put(&mut self, rec: &[u8], overwrite: bool) -> Put
         requires is_record { IsRecord rec.now }
         requires fits { length rec.now ≤ self.old.page_bytes }
-        requires ready { length rec.now ≤ self.old.ready }
         requires few { offered self.old < 2 ^ 32 }
         ensures stands { (events : List event.Event) → StandsFor self.old events
             → StandsFor self.new (events ++ event.Put rec.now overwrite ∷ []) }
@@ -190,7 +154,6 @@ impl Ring {
     fn put_step(&mut self, rec: &[u8], overwrite: bool) -> Put
         requires is_record { IsRecord rec.now }
         requires fits { length rec.now ≤ self.old.page_bytes }
-        requires ready { length rec.now ≤ self.old.ready }
         requires few { offered self.old < 2 ^ 32 }
         ensures shown { self.new.shown
             ≡ after_put self.old.pages self.old.page_bytes self.old.shown rec.now overwrite }
@@ -204,12 +167,12 @@ impl Ring {
             self.append(rec);
             return Put::Kept;
         }
-        let lost = self.lost_by_moving();
-        if lost > 0 && !overwrite {
+        if self.has_to_drop(overwrite) {
             self.refuse();
             return Put::Dropped;
         }
-        self.append_to_next(rec);
+        let lost = self.move_tail();
+        self.append(rec);
         if lost == 0 {
             Put::Kept
         } else {
@@ -226,15 +189,18 @@ impl Ring {
         ensures all { left_by self.now.pages self.now.shown self.now.shown.last_page
             ≡ self.now.shown.kept }
     {
-        self.pages.tail.filled + len as u64 <= self.page_bytes
+        self.pages.tail.filled() + len as u64 <= self.page_bytes
     }
 
-    // How many records are lost where the tail moves on to the next page.
-    fn lost_by_moving(&self) -> u64
-        ensures { result
-            ≡ length (overrun_by self.now.pages self.now.shown (self.now.shown.last_page + 1)) }
+    // Whether a record is dropped that doesn't fit the tail page.
+    fn has_to_drop(&self, overwrite: bool) -> bool
+        ensures { result ≡ not overwrite && nat_lt 0
+            (length (overrun_by self.now.pages self.now.shown (self.now.shown.last_page + 1))) }
     {
-        self.pages.lost_by_moving(self.page_count).0
+        if overwrite {
+            return false;
+        }
+        self.pages.head_is_in_the_way(self.page_count)
     }
 
     fn refuse(&mut self)
@@ -245,54 +211,36 @@ impl Ring {
         ensures page_bytes { self.new.page_bytes ≡ self.old.page_bytes }
     {
         self.dropped += 1;
-        self.ready = 0;
     }
 
-    // A copy of the record in the buffer at hand, as the next to be stored.
+    // One more record on the tail page.
     fn append(&mut self, rec: &[u8])
-        requires head { 16 ≤ length rec.now }
+        requires is_record { IsRecord rec.now }
         requires fits { self.old.shown.last_filled + length rec.now ≤ self.old.page_bytes }
-        requires ready { length rec.now ≤ self.old.ready }
         requires few { offered self.old < 2 ^ 32 }
         ensures shown { self.new.shown ≡ appended self.old.shown rec.now }
         ensures pages { self.new.pages ≡ self.old.pages }
         ensures page_bytes { self.new.page_bytes ≡ self.old.page_bytes }
     {
-        let next = next_buffer(self.alloc, &mut self.spare, rec.len());
-        let bytes = filled_from(mem::replace(&mut self.buffer, next), rec);
-        self.pages.append(self.accepted, bytes);
+        self.pages.append(rec);
         self.entries += 1;
         self.bytes += rec.len() as u64;
         self.accepted += 1;
-        self.ready = 0;
     }
 
-    fn append_to_next(&mut self, rec: &[u8])
-        requires full { self.old.page_bytes < self.old.shown.last_filled + length rec.now }
-        requires head { 16 ≤ length rec.now }
-        requires fits { length rec.now ≤ self.old.page_bytes }
-        requires ready { length rec.now ≤ self.old.ready }
-        requires few { offered self.old < 2 ^ 32 }
-        ensures shown { self.new.shown ≡ appended (moved self.old.pages self.old.shown) rec.now }
+    // Moves the tail on to the next page. Where that is the head page, its unread records are lost: tells how many.
+    fn move_tail(&mut self) -> u64
+        requires { 0 < self.old.shown.last_filled }
+        ensures shown { self.new.shown ≡ moved self.old.pages self.old.shown }
+        ensures lost { result
+            ≡ length (overrun_by self.old.pages self.old.shown (self.old.shown.last_page + 1)) }
         ensures pages { self.new.pages ≡ self.old.pages }
         ensures page_bytes { self.new.page_bytes ≡ self.old.page_bytes }
     {
-        let (lost, lost_bytes) = self.pages.lost_by_moving(self.page_count);
+        let (lost, lost_bytes) = self.pages.move_tail(self.page_count, self.reader_page);
         self.entries -= lost;
         self.bytes -= lost_bytes;
-        let mut fresh = mem::replace(&mut self.spare, VecDeque::new(self.alloc));
-        fresh.clear();
-        let lost = self
-            .pages
-            .move_tail(self.page_count, self.reader_page, fresh);
-        self.spare = lost.unwrap_or(VecDeque::new(self.alloc));
-        let next = next_buffer(self.alloc, &mut self.spare, rec.len());
-        let bytes = filled_from(mem::replace(&mut self.buffer, next), rec);
-        self.pages.append(self.accepted, bytes);
-        self.entries += 1;
-        self.bytes += rec.len() as u64;
-        self.accepted += 1;
-        self.ready = 0;
+        lost
     }
 
     /// The first kept record, which the next consuming read takes. Nothing is swapped.
@@ -310,7 +258,7 @@ impl Ring {
         match self.pages.first() {
             Some(record) => Some(Kept {
                 lost: record.number - self.next,
-                rec: &record.bytes,
+                rec: record.bytes,
             }),
             None => None,
         }
@@ -330,7 +278,7 @@ impl Ring {
             ≡ option_map (λ r. timestamp r.rec) (first (readings_shown self.now.shown)) }
     {
         match self.pages.first() {
-            Some(record) => Some(timestamp(&record.bytes)),
+            Some(record) => Some(timestamp(record.bytes)),
             None => None,
         }
     }
@@ -360,14 +308,13 @@ impl Ring {
         ensures pages { self.new.pages ≡ self.old.pages }
         ensures page_bytes { self.new.page_bytes ≡ self.old.page_bytes }
     {
-        self.ready = 0;
-        let (page, record) = self.pages.take_first()?;
-        let lost = record.number - self.next;
+        let taken = self.pages.take_first()?;
+        let lost = taken.number - self.next;
         self.entries -= 1;
-        self.bytes -= record.bytes.len() as u64;
+        self.bytes -= taken.size;
         self.read += 1;
-        self.next = record.number + 1;
-        self.reader_page = Some(page);
+        self.next = taken.number + 1;
+        self.reader_page = Some(taken.page);
         Some(lost)
     }
 
@@ -384,10 +331,7 @@ impl Ring {
         ensures records { result ≡ readings_shown self.now.shown }
         ensures few { length result ≤ 2 ^ 32 }
     {
-        KeptRecords {
-            next: self.next,
-            unread: self.pages.unread(),
-        }
+        KeptRecords::new(self.next, self.pages.unread())
     }
 
     /// Empties the ring: it is as when it was new, statistics too.
@@ -397,9 +341,7 @@ impl Ring {
         ensures page_bytes { self.new.page_bytes ≡ self.old.page_bytes }
         ensures offered { offered self.new ≡ 0 }
     {
-        self.pages.reader = Page::new(self.alloc, 0);
-        self.pages.circle.clear();
-        self.pages.tail = Page::new(self.alloc, 0);
+        self.pages.clear();
         self.reader_page = None;
         self.next = 0;
         self.entries = 0;
@@ -407,7 +349,6 @@ impl Ring {
         self.accepted = 0;
         self.dropped = 0;
         self.read = 0;
-        self.ready = 0;
     }
 
     /// The statistics of all events since the ring was made or last cleared.
@@ -432,83 +373,14 @@ impl Ring {
     }
 }
 
-/// The kept records of a ring, seen as the list of readings that are left.
-#[derive(Drop)]
-pub struct KeptRecords<'a> {
-    // The number after that of the record before.
-    next: u64,
-    unread: Unread<'a>,
-}
-
-impl<'a> Model for KeptRecords<'a> {
-    ghost use Rattle.std.specs.Prelude.{List};
-    ghost use Rattle.page_ring.specs.Account.{Reading};
-
-    ghost Value = { List Reading };
-
-    ghost use Rattle.page_ring.specs.KeptRecords.{readings_left, IsInOrder};
-
-    ghost view = { readings_left };
-
-    ghost invariant = { IsInOrder };
-}
-
-impl<'a> Iterator for KeptRecords<'a> {
-    ghost use Rattle.page_ring.specs.Reading.{reading};
-
-    type Item = Kept<'a>;
-
-    ghost next_gives = { YieldsFirstBy reading (λ rest. rest) };
-
-    ghost remaining = { item_count (λ rest. rest) };
-
-    fn next(&mut self) -> Option<Kept<'a>> {
-        match self.unread.next_unread() {
-            Some(record) => {
-                let lost = record.number - self.next;
-                self.next = record.number + 1;
-                Some(Kept {
-                    lost,
-                    rec: &record.bytes,
-                })
-            }
-            None => None,
-        }
-    }
-}
-
-// The buffer of the first spare record, or else a new one. A buffer of more than twice this length is not
-// kept, so that short records do not come to lie in long buffers.
-fn next_buffer(alloc: Global, spare: &mut VecDeque<Stored>, len: usize) -> Vec<u8>
-    ensures { result.items ≡ [] }
-{
-    match spare.pop_front() {
-        Some(Stored { mut bytes, .. }) if bytes.capacity() / 2 <= len => {
-            bytes.clear();
-            bytes
-        }
-        _ => Vec::new(alloc),
-    }
-}
-
-// The record's bytes in the buffer at hand.
-fn filled_from(mut buffer: Vec<u8>, rec: &[u8]) -> Vec<u8>
-    requires empty { buffer.items ≡ [] }
-    requires room { length rec.now ≤ vec_capacity buffer }
-    ensures { result.items ≡ rec.now }
-{
-    buffer.extend_from_slice(rec).unwrap();
-    buffer
-}
-
 // The timestamp of the first unread record, 0 where there is none.
 fn oldest(pages: &Pages) -> u64
-    requires circle { All (λ p. 0 < length p.records.items) pages.now.circle.items }
+    requires circle { All (λ p. 0 < length p.records) pages.now.circle.items }
     requires records { AllByRecursion (λ r. 16 ≤ length r.bytes) (kept_in pages.now) }
     ensures { result ≡ first_timestamp (kept_in pages.now) }
 {
     match pages.first() {
-        Some(r) => timestamp(&r.bytes),
+        Some(r) => timestamp(r.bytes),
         None => 0,
     }
 }

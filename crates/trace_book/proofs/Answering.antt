@@ -201,7 +201,7 @@ text-nothing event kept written is = λ name past number are. (
   record {
     snapshot = snapshot-stays name past event written.append written.text.now (Ok said.Nothing) is refl;
     hists = hists-stay name past event are.id written.append written.text.now (Ok said.Nothing) are.named is (λ t. refl) refl;
-    one = tt;
+    possible = tt;
     spare = rw is refl;
   },
 )
@@ -254,7 +254,7 @@ attach-done trigger kept written none few = λ event name past number are is.
         snapshot = snapshot-attached name past event written.append written.text.now trigger is
             ∙ ap (λ (n : ℕ). (let t : Option Trigger = Some (record { number = n; left = trigger.count; filter = trigger.filter }) in t)) number;
         hists = hists-stay name past event are.id written.append written.text.now (Ok (said.Attach trigger)) are.named is (λ t. refl) refl;
-        one = tt;
+        possible = tt;
         spare = rw is refl;
       },
     )
@@ -268,7 +268,7 @@ text-detaches event kept written is some = λ name past number are.
       record {
         snapshot = snapshot-removed name past event written.append written.text.now is;
         hists = hists-stay name past event are.id written.append written.text.now (Ok said.Remove) are.named is (λ t. refl) refl;
-        one = tt;
+        possible = tt;
         spare = rw is refl;
       },
     )

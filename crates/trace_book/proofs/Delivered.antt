@@ -15,7 +15,7 @@ use Rattle.trace_format.specs.Definitions.{Definition}
 use Rattle.trace_format.specs.declared.pair.Pair.{Pair}
 use Rattle.trace_command.specs.Requests.{Request, Emission}
 use Rattle.trace_command.specs.declared.command.Config.{Config}
-use Rattle.trace_history.specs.Declarations.{IsPlaceOf}
+use Rattle.trace_history.specs.Declarations.{IsIndexOf}
 use Rattle.trace_history.specs.Emissions.{Emitted, emitted, emitted_bytes, is_recorded}
 use Rattle.trace_history.specs.Rings.{other_rings, rings, spare_rings, with_emitted}
 use Rattle.trace_history.specs.Settings.{declared_events, overwrites}
@@ -122,70 +122,70 @@ differs-at events i j d event are first there second other = by (bytes_eq (get_o
         let e : (get_or events j d).name ≡ event.name = (bytes_eq-Decides (get_or events j d).name event.name).0 is in
         absurd (other (one_place events j i d event are second first (e ∙ ap (λ (v : Definition). v.name) there)))
 
--- the trigger of an event at a place
+-- the trigger of an event at an index
 pub trigger-at : (name : Option (List ℕ)) (past : List Request) (kept : List (Option Trigger)) (ename : List ℕ) (index : ℕ) (event : Definition)
-    → kept ≡ map (kept_trigger name past) (declared_events past) → IsPlaceOf (declared_events past) ename index event
+    → kept ≡ map (kept_trigger name past) (declared_events past) → IsIndexOf (declared_events past) ename index event
     → get_or kept index None ≡ kept_trigger name past event
-trigger-at name past kept ename index event are place =
-    rw are (get_or-map (kept_trigger name past) (declared_events past) index event None place.inside
-    ∙ ap (kept_trigger name past) (sym place.there))
+trigger-at name past kept ename index event are indexed =
+    rw are (get_or-map (kept_trigger name past) (declared_events past) index event None indexed.inside
+    ∙ ap (kept_trigger name past) (sym indexed.there))
 
 -- the triggers after an emission, by whether it makes its event's act
 triggers-after : (name : Option (List ℕ)) (past : List Request) (ename : List ℕ) (cpu : ℕ) (pid : ℤ) (pairs : List Pair) (e : Emitted) (index : ℕ)
     (kept : List (Option Trigger)) (fires : Bool) → emitted past (Emission ename cpu pid pairs) ≡ Some e → AreEvents [] (declared_events past)
-    → IsPlaceOf (declared_events past) e.k.event.name index e.k.event → kept ≡ map (kept_trigger name past) (declared_events past)
+    → IsIndexOf (declared_events past) e.k.event.name index e.k.event → kept ≡ map (kept_trigger name past) (declared_events past)
     → is_exchanged_by name past (Some e) ≡ fires
     → (if fires then set kept index (counted_down (get_or kept index None)) else kept)
     ≡ map (kept_trigger name (Emission ename cpu pid pairs ∷ past)) (declared_events past)
-triggers-after name past ename cpu pid pairs e index kept true is are place stood acting =
+triggers-after name past ename cpu pid pairs e index kept true is are indexed stood acting =
     let request : Request = Emission ename cpu pid pairs in
     let events = declared_events past in
-    let here = trigger-at name past kept e.k.event.name index e.k.event stood place in
+    let here = trigger-at name past kept e.k.event.name index e.k.event stood indexed in
     let changed : map (kept_trigger name (request ∷ past)) events
     ≡ set (map (kept_trigger name past) events) index (counted_down (kept_trigger name past e.k.event)) =
     map-set (kept_trigger name past) (kept_trigger name (request ∷ past)) (counted_down (kept_trigger name past e.k.event)) events index e.k.event
-    place.inside (ap (kept_trigger name (request ∷ past)) (sym place.there) ∙ acting-kept name past ename cpu pid pairs e is acting)
+    indexed.inside (ap (kept_trigger name (request ∷ past)) (sym indexed.there) ∙ acting-kept name past ename cpu pid pairs e is acting)
     (λ j inside other. other-kept name past ename cpu pid pairs e (get_or events j e.k.event) is
-    (differs-at events index j e.k.event e.k.event are place.inside place.there inside other)) in
+    (differs-at events index j e.k.event e.k.event are indexed.inside indexed.there inside other)) in
     ap (λ (t : Option Trigger). set kept index (counted_down t)) here
     ∙ ap (λ (l : List (Option Trigger)). set l index (counted_down (kept_trigger name past e.k.event))) stood
     ∙ sym changed
-triggers-after name past ename cpu pid pairs e index kept false is are place stood idle =
+triggers-after name past ename cpu pid pairs e index kept false is are indexed stood idle =
     let request : Request = Emission ename cpu pid pairs in
     let events = declared_events past in
     let same : map (kept_trigger name (request ∷ past)) events ≡ map (kept_trigger name past) events =
     map-agrees (kept_trigger name (request ∷ past)) (kept_trigger name past) events e.k.event
     (λ j inside. ⊎_elim
     (λ (at : j ≡ index).
-    let it : get_or events j e.k.event ≡ e.k.event = ap (λ (k : ℕ). get_or events k e.k.event) at ∙ sym place.there in
+    let it : get_or events j e.k.event ≡ e.k.event = ap (λ (k : ℕ). get_or events k e.k.event) at ∙ sym indexed.there in
     subst (λ (event : Definition). kept_trigger name (request ∷ past) event ≡ kept_trigger name past event) (sym it)
     (idle-kept name past ename cpu pid pairs e is idle))
     (λ (other : j ≡ index → ⊥). other-kept name past ename cpu pid pairs e (get_or events j e.k.event) is
-    (differs-at events index j e.k.event e.k.event are place.inside place.there inside other))
+    (differs-at events index j e.k.event e.k.event are indexed.inside indexed.there inside other))
     (cases_eq j index)) in
     stood ∙ sym same
 
 -- ---- sides
 
--- an event of this place that has a trigger is one that has one
+-- an event of this index that has a trigger is one that has one
 some-trigger : (name : Option (List ℕ)) (past : List Request) (e : Emitted) (o : Option triggers.Trigger) → triggers.acts past e o ≡ true → is_some o ≡ true
 some-trigger name past e None acts = absurd (cc)
 some-trigger name past e (Some t) acts = refl
 
 -- so where an emission makes one act there is a spare
 pub spare-there : (g : Config) (name : Option (List ℕ)) (past : List Request) (e : Emitted) (index : ℕ) → IsSpared g name (declared_events past) past
-    → IsPlaceOf (declared_events past) e.k.event.name index e.k.event → is_exchanged_by name past (Some e) ≡ true → has_spare name past ≡ true
-spare-there g name past e index spared place acting =
+    → IsIndexOf (declared_events past) e.k.event.name index e.k.event → is_exchanged_by name past (Some e) ≡ true → has_spare name past ≡ true
+spare-there g name past e index spared indexed acting =
     let test : Definition → Bool = λ event. is_some (trigger_of name event past) in
     let some = some-trigger name past e (trigger_of name e.k.event past) acting in
-    spared.armed (list_any_at test (declared_events past) index e.k.event place.inside (ap test (sym place.there) ∙ some))
+    spared.armed (list_any_at test (declared_events past) index e.k.event indexed.inside (ap test (sym indexed.there) ∙ some))
 
 -- an instance whose sides are to be exchanged has a spare
 pub can-fire : (g : Config) (name : Option (List ℕ)) (past : List Request) (e : Emitted) (index : ℕ) (reach : Reach) (i : InstanceSeen)
-    → InstanceStandsFor g name past i → IsPlaceOf (declared_events past) e.k.event.name index e.k.event
+    → InstanceStandsFor g name past i → IsIndexOf (declared_events past) e.k.event.name index e.k.event
     → reach.fires ≡ is_exchanged_by name past (Some e) → CanFire reach i
-can-fire g name past e index reach i stands place fires = λ is.
-    let there : has_spare name past ≡ true = spare-there g name past e index stands.spared place (sym fires ∙ is) in
+can-fire g name past e index reach i stands indexed fires = λ is.
+    let there : has_spare name past ≡ true = spare-there g name past e index stands.spared indexed (sym fires ∙ is) in
     by i.sides.spare (rw there at stands.sides.spare)
   where
     by : (spare : Option buffers.Seen) → SpareStandsFor spare (Some (other_rings g name past)) → is_some spare ≡ true
@@ -253,23 +253,23 @@ spared-after g name past ename cpu pid pairs e fires is by_trigger spare spared 
 -- an emission that reached an instance leaves it as the requests say
 pub delivered-stands : (g : Config) (name : Option (List ℕ)) (past : List Request) (request : Request) (e : Emitted) (d : Delivery) (reach : Reach)
     (old new : InstanceSeen) → emitted past request ≡ Some e → AreEvents [] (declared_events past) → InstanceStandsFor g name past old
-    → IsPlaceOf (declared_events past) e.k.event.name d.event e.k.event → reach.records ≡ is_recorded name past e
+    → IsIndexOf (declared_events past) e.k.event.name d.event e.k.event → reach.records ≡ is_recorded name past e
     → reach.fires ≡ is_exchanged_by name past (Some e)
     → ((p : Pending) → d.record ≡ Some p → (p.bytes.items ≡ emitted_bytes e) × (p.cpu ≡ e.cpu)) → (d.record ≡ None → reach.records ≡ false)
     → row_of d ≡ counted_row e → IsDelivered d reach old new → InstanceStandsFor g name (request ∷ past) new
-delivered-stands g name past (Emission ename cpu pid pairs) e d reach old new is are stands place records fires bytes none row came =
+delivered-stands g name past (Emission ename cpu pid pairs) e d reach old new is are stands indexed records fires bytes none row came =
     let request : Request = Emission ename cpu pid pairs in
-    let spare : reach.fires ≡ true → has_spare name past ≡ true = λ on. spare-there g name past e d.event stands.spared place (sym fires ∙ on) in
+    let spare : reach.fires ≡ true → has_spare name past ≡ true = λ on. spare-there g name past e d.event stands.spared indexed (sym fires ∙ on) in
     let written = written-rings name past e reach.records old.overwrite d.record (rings g name past) records stands.overwrite bytes none in
     let families = sides-after g name past ename cpu pid pairs e (recorded_in reach.records old.overwrite d.record (rings g name past)) reach.fires is written
     (sym fires) spare in
     let one : length past + 1 ≡ suc (length past) = omega arith in record {
       enabled = rw append-nil (came.enabled ∙ stands.enabled);
       filters = rw append-nil (came.filters ∙ stands.filters);
-      triggers = rw append-nil (came.triggers ∙ triggers-after name past ename cpu pid pairs e d.event old.triggers reach.fires is are place stands.triggers
+      triggers = rw append-nil (came.triggers ∙ triggers-after name past ename cpu pid pairs e d.event old.triggers reach.fires is are indexed stands.triggers
           (sym fires));
-      hists = rw append-nil (hists-after name past ename cpu pid pairs e d.event (hists_kept old.hists) (hists_kept new.hists) is place
-          (λ j inside apart. differs-at (declared_events past) d.event j e.k.event e.k.event are place.inside place.there inside apart) stands.hists
+      hists = rw append-nil (hists-after name past ename cpu pid pairs e d.event (hists_kept old.hists) (hists_kept new.hists) is indexed
+          (λ j inside apart. differs-at (declared_events past) d.event j e.k.event e.k.event are indexed.inside indexed.there inside apart) stands.hists
           (subst (λ (r : Row). WereOfferedRow r d.event (hists_kept old.hists) (hists_kept new.hists)) row came.hists));
       overwrite = came.overwrite ∙ stands.overwrite;
       tracing = came.tracing ∙ stands.tracing;
@@ -278,4 +278,4 @@ delivered-stands g name past (Emission ename cpu pid pairs) e d reach old new is
       offered = subst (λ (n : ℕ). WereOffered n new.sides) one (came.offered (length past) stands.offered);
       spared = rw append-nil (spared-after g name past ename cpu pid pairs e reach.fires is (sym fires) spare stands.spared);
     }
-delivered-stands g name past request e d reach old new is are stands place records fires bytes none row came = absurd (cc)
+delivered-stands g name past request e d reach old new is are stands indexed records fires bytes none row came = absurd (cc)

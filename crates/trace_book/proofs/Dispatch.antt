@@ -76,11 +76,11 @@ is-refusal refused answered is = (λ other. is, λ early. is)
 
 -- ---- a change of one instance
 
-changed-at : (g : Config) (state : State) (past : List Request) (request : Request) (place : ℕ) (name : Option (List ℕ)) (change : InstanceChange)
-    → IsAt state place name → IsPlain request
+changed-at : (g : Config) (state : State) (past : List Request) (request : Request) (index : ℕ) (name : Option (List ℕ)) (change : InstanceChange)
+    → IsAt state index name → IsPlain request
     → ((other : Option (List ℕ)) → is_same other name ≡ false → IsEffect g other past request Keep)
-    → IsEffect g name past request change → IsChangeOf g state past request (Instance place change)
-changed-at g state past request place name change at plain others own = λ d.
+    → IsEffect g name past request change → IsChangeOf g state past request (Instance index change)
+changed-at g state past request index name change at plain others own = λ d.
     let changed : IsChanged g past request name = record { plain = plain; others = others } in
     subst (λ (n : Option (List ℕ)). IsChanged g past request n × IsEffect g n past request change) (sym (at.1 d)) (changed, own)
 
@@ -98,36 +98,36 @@ write-answers g state past name found append text stands is there =
     (nothing_missing g past state.catalog found stands.events
     (subst (λ (events : List Definition). AreEvents [] events) (sym stands.events) stands.distinct) there)
 
-usable-at : (g : Config) (state : State) (past : List Request) (place : ℕ) (d : Named) → IsUsable g state → StandsFor g state past
-    → place < length state.instances.items
-    → IsUsableInstance g (length (declared_events past)) (get_or state.instances.items place d).instance
-usable-at g state past place d usable stands inside =
-    subst (λ (events : List Definition). IsUsableInstance g (length events) (get_or state.instances.items place d).instance) stands.events
-    (usable.each place d inside)
+usable-at : (g : Config) (state : State) (past : List Request) (index : ℕ) (d : Named) → IsUsable g state → StandsFor g state past
+    → index < length state.instances.items
+    → IsUsableInstance g (length (declared_events past)) (get_or state.instances.items index d).instance
+usable-at g state past index d usable stands inside =
+    subst (λ (events : List Definition). IsUsableInstance g (length events) (get_or state.instances.items index d).instance) stands.events
+    (usable.each index d inside)
 
--- the instance at a place is what the requests say of the one of this name
-pub stands-at : (g : Config) (state : State) (past : List Request) (place : ℕ) (name : Option (List ℕ)) (n : Named)
-    → StandsFor g state past → IsAt state place name → n ≡ get_or state.instances.items place n → InstanceStandsFor g name past n.instance
-stands-at g state past place name n stands at is =
+-- the instance at an index is what the requests say of the one of this name
+pub stands-at : (g : Config) (state : State) (past : List Request) (index : ℕ) (name : Option (List ℕ)) (n : Named)
+    → StandsFor g state past → IsAt state index name → n ≡ get_or state.instances.items index n → InstanceStandsFor g name past n.instance
+stands-at g state past index name n stands at is =
     let called : n.name ≡ name = ap (λ (m : Named). m.name) is ∙ at.1 n in
     let own : InstanceStandsFor g n.name past n.instance =
-    subst (λ (m : Named). InstanceStandsFor g m.name past m.instance) (sym is) (stands.each place n at.0) in
+    subst (λ (m : Named). InstanceStandsFor g m.name past m.instance) (sym is) (stands.each index n at.0) in
     subst (λ (o : Option (List ℕ)). InstanceStandsFor g o past n.instance) called own
 
-write-done : (g : Config) (state : State) (past : List Request) (name : Option (List ℕ)) (place : ℕ) (found : File) (append : Bool) (text : List ℕ)
-    (change : InstanceChange) → StandsFor g state past → is_there name past ≡ true → IsAt state place name
+write-done : (g : Config) (state : State) (past : List Request) (name : Option (List ℕ)) (index : ℕ) (found : File) (append : Bool) (text : List ℕ)
+    (change : InstanceChange) → StandsFor g state past → is_there name past ≡ true → IsAt state index name
     → IsThere g.cpus state.catalog found → IsWriteChange g name past append text (file_at state.catalog found) (Ok change)
-    → IsPrepared g past (write_to state name found append text) state (Ok (record { change = Instance place change; reply = Done }))
-write-done g state past name place found append text change stands is at there write =
+    → IsPrepared g past (write_to state name found append text) state (Ok (record { change = Instance index change; reply = Done }))
+write-done g state past name index found append text change stands is at there write =
     let named = file_at state.catalog found in (
       write-answers g state past name found append text stands is there ∙ write.0,
-      changed-at g state past (write_to state name found append text) place name change at (plain_write name state.catalog found append text)
+      changed-at g state past (write_to state name found append text) index name change at (plain_write name state.catalog found append text)
           (λ other differ. other_write g other name past named append text differ)
           write.1,
       (
         at.0,
-        λ d. write.2 (get_or state.instances.items place d).instance
-            (subst (λ (o : Option (List ℕ)). InstanceStandsFor g o past (get_or state.instances.items place d).instance) (at.1 d) (stands.each place d at.0)),
+        λ d. write.2 (get_or state.instances.items index d).instance
+            (subst (λ (o : Option (List ℕ)). InstanceStandsFor g o past (get_or state.instances.items index d).instance) (at.1 d) (stands.each index d at.0)),
       ),
     )
 
@@ -139,20 +139,20 @@ write-refused g state past name found append text refused stands is there write 
     refused-as refused (write_answer g name past append text (file_at state.catalog found)) _ (write-answers g state past name found append text stands is there) write
 
 -- the same of an address
-pub address-writes : (g : Config) (state : State) (past : List Request) (a : Address) (place : ℕ) (found : File) (append : Bool) (text : List ℕ)
-    (change : InstanceChange) → StandsFor g state past → IsResolved g state past a (Ok (target.Of place found))
+pub address-writes : (g : Config) (state : State) (past : List Request) (a : Address) (index : ℕ) (found : File) (append : Bool) (text : List ℕ)
+    (change : InstanceChange) → StandsFor g state past → IsResolved g state past a (Ok (target.Of index found))
     → IsWriteChange g a.instance past append text (file_at state.catalog found) (Ok change)
-    → IsPrepared g past (WriteFile a.instance a.file append text) state (Ok (record { change = Instance place change; reply = Done }))
-address-writes g state past a place found append text change stands resolved write =
+    → IsPrepared g past (WriteFile a.instance a.file append text) state (Ok (record { change = Instance index change; reply = Done }))
+address-writes g state past a index found append text change stands resolved write =
     subst
-    (λ (f : Option paths.File). IsPrepared g past (WriteFile a.instance f append text) state (Ok (record { change = Instance place change; reply = Done })))
-    (sym resolved.2) (write-done g state past a.instance place found append text change stands resolved.0 resolved.1 resolved.3 write)
+    (λ (f : Option paths.File). IsPrepared g past (WriteFile a.instance f append text) state (Ok (record { change = Instance index change; reply = Done })))
+    (sym resolved.2) (write-done g state past a.instance index found append text change stands resolved.0 resolved.1 resolved.3 write)
 
-pub address-write_refused : (g : Config) (state : State) (past : List Request) (a : Address) (place : ℕ) (found : File) (append : Bool) (text : List ℕ)
-    (refused : Refusal) → StandsFor g state past → IsResolved g state past a (Ok (target.Of place found))
+pub address-write_refused : (g : Config) (state : State) (past : List Request) (a : Address) (index : ℕ) (found : File) (append : Bool) (text : List ℕ)
+    (refused : Refusal) → StandsFor g state past → IsResolved g state past a (Ok (target.Of index found))
     → IsWriteChange g a.instance past append text (file_at state.catalog found) (Err refused)
     → IsPrepared g past (WriteFile a.instance a.file append text) state (Err refused)
-address-write_refused g state past a place found append text refused stands resolved write =
+address-write_refused g state past a index found append text refused stands resolved write =
     subst (λ (f : Option paths.File). IsPrepared g past (WriteFile a.instance f append text) state (Err refused))
     (sym resolved.2) (write-refused g state past a.instance found append text refused stands resolved.0 resolved.3 write)
 
@@ -254,20 +254,20 @@ read-answers g state past name found limit stands is there =
     (nothing_missing g past state.catalog found stands.events
     (subst (λ (events : List Definition). AreEvents [] events) (sym stands.events) stands.distinct) there)
 
-read-done : (g : Config) (state : State) (past : List Request) (name : Option (List ℕ)) (place : ℕ) (found : File) (limit : Option ℕ)
-    (shown : Shown) → IsUsable g state → StandsFor g state past → is_there name past ≡ true → IsAt state place name
+read-done : (g : Config) (state : State) (past : List Request) (name : Option (List ℕ)) (index : ℕ) (found : File) (limit : Option ℕ)
+    (shown : Shown) → IsUsable g state → StandsFor g state past → is_there name past ≡ true → IsAt state index name
     → IsThere g.cpus state.catalog found → IsRead g name past limit (file_at state.catalog found) (Ok shown)
-    → IsPrepared g past (read_of state name found limit) state (Ok (record { change = Instance place shown.change; reply = shown.reply }))
-read-done g state past name place found limit shown usable stands is at there read =
+    → IsPrepared g past (read_of state name found limit) state (Ok (record { change = Instance index shown.change; reply = shown.reply }))
+read-done g state past name index found limit shown usable stands is at there read =
     let named = file_at state.catalog found in (
       read-answers g state past name found limit stands is there ∙ read.0,
-      changed-at g state past (read_of state name found limit) place name shown.change at (plain_read name (Some named) limit)
+      changed-at g state past (read_of state name found limit) index name shown.change at (plain_read name (Some named) limit)
           (λ other differ. other_read g other name past (Some named) limit differ)
           (own_read g name past named limit shown.change read.1 read.2),
       (
         at.0,
-        λ d. lawful_read g (length (declared_events past)) (get_or state.instances.items place d).instance shown.change
-            (usable-at g state past place d usable stands at.0) read.1,
+        λ d. lawful_read g (length (declared_events past)) (get_or state.instances.items index d).instance shown.change
+            (usable-at g state past index d usable stands at.0) read.1,
       ),
     )
 
@@ -278,20 +278,20 @@ read-refused : (g : Config) (state : State) (past : List Request) (name : Option
 read-refused g state past name found limit refused stands is there read =
     refused-as refused (read_answer g name past limit (file_at state.catalog found)) _ (read-answers g state past name found limit stands is there) read
 
-pub address-reads : (g : Config) (state : State) (past : List Request) (a : Address) (place : ℕ) (found : File) (limit : Option ℕ)
-    (shown : Shown) → IsUsable g state → StandsFor g state past → IsResolved g state past a (Ok (target.Of place found))
+pub address-reads : (g : Config) (state : State) (past : List Request) (a : Address) (index : ℕ) (found : File) (limit : Option ℕ)
+    (shown : Shown) → IsUsable g state → StandsFor g state past → IsResolved g state past a (Ok (target.Of index found))
     → IsRead g a.instance past limit (file_at state.catalog found) (Ok shown)
-    → IsPrepared g past (ReadFile a.instance a.file limit) state (Ok (record { change = Instance place shown.change; reply = shown.reply }))
-address-reads g state past a place found limit shown usable stands resolved read =
+    → IsPrepared g past (ReadFile a.instance a.file limit) state (Ok (record { change = Instance index shown.change; reply = shown.reply }))
+address-reads g state past a index found limit shown usable stands resolved read =
     subst
-    (λ (f : Option paths.File). IsPrepared g past (ReadFile a.instance f limit) state (Ok (record { change = Instance place shown.change; reply = shown.reply })))
-    (sym resolved.2) (read-done g state past a.instance place found limit shown usable stands resolved.0 resolved.1 resolved.3 read)
+    (λ (f : Option paths.File). IsPrepared g past (ReadFile a.instance f limit) state (Ok (record { change = Instance index shown.change; reply = shown.reply })))
+    (sym resolved.2) (read-done g state past a.instance index found limit shown usable stands resolved.0 resolved.1 resolved.3 read)
 
-pub address-read_refused : (g : Config) (state : State) (past : List Request) (a : Address) (place : ℕ) (found : File) (limit : Option ℕ)
-    (refused : Refusal) → StandsFor g state past → IsResolved g state past a (Ok (target.Of place found))
+pub address-read_refused : (g : Config) (state : State) (past : List Request) (a : Address) (index : ℕ) (found : File) (limit : Option ℕ)
+    (refused : Refusal) → StandsFor g state past → IsResolved g state past a (Ok (target.Of index found))
     → IsRead g a.instance past limit (file_at state.catalog found) (Err refused)
     → IsPrepared g past (ReadFile a.instance a.file limit) state (Err refused)
-address-read_refused g state past a place found limit refused stands resolved read =
+address-read_refused g state past a index found limit refused stands resolved read =
     subst (λ (f : Option paths.File). IsPrepared g past (ReadFile a.instance f limit) state (Err refused))
     (sym resolved.2) (read-refused g state past a.instance found limit refused stands resolved.0 resolved.3 read)
 
@@ -320,13 +320,13 @@ pub address-lists : (g : Config) (state : State) (past : List Request) (a : Addr
 address-lists g state past a limit result resolved is =
     subst (λ (f : Option paths.File). IsPrepared g past (ReadFile a.instance f limit) state result) (sym resolved.1) is
 
--- what the instance at a place is read from
-pub is-source : (g : Config) (state : State) (past : List Request) (source : FileSource) (place : ℕ) (name : Option (List ℕ)) (n : Named)
-    → StandsFor g state past → IsAt state place name → source.catalog.now ≡ state.catalog → source.clock ≡ state.clock
-    → n ≡ get_or state.instances.items place n → source.instance.now ≡ n.instance → IsSource g name past source
-is-source g state past source place name n stands at catalog clock is instance = record {
+-- what the instance at an index is read from
+pub is-source : (g : Config) (state : State) (past : List Request) (source : FileSource) (index : ℕ) (name : Option (List ℕ)) (n : Named)
+    → StandsFor g state past → IsAt state index name → source.catalog.now ≡ state.catalog → source.clock ≡ state.clock
+    → n ≡ get_or state.instances.items index n → source.instance.now ≡ n.instance → IsSource g name past source
+is-source g state past source index name n stands at catalog clock is instance = record {
   events = catalog ∙ stands.events;
   distinct = stands.distinct;
   clock = clock ∙ stands.clock;
-  instance = subst (λ (i : InstanceSeen). InstanceStandsFor g name past i) (sym instance) (stands-at g state past place name n stands at is);
+  instance = subst (λ (i : InstanceSeen). InstanceStandsFor g name past i) (sym instance) (stands-at g state past index name n stands at is);
 }

@@ -9,7 +9,7 @@ use Rattle.trace_hist.specs.Hists.{Seen, StandsFor}
 use Rattle.trace_trigger.specs.SameSpecs.{is_passed}
 use Rattle.trace_trigger.specs.declared.spec.Action.{Action}
 use Rattle.trace_trigger.specs.declared.spec.Action.TheVariants.{Clear}
-use Rattle.trace_book.specs.KeptHists.{AreHit, CanCount, IsHit, KeptHist, asked, kept_of, rows_counted}
+use Rattle.trace_book.specs.KeptHists.{AreHit, CanCount, IsHit, KeptHist, asked, is_passed_at, kept_of, passed, rows_counted}
 use Rattle.trace_book.specs.declared.hists.AttachedHist.{AttachedHist}
 
 -- ---- one hist trigger
@@ -53,6 +53,32 @@ hit_passed emission old new passed stands idle state spec = record {
         → new.table ≡ grouped old.hist.spec (rows ++ rows_counted (kept_of old) emission)
     by_pause rows was true is = rw (is, append-nil) (ap (λ (s : Seen). s.table) (idle is) ∙ was)
     by_pause rows was false is = rw (is, passed) (stands rows was is ∙ ap (λ (s : SpecSeen). grouped s (rows ++ hit_of old.hist.spec emission ∷ [])) spec)
+
+-- ---- the filters that an emission passes
+
+-- what is known at an index is what the one there says
+pub passed_at : (emission : Emission) (hists : List AttachedHist) (i : ℕ) (d : AttachedHist) → i < length hists
+    → is_passed_at emission (map kept_of hists) i ≡ is_passed (get_or hists i d).hist.spec.filter emission
+passed_at emission [] i d inside = absurd (omega (arith, inside))
+passed_at emission (a ∷ hists) zero d inside = refl
+passed_at emission (a ∷ hists) (suc i) d inside = passed_at emission hists i d (omega (arith, inside))
+
+pub passed_here : (emission : Emission) (hists : List AttachedHist) (i : ℕ) (d : AttachedHist) → i < length hists → i < 4
+    → get_or (passed emission (map kept_of hists)) i false ≡ is_passed (get_or hists i d).hist.spec.filter emission
+passed_here emission hists i d inside small = get_or_passed i small ∙ passed_at emission hists i d inside
+  where
+    get_or_passed : (i : ℕ) → i < 4 → get_or (passed emission (map kept_of hists)) i false ≡ is_passed_at emission (map kept_of hists) i
+    get_or_passed zero small = refl
+    get_or_passed (suc zero) small = refl
+    get_or_passed (suc (suc zero)) small = refl
+    get_or_passed (suc (suc (suc zero))) small = refl
+    get_or_passed (suc (suc (suc (suc i)))) small = absurd (omega (arith, small))
+
+pub passed_past : (emission : Emission) (hists : List AttachedHist) (index : ℕ) → length hists ≤ index
+    → false ≡ is_passed_at emission (map kept_of hists) index
+passed_past emission [] index past = refl
+passed_past emission (h ∷ hists) zero past = absurd (omega (arith, past))
+passed_past emission (h ∷ hists) (suc index) past = passed_past emission hists index (omega (arith, past))
 
 -- ---- one more of a loop
 

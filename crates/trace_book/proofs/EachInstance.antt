@@ -81,7 +81,7 @@ none_more each i reach false inside before none = reached_more (λ k r. r.record
 
 -- ---- names
 
--- lists of instances that have the same names at each place
+-- lists of instances that have the same names at each index
 pub names-same : (old new : List Named) → length new ≡ length old
     → ((k : ℕ) (d : Named) → k < length old → (get_or new k d).name ≡ (get_or old k d).name) → names_of new ≡ names_of old
 names-same [] [] many same = refl
@@ -93,7 +93,7 @@ names-same (o ∷ old) (n ∷ new) many same =
     let rest = names-same old new fewer (λ k d h. same (suc k) d (omega (arith, h))) in
     cc
 
--- the name at a place
+-- the name at an index
 pub name_at : (instances : List Named) (names : List (Option (List ℕ))) (k : ℕ) (d : Named) → names_of instances ≡ names → k < length instances
     → (get_or instances k d).name ≡ get_or names k None
 name_at instances names k d are inside =
@@ -106,14 +106,14 @@ length-names_of instances names are =
     sym (length-map instances (λ (n : Named). n.name)) ∙ ap (λ (l : List (Option (List ℕ))). length l) are
     ∙ ap (λ (k : ℕ). suc k) (length-map names (λ (n : List ℕ). Some n))
 
--- the names without the one at a place
-pub names-removed : (place : ℕ) (instances : List Named)
-    → names_of (take place instances ++ drop (place + 1) instances) ≡ take place (names_of instances) ++ drop (place + 1) (names_of instances)
-names-removed place instances =
+-- the names without the one at an index
+pub names-removed : (index : ℕ) (instances : List Named)
+    → names_of (take index instances ++ drop (index + 1) instances) ≡ take index (names_of instances) ++ drop (index + 1) (names_of instances)
+names-removed index instances =
     let f : Named → Option (List ℕ) = λ n. n.name in
-    map-append f (take place instances) (drop (place + 1) instances)
-    ∙ ap (λ (l : List (Option (List ℕ))). l ++ map f (drop (place + 1) instances)) (sym (take-map f place instances))
-    ∙ ap (λ (l : List (Option (List ℕ))). take place (map f instances) ++ l) (sym (drop-map f (place + 1) instances))
+    map-append f (take index instances) (drop (index + 1) instances)
+    ∙ ap (λ (l : List (Option (List ℕ))). l ++ map f (drop (index + 1) instances)) (sym (take-map f index instances))
+    ∙ ap (λ (l : List (Option (List ℕ))). take index (map f instances) ++ l) (sym (drop-map f (index + 1) instances))
 
 -- ---- distinct names
 
@@ -127,7 +127,7 @@ differs-flip a b differ = by_same (bytes_eq b a) refl
         let again : bytes_eq a b ≡ true = (bytes_eq-Decides a b).1 (sym e) in
         absurd (false≢true (sym differ ∙ again))
 
--- what holds of each holds at a place
+-- what holds of each holds at an index
 pub recursion_at : {X : Type 0} (P : X → Type 0) (xs : List X) (k : ℕ) (d : X) → AllByRecursion P xs → k < length xs → P (get_or xs k d)
 recursion_at P [] k d all inside = absurd (omega arith)
 recursion_at P (x ∷ xs) zero d all inside = all.0
@@ -220,40 +220,40 @@ none_left_out name (n ∷ names) all =
     let rest = none_left_out name names all.1 in
     rw other (ap (λ (l : List (List ℕ)). n ∷ l) rest)
 
--- of distinct names all but the one at a place
-pub one_left_out : (names : List (List ℕ)) (place : ℕ) (name : List ℕ) → IsDistinct bytes_eq names → place < length names → get_or names place [] ≡ name
-    → filter (λ (other : List ℕ). not (bytes_eq other name)) names ≡ take place names ++ drop (suc place) names
-one_left_out [] place name distinct inside there = absurd (omega arith)
+-- of distinct names all but the one at an index
+pub one_left_out : (names : List (List ℕ)) (index : ℕ) (name : List ℕ) → IsDistinct bytes_eq names → index < length names → get_or names index [] ≡ name
+    → filter (λ (other : List ℕ). not (bytes_eq other name)) names ≡ take index names ++ drop (suc index) names
+one_left_out [] index name distinct inside there = absurd (omega arith)
 one_left_out (n ∷ names) zero name distinct inside there =
     let itself : bytes_eq n name ≡ true = (bytes_eq-Decides n name).1 there in
     let rest : filter (λ (other : List ℕ). not (bytes_eq other name)) names ≡ names =
     none_left_out name names (subst (λ (m : List ℕ). AllByRecursion (λ (o : List ℕ). bytes_eq m o ≡ false) names) there (IsDistinct-head bytes_eq n names distinct)) in
     rw itself rest
-one_left_out (n ∷ names) (suc place) name distinct inside there =
-    let within : place < length names = omega (arith, inside) in
+one_left_out (n ∷ names) (suc index) name distinct inside there =
+    let within : index < length names = omega (arith, inside) in
     let other : bytes_eq n name ≡ false =
     subst (λ (m : List ℕ). bytes_eq n m ≡ false) there
-    (recursion_at (λ (m : List ℕ). bytes_eq n m ≡ false) names place [] (IsDistinct-head bytes_eq n names distinct) within) in
-    let rest = one_left_out names place name (IsDistinct-tail bytes_eq n names distinct) within there in
+    (recursion_at (λ (m : List ℕ). bytes_eq n m ≡ false) names index [] (IsDistinct-head bytes_eq n names distinct) within) in
+    let rest = one_left_out names index name (IsDistinct-tail bytes_eq n names distinct) within there in
     rw other (ap (λ (l : List (List ℕ)). n ∷ l) rest)
 
 -- the names of the instances without the one of this name
-pub names-without : (instances : List Named) (names : List (List ℕ)) (place : ℕ) (name : List ℕ) → names_of instances ≡ None ∷ some_names names
-    → IsDistinct bytes_eq names → place < suc (length names) → get_or (None ∷ some_names names) place None ≡ Some name
-    → names_of (take place instances ++ drop (place + 1) instances)
+pub names-without : (instances : List Named) (names : List (List ℕ)) (index : ℕ) (name : List ℕ) → names_of instances ≡ None ∷ some_names names
+    → IsDistinct bytes_eq names → index < suc (length names) → get_or (None ∷ some_names names) index None ≡ Some name
+    → names_of (take index instances ++ drop (index + 1) instances)
     ≡ None ∷ some_names (filter (λ (other : List ℕ). not (bytes_eq other name)) names)
 names-without instances names zero name are distinct inside there = cc
-names-without instances names (suc place) name are distinct inside there =
-    let within : place < length names = omega (arith, inside) in
+names-without instances names (suc index) name are distinct inside there =
+    let within : index < length names = omega (arith, inside) in
     let f : List ℕ → Option (List ℕ) = λ n. Some n in
-    let same : Some (get_or names place []) ≡ Some name = sym (some_at names place None [] within) ∙ there in
-    let named : get_or names place [] ≡ name = cc in
-    let next : suc place + 1 ≡ suc (suc place) = omega arith in
-    names-removed (suc place) instances
-    ∙ ap (λ (l : List (Option (List ℕ))). take (suc place) l ++ drop (suc place + 1) l) are
-    ∙ ap (λ (n : ℕ). (None ∷ take place (some_names names)) ++ drop n (None ∷ some_names names)) next
+    let same : Some (get_or names index []) ≡ Some name = sym (some_at names index None [] within) ∙ there in
+    let named : get_or names index [] ≡ name = cc in
+    let next : suc index + 1 ≡ suc (suc index) = omega arith in
+    names-removed (suc index) instances
+    ∙ ap (λ (l : List (Option (List ℕ))). take (suc index) l ++ drop (suc index + 1) l) are
+    ∙ ap (λ (n : ℕ). (None ∷ take index (some_names names)) ++ drop n (None ∷ some_names names)) next
     ∙ ap (λ (l : List (Option (List ℕ))). None ∷ l)
-    (ap (λ (l : List (Option (List ℕ))). l ++ drop (suc place) (some_names names)) (take-map f place names)
-    ∙ ap (λ (l : List (Option (List ℕ))). map f (take place names) ++ l) (drop-map f (suc place) names)
-    ∙ sym (map-append f (take place names) (drop (suc place) names))
-    ∙ ap some_names (sym (one_left_out names place name distinct within named)))
+    (ap (λ (l : List (Option (List ℕ))). l ++ drop (suc index) (some_names names)) (take-map f index names)
+    ∙ ap (λ (l : List (Option (List ℕ))). map f (take index names) ++ l) (drop-map f (suc index) names)
+    ∙ sym (map-append f (take index names) (drop (suc index) names))
+    ∙ ap some_names (sym (one_left_out names index name distinct within named)))

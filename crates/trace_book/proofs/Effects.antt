@@ -179,15 +179,15 @@ lawful_read g events i ClearSpare usable reading = absurd reading
 no_event : Definition
 no_event = record { name = []; fields = [] }
 
-named_at_place : (events : List Definition) (place : ℕ) → AreEvents [] events → place < length events
-    → is_some (event_named_in events (name_at events place)) ≡ true
-named_at_place events place are inside =
-    rw (name-at_place events place no_event inside, named_at events place no_event are inside) refl
+named_at_place : (events : List Definition) (index : ℕ) → AreEvents [] events → index < length events
+    → is_some (event_named_in events (name_at events index)) ≡ true
+named_at_place events index are inside =
+    rw (name-at_place events index no_event inside, named_at events index no_event are inside) refl
 
-event_there : (past : List Request) (events : List Definition) (place : ℕ) → events ≡ declared_events past → AreEvents [] events → place < length events
-    → is_some (event_named (name_at events place) past) ≡ true
-event_there past events place is are inside =
-    ap (λ (es : List Definition). is_some (event_named_in es (name_at events place))) (sym is) ∙ named_at_place events place are inside
+event_there : (past : List Request) (events : List Definition) (index : ℕ) → events ≡ declared_events past → AreEvents [] events → index < length events
+    → is_some (event_named (name_at events index) past) ≡ true
+event_there past events index is are inside =
+    ap (λ (es : List Definition). is_some (event_named_in es (name_at events index))) (sym is) ∙ named_at_place events index are inside
 
 pub nothing_missing : (g : Config) (past : List Request) (events : List Definition) (found : File) → events ≡ declared_events past → AreEvents [] events
     → IsThere g.cpus events found → missing g past (file_at events found) ≡ None

@@ -5,7 +5,6 @@ use Rattle.std.specs.List.{AllByRecursion}
 use Rattle.std.specs.Option.{option_map}
 use Rattle.std.proofs.lemmas.List.{get_or-map}
 use Rattle.std.proofs.lemmas.Bool.{lt-ltb}
-use Rattle.trace_buffer.specs.Buffers as buffers
 use Rattle.trace_record.specs.Record.{IsRecord}
 use Rattle.trace_filter.specs.Filters.{Parsed, parsed_of}
 use Rattle.trace_format.specs.Cells.{Cells}
@@ -15,19 +14,18 @@ use Rattle.trace_format.specs.declared.pair.Pair.{Pair}
 use Rattle.trace_command.specs.Requests.{Request, Emission}
 use Rattle.trace_command.specs.declared.command.Config.{Config}
 use Rattle.trace_command.specs.declared.command.Reply.TheVariants as reply
-use Rattle.trace_history.specs.Declarations.{IsFit, IsPlaceOf}
+use Rattle.trace_history.specs.Declarations.{IsFit, IsIndexOf}
 use Rattle.trace_history.specs.Settings.{NumberedEvent, declared_events, event_named, event_named_in, filter_of, is_enabled, kept_filter, now_of}
 use Rattle.trace_history.specs.Emissions.{Emitted, filter_holds, is_recorded, record_bytes}
 use Rattle.trace_history.specs.History.{emission_answer}
 use Rattle.trace_history.specs.Snapshots.{is_exchanged_by}
 use Rattle.trace_history.specs.Triggers as triggers
 use Rattle.trace_history.specs.Triggers.{acts, is_left, passes, times_left, trigger_of}
-use Rattle.trace_book.specs.Instances.{InstanceSeen, InstanceStandsFor, IsAlike, kept_as}
+use Rattle.trace_book.specs.Instances.{InstanceSeen, InstanceStandsFor, kept_as}
 use Rattle.trace_book.specs.private.Rows.{fires, kept_acts, kept_holds, records}
-use Rattle.trace_book.specs.KeptHists.{CanCount}
-use Rattle.trace_book.specs.declared.hists.AttachedHist.{AttachedHist}
-use Rattle.trace_book.specs.States.{AllReached, CanBeWritten, CanCountRow, CanEmit, EachCame, HasRoom, IsEmission, StandsFor, reach_at}
-use Rattle.trace_book.specs.private.Emissions.{AreReached, HasBytes, IsAhead, IsReadied, IsStateAlike}
+use Rattle.trace_book.specs.KeptHists.{KeptHist, passed}
+use Rattle.trace_book.specs.States.{AllReached, ArePassed, CanBeWritten, CanCountRow, CanEmit, IsEmission, StandsFor, reach_at}
+use Rattle.trace_book.specs.private.Emissions.{AreReached, IsAhead, IsStateAlike}
 use Rattle.trace_book.specs.private.Found.{numbered}
 use Rattle.trace_book.specs.declared.change.Pending.{Pending}
 use Rattle.trace_book.specs.declared.change.Reach.{Reach}
@@ -44,60 +42,15 @@ use Rattle.trace_book.proofs.Delivered.{can-fire, self, trigger-at}
 pub written-over : {X : Type 0} (n : ℕ) (out rest : List X) → length out ≡ n → take n (out ++ rest) ≡ out
 written-over n out rest is = subst (λ (k : ℕ). take k (out ++ rest) ≡ out) is (take-append_seam out rest)
 
-pub readied-self : (i : InstanceSeen) → IsReadied i i
-readied-self i = (
-  record {
-    enabled = refl;
-    filters = refl;
-    triggers = refl;
-    hists = refl;
-    overwrite = refl;
-    tracing = refl;
-    sides = λ families stood. stood;
-    shaped = λ g is. is;
-    offered = λ most were. were;
-    cpus = refl;
-  },
-  refl,
-)
-
--- instances that were made ready are alike
-pub alike-each : (old new : List Named) → EachCame IsReadied old new → EachCame IsAlike old new
-alike-each old new readied = record {
-  many = readied.many;
-  names = readied.names;
-  came = λ k d inside. (readied.came k d inside).0;
-}
-
--- and their hist triggers are as they were
-pub hists-each : (old new : List Named) → EachCame IsReadied old new
-    → (k : ℕ) (d : Named) → k < length old → (get_or new k d).instance.hists ≡ (get_or old k d).instance.hists
-hists-each old new readied k d inside = (readied.came k d inside).1
-
--- and each that records the emission has room
-pub room-each : (old new : List Named) (reaches : Reaches) (pending : Pending) (cpu len : ℕ)
-    → EachCame IsReadied old new → pending.cpu ≡ cpu → length pending.bytes.items ≡ len
-    → All (λ (n : Named). cpu < buffers.cpus n.instance.sides.live) old
-    → AllReached (HasBytes cpu len) reaches new → AllReached (HasRoom pending) reaches new
-room-each old new reaches pending cpu len readied is long cpus room k d inside =
-    let within : k < length old = omega (arith, readied.many) in
-    let alike = (readied.came k d within).0 in
-    let below = cpus k d within in
-    let last = room k d inside in
-    rw (is, long) ((rw alike.cpus below), last)
-
--- a record for which each instance has room that records it was written ahead
-pub is-ahead : (old new : State) (event : ℕ) (row : Cells) (cpu : ℕ) (pid : ℤ) (reaches : Reaches) (p : Pending)
-    → ((k : ℕ) (d : Named) → k < length old.instances.items
-    → (get_or new.instances.items k d).instance.hists ≡ (get_or old.instances.items k d).instance.hists)
-    → p.cpu ≡ cpu → p.bytes.items ≡ record_bytes (old.clock + 1) pid (event + 1) row → IsRecord p.bytes.items
-    → AllReached (HasRoom p) reaches new.instances.items → IsAhead old new event row cpu pid reaches (Some p)
-is-ahead old new event row cpu pid reaches p hists is bytes is_record room = record {
-  hists = hists;
+-- a record was written ahead
+pub is-ahead : (state : State) (event : ℕ) (row : Cells) (cpu : ℕ) (pid : ℤ) (reaches : Reaches) (p : Pending)
+    → p.cpu ≡ cpu → p.bytes.items ≡ record_bytes (state.clock + 1) pid (event + 1) row → IsRecord p.bytes.items
+    → IsAhead state event row cpu pid reaches (Some p)
+is-ahead state event row cpu pid reaches p is bytes is_record = record {
   bytes = λ q e.
       let same : p ≡ q = cc in
-      subst (λ (r : Pending). (r.cpu ≡ cpu) × (r.bytes.items ≡ record_bytes (old.clock + 1) pid (event + 1) row) × IsRecord r.bytes.items
-      × AllReached (HasRoom r) reaches new.instances.items) same (is, bytes, is_record, room);
+      subst (λ (r : Pending). (r.cpu ≡ cpu) × (r.bytes.items ≡ record_bytes (state.clock + 1) pid (event + 1) row) × IsRecord r.bytes.items) same
+      (is, bytes, is_record);
   none = λ e. absurd (cc);
 }
 
@@ -110,11 +63,11 @@ named-found g state past name found stands named = rw (← stands.events) (sym n
 
 -- the switch of an event that was found is the one that the requests set
 pub enabled-found : (g : Config) (name : Option (List ℕ)) (past : List Request) (i : InstanceSeen) (found : Found) (event : List ℕ)
-    → InstanceStandsFor g name past i → IsPlaceOf (declared_events past) event found.index found.event.now
+    → InstanceStandsFor g name past i → IsIndexOf (declared_events past) event found.index found.event.now
     → get_or i.enabled found.index false ≡ is_enabled name found.event.now.name past
-enabled-found g name past i found event stands place =
+enabled-found g name past i found event stands indexed =
     let f : Definition → Bool = λ e. is_enabled name e.name past in
-    rw stands.enabled (get_or-map f (declared_events past) found.index found.event.now false place.inside ∙ ap f (sym place.there))
+    rw stands.enabled (get_or-map f (declared_events past) found.index found.event.now false indexed.inside ∙ ap f (sym indexed.there))
 
 -- the truth of a kept filter is that of the filter's text
 kept-holds : (event : Definition) (filter : Option (List ℕ)) (row : Cells) (cpu : ℕ) (pid : ℤ)
@@ -125,22 +78,22 @@ kept-holds event (Some text) row cpu pid = refl
 
 -- the filter of an event that was found holds as the one that the requests set
 pub filter-found : (g : Config) (name : Option (List ℕ)) (past : List Request) (i : InstanceSeen) (found : Found) (event : List ℕ) (row : Cells) (cpu : ℕ) (pid : ℤ)
-    → InstanceStandsFor g name past i → IsPlaceOf (declared_events past) event found.index found.event.now
+    → InstanceStandsFor g name past i → IsIndexOf (declared_events past) event found.index found.event.now
     → kept_holds (get_or i.filters found.index None) row cpu pid ≡ filter_holds found.event.now (filter_of name found.event.now.name past) row cpu pid
-filter-found g name past i found event row cpu pid stands place =
+filter-found g name past i found event row cpu pid stands indexed =
     let kept : get_or i.filters found.index None ≡ kept_filter name past found.event.now =
-    rw stands.filters (get_or-map (kept_filter name past) (declared_events past) found.index found.event.now None place.inside
-    ∙ ap (kept_filter name past) (sym place.there)) in
+    rw stands.filters (get_or-map (kept_filter name past) (declared_events past) found.index found.event.now None indexed.inside
+    ∙ ap (kept_filter name past) (sym indexed.there)) in
     ap (λ (k : Option Parsed). kept_holds k row cpu pid) kept ∙ kept-holds found.event.now (filter_of name found.event.now.name past) row cpu pid
 
 -- an instance that stands for its requests records what they say
 pub records-found : (g : Config) (name : Option (List ℕ)) (past : List Request) (i : InstanceSeen) (found : Found) (event : List ℕ) (row : Cells) (cpu : ℕ) (pid : ℤ) (timestamp : ℕ)
-    → InstanceStandsFor g name past i → IsPlaceOf (declared_events past) event found.index found.event.now
+    → InstanceStandsFor g name past i → IsIndexOf (declared_events past) event found.index found.event.now
     → records i found.index row cpu pid
     ≡ is_recorded name past (record { k = numbered found; row = row; cpu = cpu; pid = pid; timestamp = timestamp })
-records-found g name past i found event row cpu pid timestamp stands place =
-    let enabled = enabled-found g name past i found event stands place in
-    let holds = filter-found g name past i found event row cpu pid stands place in
+records-found g name past i found event row cpu pid timestamp stands indexed =
+    let enabled = enabled-found g name past i found event stands indexed in
+    let holds = filter-found g name past i found event row cpu pid stands indexed in
     let tracing = stands.tracing in
     rw (tracing, enabled, holds) refl
 
@@ -158,10 +111,10 @@ acts-kept past e (Some t) = by t.spec.filter
 
 -- so a trigger of an instance that stands for its requests acts as they say
 pub fires-found : (g : Config) (name : Option (List ℕ)) (past : List Request) (i : InstanceSeen) (e : Emitted) (index : ℕ)
-    → InstanceStandsFor g name past i → IsPlaceOf (declared_events past) e.k.event.name index e.k.event
+    → InstanceStandsFor g name past i → IsIndexOf (declared_events past) e.k.event.name index e.k.event
     → fires i index e.row e.cpu e.pid ≡ is_exchanged_by name past (Some e)
-fires-found g name past i e index stands place =
-    ap (λ (t : Option Trigger). kept_acts t e.row e.cpu e.pid) (trigger-at name past i.triggers e.k.event.name index e.k.event stands.triggers place)
+fires-found g name past i e index stands indexed =
+    ap (λ (t : Option Trigger). kept_acts t e.row e.cpu e.pid) (trigger-at name past i.triggers e.k.event.name index e.k.event stands.triggers indexed)
     ∙ acts-kept past e (trigger_of name e.k.event past)
 
 -- ---- what is prepared
@@ -175,37 +128,40 @@ answers-emission g past name cpu pairs k row inside there built = rw (lt-ltb cpu
 -- what is written ahead is the record of the emission
 pub is-emission : (g : Config) (old new : State) (past : List Request) (name : List ℕ) (cpu : ℕ) (pid : ℤ) (pairs : List Pair) (found : Found) (row : Cells)
     (reaches : Reaches) (pending : Option Pending) → StandsFor g old past → Some (numbered found) ≡ event_named_in old.catalog name
-    → IsPlaceOf old.catalog name found.index found.event.now → row_of found.event.now pairs ≡ Ok row → IsStateAlike old new
-    → AreReached found.index row cpu pid reaches old.instances.items → IsAhead old new found.index row cpu pid reaches pending
+    → IsIndexOf old.catalog name found.index found.event.now → row_of found.event.now pairs ≡ Ok row → IsStateAlike old new
+    → AreReached found.index row cpu pid reaches old.instances.items → IsAhead new found.index row cpu pid reaches pending
     → IsEmission g past (Emission name cpu pid pairs) new.instances.items
     (record { event = found.index; row = row; cpu = cpu; pid = pid; reaches = reaches; «record» = pending })
-is-emission g old new past name cpu pid pairs found row reaches pending stands named place built alike are ahead = record {
+is-emission g old new past name cpu pid pairs found row reaches pending stands named indexed built alike are ahead = record {
   declares = refl;
   made = refl;
   removed = refl;
   ticks = refl;
   e = e;
   emitted = rw (there, built) refl;
-  place = own;
+  index = own;
   row = refl;
   cpu = refl;
   pid = refl;
   records = recording;
   fires = firing;
-  bytes = λ p is. let of = ahead.bytes p is in (rw (← stands.clock) of.1, of.0);
+  bytes = λ p is. let of = ahead.bytes p is in (rw (← clock) of.1, of.0);
   none = λ is k d inside. are.none (ahead.none is) k d (within k inside);
 }
   where
     e : Emitted
     e = record { k = numbered found; row = row; cpu = cpu; pid = pid; timestamp = now_of past + 1 }
 
+    clock : new.clock ≡ now_of past
+    clock = alike.clock ∙ stands.clock
+
     there : event_named name past ≡ Some (numbered found)
     there = named-found g old past name found stands named
 
-    declared : IsPlaceOf (declared_events past) name found.index found.event.now
-    declared = rw stands.events at place
+    declared : IsIndexOf (declared_events past) name found.index found.event.now
+    declared = rw stands.events at indexed
 
-    own : IsPlaceOf (declared_events past) found.event.now.name found.index found.event.now
+    own : IsIndexOf (declared_events past) found.event.now.name found.index found.event.now
     own = record { inside = declared.inside; there = declared.there; named = self found.event.now.name }
 
     within : (k : ℕ) → k < length new.instances.items → k < length old.instances.items
@@ -227,37 +183,46 @@ is-emission g old new past name cpu pid pairs found row reaches pending stands n
         rw named_so (ap (λ (r : Reach). r.fires) (are.each k d (within k inside))
         ∙ fires-found g was.name past was.instance e found.index (stands.each k d (within k inside)) own)
 
--- a record for which each instance has room that records it can be written
-can-be-written : (g : Config) (old new : State) (event : ℕ) (row : Cells) (cpu : ℕ) (pid : ℤ) (reaches : Reaches) (pending : Option Pending)
-    → IsAhead old new event row cpu pid reaches pending → ((p : Pending) → pending ≡ Some p → length p.bytes.items ≤ g.page_bytes)
-    → CanBeWritten g new.instances.items reaches pending
-can-be-written g old new event row cpu pid reaches None ahead short = tt
-can-be-written g old new event row cpu pid reaches (Some p) ahead short = let of = ahead.bytes p refl in (of.2, short p refl, of.3)
+-- a record that was written ahead can be written
+can-be-written : (g : Config) (state : State) (past : List Request) (event : ℕ) (row : Cells) (cpu : ℕ) (pid : ℤ) (reaches : Reaches)
+    (pending : Option Pending) → StandsFor g state past → cpu < g.cpus → IsAhead state event row cpu pid reaches pending
+    → ((p : Pending) → pending ≡ Some p → length p.bytes.items ≤ g.page_bytes) → CanBeWritten g state.instances.items pending
+can-be-written g state past event row cpu pid reaches None stands inside ahead short = tt
+can-be-written g state past event row cpu pid reaches (Some p) stands inside ahead short =
+    let of = ahead.bytes p refl in (of.2, short p refl, λ k d within. rw (of.0, (stands.each k d within).shaped.live.cpus) inside)
+
+-- the filters of which hist triggers it passes is known still where their memory grew
+passed-still : (old new : State) (event : ℕ) (row : Cells) (cpu : ℕ) (pid : ℤ) (reaches : Reaches) → IsStateAlike old new
+    → AreReached event row cpu pid reaches old.instances.items
+    → ArePassed (record { values = row.values; cpu = cpu; pid = pid }) event reaches new.instances.items
+passed-still old new event row cpu pid reaches alike are k d inside =
+    let within : k < length old.instances.items = omega (arith, inside, alike.instances.many) in
+    let same = (alike.instances.came k d within).hists in
+    ap (λ (r : Reach). r.passed) (are.each k d within)
+    ∙ ap (λ (hists : List (List KeptHist)). passed (record { values = row.values; cpu = cpu; pid = pid }) (get_or hists event [])) (sym same)
 
 -- and so all is there for the emission
 pub ready-emission : (g : Config) (old new : State) (past : List Request) (request : Request) (event : ℕ) (row : Cells) (cpu : ℕ) (pid : ℤ)
     (reaches : Reaches) (pending : Option Pending) → StandsFor g new past
     → IsEmission g past request new.instances.items (record { event = event; row = row; cpu = cpu; pid = pid; reaches = reaches; «record» = pending })
-    → length new.instances.items ≡ length old.instances.items
-    → All (λ (n : Named). CanCountRow (record { values = row.values; cpu = cpu; pid = pid }) event n.instance) old.instances.items
-    → IsAhead old new event row cpu pid reaches pending → ((p : Pending) → pending ≡ Some p → length p.bytes.items ≤ g.page_bytes)
+    → IsStateAlike old new → cpu < g.cpus → AreReached event row cpu pid reaches old.instances.items
+    → All (λ (n : Named). CanCountRow (record { values = row.values; cpu = cpu; pid = pid }) event n.instance) new.instances.items
+    → IsAhead new event row cpu pid reaches pending → ((p : Pending) → pending ≡ Some p → length p.bytes.items ≤ g.page_bytes)
     → CanEmit g new (record { event = event; row = row; cpu = cpu; pid = pid; reaches = reaches; «record» = pending })
-ready-emission g old new past request event row cpu pid reaches pending stands emission many counted ahead short = (
-  rw stands.events emission.place.inside,
-  can-be-written g old new event row cpu pid reaches pending ahead short,
-  λ k d inside.
+ready-emission g old new past request event row cpu pid reaches pending stands emission alike inside are counted ahead short = (
+  rw stands.events emission.index.inside,
+  can-be-written g new past event row cpu pid reaches pending stands inside ahead short,
+  λ k d within.
       let n = get_or new.instances.items k d in
-      can-fire g n.name past emission.e event (reach_at reaches k) n.instance (stands.each k d inside) emission.place (emission.fires k d inside),
-  λ k d inside.
-      let within : k < length old.instances.items = omega (arith, inside, many) in
-      subst (λ (hists : List (List AttachedHist)). All (CanCount (record { values = row.values; cpu = cpu; pid = pid })) (get_or hists event []))
-      (sym (ahead.hists k d within)) (counted k d within),
+      can-fire g n.name past emission.e event (reach_at reaches k) n.instance (stands.each k d within) emission.index (emission.fires k d within),
+  passed-still old new event row cpu pid reaches alike are,
+  counted,
 )
 
--- what holds of each event holds of the one at a place
+-- what holds of each event holds of the one at an index
 pub fit-at : (page_bytes : ℕ) (events : List Definition) (name : List ℕ) (index : ℕ) (event : Definition) → AllByRecursion (IsFit page_bytes) events
-    → IsPlaceOf events name index event → IsFit page_bytes event
-fit-at page_bytes events name index event fit place = subst (IsFit page_bytes) (sym place.there) (by events index fit place.inside)
+    → IsIndexOf events name index event → IsFit page_bytes event
+fit-at page_bytes events name index event fit indexed = subst (IsFit page_bytes) (sym indexed.there) (by events index fit indexed.inside)
   where
     by : (es : List Definition) (i : ℕ) → AllByRecursion (IsFit page_bytes) es → i < length es → IsFit page_bytes (get_or es i event)
     by [] i all inside = absurd (omega arith)

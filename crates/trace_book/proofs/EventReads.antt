@@ -28,13 +28,13 @@ use Rattle.trace_book.specs.declared.trigger.Trigger.{Trigger}
 no_event : Definition
 no_event = record { name = []; fields = [] }
 
--- the name of the event at a place
+-- the name of the event at an index
 pub name-at_place : (events : List Definition) (i : ℕ) (d : Definition) → i < length events → name_at events i ≡ (get_or events i d).name
 name-at_place [] i d inside = absurd (omega arith)
 name-at_place (event ∷ events) zero d inside = refl
 name-at_place (event ∷ events) (suc i) d inside = name-at_place events i d (omega arith)
 
--- a place of the catalog is one of the declared events
+-- an index of the catalog is one of the declared events
 inside-declared : (g : Config) (name : Option (List ℕ)) (past : List Request) (source : FileSource) (event : ℕ) → IsSource g name past source
     → event < length source.catalog.now → event < length (declared_events past)
 inside-declared g name past source event is inside = rw (← is.events) inside

@@ -1,7 +1,8 @@
 -- What a text that says something of a hist trigger answers, and that the change made of it is the one that the definitions say.
-use Rattle.std.proofs.Common.{◌≡◌, ◌↔◌, ℕ, ◌<◌, ◌≤◌, Bool, true, false, not, ◌||◌, if◌then◌else◌, List, [], ◌∷◌, ◌++◌, is_some, IsTrue, Option, None, Some, Result, Ok, Err, refl, sym, ap, ◌∙◌, subst, arith}
+use Rattle.std.proofs.Common.{◌≡◌, ◌↔◌, ℕ, ◌<◌, ◌≤◌, length, Bool, true, false, not, ◌||◌, if◌then◌else◌, List, [], ◌∷◌, ◌++◌, is_some, IsTrue, Option, None, Some, Result, Ok, Err, refl, sym, ap, ◌∙◌, subst, arith}
 use Rattle.std.specs.List.{list_any, position}
 use Rattle.std.proofs.lemmas.Bool.{false≢true}
+use Rattle.std.proofs.lemmas.List.{length-map}
 use Rattle.trace_format.specs.Definitions.{Definition}
 use Rattle.trace_hist.specs.Groups.{grouped}
 use Rattle.trace_hist.specs.Hists.{Seen, StandsFor}
@@ -64,7 +65,7 @@ ask-done spec kept written index found other = λ event name past number are is.
         snapshot = snapshot-stays name past event written.append written.text.now (Ok (said.Hist spec)) is refl;
         hists = hists-asked name past event are.id written.append written.text.now spec are.named is (has-same_left name past event kept spec written.append are ∙ same)
             ∙ one-asked spec (if written.append then kept_hists name past event else []) index only;
-        one = only.inside;
+        possible = only.inside;
         spare = rw is refl;
       },
     )
@@ -133,6 +134,14 @@ ask-memory spec kept written none attaching few = λ event name past number are 
     (room-answer spec kept written event name past none attaching are is
     ∙ room-had (trigger_of name event past) (left_by name past event written.append) room)
 
+-- where there is room for one more trigger there is for one more hist trigger
+few-left : (name : Option (List ℕ)) (past : List Request) (event : Definition) (kept : EventTriggers) (append : Bool) → AreKept name past event kept
+    → kept_count kept append < 4 → length (if append then kept_hists name past event else []) < 4
+few-left name past event kept true are few =
+    let many : length kept.hists.now ≡ length (kept_hists name past event) = sym (length-map kept.hists.now kept_of) ∙ ap length are.hists in
+    omega (arith, few, many)
+few-left name past event kept false are few = omega arith
+
 pub ask-attached : (spec : SpecSeen) (kept : EventTriggers) (written : WrittenText) (attached : AttachedHist)
     → same_left spec kept written.append ≡ None → attaches spec.action ≡ true → kept_count kept written.append < 4
     → kept_of attached ≡ new_kept written.number spec → IsAsked spec kept written (Ok (AttachHist attached))
@@ -147,7 +156,7 @@ ask-attached spec kept written attached none attaching few new = λ event name p
         hists = hists-attached name past event are.id written.append written.text.now spec are.named is (has-same_left name past event kept spec written.append are ∙ ap is_some none)
             ∙ ap (λ (n : ℕ). before ++ new_kept n spec ∷ []) number
             ∙ ap (λ (k : KeptHist). before ++ k ∷ []) (sym new);
-        one = tt;
+        possible = few-left name past event kept written.append are few;
         spare = rw is refl;
       },
     )
@@ -194,7 +203,7 @@ remove-done spec kept written index appends found = λ event name past number ar
         snapshot = snapshot-stays name past event written.append written.text.now (Ok (said.RemoveHist spec)) is refl;
         hists = hists-removed name past event are.id written.append written.text.now spec are.named is
             ∙ one-removed spec (if written.append then kept_hists name past event else []) index only;
-        one = only.inside;
+        possible = only.inside;
         spare = rw is refl;
       },
     )
@@ -219,7 +228,7 @@ remove-keeps spec kept written anew = λ event name past number are is. (
   record {
     snapshot = snapshot-stays name past event written.append written.text.now (Ok (said.RemoveHist spec)) is refl;
     hists = hists-removed name past event are.id written.append written.text.now spec are.named is ∙ none-left spec written.append (kept_hists name past event) anew;
-    one = tt;
+    possible = tt;
     spare = rw is refl;
   },
 )

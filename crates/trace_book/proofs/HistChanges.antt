@@ -99,6 +99,16 @@ one_of true event index value old read view within here one =
     subst (λ (l : List AttachedHist). index < length l) (sym is) one
 one_of false event index value old read view within here one = absurd (omega (arith, one))
 
+-- there is room for one more of those that a text leaves
+pub room_of : (append : Bool) (event : ℕ) (value old : InstanceSeen) (read : List AttachedHist) → old ≡ value → event < length value.hists
+    → read ≡ get_or old.hists event read → length (if append then get_or value.hists event [] else []) < 4 → length (if append then read else []) < 4
+room_of true event value old read view within here room =
+    let inside : event < length old.hists = subst (λ (v : InstanceSeen). event < length v.hists) (sym view) within in
+    let is : read ≡ get_or value.hists event [] =
+    here ∙ get_or_default old.hists event read [] inside ∙ ap (λ (v : InstanceSeen). get_or v.hists event []) view in
+    subst (λ (l : List AttachedHist). length l < 4) (sym is) room
+room_of false event value old read view within here room = room
+
 -- the one at an index is removed
 pub hist_detached : (event : ℕ) (append : Bool) (index : ℕ) (value old : InstanceSeen) (read mine : List AttachedHist) → old ≡ value
     → event < length value.hists → read ≡ get_or old.hists event read → index < length (if append then get_or value.hists event [] else [])
@@ -184,14 +194,6 @@ pub alike_one : (event : ℕ) (value old : InstanceSeen) (read new : List Attach
     → read ≡ get_or old.hists event read → map kept_of new ≡ map kept_of read → IsAlike value (record old { hists = set old.hists event new })
 alike_one event value old read new view within here same =
     subst (λ (v : InstanceSeen). IsAlike v (record old { hists = set old.hists event new })) view (record {
-      enabled = refl;
-      filters = refl;
-      triggers = refl;
+      rest = refl;
       hists = map-set_same (map kept_of) old.hists event new read (same ∙ ap (map kept_of) here);
-      overwrite = refl;
-      tracing = refl;
-      sides = λ f s. s;
-      shaped = λ g s. s;
-      offered = λ most all. all;
-      cpus = refl;
     })

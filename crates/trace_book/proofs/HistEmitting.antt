@@ -11,7 +11,7 @@ use Rattle.trace_format.specs.declared.pair.Pair.{Pair}
 use Rattle.trace_hist.specs.Groups.{grouped}
 use Rattle.trace_trigger.specs.SameSpecs.{is_passed}
 use Rattle.trace_command.specs.Requests.{Request, Emission}
-use Rattle.trace_history.specs.Declarations.{IsPlaceOf}
+use Rattle.trace_history.specs.Declarations.{IsIndexOf}
 use Rattle.trace_history.specs.Emissions.{Emitted, emitted}
 use Rattle.trace_history.specs.HistTriggers.{HistTrigger, counted_hit, counted_row, hists_of, hits_of, is_of, is_paused, table_of}
 use Rattle.trace_history.specs.Settings.{declared_events}
@@ -140,11 +140,11 @@ own-hists name past ename cpu pid pairs e event new is own hit =
 
 pub hists-after : (name : Option (List ℕ)) (past : List Request) (ename : List ℕ) (cpu : ℕ) (pid : ℤ) (pairs : List Pair) (e : Emitted) (index : ℕ)
     (old new : List (List KeptHist)) → emitted past (Emission ename cpu pid pairs) ≡ Some e
-    → IsPlaceOf (declared_events past) e.k.event.name index e.k.event
+    → IsIndexOf (declared_events past) e.k.event.name index e.k.event
     → ((j : ℕ) → j < length (declared_events past) → (j ≡ index → ⊥) → bytes_eq (get_or (declared_events past) j e.k.event).name e.k.event.name ≡ false)
     → old ≡ map (kept_hists name past) (declared_events past) → WereOfferedRow (counted_row e) index old new
     → new ≡ map (kept_hists name (Emission ename cpu pid pairs ∷ past)) (declared_events past)
-hists-after name past ename cpu pid pairs e index old new is place differ stood came =
+hists-after name past ename cpu pid pairs e index old new is indexed differ stood came =
     ext_get_or [] new (map (kept_hists name (request ∷ past)) events) many at
   where
     request : Request
@@ -173,10 +173,10 @@ hists-after name past ename cpu pid pairs e index old new is place differ stood 
 
     own : get_or new index [] ≡ get_or (map (kept_hists name (request ∷ past)) events) index []
     own =
-        let here : get_or events index e.k.event ≡ e.k.event = sym place.there in
+        let here : get_or events index e.k.event ≡ e.k.event = sym indexed.there in
         let hit : AreHit (counted_row e) (kept_hists name past (get_or events index e.k.event)) (get_or new index []) =
-        subst (λ (l : List KeptHist). AreHit (counted_row e) l (get_or new index [])) (was index place.inside) came.there in
-        own-hists name past ename cpu pid pairs e (get_or events index e.k.event) (get_or new index []) is here hit ∙ sym (becomes index place.inside)
+        subst (λ (l : List KeptHist). AreHit (counted_row e) l (get_or new index [])) (was index indexed.inside) came.there in
+        own-hists name past ename cpu pid pairs e (get_or events index e.k.event) (get_or new index []) is here hit ∙ sym (becomes index indexed.inside)
 
     at : (j : ℕ) → j < length new → get_or new j [] ≡ get_or (map (kept_hists name (request ∷ past)) events) j []
     at j within =

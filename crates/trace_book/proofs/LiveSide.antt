@@ -11,7 +11,7 @@ use Rattle.trace_command.specs.declared.command.Config.{Config}
 use Rattle.trace_snapshot.specs.Sides.{SideFamilies, SidesSeen, StandsFor, HasShapeOf, IsSpareOf, IsSpareCleared, exchanged, spare_cleared, with_spare}
 use Rattle.trace_book.specs.Changes.{IsApplied}
 use Rattle.trace_book.specs.Instances.{HasShape, InstanceSeen, IsShaped, WasOffered, WereOffered, hists_kept}
-use Rattle.trace_book.specs.States.{HasRoom, IsDelivered, IsExchanged, IsOffered, IsWritten, WereOfferedRow, counted_down, recorded_in, row_of}
+use Rattle.trace_book.specs.States.{IsDelivered, IsExchanged, IsOffered, IsWritten, WereOfferedRow, counted_down, recorded_in, row_of}
 use Rattle.trace_book.specs.declared.change.Delivery.{Delivery}
 use Rattle.trace_book.specs.declared.change.InstanceChange.TheVariants.{Clear, ClearSpare, TakeSnapshot}
 use Rattle.trace_book.specs.declared.change.Pending.{Pending}
@@ -192,7 +192,7 @@ like kept lent new lends cpus pages page_bytes = record {
 
 -- a record was put there
 pub written : (p : Pending) (reach : Reach) (value old : InstanceSeen) (lent new : buffers.Seen) (bytes : List ℕ) → old ≡ value → lent ≡ old.sides.live
-    → bytes ≡ p.bytes.items → reach.records ≡ true → HasRoom p reach value
+    → bytes ≡ p.bytes.items → reach.records ≡ true → p.cpu < buffers.cpus value.sides.live
     → ((family : List (List Event)) → buffers.StandsFor lent family → buffers.StandsFor new (with_events p.cpu (Put bytes old.overwrite ∷ []) family))
     → buffers.cpus new ≡ buffers.cpus lent → new.pages ≡ lent.pages → new.page_bytes ≡ lent.page_bytes
     → buffers.offers new ≡ set (buffers.offers lent) p.cpu (get_or (buffers.offers lent) p.cpu 0 + 1)
@@ -210,7 +210,7 @@ written p reach value old lent new bytes view lends copied records room stands c
     })
   where
     here : p.cpu < buffers.cpus old.sides.live
-    here = subst (λ (v : InstanceSeen). p.cpu < buffers.cpus v.sides.live) (sym view) room.0
+    here = subst (λ (v : InstanceSeen). p.cpu < buffers.cpus v.sides.live) (sym view) room
 
     inside : p.cpu < length (buffers.offers old.sides.live)
     inside = omega (arith, here, length-map old.sides.live.rings ring.offered)

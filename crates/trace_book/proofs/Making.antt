@@ -30,21 +30,21 @@ use Rattle.trace_book.proofs.Resolving.{found-there, lost-there, place_in}
 
 -- ---- which instances are there
 
--- an instance is there exactly if it has a place
-pub there-place : (g : Config) (state : State) (past : List Request) (name : Option (List ℕ)) (found : Option ℕ) → StandsFor g state past
+-- an instance is there exactly if it has an index
+pub there-index : (g : Config) (state : State) (past : List Request) (name : Option (List ℕ)) (found : Option ℕ) → StandsFor g state past
     → place_in state name ≡ found → is_there name past ≡ is_some found
-there-place g state past name None stands is = lost-there g state past name (record { instance = name; file = None }) stands refl is
-there-place g state past name (Some place) stands is = (found-there g state past name (record { instance = name; file = None }) place stands refl is).0
+there-index g state past name None stands is = lost-there g state past name (record { instance = name; file = None }) stands refl is
+there-index g state past name (Some index) stands is = (found-there g state past name (record { instance = name; file = None }) index stands refl is).0
 
--- the instance at the place of its name is what the requests say of it
-pub found-stands : (g : Config) (state : State) (past : List Request) (name : Option (List ℕ)) (place : ℕ) (named : Named) → StandsFor g state past
-    → place_in state name ≡ Some place → named ≡ get_or state.instances.items place named → InstanceStandsFor g name past named.instance
-found-stands g state past name place named stands is at =
-    let there = found-there g state past name (record { instance = name; file = None }) place stands refl is in
+-- the instance at the index of its name is what the requests say of it
+pub found-stands : (g : Config) (state : State) (past : List Request) (name : Option (List ℕ)) (index : ℕ) (named : Named) → StandsFor g state past
+    → place_in state name ≡ Some index → named ≡ get_or state.instances.items index named → InstanceStandsFor g name past named.instance
+found-stands g state past name index named stands is at =
+    let there = found-there g state past name (record { instance = name; file = None }) index stands refl is in
     let items = state.instances.items in
-    let stood : InstanceStandsFor g (get_or items place named).name past (get_or items place named).instance = stands.each place named there.1.0 in
+    let stood : InstanceStandsFor g (get_or items index named).name past (get_or items index named).instance = stands.each index named there.1.0 in
     subst (λ (n : Named). InstanceStandsFor g name past n.instance) (sym at)
-    (subst (λ (own : Option (List ℕ)). InstanceStandsFor g own past (get_or items place named).instance) (there.1.1 named) stood)
+    (subst (λ (own : Option (List ℕ)). InstanceStandsFor g own past (get_or items index named).instance) (there.1.1 named) stood)
 
 -- a name that is none of these differs from each
 all-differ : (name : List ℕ) (names : List (List ℕ)) → list_any (bytes_eq name) names ≡ false → All (λ (other : List ℕ). bytes_eq other name ≡ false) names
@@ -115,7 +115,7 @@ pub make-exists : (g : Config) (state : State) (past : List Request) (path : Opt
     → IsPrepared g past (MakeInstance path) state (Err InstanceExists)
 unfolding named_answer
 make-exists g state past path name found stands is good at some =
-    let there : is_there (Some name) past ≡ true = there-place g state past (Some name) found stands at ∙ some in
+    let there : is_there (Some name) past ≡ true = there-index g state past (Some name) found stands at ∙ some in
     rw is (refused InstanceExists (named_answer past name) (rw (good, there) refl))
 
 pub make-too_many : (g : Config) (state : State) (past : List Request) (path : Option (List ℕ)) (name : List ℕ) (found : Option ℕ) → StandsFor g state past
@@ -123,7 +123,7 @@ pub make-too_many : (g : Config) (state : State) (past : List Request) (path : O
     → IsPrepared g past (MakeInstance path) state (Err TooMany)
 unfolding named_answer
 make-too_many g state past path name found stands is good at none many =
-    let new : is_there (Some name) past ≡ false = there-place g state past (Some name) found stands at ∙ none in
+    let new : is_there (Some name) past ≡ false = there-index g state past (Some name) found stands at ∙ none in
     let full : 7 ≤ length (instance_names past) = omega (arith, length-names_of state.instances.items (instance_names past) stands.names, many) in
     let no : ltb (length (instance_names past)) 7 ≡ false = grind (arith, nat_tests) in
     rw is (refused TooMany (named_answer past name) (rw (good, new, no) refl))
@@ -132,7 +132,7 @@ pub make-memory : (g : Config) (state : State) (past : List Request) (path : Opt
     → path ≡ Some name → is_name name ≡ true → place_in state (Some name) ≡ found → is_some found ≡ false → length state.instances.items < 8
     → IsPrepared g past (MakeInstance path) state (Err Memory)
 make-memory g state past path name found stands is good at none few =
-    let new : is_there (Some name) past ≡ false = there-place g state past (Some name) found stands at ∙ none in
+    let new : is_there (Some name) past ≡ false = there-index g state past (Some name) found stands at ∙ none in
     rw is (out_of_memory (named_answer past name) Done (can_be_made past name good new (few-names g state past stands few)))
 
 pub make-done : (g : Config) (state : State) (past : List Request) (path : Option (List ℕ)) (name : List ℕ) (found : Option ℕ) (named : Named)
@@ -140,7 +140,7 @@ pub make-done : (g : Config) (state : State) (past : List Request) (path : Optio
     → length state.instances.items < 8 → named.name ≡ Some name → InstanceStandsFor g (Some name) (MakeInstance (Some name) ∷ past) named.instance
     → IsPrepared g past (MakeInstance path) state (Ok (record { change = Make named; reply = Done }))
 make-done g state past path name found named stands is good at none few called own =
-    let new : is_there (Some name) past ≡ false = there-place g state past (Some name) found stands at ∙ none in
+    let new : is_there (Some name) past ≡ false = there-index g state past (Some name) found stands at ∙ none in
     let fewer = few-names g state past stands few in
     rw is (
       can_be_made past name good new fewer,
@@ -166,14 +166,14 @@ remove-no_path g state past path is = rw is (refused NoSuchFile _ refl)
 pub remove-lost : (g : Config) (state : State) (past : List Request) (path : Option (List ℕ)) (name : List ℕ) → StandsFor g state past
     → path ≡ Some name → place_in state (Some name) ≡ None → IsPrepared g past (RemoveInstance path) state (Err NoSuchInstance)
 remove-lost g state past path name stands is at =
-    let gone : is_there (Some name) past ≡ false = there-place g state past (Some name) None stands at in
+    let gone : is_there (Some name) past ≡ false = there-index g state past (Some name) None stands at in
     rw is (refused NoSuchInstance _ (rw gone refl))
 
-pub remove-done : (g : Config) (state : State) (past : List Request) (path : Option (List ℕ)) (name : List ℕ) (place : ℕ) → StandsFor g state past
-    → path ≡ Some name → place_in state (Some name) ≡ Some place
-    → IsPrepared g past (RemoveInstance path) state (Ok (record { change = Remove place; reply = Done }))
-remove-done g state past path name place stands is at =
-    let there = found-there g state past (Some name) (record { instance = Some name; file = None }) place stands refl at in
+pub remove-done : (g : Config) (state : State) (past : List Request) (path : Option (List ℕ)) (name : List ℕ) (index : ℕ) → StandsFor g state past
+    → path ≡ Some name → place_in state (Some name) ≡ Some index
+    → IsPrepared g past (RemoveInstance path) state (Ok (record { change = Remove index; reply = Done }))
+remove-done g state past path name index stands is at =
+    let there = found-there g state past (Some name) (record { instance = Some name; file = None }) index stands refl at in
     let names = instance_names past in
     let items = state.instances.items in
     let inside = there.1.0 in
@@ -187,13 +187,13 @@ remove-done g state past path name place stands is at =
         removed = refl;
         ticks = refl;
         inside = omega (arith, inside, many);
-        there = sym (name_at items _ place (one items inside) stands.names inside) ∙ there.1.1 (one items inside);
+        there = sym (name_at items _ index (one items inside) stands.names inside) ∙ there.1.1 (one items inside);
         effect = λ other. removed-effect g past name other;
       },
       inside,
     )
   where
     -- some instance
-    one : (instances : List Named) → place < length instances → Named
+    one : (instances : List Named) → index < length instances → Named
     one [] within = absurd (omega arith)
     one (n ∷ instances) within = n

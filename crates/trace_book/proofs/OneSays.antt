@@ -158,9 +158,9 @@ one-later a b c is = by (nat_lt (1 + a) c) (nat_lt a b) refl refl
     by false true not less = absurd (omega (arith, is, ltb-false (1 + a) c not, ltb-true a b less))
     by false false not also = refl
 
-place-inside : {A : Type 0} (test : A → Bool) (xs : List A) → nat_lt (position_or_len test xs) (length xs) ≡ list_any test xs
-place-inside test [] = refl
-place-inside {A = A} test (x ∷ xs) = by (test x) (place-inside test xs)
+index-inside : {A : Type 0} (test : A → Bool) (xs : List A) → nat_lt (position_or_len test xs) (length xs) ≡ list_any test xs
+index-inside test [] = refl
+index-inside {A = A} test (x ∷ xs) = by (test x) (index-inside test xs)
   where
     by : (passes : Bool) → nat_lt (position_or_len test xs) (length xs) ≡ list_any test xs
         → nat_lt (if not passes then 1 + position_or_len test xs else 0) (length (x ∷ xs)) ≡ (passes || list_any test xs)
@@ -168,7 +168,7 @@ place-inside {A = A} test (x ∷ xs) = by (test x) (place-inside test xs)
     by false rest = one-later (position_or_len test xs) (length xs) (length (x ∷ xs)) (omega arith) ∙ rest
 
 pub some-position : {A : Type 0} (test : A → Bool) (xs : List A) → is_some (position test xs) ≡ list_any test xs
-some-position {A = A} test xs = is-some (nat_lt (position_or_len test xs) (length xs)) ∙ place-inside test xs
+some-position {A = A} test xs = is-some (nat_lt (position_or_len test xs) (length xs)) ∙ index-inside test xs
   where
     is-some : (found : Bool) → is_some (if found then Some (position_or_len test xs) else None) ≡ found
     is-some true = refl

@@ -8,7 +8,7 @@ use Rattle.std.proofs.lemmas.List.Folds.{list_any_at}
 use Rattle.std.proofs.lemmas.Iterator.Adapters.{position_from-zero}
 use Rattle.trace_format.proofs.FieldNames.{bytes_eq-swap}
 use Rattle.trace_format.specs.Definitions.{Definition}
-use Rattle.trace_history.specs.Declarations.{IsPlaceOf}
+use Rattle.trace_history.specs.Declarations.{IsIndexOf}
 use Rattle.trace_history.specs.Settings.{instance_names, is_same, is_there}
 use Rattle.trace_command.specs.Requests.{Request}
 use Rattle.trace_command.specs.Paths as paths
@@ -25,17 +25,17 @@ use Rattle.trace_book.specs.declared.state.State.{State}
 
 -- ---- events
 
--- the name of the event at a place
-pub name_at-is : (events : List Definition) (place : ℕ) (d : Definition) → place < length events → (get_or events place d).name ≡ name_at events place
-name_at-is [] place d inside = absurd (omega arith)
+-- the name of the event at an index
+pub name_at-is : (events : List Definition) (index : ℕ) (d : Definition) → index < length events → (get_or events index d).name ≡ name_at events index
+name_at-is [] index d inside = absurd (omega arith)
 name_at-is (event ∷ events) zero d inside = refl
-name_at-is (event ∷ events) (suc place) d inside = name_at-is events place d (omega arith)
+name_at-is (event ∷ events) (suc index) d inside = name_at-is events index d (omega arith)
 
--- an event that was found by its name has it at its place
-pub place-named : (events : List Definition) (name : List ℕ) (index : ℕ) (event : Definition) → IsPlaceOf events name index event → name ≡ name_at events index
-place-named events name index event place =
-    let same : name ≡ event.name = (bytes_eq-Decides name event.name).0 place.named in
-    same ∙ ap (λ (e : Definition). e.name) place.there ∙ name_at-is events index event place.inside
+-- an event that was found by its name has it at its index
+pub index-named : (events : List Definition) (name : List ℕ) (index : ℕ) (event : Definition) → IsIndexOf events name index event → name ≡ name_at events index
+index-named events name index event indexed =
+    let same : name ≡ event.name = (bytes_eq-Decides name event.name).0 indexed.named in
+    same ∙ ap (λ (e : Definition). e.name) indexed.there ∙ name_at-is events index event indexed.inside
 
 -- ---- instances
 
@@ -83,7 +83,7 @@ none-from p k (x ∷ xs) none = by (p x) refl (none-from p (k + 1) xs)
 none-any : {X : Type 0} (p : X → Bool) (xs : List X) → position p xs ≡ None → list_any p xs ≡ false
 none-any p xs none = none-from p 0 xs (sym (position_from-zero p xs) ∙ none)
 
--- the element at the first place that passes
+-- the element at the first index that passes
 first-at : {X : Type 0} (p : X → Bool) (xs : List X) (i : ℕ) → position p xs ≡ Some i
     → (list_any p xs ≡ true) × (i < length xs) × ((d : X) → p (get_or xs i d) ≡ true)
 first-at p [] i is = absurd (cc)
@@ -91,14 +91,14 @@ first-at p (x ∷ xs) i is =
     let at = position-Some p (x ∷ xs) i x is in
     (list_any_at p (x ∷ xs) i x at.0 at.1, at.0, λ d. (position-Some p (x ∷ xs) i d is).1)
 
--- the place of an instance of a state
+-- the index of an instance of a state
 abbrev pub place_in : State → Option (List ℕ) → Option ℕ
 place_in state name = position (λ (n : Named). is_same n.name name) state.instances.items
 
-pub found-there : (g : Config) (state : State) (past : List Request) (name : Option (List ℕ)) (a : Address) (place : ℕ) → StandsFor g state past
-    → name ≡ a.instance → place_in state name ≡ Some place → (is_there a.instance past ≡ true) × IsAt state place a.instance
-found-there g state past name a place stands is found =
-    let at = first-at (λ (n : Named). is_same n.name a.instance) state.instances.items place (ap (place_in state) (sym is) ∙ found) in
+pub found-there : (g : Config) (state : State) (past : List Request) (name : Option (List ℕ)) (a : Address) (index : ℕ) → StandsFor g state past
+    → name ≡ a.instance → place_in state name ≡ Some index → (is_there a.instance past ≡ true) × IsAt state index a.instance
+found-there g state past name a index stands is found =
+    let at = first-at (λ (n : Named). is_same n.name a.instance) state.instances.items index (ap (place_in state) (sym is) ∙ found) in
     (sym (any-there g state past a.instance stands) ∙ at.0, (at.1, λ d. same-is _ a.instance (at.2 d)))
 
 pub lost-there : (g : Config) (state : State) (past : List Request) (name : Option (List ℕ)) (a : Address) → StandsFor g state past

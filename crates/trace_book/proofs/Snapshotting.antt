@@ -73,7 +73,7 @@ trigger-there : (g : Config) (name : Option (List ℕ)) (past : List Request) (i
 trigger-there g name past i stands =
     ap (λ (ts : List (Option Trigger)). list_any is_some ts) stands.triggers ∙ any-kept name past (declared_events past)
 
--- and this event has one where it is kept at its place
+-- and this event has one where it is kept at its index
 pub trigger-at : (g : Config) (name : Option (List ℕ)) (past : List Request) (i : InstanceSeen) (index : ℕ) → InstanceStandsFor g name past i
     → index < length (declared_events past)
     → is_some (get_or i.triggers index None) ≡ is_some (trigger_of name (get_or (declared_events past) index no_event) past)

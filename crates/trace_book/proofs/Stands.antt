@@ -187,10 +187,10 @@ make_stands g old new past request reply named stands given is step =
       each = All-same P new.instances.items (items ++ named ∷ []) step.2 (All-push P items named others own);
     })
 
-remove_stands : (g : Config) (old new : State) (past : List Request) (request : Request) (reply : Reply) (place : ℕ)
-    → StandsFor g old past → answer_with_room g past request ≡ Ok reply → IsRemoved g past request place → IsStep old new (Remove place)
+remove_stands : (g : Config) (old new : State) (past : List Request) (request : Request) (reply : Reply) (index : ℕ)
+    → StandsFor g old past → answer_with_room g past request ≡ Ok reply → IsRemoved g past request index → IsStep old new (Remove index)
     → StandsFor g new (request ∷ past)
-remove_stands g old new past request reply place stands given is step =
+remove_stands g old new past request reply index stands given is step =
     let names = instance_names past in
     let items = old.instances.items in
     let test : List ℕ → Bool = λ other. not (bytes_eq other is.name) in
@@ -199,17 +199,17 @@ remove_stands g old new past request reply place stands given is step =
     let all : All P items = λ k d inside.
     let name = (get_or items k d).name in
     kept-stands g name past request (get_or items k d).instance is.declares (is.effect name) (stands.each k d inside) in
-    let inside : place < suc (length names) = omega (arith, is.inside) in
+    let inside : index < suc (length names) = omega (arith, is.inside) in
     state-after g old new past request reply None stands given is.declares (none_fresh g past) (catalog-same old new step.0)
     (clock-still old new request is.ticks step.1)
     (record {
-      names = ap names_of step.2 ∙ names-without items names place is.name stands.names stands.distinct_names inside is.there
+      names = ap names_of step.2 ∙ names-without items names index is.name stands.names stands.distinct_names inside is.there
           ∙ ap (λ (l : List (List ℕ)). None ∷ some_names l) (sym now);
       few = subst (λ (l : List (List ℕ)). length l ≤ 7) (sym now)
           (omega (arith, stands.few_instances, length-filter_both test (λ (other : List ℕ). not (test other)) (λ other. refl) names));
       distinct = subst (λ (l : List (List ℕ)). IsDistinct bytes_eq l) (sym now) (distinct-without is.name names stands.distinct_names);
-      each = All-same P new.instances.items (take place items ++ drop (place + 1) items) step.2
-          (All-append P (take place items) (drop (place + 1) items) (All-take P place items all) (All-drop P (place + 1) items all));
+      each = All-same P new.instances.items (take index items ++ drop (index + 1) items) step.2
+          (All-append P (take index items) (drop (index + 1) items) (All-take P index items all) (All-drop P (index + 1) items all));
     })
 
 -- some instance is there
@@ -217,10 +217,10 @@ first : (instances : List Named) → 0 < length instances → Named
 first [] some = absurd (omega arith)
 first (n ∷ instances) some = n
 
-change_stands : (g : Config) (old new : State) (past : List Request) (request : Request) (reply : Reply) (place : ℕ) (change : InstanceChange)
-    → StandsFor g old past → answer_with_room g past request ≡ Ok reply → IsChangeOf g old past request (Instance place change)
-    → place < length old.instances.items → IsStep old new (Instance place change) → StandsFor g new (request ∷ past)
-change_stands g old new past request reply place change stands given is there step =
+change_stands : (g : Config) (old new : State) (past : List Request) (request : Request) (reply : Reply) (index : ℕ) (change : InstanceChange)
+    → StandsFor g old past → answer_with_room g past request ≡ Ok reply → IsChangeOf g old past request (Instance index change)
+    → index < length old.instances.items → IsStep old new (Instance index change) → StandsFor g new (request ∷ past)
+change_stands g old new past request reply index change stands given is there step =
     let names = instance_names past in
     let items = old.instances.items in
     let came = step.2 in
@@ -228,19 +228,19 @@ change_stands g old new past request reply place change stands given is there st
     let plain = (is (first items (omega (arith, there)))).0.plain in
     let each : (k : ℕ) (d : Named) → k < length items → InstanceStandsFor g (get_or items k d).name (request ∷ past) (get_or new.instances.items k d).instance =
     λ k d inside. ⊎_elim
-    (λ (e : k ≡ place). subst
+    (λ (e : k ≡ index). subst
     (λ (j : ℕ). InstanceStandsFor g (get_or items j d).name (request ∷ past) (get_or new.instances.items j d).instance) (sym e)
-    (effect-stands g (get_or items place d).name past request change (get_or items place d).instance (get_or new.instances.items place d).instance
-    plain.declares (is d).1 (stands.each place d there) (came.came d)))
-    (λ (other : k ≡ place → ⊥).
+    (effect-stands g (get_or items index d).name past request change (get_or items index d).instance (get_or new.instances.items index d).instance
+    plain.declares (is d).1 (stands.each index d there) (came.came d)))
+    (λ (other : k ≡ index → ⊥).
     let name = (get_or items k d).name in
-    let differ : is_same name (get_or items place d).name ≡ false =
-    ap (λ (n : Option (List ℕ)). is_same n (get_or items place d).name) (name_at items _ k d stands.names inside)
-    ∙ ap (λ (n : Option (List ℕ)). is_same (get_or (None ∷ some_names names) k None) n) (name_at items _ place d stands.names there)
-    ∙ others_differ names k place stands.distinct_names (omega (arith, inside, many)) (omega (arith, there, many)) other in
+    let differ : is_same name (get_or items index d).name ≡ false =
+    ap (λ (n : Option (List ℕ)). is_same n (get_or items index d).name) (name_at items _ k d stands.names inside)
+    ∙ ap (λ (n : Option (List ℕ)). is_same (get_or (None ∷ some_names names) k None) n) (name_at items _ index d stands.names there)
+    ∙ others_differ names k index stands.distinct_names (omega (arith, inside, many)) (omega (arith, there, many)) other in
     subst (λ (n : Named). InstanceStandsFor g name (request ∷ past) n.instance) (sym (came.others k d inside other))
     (kept-stands g name past request (get_or items k d).instance plain.declares ((is d).0.others name differ) (stands.each k d inside)))
-    (cases_eq k place) in
+    (cases_eq k index) in
     state-after g old new past request reply None stands given plain.declares (none_fresh g past) (catalog-same old new step.0)
     (clock-still old new request plain.ticks step.1)
     (same_instances g old new.instances.items past request stands plain.made plain.removed came.many came.names each)
@@ -255,7 +255,7 @@ emit_stands g old new past request reply delivery stands given is step =
     → InstanceStandsFor g (get_or old.instances.items k d).name (request ∷ past) (get_or new.instances.items k d).instance = λ k d inside.
     let n = get_or old.instances.items k d in
     delivered-stands g n.name past request is.e delivery (reach_at delivery.reaches k) n.instance (get_or new.instances.items k d).instance is.emitted
-    stands.distinct (stands.each k d inside) is.place (is.records k d inside) (is.fires k d inside) is.bytes (λ none. is.none none k d inside) row
+    stands.distinct (stands.each k d inside) is.index (is.records k d inside) (is.fires k d inside) is.bytes (λ none. is.none none k d inside) row
     (came.came k d inside) in
     state-after g old new past request reply None stands given is.declares (none_fresh g past) (catalog-same old new step.0)
     (omega (arith, is.ticks, step.1))
@@ -266,9 +266,9 @@ step_stands : (g : Config) (old new : State) (past : List Request) (request : Re
     → StandsFor g new (request ∷ past)
 step_stands g old new past request reply (Declare event) stands given is ready step = declare_stands g old new past request reply event stands given is step
 step_stands g old new past request reply (Make named) stands given is ready step = make_stands g old new past request reply named stands given is step
-step_stands g old new past request reply (Remove place) stands given is ready step = remove_stands g old new past request reply place stands given is step
-step_stands g old new past request reply (Instance place change) stands given is ready step =
-    change_stands g old new past request reply place change stands given is ready.0 step
+step_stands g old new past request reply (Remove index) stands given is ready step = remove_stands g old new past request reply index stands given is step
+step_stands g old new past request reply (Instance index change) stands given is ready step =
+    change_stands g old new past request reply index change stands given is ready.0 step
 
 pub stands_after : (g : Config) (old new : State) (past : List Request) (request : Request) (prepared : Prepared) → IsInRange g → StandsFor g old past
     → IsPrepared g past request old (Ok prepared) → IsStep old new prepared.change → StandsFor g new (request ∷ past)

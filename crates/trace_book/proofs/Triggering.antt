@@ -23,7 +23,7 @@ use Rattle.trace_history.specs.Triggers.{trigger_of}
 use Rattle.trace_history.proofs.EventLists.{map-set, named_at}
 use Rattle.trace_history.proofs.Sides.{AreStaying, rings-stay}
 use Rattle.trace_book.specs.private.Attaching.{AreKept, IsTriggerChange, IsTriggerEffect, arms, write_of}
-use Rattle.trace_book.specs.Changes.{IsEffect, IsOfOne, hists_changed, sides_changed, trigger_changed, triggers_after}
+use Rattle.trace_book.specs.Changes.{IsEffect, IsPossible, hists_changed, sides_changed, trigger_changed, triggers_after}
 use Rattle.trace_book.specs.private.Commands.{IsWriteChange}
 use Rattle.trace_book.specs.private.Files.{name_at}
 use Rattle.trace_book.specs.Instances.{InstanceSeen, InstanceStandsFor, IsSpared, kept_as, kept_trigger, side_families}
@@ -43,7 +43,7 @@ use Rattle.trace_book.proofs.Snapshotting.{KeepsSettings, same-at, some-mapped, 
 use Rattle.trace_book.proofs.Usable.{usable-stands}
 use Rattle.trace_book.proofs.Writes.{other-name}
 
--- ---- a write to the trigger file of the event at a place
+-- ---- a write to the trigger file of the event at an index
 
 -- its request
 abbrev pub trigger_request : Option (List ℕ) → List Request → ℕ → Bool → List ℕ → Request
@@ -235,10 +235,10 @@ trigger-effect g name past index written change distinct inside is = record {
 
 -- ---- what it answers
 
--- the event that was looked up is the one at its place
-at-place : (past : List Request) (index : ℕ) (event : Definition) → index < length (declared_events past) → event ≡ get_or (declared_events past) index event
+-- the event that was looked up is the one at its index
+at-index : (past : List Request) (index : ℕ) (event : Definition) → index < length (declared_events past) → event ≡ get_or (declared_events past) index event
     → event ≡ event_at past index
-at-place past index event inside at = at ∙ same-at (declared_events past) index event no_event inside
+at-index past index event inside at = at ∙ same-at (declared_events past) index event no_event inside
 
 answer-is : (name : Option (List ℕ)) (past : List Request) (index : ℕ) (append : Bool) (text : List ℕ) → AreEvents [] (declared_events past)
     → index < length (declared_events past)
@@ -246,7 +246,7 @@ answer-is : (name : Option (List ℕ)) (past : List Request) (index : ℕ) (appe
     ≡ trigger_answer name past append text (event_at past index)
 answer-is name past index append text distinct inside = ap (named_trigger_answer name past append text) (found-event past index distinct inside)
 
--- the hist triggers at a place are what is kept of the event's
+-- the hist triggers at an index are what is kept of the event's
 kept-there : (g : Config) (name : Option (List ℕ)) (past : List Request) (i : InstanceSeen) (index : ℕ) → InstanceStandsFor g name past i
     → index < length (declared_events past) → index < length i.hists
     → map kept_of (get_or i.hists index []) ≡ kept_hists name past (event_at past index)
@@ -256,11 +256,11 @@ kept-there g name past i index stands inside within =
     ∙ get_or-map (kept_hists name past) (declared_events past) index no_event [] inside
 
 -- so one of those is one of these
-one-stands : (g : Config) (name : Option (List ℕ)) (past : List Request) (i : InstanceSeen) (index : ℕ) (append : Bool) (change : TriggerChange)
+possible-stands : (g : Config) (name : Option (List ℕ)) (past : List Request) (i : InstanceSeen) (index : ℕ) (append : Bool) (change : TriggerChange)
     → InstanceStandsFor g name past i → index < length (declared_events past) → index < length i.hists
-    → IsOfOne change (length (if append then kept_hists name past (event_at past index) else []))
-    → IsOfOne change (length (if append then get_or i.hists index [] else []))
-one-stands g name past i index append change stands inside within one = subst (IsOfOne change) (many append) one
+    → IsPossible change (length (if append then kept_hists name past (event_at past index) else []))
+    → IsPossible change (length (if append then get_or i.hists index [] else []))
+possible-stands g name past i index append change stands inside within one = subst (IsPossible change) (many append) one
   where
     many : (a : Bool) → length (if a then kept_hists name past (event_at past index) else []) ≡ length (if a then get_or i.hists index [] else [])
     many true = ap length (sym (kept-there g name past i index stands inside within)) ∙ length-map (get_or i.hists index []) kept_of
@@ -273,13 +273,13 @@ pub trigger-written : (g : Config) (name : Option (List ℕ)) (past : List Reque
     (Ok (Triggers index written.append change))
 trigger-written g name past index event written change distinct inside at is =
     let here : IsTriggerChange name past (event_at past index) written (Ok change) =
-    subst (λ (e : Definition). IsTriggerChange name past e written (Ok change)) (at-place past index event inside at) is in (
+    subst (λ (e : Definition). IsTriggerChange name past e written (Ok change)) (at-index past index event inside at) is in (
       answer-is name past index written.append written.text.now distinct inside ∙ here.0,
       trigger-effect g name past index written change distinct inside here.1,
       λ i stands. let usable = usable-stands g name past i stands in (
         rw usable.triggers inside,
         rw usable.hists inside,
-        one-stands g name past i index written.append change stands inside (rw usable.hists inside) here.1.one,
+        possible-stands g name past i index written.append change stands inside (rw usable.hists inside) here.1.possible,
       ),
     )
 
@@ -289,11 +289,11 @@ pub trigger-refused : (g : Config) (name : Option (List ℕ)) (past : List Reque
     → IsWriteChange g name past written.append written.text.now (paths.OfEvent (name_at (declared_events past) index) per_event.Trigger) (Err refused)
 trigger-refused g name past index event written refused distinct inside at is =
     let here : IsTriggerChange name past (event_at past index) written (Err refused) =
-    subst (λ (e : Definition). IsTriggerChange name past e written (Err refused)) (at-place past index event inside at) is in
+    subst (λ (e : Definition). IsTriggerChange name past e written (Err refused)) (at-index past index event inside at) is in
     subst (λ (answered : Result Reply Refusal). IsRefusal refused answered)
     (sym (answer-is name past index written.append written.text.now distinct inside)) here
 
--- what is kept at a place agrees with the requests
+-- what is kept at an index agrees with the requests
 pub kept-at : (g : Config) (name : Option (List ℕ)) (past : List Request) (i : InstanceSeen) (index : ℕ) (event : Definition) (triggers : EventTriggers)
     → InstanceStandsFor g name past i → AreEvents [] (declared_events past) → index < length (declared_events past) → index < length i.hists
     → event ≡ get_or (declared_events past) index event
@@ -302,15 +302,15 @@ pub kept-at : (g : Config) (name : Option (List ℕ)) (past : List Request) (i :
 kept-at g name past i index event triggers stands distinct inside within at snapshot hists = record {
   id = suc index;
   named =
-      let here : event ≡ event_at past index = at-place past index event inside at in
+      let here : event ≡ event_at past index = at-index past index event inside at in
       ap (λ (e : Definition). event_named e.name past) here
       ∙ ap (λ (n : List ℕ). event_named n past) (name_at-is (declared_events past) index no_event inside)
       ∙ found-event past index distinct inside
       ∙ ap (λ (e : Definition). (let k : Option NumberedEvent = Some (record { id = suc index; event = e }) in k)) (sym here);
   snapshot = snapshot ∙ ap (λ (ts : List (Option Trigger)). get_or ts index None) stands.triggers
       ∙ get_or-map (kept_trigger name past) (declared_events past) index no_event None inside
-      ∙ ap (kept_trigger name past) (sym (at-place past index event inside at));
+      ∙ ap (kept_trigger name past) (sym (at-index past index event inside at));
   hists = ap (λ (hs : List AttachedHist). map kept_of hs) hists
       ∙ kept-there g name past i index stands inside within
-      ∙ ap (kept_hists name past) (sym (at-place past index event inside at));
+      ∙ ap (kept_hists name past) (sym (at-index past index event inside at));
 }

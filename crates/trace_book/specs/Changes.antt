@@ -102,11 +102,12 @@ sides_changed cpus pages page_bytes FreeSpare f = without_spare f
 sides_changed cpus pages page_bytes ClearSpare f = spare_cleared f
 sides_changed cpus pages page_bytes change f = record { live = rings_changed pages page_bytes change f.live; spare = f.spare }
 
--- the hist trigger that a change of an event's triggers names is one of so many
-abbrev pub IsOfOne : TriggerChange → ℕ → Type 0
-IsOfOne (DetachHist index) many = index < many
-IsOfOne (AskHist index action) many = index < many
-IsOfOne change many = ⊤
+-- a change of an event's triggers can be made where so many hist triggers are left: the one that it names is one of them, or there is room for one more
+abbrev pub IsPossible : TriggerChange → ℕ → Type 0
+IsPossible (AttachHist attached) many = many < 4
+IsPossible (DetachHist index) many = index < many
+IsPossible (AskHist index action) many = index < many
+IsPossible change many = ⊤
 
 -- a change can be made: what it names is there
 abbrev pub IsLawful : InstanceSeen → InstanceChange → Type 0
@@ -114,7 +115,7 @@ IsLawful i (Switch index flag) = index < length i.enabled
 IsLawful i (SetFilter index new) = index < length i.filters
 IsLawful i (SetFilters changes) = length changes.items ≡ length i.filters
 IsLawful i (Triggers index append change) = (index < length i.triggers) × (index < length i.hists)
-    × IsOfOne change (length (if append then slice_index_or i.hists index [] else []))
+    × IsPossible change (length (if append then slice_index_or i.hists index [] else []))
 IsLawful i (ClearCpu cpu) = cpu < buffers.cpus i.sides.live
 IsLawful i (TakeCpu cpu limit) = cpu < buffers.cpus i.sides.live
 IsLawful i change = ⊤

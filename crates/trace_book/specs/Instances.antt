@@ -1,5 +1,5 @@
 -- What contracts see of an instance, and when it agrees with the requests that were done.
-use Rattle.std.specs.Prelude.{◌≡◌, ℕ, ◌≤◌, Bool, true, false, List, [], length, map, replicate, Option, is_some, IfSome}
+use Rattle.std.specs.Prelude.{◌≡◌, ℕ, ◌≤◌, Bool, true, false, List, [], length, map, slice_index_or, replicate, Option, is_some, IfSome}
 use Rattle.std.specs.List.{AllByRecursion, list_any}
 use Rattle.std.specs.Option.{option_map}
 use Rattle.trace_buffer.specs.Buffers as buffers
@@ -16,7 +16,8 @@ use Rattle.trace_history.specs.Triggers as triggers
 use Rattle.trace_history.specs.Triggers.{times_left, trigger_of}
 use Rattle.trace_book.specs.declared.hists.AttachedHist.{AttachedHist}
 use Rattle.trace_book.specs.declared.trigger.Trigger.{Trigger}
-use Rattle.trace_book.specs.KeptHists.{KeptHist, kept_hists, kept_of}
+use Rattle.trace_format.specs.Operands.{Emission}
+use Rattle.trace_book.specs.KeptHists.{KeptHist, kept_hists, kept_of, passed}
 
 -- which events are enabled, their filters, their triggers for snapshots and their hist triggers, in order of declaration; whether records may overwrite
 -- older ones, and whether it records at all; and its rings
@@ -63,6 +64,10 @@ kept_trigger name past event = option_map (kept_as past event) (trigger_of name 
 abbrev pub hists_kept : List (List AttachedHist) → List (List KeptHist)
 hists_kept hists = map (λ attached. map kept_of attached) hists
 
+-- the filters of which hist triggers of the event at an index an emission passes
+abbrev pub passed_in : Emission → ℕ → InstanceSeen → List Bool
+passed_in emission event i = passed emission (slice_index_or (hists_kept i.hists) event [])
+
 -- what happened to the rings of each side
 abbrev pub side_families : Config → Option (List ℕ) → List Request → SideFamilies
 side_families g name past = record { live = rings g name past; spare = spare_rings g name past }
@@ -85,15 +90,7 @@ pub record InstanceStandsFor (g : Config) (name : Option (List ℕ)) (past : Lis
   pub offered : WereOffered (length past) i.sides
   pub spared : IsSpared g name (declared_events past) past
 
--- two instances agree in all but room for records and rows
+-- two instances agree in all but memory for rows
 pub record IsAlike (old new : InstanceSeen) : Type 0 where
-  pub enabled : new.enabled ≡ old.enabled
-  pub filters : new.filters ≡ old.filters
-  pub triggers : new.triggers ≡ old.triggers
+  pub rest : new ≡ record old { hists = new.hists }
   pub hists : hists_kept new.hists ≡ hists_kept old.hists
-  pub overwrite : new.overwrite ≡ old.overwrite
-  pub tracing : new.tracing ≡ old.tracing
-  pub sides : (families : SideFamilies) → snapshot.StandsFor old.sides families → snapshot.StandsFor new.sides families
-  pub shaped : (g : Config) → IsShaped g old.sides → IsShaped g new.sides
-  pub offered : (most : ℕ) → WereOffered most old.sides → WereOffered most new.sides
-  pub cpus : buffers.cpus new.sides.live ≡ buffers.cpus old.sides.live

@@ -1,5 +1,5 @@
 -- Hist triggers as an instance keeps them: what of them agrees with the requests, and what is done to them.
-use Rattle.std.specs.Prelude.{◌≡◌, ℕ, zero, suc, ◌<◌, Bool, true, if◌then◌else◌, List, [], ◌∷◌, ◌++◌, length, map, slice_index_or, Option, Some}
+use Rattle.std.specs.Prelude.{◌≡◌, ℕ, zero, suc, ◌<◌, Bool, true, false, if◌then◌else◌, List, [], ◌∷◌, ◌++◌, length, map, slice_index_or, Option, Some}
 use Rattle.trace_format.specs.Operands.{Emission}
 use Rattle.trace_format.specs.Definitions.{Definition}
 use Rattle.trace_hist.specs.Groups.{Table, grouped}
@@ -52,6 +52,17 @@ abbrev pub asked_at : ℕ → Action → List KeptHist → List KeptHist
 asked_at index action [] = []
 asked_at zero action (k ∷ hists) = asked action k ∷ hists
 asked_at (suc index) action (k ∷ hists) = k ∷ asked_at index action hists
+
+-- whether there is one at an index and an emission passes its filter
+abbrev pub is_passed_at : Emission → List KeptHist → ℕ → Bool
+is_passed_at emission [] index = false
+is_passed_at emission (k ∷ hists) zero = is_passed k.spec.filter emission
+is_passed_at emission (k ∷ hists) (suc index) = is_passed_at emission hists index
+
+-- the same at each index that an event's hist trigger may have
+abbrev pub passed : Emission → List KeptHist → List Bool
+passed emission hists =
+    is_passed_at emission hists 0 ∷ is_passed_at emission hists 1 ∷ is_passed_at emission hists 2 ∷ is_passed_at emission hists 3 ∷ []
 
 -- memory is at hand to count an emission, if the trigger's filter passes that
 abbrev pub CanCount : Emission → AttachedHist → Type 0

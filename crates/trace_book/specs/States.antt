@@ -16,7 +16,7 @@ use Rattle.trace_command.specs.Requests.{Request}
 use Rattle.trace_command.specs.declared.command.Config.{Config}
 use Rattle.trace_command.specs.declared.refusal.Refusal.{Refusal}
 use Rattle.trace_command.specs.declared.command.Reply.TheVariants.{Done}
-use Rattle.trace_history.specs.Declarations.{IsFit, IsPlaceOf}
+use Rattle.trace_history.specs.Declarations.{IsFit, IsIndexOf}
 use Rattle.trace_history.specs.Settings.{event_named, declares, declared_events, filter_of, instance_names, is_enabled, is_same, made, makes, now_of, removed, ticks}
 use Rattle.trace_history.specs.Emissions.{Emitted, emitted, emitted_bytes, is_recorded}
 use Rattle.trace_history.specs.History.{answer_with_room}
@@ -25,7 +25,7 @@ use Rattle.trace_history.specs.Triggers.{trigger_of}
 use Rattle.trace_history.specs.HistTriggers.{hists_of}
 use Rattle.trace_format.specs.Operands.{Emission}
 use Rattle.trace_book.specs.KeptHists.{KeptHist, AreHit, CanCount, HasRoomToCount}
-use Rattle.trace_book.specs.Instances.{InstanceSeen, InstanceStandsFor, IsShaped, WereOffered, hists_kept}
+use Rattle.trace_book.specs.Instances.{InstanceSeen, InstanceStandsFor, IsShaped, WereOffered, hists_kept, passed_in}
 use Rattle.trace_book.specs.Changes.{IsEffect, IsApplied, IsLawful}
 use Rattle.trace_book.specs.declared.change.Change.{Change}
 use Rattle.trace_book.specs.declared.change.Change.TheVariants.{Declare, Make, Remove, Instance}
@@ -104,9 +104,9 @@ counted_down (Some t) = Some (record { number = t.number; left = option_map (λ 
 
 -- what an emission does where it does nothing
 abbrev pub no_reach : Reach
-no_reach = record { records = false; fires = false }
+no_reach = record { records = false; passed = []; fires = false }
 
--- what it does in the instance at a place
+-- what it does in the instance at an index
 abbrev pub reach_at : Reaches → ℕ → Reach
 reach_at reaches k = slice_index_or reaches.each k no_reach
 
@@ -145,7 +145,7 @@ delivered_to i d reach f =
 abbrev pub row_of : Delivery → Emission
 row_of d = record { values = d.row.values; cpu = d.cpu; pid = d.pid }
 
--- the hist triggers of the event at a place were offered an emission, and the others are as they were
+-- the hist triggers of the event at an index were offered an emission, and the others are as they were
 pub record WereOfferedRow (emission : Emission) (event : ℕ) (old new : List (List KeptHist)) : Type 0 where
   pub many : length new ≡ length old
   pub there : AreHit emission (slice_index_or old event []) (slice_index_or new event [])
@@ -183,12 +183,12 @@ pub record EachDelivered (d : Delivery) (old new : List Named) : Type 0 where
   pub came : (k : ℕ) (n : Named) → k < length old
       → IsDelivered d (reach_at d.reaches k) (slice_index_or old k n).instance (slice_index_or new k n).instance
 
--- this came of the instance at a place, and the others are as they were
-pub record OneCame (R : InstanceSeen → InstanceSeen → Type 0) (place : ℕ) (old new : List Named) : Type 0 where
+-- this came of the instance at an index, and the others are as they were
+pub record OneCame (R : InstanceSeen → InstanceSeen → Type 0) (index : ℕ) (old new : List Named) : Type 0 where
   pub many : length new ≡ length old
   pub names : (k : ℕ) (d : Named) → k < length old → (slice_index_or new k d).name ≡ (slice_index_or old k d).name
-  pub came : (d : Named) → R (slice_index_or old place d).instance (slice_index_or new place d).instance
-  pub others : (k : ℕ) (d : Named) → k < length old → (k ≡ place → ⊥) → slice_index_or new k d ≡ slice_index_or old k d
+  pub came : (d : Named) → R (slice_index_or old index d).instance (slice_index_or new index d).instance
+  pub others : (k : ℕ) (d : Named) → k < length old → (k ≡ index → ⊥) → slice_index_or new k d ≡ slice_index_or old k d
 
 -- a change was made
 abbrev pub IsStep : State → State → Change → Type 0
@@ -197,11 +197,11 @@ IsStep old new (Declare event) =
     × EachCame (λ i j. j ≡ with_event i) old.instances.items new.instances.items
 IsStep old new (Make named) =
     (new.catalog ≡ old.catalog) × (new.clock ≡ old.clock) × (new.instances.items ≡ old.instances.items ++ named ∷ [])
-IsStep old new (Remove place) =
+IsStep old new (Remove index) =
     (new.catalog ≡ old.catalog) × (new.clock ≡ old.clock)
-    × (new.instances.items ≡ take place old.instances.items ++ drop (place + 1) old.instances.items)
-IsStep old new (Instance place change) =
-    (new.catalog ≡ old.catalog) × (new.clock ≡ old.clock) × OneCame (IsApplied change) place old.instances.items new.instances.items
+    × (new.instances.items ≡ take index old.instances.items ++ drop (index + 1) old.instances.items)
+IsStep old new (Instance index change) =
+    (new.catalog ≡ old.catalog) × (new.clock ≡ old.clock) × OneCame (IsApplied change) index old.instances.items new.instances.items
 
 -- an emission was brought to each instance, and the clock ticked
 abbrev pub IsEmitted : State → State → Delivery → Type 0
@@ -246,15 +246,15 @@ pub record IsMade (g : Config) (past : List Request) (request : Request) (named 
   pub stands : InstanceStandsFor g (Some name) (request ∷ past) named.instance
   pub effect : (other : Option (List ℕ)) → makes other request ≡ false → IsEffect g other past request Keep
 
--- the request removes the instance at this place
-pub record IsRemoved (g : Config) (past : List Request) (request : Request) (place : ℕ) : Type 0 where
+-- the request removes the instance at this index
+pub record IsRemoved (g : Config) (past : List Request) (request : Request) (index : ℕ) : Type 0 where
   pub declares : declares request ≡ None
   pub name : List ℕ
   pub made : made request ≡ None
   pub removed : removed request ≡ Some name
   pub ticks : ticks request ≡ 0
-  pub inside : place < 1 + length (instance_names past)
-  pub there : slice_index_or (None ∷ map (λ (n : List ℕ). Some n) (instance_names past)) place None ≡ Some name
+  pub inside : index < 1 + length (instance_names past)
+  pub there : slice_index_or (None ∷ map (λ (n : List ℕ). Some n) (instance_names past)) index None ≡ Some name
   pub effect : (other : Option (List ℕ)) → IsEffect g other past request Keep
 
 -- the request changes the instance of this name so, and no other
@@ -271,7 +271,7 @@ pub record IsEmission (g : Config) (past : List Request) (request : Request) (in
   pub ticks : ticks request ≡ 1
   pub e : Emitted
   pub emitted : emitted past request ≡ Some e
-  pub place : IsPlaceOf (declared_events past) e.k.event.name d.event e.k.event
+  pub index : IsIndexOf (declared_events past) e.k.event.name d.event e.k.event
   pub row : d.row.values ≡ e.row.values
   pub cpu : d.cpu ≡ e.cpu
   pub pid : d.pid ≡ e.pid
@@ -286,33 +286,33 @@ pub record IsEmission (g : Config) (past : List Request) (request : Request) (in
 abbrev pub IsChangeOf : Config → State → List Request → Request → Change → Type 0
 IsChangeOf g state past request (Declare event) = IsDeclared g past request event
 IsChangeOf g state past request (Make named) = IsMade g past request named
-IsChangeOf g state past request (Remove place) = IsRemoved g past request place
-IsChangeOf g state past request (Instance place change) =
-    (d : Named) → IsChanged g past request (slice_index_or state.instances.items place d).name
-    × IsEffect g (slice_index_or state.instances.items place d).name past request change
-
--- an instance has room for the record, if it is written there
-abbrev pub HasRoom : Pending → Reach → InstanceSeen → Type 0
-HasRoom pending reach i = (pending.cpu < buffers.cpus i.sides.live)
-    × (reach.records ≡ true → length pending.bytes.items ≤ slice_index_or (buffers.readies i.sides.live) pending.cpu 0)
+IsChangeOf g state past request (Remove index) = IsRemoved g past request index
+IsChangeOf g state past request (Instance index change) =
+    (d : Named) → IsChanged g past request (slice_index_or state.instances.items index d).name
+    × IsEffect g (slice_index_or state.instances.items index d).name past request change
 
 -- each ring of the live side was offered few records
 abbrev pub HasFew : InstanceSeen → Type 0
 HasFew i = AllByRecursion (λ n. n < 2 ^ 32) (buffers.offers i.sides.live)
 
 -- a record can be written wherever it is to be
-abbrev pub CanBeWritten : Config → List Named → Reaches → Option Pending → Type 0
-CanBeWritten g instances reaches None = ⊤
-CanBeWritten g instances reaches (Some pending) =
-    IsRecord pending.bytes.items × (length pending.bytes.items ≤ g.page_bytes) × AllReached (HasRoom pending) reaches instances
+abbrev pub CanBeWritten : Config → List Named → Option Pending → Type 0
+CanBeWritten g instances None = ⊤
+CanBeWritten g instances (Some pending) =
+    IsRecord pending.bytes.items × (length pending.bytes.items ≤ g.page_bytes)
+    × All (λ (n : Named). pending.cpu < buffers.cpus n.instance.sides.live) instances
 
 -- the same for one instance
-abbrev pub IsWritable : Option Pending → Reach → InstanceSeen → Type 0
-IsWritable None reach i = ⊤
-IsWritable (Some pending) reach i =
-    IsRecord pending.bytes.items × (length pending.bytes.items ≤ i.sides.live.page_bytes) × HasRoom pending reach i
+abbrev pub IsWritable : Option Pending → InstanceSeen → Type 0
+IsWritable None i = ⊤
+IsWritable (Some pending) i =
+    IsRecord pending.bytes.items × (length pending.bytes.items ≤ i.sides.live.page_bytes) × (pending.cpu < buffers.cpus i.sides.live)
 
--- the hist triggers of the event at a place have the memory to count an emission
+-- it is known of each instance the filters of which hist triggers of the event an emission passes
+abbrev pub ArePassed : Emission → ℕ → Reaches → List Named → Type 0
+ArePassed emission event reaches instances = AllReached (λ reach i. reach.passed ≡ passed_in emission event i) reaches instances
+
+-- the hist triggers of the event at an index have the memory to count an emission
 abbrev pub CanCountRow : Emission → ℕ → InstanceSeen → Type 0
 CanCountRow emission event i = All (CanCount emission) (slice_index_or i.hists event [])
 
@@ -328,15 +328,16 @@ CanFire reach i = reach.fires ≡ true → is_some i.sides.spare ≡ true
 abbrev pub IsReady : Config → State → Change → Type 0
 IsReady g state (Declare event) = (length state.catalog < 64) × IsOk (id_for state.catalog event g.page_bytes)
 IsReady g state (Make named) = ⊤
-IsReady g state (Remove place) = place < length state.instances.items
-IsReady g state (Instance place change) = (place < length state.instances.items)
-    × ((d : Named) → IsLawful (slice_index_or state.instances.items place d).instance change)
+IsReady g state (Remove index) = index < length state.instances.items
+IsReady g state (Instance index change) = (index < length state.instances.items)
+    × ((d : Named) → IsLawful (slice_index_or state.instances.items index d).instance change)
 
 -- an emission can be brought to each instance, and what was grown for it is there
 abbrev pub CanEmit : Config → State → Delivery → Type 0
 CanEmit g state delivery =
-    (delivery.event < length state.catalog) × CanBeWritten g state.instances.items delivery.reaches delivery.record
+    (delivery.event < length state.catalog) × CanBeWritten g state.instances.items delivery.record
     × AllReached CanFire delivery.reaches state.instances.items
+    × ArePassed (row_of delivery) delivery.event delivery.reaches state.instances.items
     × All (λ (n : Named). CanCountRow (row_of delivery) delivery.event n.instance) state.instances.items
 
 -- what was prepared for a request, or why it is refused

@@ -6,7 +6,7 @@ ghost use Rattle.trace_book.specs.private.Attaching as attaching;
 ghost use Rattle.trace_book.specs.KeptHists.{says_same};
 
 use crate::change::TriggerChange;
-use crate::hists::{AttachedHist, EventHists};
+use crate::hists::{AttachedHist, EventHists, MOST_TRIGGERS};
 use crate::instance::Instance;
 use crate::trigger::Trigger;
 use crate::write::WrittenText;
@@ -16,9 +16,6 @@ use trace_format::EventDef;
 use trace_hist::{Action, Hist, HistSpec};
 use trace_trigger::{SnapshotTrigger, TriggerText};
 
-/// How many triggers an event may have in an instance, of all kinds.
-const MOST_TRIGGERS: usize = 4;
-
 /// The triggers that an event has in an instance.
 #[derive(Clone, Copy)]
 pub(crate) struct EventTriggers<'a> {
@@ -27,7 +24,7 @@ pub(crate) struct EventTriggers<'a> {
 }
 
 impl EventTriggers<'_> {
-    /// Those of the event at this place.
+    /// Those of the event at this index.
     pub(crate) fn of(instance: &Instance, event: usize) -> EventTriggers<'_>
         requires triggers { event < length instance.now.triggers }
         requires hists { event < length instance.now.hists }

@@ -5,13 +5,13 @@
 //! ```text
 //!                        emission                       any other command
 //!   prepare   looks      prepare_emission: Delivery     prepare: Change and Reply      refusals are found here, in their order
-//!             grows      row, record, rings, hists      the change itself              may be refused memory
-//!             grows      the history's place            the history's place            HistoryFull comes before Memory
+//!             grows      row, hists, record             the change itself              may be refused memory
+//!             grows      room in the history            room in the history            HistoryFull comes before Memory
 //!   commit    changes    deliver                        commit                         an emission's takes no memory
 //!             records    one entry more                 one entry more
 //! ```
 //!
-//! `commit` can be refused memory for a spare side, a hist trigger's place, an event or an instance alone: each such command has one growth, and it comes
+//! `commit` can be refused memory for a spare side, a hist trigger, an event or an instance alone: each such command has one growth, and it comes
 //! before all that the command changes. Nothing is undone anywhere. What the two phases hand on is data (`Change`, `Delivery`), so `commit` never looks at
 //! the command again: it makes a step of the state, and `prepare` has shown that this is the step that the definitions give the command.
 
@@ -190,8 +190,8 @@ impl Book {
         ensures stands { IfSome result (λ instance.
             InstanceStandsFor self.now.config (option_map bytes_now name.entry) (past_of self.now.entries) instance.now) }
     {
-        let place = self.state.place_of(name)?;
-        Some(&self.state.instances[place].instance)
+        let index = self.state.index_of(name)?;
+        Some(&self.state.instances[index].instance)
     }
 }
 

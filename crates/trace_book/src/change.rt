@@ -3,7 +3,7 @@
 ghost use Rattle.std.specs.Prelude.{◌≡◌};
 ghost use Rattle.trace_book.specs.Changes as changes;
 
-use crate::hists::AttachedHist;
+use crate::hists::{AttachedHist, MOST_TRIGGERS};
 use crate::make::INSTANCES;
 use crate::state::Named;
 use crate::trigger::Trigger;
@@ -18,13 +18,13 @@ pub(crate) enum Change {
     Declare(EventDef),
     /// One more instance is there.
     Make(Named),
-    /// The instance at this place is there no more.
+    /// The instance at this index is there no more.
     Remove(usize),
-    /// The instance at this place is changed.
+    /// The instance at this index is changed.
     Instance(usize, InstanceChange),
 }
 
-/// What is changed of an instance. An event is known by its place among the declared ones.
+/// What is changed of an instance. An event is known by its index among the declared ones.
 #[derive(Drop)]
 pub(crate) enum InstanceChange {
     Keep,
@@ -107,6 +107,8 @@ impl FilterChange {
 pub(crate) struct Reach {
     /// Whether its record is written.
     pub records: bool,
+    /// Of each hist trigger of the event, by its index, whether it passes the filter.
+    pub passed: [bool; MOST_TRIGGERS],
     /// Whether it makes the event's trigger for snapshots act.
     pub fires: bool,
 }
@@ -118,7 +120,7 @@ pub(crate) struct Reaches {
     pub recorded: bool,
 }
 
-/// What an emission brings to the instances: the place of its event; its row, which the event's hist triggers are offered, with its CPU and its
+/// What an emission brings to the instances: the index of its event; its row, which the event's hist triggers are offered, with its CPU and its
 /// process; what it does in each of them; and its record, if one records it.
 #[derive(Drop)]
 pub(crate) struct Delivery {

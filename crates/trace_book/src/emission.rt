@@ -1,5 +1,4 @@
-//! Emissions: a row is built once, and each instance that records it has room, and each hist trigger that it reaches has memory, before any is
-//! written to.
+//! Emissions: a row is built once, each filter is asked once, and each hist trigger that it reaches has memory, before any instance is written to.
 
 ghost use Rattle.std.specs.Prelude.{◌≡◌, ℕ, ◌+◌, ◌<◌, ◌≤◌, ◌^◌, true, List, length, All, slice_index_or, Some, IfOk, OnOk};
 ghost use Rattle.trace_buffer.specs.Buffers as buffers;
@@ -12,9 +11,10 @@ ghost use Rattle.trace_record.specs.Record.{record_size};
 ghost use Rattle.trace_book.specs.private.Emissions as emissions;
 ghost use Rattle.trace_book.specs.Instances.{IsAlike};
 ghost use Rattle.trace_book.specs.declared.change.Pending.{Pending as PendingHere};
-ghost use Rattle.trace_book.specs.States.{StandsFor, IsPreparedEmission, IsUsable, EachCame, CanCountRow, AllReached};
+ghost use Rattle.trace_book.specs.States.{StandsFor, IsPreparedEmission, IsUsable, EachCame, CanCountRow, ArePassed};
 
 use crate::change::{Delivery, Pending, Reach, Reaches};
+use crate::hists::MOST_TRIGGERS;
 use crate::make::INSTANCES;
 use crate::memory::EmissionMemory;
 use crate::resolve::find;
@@ -25,8 +25,8 @@ use trace_command::{Config, Refusal};
 use trace_format::{Pair, Row, payload_size};
 
 impl State {
-    /// Prepares an emission: its CPU, its event, its row, then the memory of its hist triggers, then what it does in each instance, and then
-    /// room for its record in each one that records it.
+    /// Prepares an emission: its CPU, its event, its row, then what it does in each instance, then the memory of its hist triggers, and then its
+    /// record, if an instance records it.
     #[tactic(auto, unfolding(trace_history::specs::History::emission_answer))]
     pub(crate) fn prepare_emission(
         &mut self,
@@ -53,8 +53,8 @@ impl State {
         let index = found.index;
         let size = payload_size(found.event);
         let row = memory.row(found.event, pairs)?;
-        self.reserve_hits(index, &row, cpu, pid)?;
         let reaches = reach_each(&self.instances, index, &row, cpu, pid);
+        self.reserve_hits(&reaches, index, &row, cpu, pid)?;
         let pending = self.write_ahead(memory, &reaches, index, cpu, pid, size, &row)?;
         Ok(Delivery {
             event: index,
@@ -66,26 +66,28 @@ impl State {
         })
     }
 
-    // Takes the memory that the hist triggers of the event at this place need to count a row, in each instance.
+    // Takes the memory that the hist triggers of the event at this index need to count a row, in each instance.
     fn reserve_hits(
         &mut self,
+        reaches: &Reaches,
         index: usize,
         row: &Row,
         cpu: u32,
         pid: i32,
     ) -> Result<(), AllocError>
-        requires { All (λ n. index < length n.instance.hists) self.old.instances.items }
+        requires few { length self.old.instances.items ≤ 8 }
+        requires index { All (λ n. index < length n.instance.hists) self.old.instances.items }
+        requires passed { ArePassed (record { values = row.now.values; cpu = cpu; pid = pid }) index reaches.now self.old.instances.items }
         ensures alike { emissions.IsStateAlike self.old self.new }
         ensures counted { OnOk result (All (λ n. CanCountRow (record { values = row.now.values; cpu = cpu; pid = pid }) index n.instance)
             self.new.instances.items) }
     {
-        reserve_each(&mut self.instances, index, row, cpu, pid)
+        reserve_each(&mut self.instances, reaches, index, row, cpu, pid)
     }
 
-    // The record of an emission of the event at this place, which does this in each instance, with room for it in each one that records it;
-    // none if no instance does.
+    // The record of an emission of the event at this index, which does this in each instance; none if no instance records it.
     fn write_ahead(
-        &mut self,
+        &self,
         memory: &mut EmissionMemory,
         reaches: &Reaches,
         index: usize,
@@ -94,35 +96,33 @@ impl State {
         size: usize,
         row: &Row,
     ) -> Result<Option<Pending>, AllocError>
-        requires early { self.old.clock ≤ 2 ^ 32 }
+        requires early { self.now.clock ≤ 2 ^ 32 }
         requires index { index < 64 }
-        requires few { length self.old.instances.items ≤ 8 }
-        requires cpu { All (λ n. cpu < buffers.cpus n.instance.sides.live) self.old.instances.items }
         requires size { size ≡ size_of_all row.now.kinds }
         requires small { size < 2 ^ 12 }
-        ensures alike { emissions.IsStateAlike self.old self.new }
-        ensures ahead { IfOk result (λ pending. emissions.IsAhead self.old self.new index row.now cpu pid reaches.now pending) }
+        ensures ahead { IfOk result (λ pending. emissions.IsAhead self.now index row.now cpu pid reaches.now pending) }
         ensures length { IfOk result (λ pending. (p : PendingHere) → pending ≡ Some p → length p.bytes.items ≡ record_size size) }
     {
         if !reaches.recorded {
             return Ok(None);
         }
         let bytes = record(memory, self.clock + 1, pid, index as u16 + 1, size, row)?;
-        ready_each(&mut self.instances, reaches, cpu, bytes.len())?;
         Ok(Some(Pending { cpu, bytes }))
     }
 }
 
-// What an emission of the event at this place does in each instance.
+// What an emission of the event at this index does in each instance.
 fn reach_each(instances: &[Named], event: usize, row: &Row, cpu: u32, pid: i32) -> Reaches
     requires few { length instances.now ≤ 8 }
     requires enabled { All (λ n. event < length n.instance.enabled) instances.now }
     requires filters { All (λ n. event < length n.instance.filters) instances.now }
     requires triggers { All (λ n. event < length n.instance.triggers) instances.now }
+    requires hists { All (λ n. event < length n.instance.hists) instances.now }
     ensures { emissions.AreReached event row.now cpu pid result instances.now }
 {
     let nothing = Reach {
         records: false,
+        passed: [false; MOST_TRIGGERS],
         fires: false,
     };
     let mut each = [nothing; INSTANCES];
@@ -135,37 +135,24 @@ fn reach_each(instances: &[Named], event: usize, row: &Row, cpu: u32, pid: i32) 
     Reaches { each, recorded }
 }
 
+// Takes the memory that the hist triggers of the event at this index need to count a row, in each instance.
 fn reserve_each(
     instances: &mut [Named],
+    reaches: &Reaches,
     event: usize,
     row: &Row,
     cpu: u32,
     pid: i32,
 ) -> Result<(), AllocError>
-    requires { All (λ n. event < length n.instance.hists) instances.old }
+    requires few { length instances.old ≤ 8 }
+    requires event { All (λ n. event < length n.instance.hists) instances.old }
+    requires passed { ArePassed (record { values = row.now.values; cpu = cpu; pid = pid }) event reaches.now instances.old }
     ensures alike { EachCame IsAlike instances.old instances.new }
     ensures counted { OnOk result (All (λ n. CanCountRow (record { values = row.now.values; cpu = cpu; pid = pid }) event n.instance) instances.new) }
 {
     for i in 0..instances.len() {
-        instances[i].instance.reserve(event, row, cpu, pid)?;
-    }
-    Ok(())
-}
-
-// Makes room for a record of this length in each instance that records it.
-fn ready_each(
-    instances: &mut [Named],
-    reaches: &Reaches,
-    cpu: u32,
-    len: usize,
-) -> Result<(), AllocError>
-    requires few { length instances.old ≤ 8 }
-    requires cpu { All (λ n. cpu < buffers.cpus n.instance.sides.live) instances.old }
-    ensures came { EachCame emissions.IsReadied instances.old instances.new }
-    ensures room { OnOk result (AllReached (emissions.HasBytes cpu len) reaches.now instances.new) }
-{
-    for i in 0..instances.len() {
-        instances[i].instance.ready(reaches.each[i], cpu, len)?;
+        let passed = reaches.each[i].passed;
+        instances[i].instance.reserve(passed, event, row, cpu, pid)?;
     }
     Ok(())
 }

@@ -1,16 +1,20 @@
 //! The hist triggers of an event, as an instance keeps them (histogram.rst, "hist triggers").
 
-ghost use Rattle.std.specs.Prelude.{◌≡◌, ℕ, ◌<◌, if◌then◌else◌, [], ◌∷◌, ◌++◌, length, map, position, All, OnOk, OnErr};
+ghost use Rattle.std.specs.Prelude.{◌≡◌, ℕ, ◌<◌, ◌≤◌, true, if◌then◌else◌, [], ◌∷◌, ◌++◌, length, map, position, All, OnOk, OnErr};
 ghost use Rattle.std.specs.List.{remove};
 ghost use Rattle.trace_book.specs.private.Commands.{shown_kept_hist};
 ghost use Rattle.trace_book.specs.KeptHists as kept;
 ghost use Rattle.trace_text.specs.ShownTriggers.{shown_trigger};
+ghost use Rattle.trace_trigger.specs.SameSpecs.{is_passed};
 
 use std::alloc::{AllocError, Global};
 use std::marker::Model;
 use trace_format::Row;
 use trace_hist::{Action, Hist, HistSpec};
 use trace_text::Shown;
+
+/// How many triggers an event may have in an instance, of all kinds.
+pub(crate) const MOST_TRIGGERS: usize = 4;
 
 /// A hist trigger that is attached.
 #[derive(Drop)]
@@ -47,24 +51,33 @@ impl AttachedHist {
         }
     }
 
-    // Takes the memory that it needs to count a row, if its filter passes that.
-    fn reserve(&mut self, row: &Row, cpu: u32, pid: i32) -> Result<(), AllocError>
+    // Whether a row passes its filter.
+    fn passes(&self, row: &Row, cpu: u32, pid: i32) -> bool
+        ensures { result ≡ is_passed self.now.hist.spec.filter (record { values = row.now.values; cpu = cpu; pid = pid }) }
+    {
+        self.hist.spec().passes(row, cpu, pid)
+    }
+
+    // Takes the memory that it needs to count a row, if that passes its filter.
+    fn reserve(&mut self, passed: bool, row: &Row, cpu: u32, pid: i32) -> Result<(), AllocError>
+        requires { passed ≡ is_passed self.old.hist.spec.filter (record { values = row.now.values; cpu = cpu; pid = pid }) }
         ensures alike { kept.kept_of self.new ≡ kept.kept_of self.old }
         ensures ready { OnOk result (kept.CanCount (record { values = row.now.values; cpu = cpu; pid = pid }) self.new) }
     {
-        if self.hist.spec().passes(row, cpu, pid) {
+        if passed {
             self.hist.reserve_hit(row, cpu, pid)?;
         }
         Ok(())
     }
 
-    // Counts a row, if its filter passes that and it is not paused.
-    fn hit(&mut self, row: &Row, cpu: u32, pid: i32)
+    // Counts a row, if that passes its filter and it is not paused.
+    fn hit(&mut self, passed: bool, row: &Row, cpu: u32, pid: i32)
+        requires passed { passed ≡ is_passed self.old.hist.spec.filter (record { values = row.now.values; cpu = cpu; pid = pid }) }
         requires ready { kept.CanCount (record { values = row.now.values; cpu = cpu; pid = pid }) self.old }
         requires few { kept.HasRoomToCount self.old }
         ensures { kept.IsHit (record { values = row.now.values; cpu = cpu; pid = pid }) (kept.kept_of self.old) (kept.kept_of self.new) }
     {
-        if self.hist.spec().passes(row, cpu, pid) {
+        if passed {
             self.hist.hit(row, cpu, pid);
         }
     }
@@ -83,6 +96,10 @@ impl Model for EventHists {
     ghost Value = { List AttachedHist };
 
     ghost view = { λ e. e.hists.items };
+
+    ghost use Rattle.std.specs.Prelude.{◌≤◌, vec_len};
+
+    ghost invariant = { λ e. vec_len e.hists ≤ 4 };
 }
 
 impl EventHists {
@@ -121,6 +138,7 @@ impl EventHists {
 
     /// Attaches one more; the others are taken away first, but not where its text is appended.
     pub(crate) fn attach(&mut self, append: bool, attached: AttachedHist) -> Result<(), AllocError>
+        requires { length (if append then self.old else []) < 4 }
         ensures attached { OnOk result (self.new ≡ (if append then self.old else []) ++ attached ∷ []) }
         ensures refused { OnErr result (self.new ≡ self.old) }
     {
@@ -148,42 +166,91 @@ impl EventHists {
         self.hists[index].ask(action);
     }
 
-    /// Takes the memory that is needed to count a row.
-    pub(crate) fn reserve(&mut self, row: &Row, cpu: u32, pid: i32) -> Result<(), AllocError>
+    /// Of each, by its index, whether a row passes its filter; `false` where there is none.
+    pub(crate) fn passed(&self, row: &Row, cpu: u32, pid: i32) -> [bool; MOST_TRIGGERS]
+        ensures { result ≡ kept.passed (record { values = row.now.values; cpu = cpu; pid = pid }) (map kept.kept_of self.now) }
+    {
+        if self.hists.is_empty() {
+            return [false; MOST_TRIGGERS];
+        }
+        [
+            self.is_passed(0, row, cpu, pid),
+            self.is_passed(1, row, cpu, pid),
+            self.is_passed(2, row, cpu, pid),
+            self.is_passed(3, row, cpu, pid),
+        ]
+    }
+
+    // Whether there is one at an index and a row passes its filter.
+    fn is_passed(&self, index: usize, row: &Row, cpu: u32, pid: i32) -> bool
+        ensures { result ≡ kept.is_passed_at (record { values = row.now.values; cpu = cpu; pid = pid }) (map kept.kept_of self.now) index }
+    {
+        if index >= self.hists.len() {
+            return false;
+        }
+        self.hists[index].passes(row, cpu, pid)
+    }
+
+    /// Takes the memory that is needed to count a row. It is known which of the filters that passes.
+    pub(crate) fn reserve(
+        &mut self,
+        passed: [bool; MOST_TRIGGERS],
+        row: &Row,
+        cpu: u32,
+        pid: i32,
+    ) -> Result<(), AllocError>
+        requires { passed ≡ kept.passed (record { values = row.now.values; cpu = cpu; pid = pid }) (map kept.kept_of self.old) }
         ensures alike { map kept.kept_of self.new ≡ map kept.kept_of self.old }
         ensures ready { OnOk result (All (kept.CanCount (record { values = row.now.values; cpu = cpu; pid = pid })) self.new) }
     {
-        reserve_each(&mut self.hists, row, cpu, pid)
+        reserve_each(&mut self.hists, passed, row, cpu, pid)
     }
 
-    /// Counts a row in each that it reaches.
-    pub(crate) fn hit(&mut self, row: &Row, cpu: u32, pid: i32)
+    /// Counts a row in each whose filter it passes, unless that is paused.
+    pub(crate) fn hit(&mut self, passed: [bool; MOST_TRIGGERS], row: &Row, cpu: u32, pid: i32)
+        requires passed { passed ≡ kept.passed (record { values = row.now.values; cpu = cpu; pid = pid }) (map kept.kept_of self.old) }
         requires ready { All (kept.CanCount (record { values = row.now.values; cpu = cpu; pid = pid })) self.old }
         requires few { All kept.HasRoomToCount self.old }
         ensures { kept.AreHit (record { values = row.now.values; cpu = cpu; pid = pid }) (map kept.kept_of self.old) (map kept.kept_of self.new) }
     {
-        hit_each(&mut self.hists, row, cpu, pid);
+        hit_each(&mut self.hists, passed, row, cpu, pid);
     }
 }
 
-// Takes the memory that each needs to count a row.
-fn reserve_each(hists: &mut [AttachedHist], row: &Row, cpu: u32, pid: i32) -> Result<(), AllocError>
+// Takes the memory that each needs to count a row, if that passes its filter.
+fn reserve_each(
+    hists: &mut [AttachedHist],
+    passed: [bool; MOST_TRIGGERS],
+    row: &Row,
+    cpu: u32,
+    pid: i32,
+) -> Result<(), AllocError>
+    requires few { length hists.old ≤ 4 }
+    requires passed { passed ≡ kept.passed (record { values = row.now.values; cpu = cpu; pid = pid }) (map kept.kept_of hists.old) }
     ensures alike { map kept.kept_of hists.new ≡ map kept.kept_of hists.old }
     ensures ready { OnOk result (All (kept.CanCount (record { values = row.now.values; cpu = cpu; pid = pid })) hists.new) }
 {
     for i in 0..hists.len() {
-        hists[i].reserve(row, cpu, pid)?;
+        hists[i].reserve(passed[i], row, cpu, pid)?;
     }
     Ok(())
 }
 
-// Counts a row in each that it reaches.
-fn hit_each(hists: &mut [AttachedHist], row: &Row, cpu: u32, pid: i32)
+// Counts a row in each whose filter it passes.
+fn hit_each(
+    hists: &mut [AttachedHist],
+    passed: [bool; MOST_TRIGGERS],
+    row: &Row,
+    cpu: u32,
+    pid: i32,
+)
+    requires few_hists { length hists.old ≤ 4 }
+    requires passed { passed ≡ kept.passed (record { values = row.now.values; cpu = cpu; pid = pid }) (map kept.kept_of hists.old) }
     requires ready { All (kept.CanCount (record { values = row.now.values; cpu = cpu; pid = pid })) hists.old }
     requires few { All kept.HasRoomToCount hists.old }
     ensures { kept.AreHit (record { values = row.now.values; cpu = cpu; pid = pid }) (map kept.kept_of hists.old) (map kept.kept_of hists.new) }
 {
     for i in 0..hists.len() {
-        hists[i].hit(row, cpu, pid);
+        hists[i].hit(passed[i], row, cpu, pid);
     }
 }

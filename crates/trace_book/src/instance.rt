@@ -94,7 +94,7 @@ impl Instance {
         Ok(instance)
     }
 
-    /// Whether the event at this place is enabled.
+    /// Whether the event at this index is enabled.
     pub(crate) fn is_enabled(&self, event: usize) -> bool
         requires { event < length self.now.enabled }
         ensures { result ≡ slice_index_or self.now.enabled event false }
@@ -116,7 +116,7 @@ impl Instance {
         self.enabled.iter().any(|flag| !*flag)
     }
 
-    /// The filter of the event at this place.
+    /// The filter of the event at this index.
     pub(crate) fn filter(&self, event: usize) -> Option<&Filter>
         requires { event < length self.now.filters }
         ensures { option_copied result ≡ slice_index_or self.now.filters event None }
@@ -124,7 +124,7 @@ impl Instance {
         self.filters[event].as_ref()
     }
 
-    /// The snapshot trigger of the event at this place.
+    /// The snapshot trigger of the event at this index.
     pub(crate) fn trigger(&self, event: usize) -> Option<&Trigger>
         requires { event < length self.now.triggers }
         ensures { option_copied result ≡ slice_index_or self.now.triggers event None }
@@ -132,7 +132,7 @@ impl Instance {
         self.triggers[event].as_ref()
     }
 
-    /// The hist triggers of the event at this place.
+    /// The hist triggers of the event at this index.
     pub(crate) fn hists(&self, event: usize) -> &EventHists
         requires { event < length self.now.hists }
         ensures { result.now ≡ slice_index_or self.now.hists event [] }
@@ -231,7 +231,7 @@ impl Instance {
         Ok(())
     }
 
-    // Changes the triggers of the event at this place. Its hist triggers are taken away first, but not where the text is appended.
+    // Changes the triggers of the event at this index. Its hist triggers are taken away first, but not where the text is appended.
     fn change_triggers(
         &mut self,
         event: usize,
@@ -240,7 +240,7 @@ impl Instance {
     ) -> Result<(), AllocError>
         requires triggers { event < length self.old.triggers }
         requires hists { event < length self.old.hists }
-        requires one { changes.IsOfOne change (length (if append then slice_index_or self.old.hists event [] else [])) }
+        requires possible { changes.IsPossible change (length (if append then slice_index_or self.old.hists event [] else [])) }
         ensures applied { OnOk result (changes.IsApplied (changed.Triggers event append change) self.old self.new) }
         ensures refused { OnErr result (self.new ≡ self.old) }
     {

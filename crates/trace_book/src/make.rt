@@ -38,7 +38,7 @@ impl State {
         if !is_name(name) {
             return Err(Refusal::BadValue);
         }
-        if self.place_of(Some(name)).is_some() {
+        if self.index_of(Some(name)).is_some() {
             return Err(Refusal::InstanceExists);
         }
         if self.instances.len() >= INSTANCES {
@@ -60,11 +60,11 @@ impl State {
         let Some(name) = instance_of(path) else {
             return Err(Refusal::NoSuchFile);
         };
-        let Some(place) = self.place_of(Some(name)) else {
+        let Some(index) = self.index_of(Some(name)) else {
             return Err(Refusal::NoSuchInstance);
         };
         Ok(Prepared {
-            change: Change::Remove(place),
+            change: Change::Remove(index),
             reply: Reply::Done,
         })
     }

@@ -80,13 +80,13 @@ impl State {
                 written.append,
                 written.text,
             ),
-            Target::Of(place, file) => Ok(Prepared {
+            Target::Of(index, file) => Ok(Prepared {
                 change: Change::Instance(
-                    place,
+                    index,
                     written_change(
                         alloc,
                         &self.catalog,
-                        &self.instances[place].instance,
+                        &self.instances[index].instance,
                         file,
                         written,
                     )?,
@@ -134,15 +134,15 @@ impl State {
     {
         match self.resolve(config, path)? {
             Target::Declarations => self.read_declarations(alloc, limit),
-            Target::Of(place, file) => {
+            Target::Of(index, file) => {
                 let source = FileSource {
                     catalog: &self.catalog,
                     clock: self.clock,
-                    instance: &self.instances[place].instance,
+                    instance: &self.instances[index].instance,
                 };
                 let Shown { change, reply } = read_file(alloc, source, file, limit)?;
                 Ok(Prepared {
-                    change: Change::Instance(place, change),
+                    change: Change::Instance(index, change),
                     reply,
                 })
             }

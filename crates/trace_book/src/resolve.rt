@@ -7,7 +7,7 @@ ghost use Rattle.trace_command.specs.Paths as paths;
 ghost use Rattle.trace_command.specs.FileNames as names;
 ghost use Rattle.trace_command.specs.Requests.{Request};
 ghost use Rattle.trace_command.specs.declared.command.Config.{Config};
-ghost use Rattle.trace_history.specs.Declarations.{IsPlaceOf};
+ghost use Rattle.trace_history.specs.Declarations.{IsIndexOf};
 ghost use Rattle.trace_history.specs.Settings.{declared_events, event_named_in, numbered_event, is_same};
 ghost use Rattle.trace_format.specs.Catalogs.{id_of};
 ghost use Rattle.trace_book.specs.private.Files as files;
@@ -19,7 +19,7 @@ use trace_command::{Config, CpuFile, EventFile, FileName, Refusal, TopFile, addr
 use trace_format::{Catalog, EventDef};
 use trace_lex::digits_value;
 
-/// A file of an instance that is there: a CPU by its number, an event by its place among the declared ones, from 0.
+/// A file of an instance that is there: a CPU by its number, an event by its index among the declared ones, from 0.
 #[derive(Clone, Copy, Drop)]
 pub(crate) enum File {
     OfInstance(TopFile),
@@ -32,7 +32,7 @@ pub(crate) enum File {
 pub(crate) enum Target {
     /// The file of all declarations, which only the top instance has.
     Declarations,
-    /// A file of the instance at this place.
+    /// A file of the instance at this index.
     Of(usize, File),
 }
 
@@ -46,7 +46,7 @@ pub(crate) struct Found<'a> {
 /// The event of this name.
 pub(crate) fn find<'a>(catalog: &'a Catalog, name: &[u8]) -> Option<Found<'a>>
     ensures named { option_map numbered result ≡ event_named_in catalog.now name.now }
-    ensures place { IfSome result (λ found. IsPlaceOf catalog.now name.now found.index found.event.now) }
+    ensures index { IfSome result (λ found. IsIndexOf catalog.now name.now found.index found.event.now) }
 {
     let id = catalog.find(name)?;
     numbered(catalog, id)
@@ -55,8 +55,8 @@ pub(crate) fn find<'a>(catalog: &'a Catalog, name: &[u8]) -> Option<Found<'a>>
 // The event of a number.
 fn numbered(catalog: &Catalog, id: u16) -> Option<Found<'_>>
     ensures numbered { option_map numbered result ≡ numbered_event catalog.now id }
-    ensures place { (name : List ℕ) → id_of catalog.now name ≡ Some id
-        → IfSome result (λ found. IsPlaceOf catalog.now name found.index found.event.now) }
+    ensures index { (name : List ℕ) → id_of catalog.now name ≡ Some id
+        → IfSome result (λ found. IsIndexOf catalog.now name found.index found.event.now) }
 {
     let event = catalog.def(id)?;
     Some(Found {
@@ -65,7 +65,7 @@ fn numbered(catalog: &Catalog, id: u16) -> Option<Found<'_>>
     })
 }
 
-/// The event at this place.
+/// The event at this index.
 pub(crate) fn event_at(catalog: &Catalog, index: usize) -> &EventDef
     requires inside { index < length catalog.now }
     requires few { length catalog.now ≤ 64 }
@@ -84,20 +84,20 @@ impl State {
         ensures memory { IfErr result (λ r. r ≢ Refusal.Memory) }
     {
         let address = address_of(path);
-        let Some(place) = self.place_of(address.instance) else {
+        let Some(index) = self.index_of(address.instance) else {
             return Err(Refusal::NoSuchInstance);
         };
         let Some(named) = address.file else {
             return Err(Refusal::NoSuchFile);
         };
         match found_file(&self.catalog, config.cpus, named)? {
-            Some(file) => Ok(Target::Of(place, file)),
+            Some(file) => Ok(Target::Of(index, file)),
             None => Ok(Target::Declarations),
         }
     }
 
-    /// The place of the instance of this name; the top one has none.
-    pub(crate) fn place_of(&self, name: Option<&[u8]>) -> Option<usize>
+    /// The index of the instance of this name; the top one has none.
+    pub(crate) fn index_of(&self, name: Option<&[u8]>) -> Option<usize>
         ensures { result ≡ position (λ (n : Named). is_same n.name (option_map names.bytes_now name.entry)) self.now.instances.items }
     {
         self.instances
@@ -127,7 +127,7 @@ fn found_file(catalog: &Catalog, cpus: u32, named: FileName<'_>) -> Result<Optio
         FileName::SyntheticEvents => return Ok(None),
         FileName::OfInstance(file) => File::OfInstance(file),
         FileName::OfCpu(digits, file) => File::OfCpu(cpu_below(digits, cpus)?, file),
-        FileName::OfEvent(name, file) => File::OfEvent(event_place(catalog, name)?, file),
+        FileName::OfEvent(name, file) => File::OfEvent(event_index(catalog, name)?, file),
     };
     Ok(Some(file))
 }
@@ -142,9 +142,9 @@ fn cpu_below(digits: &[u8], cpus: u32) -> Result<u32, Refusal>
     }
 }
 
-// The place of the event of this name.
-fn event_place(catalog: &Catalog, name: &[u8]) -> Result<usize, Refusal>
-    ensures { files.IsEventPlace catalog.now name.now result }
+// The index of the event of this name.
+fn event_index(catalog: &Catalog, name: &[u8]) -> Result<usize, Refusal>
+    ensures { files.IsEventIndex catalog.now name.now result }
 {
     match find(catalog, name) {
         Some(found) => Ok(found.index),

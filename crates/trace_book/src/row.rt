@@ -10,7 +10,7 @@ use std::alloc::AllocError;
 use trace_format::Row;
 use trace_record::{HEAD_SIZE, Head, record_size, write_head};
 
-/// Writes a row's payload after the place of the head.
+/// Writes a row's payload after the head.
 fn write_payload(row: &Row, size: usize, out: &mut [u8])
     requires size { size ≡ size_of_all row.now.kinds }
     requires small { size < 2 ^ 12 }

@@ -37,20 +37,18 @@ pub(crate) fn shown_in_order<'a>(
     let Some(trigger) = snapshot else {
         return shown_hists(alloc, hists);
     };
-    let mut shown = Vec::new(alloc);
-    push_older(&mut shown, hists, trigger.number)?;
+    let mut shown = with_older(Vec::new(alloc), hists, trigger.number)?;
     shown.push(trigger.shown())?;
-    push_newer(&mut shown, hists, trigger.number)?;
-    Ok(shown)
+    with_newer(shown, hists, trigger.number)
 }
 
-// Those that were attached before the request of a number.
-fn push_older<'a>(
-    shown: &mut Vec<Shown<'a>>,
+// With those that were attached before the request of a number.
+fn with_older<'a>(
+    mut shown: Vec<Shown<'a>>,
     hists: &'a [AttachedHist],
     number: u64,
-) -> Result<(), AllocError>
-    ensures { OnOk result (map shown_trigger shown.new.items ≡ map shown_trigger shown.old.items
+) -> Result<Vec<Shown<'a>>, AllocError>
+    ensures { IfOk result (λ all. map shown_trigger all.items ≡ map shown_trigger shown.entry.items
         ++ map shown_kept_hist (filter (λ (k : KeptHist). nat_lt k.number number) (map kept_of hists.now))) }
 {
     for i in 0..hists.len() {
@@ -58,16 +56,16 @@ fn push_older<'a>(
             shown.push(hists[i].shown())?;
         }
     }
-    Ok(())
+    Ok(shown)
 }
 
-// The others.
-fn push_newer<'a>(
-    shown: &mut Vec<Shown<'a>>,
+// With the others.
+fn with_newer<'a>(
+    mut shown: Vec<Shown<'a>>,
     hists: &'a [AttachedHist],
     number: u64,
-) -> Result<(), AllocError>
-    ensures { OnOk result (map shown_trigger shown.new.items ≡ map shown_trigger shown.old.items
+) -> Result<Vec<Shown<'a>>, AllocError>
+    ensures { IfOk result (λ all. map shown_trigger all.items ≡ map shown_trigger shown.entry.items
         ++ map shown_kept_hist (filter (λ (k : KeptHist). not (nat_lt k.number number)) (map kept_of hists.now))) }
 {
     for i in 0..hists.len() {
@@ -75,5 +73,5 @@ fn push_newer<'a>(
             shown.push(hists[i].shown())?;
         }
     }
-    Ok(())
+    Ok(shown)
 }

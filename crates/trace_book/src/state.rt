@@ -52,10 +52,10 @@ impl State {
                 add_event(&mut self.instances);
             }
             Change::Make(named) => self.instances.push(named)?,
-            Change::Remove(place) => {
-                let _named = self.instances.remove(place);
+            Change::Remove(index) => {
+                let _named = self.instances.remove(index);
             }
-            Change::Instance(place, change) => change_one(&mut self.instances, place, change)?,
+            Change::Instance(index, change) => change_one(&mut self.instances, index, change)?,
         }
         Ok(())
     }
@@ -85,26 +85,27 @@ fn add_event(instances: &mut [Named])
     }
 }
 
-// Changes the instance at a place. Where memory is refused it is as it was.
+// Changes the instance at an index. Where memory is refused it is as it was.
 fn change_one(
     instances: &mut [Named],
-    place: usize,
+    index: usize,
     change: InstanceChange,
 ) -> Result<(), AllocError>
-    requires place { place < length instances.old }
-    requires lawful { (d : Named) → IsLawful (slice_index_or instances.old place d).instance change }
-    ensures changed { OnOk result (states.OneCame (IsApplied change) place instances.old instances.new) }
+    requires index { index < length instances.old }
+    requires lawful { (d : Named) → IsLawful (slice_index_or instances.old index d).instance change }
+    ensures changed { OnOk result (states.OneCame (IsApplied change) index instances.old instances.new) }
     ensures refused { OnErr result (instances.new ≡ instances.old) }
 {
-    instances[place].instance.apply(change)
+    instances[index].instance.apply(change)
 }
 
 // Brings an emission to each instance.
 fn deliver_each(instances: &mut [Named], delivery: &Delivery)
     requires few_instances { length instances.old ≤ 8 }
     requires event { All (λ n. delivery.now.event < length n.instance.triggers) instances.old }
-    requires record { states.AllReached (states.IsWritable delivery.now.record) delivery.now.reaches instances.old }
+    requires record { All (λ n. states.IsWritable delivery.now.record n.instance) instances.old }
     requires hists { All (λ n. delivery.now.event < length n.instance.hists) instances.old }
+    requires passed { states.ArePassed (states.row_of delivery.now) delivery.now.event delivery.now.reaches instances.old }
     requires counted { All (λ n. states.CanCountRow (states.row_of delivery.now) delivery.now.event n.instance) instances.old }
     requires few_rows { All (λ n. states.HasFewRows n.instance) instances.old }
     requires few { All (λ n. states.HasFew n.instance) instances.old }

@@ -25,7 +25,3 @@ StandsFor buffer family = EachStandsFor buffer.rings family
 -- how many records each CPU's ring accepted or dropped since it was new or cleared
 abbrev pub offers : Seen → List ℕ
 offers buffer = map ring.offered buffer.rings
-
--- up to what length each CPU's ring has memory at hand for a record
-abbrev pub readies : Seen → List ℕ
-readies buffer = map (λ (r : ring.Seen). r.ready) buffer.rings

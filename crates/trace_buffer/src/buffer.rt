@@ -1,7 +1,7 @@
 //! The rings of a buffer, one for each CPU ("The Generic Ring Buffer" of ring-buffer-design.rst), and reads of one of them or of all.
 #![tactic(auto)]
 
-ghost use Rattle.std.specs.Prelude.{◌≡◌, ℕ, ◌+◌, ◌<◌, ◌≤◌, ◌^◌, ◌%◌, List, [], ◌∷◌, length, map, max, min, replicate, slice_index, slice_set, IfOk, IfSome, OnOk, OnErr, ◌++◌};
+ghost use Rattle.std.specs.Prelude.{◌≡◌, ℕ, ◌+◌, ◌<◌, ◌≤◌, ◌^◌, ◌%◌, List, [], ◌∷◌, length, map, min, replicate, slice_index, slice_set, IfOk, IfSome, ◌++◌};
 ghost use Rattle.trace_record.specs.Record.{IsRecord};
 ghost use Rattle.page_ring.specs.Events as event;
 ghost use Rattle.page_ring.specs.Account.{put_answer, readings_of};
@@ -9,7 +9,7 @@ ghost use Rattle.page_ring.specs.Shown as shown;
 ghost use Rattle.trace_buffer.specs.Families.{events_of, with_events, with_cleared, all_cleared, cpu_readings, cpu_stats, kept_count};
 ghost use Rattle.trace_buffer.specs.Orders as orders;
 ghost use Rattle.trace_buffer.specs.Buffers as seen;
-ghost use Rattle.trace_buffer.specs.Buffers.{StandsFor, offers, readies};
+ghost use Rattle.trace_buffer.specs.Buffers.{StandsFor, offers};
 ghost use Rattle.trace_buffer.specs.CpuReadings.{kept_reading, taken_reading};
 ghost use Rattle.trace_buffer.specs.private.Nexts.{next_of};
 
@@ -75,29 +75,11 @@ impl Buffer {
         self.rings.len() as u32
     }
 
-    /// Makes room in a CPU's ring for one record of up to `len` bytes, until the next read of that ring, or put into it, or until it is
-    /// cleared. All else stays as it was, also where memory is refused.
-    pub fn ready(&mut self, cpu: u32, len: usize) -> Result<(), AllocError>
-        requires { cpu < seen.cpus self.old }
-        ensures stands { (family : List (List event.Event)) → StandsFor self.old family
-            → StandsFor self.new family }
-        ensures cpus { seen.cpus self.new ≡ seen.cpus self.old }
-        ensures pages { self.new.pages ≡ self.old.pages }
-        ensures page_bytes { self.new.page_bytes ≡ self.old.page_bytes }
-        ensures offers { offers self.new ≡ offers self.old }
-        ensures room { OnOk result (readies self.new
-            ≡ slice_set (readies self.old) cpu (max (slice_index (readies self.old) cpu) len)) }
-        ensures err { OnErr result (self.new ≡ self.old) }
-    {
-        self.rings[cpu as usize].ready(len)
-    }
-
     /// Writes a record into a CPU's ring, over older ones where that is allowed. It takes no memory.
     pub fn put(&mut self, cpu: u32, rec: &[u8], overwrite: bool) -> Put
         requires cpu { cpu < seen.cpus self.old }
         requires is_record { IsRecord rec.now }
         requires fits { length rec.now ≤ self.old.page_bytes }
-        requires ready { length rec.now ≤ slice_index (readies self.old) cpu }
         requires few { slice_index (offers self.old) cpu < 2 ^ 32 }
         ensures stands { (family : List (List event.Event)) → StandsFor self.old family
             → StandsFor self.new (with_events cpu (event.Put rec.now overwrite ∷ []) family) }

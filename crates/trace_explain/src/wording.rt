@@ -90,7 +90,7 @@ pub(crate) fn refusal_words(subject: Subject, refusal: &Refusal) -> &'static str
         }
         Refusal::NoSuchField { .. } => "the event has no field of this name",
         Refusal::WrongOperator { .. } => {
-            "the field doesn't take this operator, or it is a string, which has no sum"
+            "the field doesn't take this operator, or it is a string, which has no sum and takes no modifier"
         }
         Refusal::HistSyntax { .. } => "no hist trigger goes on, or ends, like this",
         Refusal::BadSize => {

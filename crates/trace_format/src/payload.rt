@@ -95,15 +95,17 @@ fn encode_text(text: &[u8], out: &mut [u8])
     back.fill(0);
 }
 
-/// The values whose bytes stand one behind the other.
+/// The values whose bytes stand one behind the other, in a list that is given for them. One that has had as many elements takes no allocation.
 pub(crate) fn decode_values(
     alloc: Global,
+    mut values: Vec<Value>,
     fields: &[Field],
     bytes: &[u8],
 ) -> Result<Option<Vec<Value>>, AllocError>
     ensures { IfOk result (λ found. option_map (λ v. map datum_of v.items) found ≡ values_from (map (λ f. f.kind) fields.now) bytes.now) }
 {
-    let mut values = Vec::with_capacity(alloc, fields.len())?;
+    values.clear();
+    values.reserve_exact(fields.len())?;
     let mut rest = bytes;
     for field in fields {
         let size = field.kind.size();

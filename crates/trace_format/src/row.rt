@@ -141,7 +141,7 @@ impl Row {
         if !are_new(def.fields(), pairs) {
             return Err(refusal(alloc, def, pairs));
         }
-        let kinds = kinds_of(alloc, def.fields())?;
+        let kinds = kinds_of(Vec::new(alloc), def.fields())?;
         Ok(Row { kinds, values })
     }
 
@@ -163,10 +163,28 @@ impl Row {
         // What is found as one function of the bytes.
         ensures exact { IfOk result (λ found. found ≡ row_from def.now bytes.now) }
     {
-        let Some(values) = decode_values(alloc, def.fields(), bytes)? else {
+        Row::decode_in(alloc, &mut RowMemory::new(alloc), def, bytes)
+    }
+
+    /// The row that `decode` finds, in the memory of an earlier one, which is left without room.
+    pub fn decode_in(
+        alloc: Global,
+        memory: &mut RowMemory,
+        def: &EventDef,
+        bytes: &[u8],
+    ) -> Result<Option<Row>, AllocError>
+        ensures row { IfOk result (λ found. (row : Cells) → (found ≡ Some row) ↔ (IsRowOf def.now row × (bytes.now ≡ payload_of row))) }
+        ensures names { IfOk result (λ found. IfSome found (λ row. StandByName def.now.fields row.values)) }
+        ensures exact { IfOk result (λ found. found ≡ row_from def.now bytes.now) }
+    {
+        let values = mem::replace(&mut memory.values, Vec::new(alloc));
+        let Some(values) = decode_values(alloc, values, def.fields(), bytes)? else {
             return Ok(None);
         };
-        let kinds = kinds_of(alloc, def.fields())?;
+        let kinds = kinds_of(
+            mem::replace(&mut memory.kinds, Vec::new(alloc)),
+            def.fields(),
+        )?;
         Ok(Some(Row { kinds, values }))
     }
 
@@ -193,11 +211,12 @@ fn refusal(alloc: Global, def: &EventDef, pairs: &[Pair]) -> RowFault
     }
 }
 
-/// The types of fields.
-fn kinds_of(alloc: Global, fields: &[Field]) -> Result<Vec<Kind>, AllocError>
+/// The types of fields, in a list that is given for them.
+fn kinds_of(mut kinds: Vec<Kind>, fields: &[Field]) -> Result<Vec<Kind>, AllocError>
     ensures { IfOk result (λ v. v.items ≡ map (λ f. f.kind) fields.now) }
 {
-    let mut kinds = Vec::with_capacity(alloc, fields.len())?;
+    kinds.clear();
+    kinds.reserve_exact(fields.len())?;
     for field in fields {
         kinds.push(field.kind)?;
     }

@@ -1,123 +1,192 @@
--- The histogram's fields, with one row more.
-use Rattle.std.proofs.Common.{◌≡◌, ℕ, zero, suc, ◌+◌, ◌≤◌, ◌<◌, Bool, true, false, ltb, ◌||◌, List, [], ◌∷◌, ◌++◌, length, map, refl, sym, ap, ◌∙◌, arith, Option, Some, None, option_map}
-use Rattle.std.proofs.lemmas.Bool.{lt-ltb, le-ltb}
-use Rattle.std.proofs.lemmas.List.{map-append, length-append}
-use Rattle.trace_format.specs.Cells.{Datum, datum_of}
-use Rattle.trace_trigger.specs.HistSpecs.{SpecSeen}
-use Rattle.trace_hist.specs.declared.stored.StoredHit.{StoredHit}
+-- A row more in the table of entries is a row more in the grouping.
+use Rattle.std.proofs.Common.{◌≡◌, ℕ, zero, suc, ◌+◌, ◌≤◌, ◌<◌, Bool, true, false, ltb, ◌||◌, inl, inr, ℤ, List, [], ◌∷◌, ◌++◌, length, map, take, drop, slice_get, Some, unwrap_or, refl, sym, ap, ◌∙◌, subst, arith}
+use Rattle.std.specs.List.{AllByRecursion, IsDistinct}
+use Rattle.std.proofs.lemmas.Bool.{cond-true, cond-false, cases_Bool, lt-ltb, le-ltb, ltb-true, ltb-false}
+use Rattle.std.proofs.lemmas.List.{length-take-le, length-map}
+use Rattle.std.specs.Global.{Vec}
+use Rattle.trace_format.specs.Operands.{Emission}
+use Rattle.trace_hist.specs.declared.key_cell.KeyCell.{KeyCell}
+use Rattle.trace_hist.specs.declared.tally.Tally.{Tally}
+use Rattle.trace_hist.specs.declared.next.Next.{Next}
+use Rattle.trace_hist.specs.declared.next.Next.TheVariants as nexts
 use Rattle.trace_hist.specs.declared.hist.Hist.TheInside.{Inside}
-use Rattle.trace_hist.specs.Hits.{Hit}
-use Rattle.trace_hist.specs.Groups.{Table, same_key, is_among, distinct, keys_of, group, grouped}
-use Rattle.trace_hist.specs.Hists.{Seen, StandsFor, counted}
-use Rattle.trace_hist.specs.private.Steps.{stepped, after_row, after_hit}
-use Rattle.trace_hist.specs.Stored.{hit_in, is_stored, table_of, seen, IsSound}
-use Rattle.trace_hist.proofs.Keys.{distinct-known, distinct-new}
-use Rattle.trace_hist.proofs.GroupLaws.{keys_of-push, table-known, table-new, after_row-is, group-push}
+use Rattle.trace_format.specs.Cells.{Datum}
+use Rattle.trace_hist.specs.Hits.{Hit, hit_of}
+use Rattle.trace_hist.specs.Groups.{Entry, Table, same_key, is_among, group, grouped}
+use Rattle.trace_hist.specs.Hists.{Seen, StandsFor, Unknown, entry_keys, IsPlaceOf, IsReserved, counted}
+use Rattle.trace_hist.specs.Stored.{entry_in, entries_in, empty_entry, place_at, place_in, seen, IsEnd, IsSound}
+use Rattle.trace_hist.specs.private.Steps.{counted_once, counted_at, bumped, first_entry, stepped, after_row, after_hit}
+use Rattle.trace_hist.proofs.Keys.{key-refl, not_same}
+use Rattle.trace_hist.proofs.GroupLaws.{group-push}
 
-pub is_stored-is : (hits : List StoredHit) (key : List Datum) → is_stored hits key ≡ is_among (keys_of (map hit_in hits)) key
-is_stored-is [] key = refl
-is_stored-is (stored ∷ hits) key = ap (λ b. same_key key (map datum_of stored.key.items) || b) (is_stored-is hits key)
+some_is : {X : Type 0} {x y : X} → Some x ≡ Some y → x ≡ y
+some_is {X} {x} {y} e = ap (λ o. unwrap_or o x) e
 
-width_of : SpecSeen → ℕ
-width_of spec = length spec.value_sources
+-- ---- the entry at an index
 
-table_in : Inside → Table
-table_in h = table_of (length h.spec.value_sources) (map hit_in h.hits.items) h.dropped
+-- what was reserved is the entry of the row's key
+pub known-at : (entries : List Entry) (i size : ℕ) (shown : List Entry) (key : List Datum) → IsPlaceOf (place_at (slice_get entries i)) size shown key
+    → (i < length entries) × (slice_get (entry_keys entries) i ≡ Some key)
+known-at [] i size shown key h = absurd h
+known-at (e ∷ entries) zero size shown key h = (omega arith, ap Some h)
+known-at (e ∷ entries) (suc i) size shown key h = let rest = known-at entries i size shown key h in (omega (arith, rest.0), rest.1)
 
-row_in : Inside → StoredHit → Table
-row_in h next = after_row h.spec.size (length h.spec.value_sources)
-    (table_of (length h.spec.value_sources) (map hit_in h.hits.items) h.dropped) (hit_in next)
+apart-at : (P : List Datum → Type 0) (keys : List (List Datum)) (i : ℕ) (key : List Datum) → AllByRecursion P keys → slice_get keys i ≡ Some key → P key
+apart-at P [] i key h at = cc
+apart-at P (k ∷ keys) zero key h at = subst P (some_is at) h.0
+apart-at P (k ∷ keys) (suc i) key h at = apart-at P keys i key h.1 at
 
--- what a histogram is seen as, where the row that memory was taken for was counted
-pub after_hit-is : (h : Inside) (now : Seen) (next : StoredHit) (hit : Hit) (table : Table) (left : Option StoredHit) → seen h ≡ now
-    → h.next ≡ Some next → now.next ≡ Some hit → left ≡ None
-    → table ≡ after_row h.spec.size (length h.spec.value_sources)
-    (table_of (length h.spec.value_sources) (map hit_in h.hits.items) h.dropped) (hit_in next)
-    → (let after : Seen = record { spec = h.spec; paused = h.paused; table = table; next = option_map hit_in left } in after) ≡ after_hit now hit
-after_hit-is h now next hit table left view there is none e =
-    let same : Some hit ≡ Some (hit_in next) = sym is ∙ sym (ap (λ (s : Seen). s.next) view) ∙ ap (option_map hit_in) there in
-    let one : hit ≡ hit_in next = cc in
-    ap (λ (o : Option StoredHit). let s : Seen = record { spec = h.spec; paused = h.paused; table = table; next = option_map hit_in o } in s) none
-    ∙ ap (λ (t : Table). let s : Seen = record { spec = h.spec; paused = h.paused; table = t; next = None } in s) e
-    ∙ ap (after_hit (seen h)) (sym one)
-    ∙ ap (λ s. after_hit s hit) view
+none-bumped : (n : ℕ) (entries : List Entry) (hit : Hit) → AllByRecursion (λ other. same_key hit.key other ≡ false) (entry_keys entries)
+    → take n entries ≡ map (bumped hit) (take n entries)
+none-bumped zero entries hit h = refl
+none-bumped (suc n) [] hit h = refl
+none-bumped (suc n) (e ∷ entries) hit h =
+    ap (λ l. e ∷ l) (none-bumped n entries hit h.1)
+    ∙ ap (λ (x : Entry). x ∷ map (bumped hit) (take n entries)) (sym (cond-false _ (counted_once hit.numbers e) e (not_same hit.key e.key h.0)))
 
-row-is : (h : Inside) (next : StoredHit) (known room : Bool) → IsSound h → is_stored h.hits.items (map datum_of next.key.items) ≡ known
-    → ltb h.entries h.spec.size ≡ room
-    → after_row h.spec.size (length h.spec.value_sources)
-    (table_of (length h.spec.value_sources) (map hit_in h.hits.items) h.dropped) (hit_in next)
-    ≡ stepped known room (length h.spec.value_sources)
-    (table_of (length h.spec.value_sources) (map hit_in h.hits.items) h.dropped) (hit_in next)
-row-is h next known room sound e f =
-    let width = length h.spec.value_sources in
-    let table = table_of width (map hit_in h.hits.items) h.dropped in
-    after_row-is h.spec.size width (map hit_in h.hits.items) (hit_in next) h.dropped h.entries sound.entries
-    ∙ ap (λ b. stepped b (ltb h.entries h.spec.size) width table (hit_in next)) (sym (is_stored-is h.hits.items (map datum_of next.key.items)) ∙ e)
-    ∙ ap (λ b. stepped known b width table (hit_in next)) f
+-- a row more in an entry that is shown
+pub bumped-at : (n : ℕ) (entries : List Entry) (i : ℕ) (hit : Hit) → IsDistinct same_key (entry_keys entries)
+    → slice_get (entry_keys entries) i ≡ Some hit.key → i < n → take n (counted_at hit.numbers i entries) ≡ map (bumped hit) (take n entries)
+unfolding IsDistinct
+bumped-at n [] i hit h at lt = cc
+bumped-at zero (e ∷ entries) i hit h at lt = absurd (omega (arith, lt))
+bumped-at (suc n) (e ∷ entries) zero hit h at lt =
+    let key : e.key ≡ hit.key = some_is at in
+    let same : same_key e.key hit.key ≡ true = ap (same_key e.key) (sym key) ∙ key-refl e.key in
+    let apart = subst (λ (k : List Datum). AllByRecursion (λ other. same_key k other ≡ false) (entry_keys entries)) key h.0 in
+    ap (λ l. counted_once hit.numbers e ∷ l) (none-bumped n entries hit apart)
+    ∙ ap (λ (x : Entry). x ∷ map (bumped hit) (take n entries)) (sym (cond-true _ (counted_once hit.numbers e) e same))
+bumped-at (suc n) (e ∷ entries) (suc i) hit h at lt =
+    let other : same_key e.key hit.key ≡ false = apart-at (λ k. same_key e.key k ≡ false) (entry_keys entries) i hit.key h.0 at in
+    ap (λ l. e ∷ l) (bumped-at n entries i hit h.1 at (omega (arith, lt)))
+    ∙ ap (λ (x : Entry). x ∷ map (bumped hit) (take n entries)) (sym (cond-false _ (counted_once hit.numbers e) e other))
 
--- ---- the three cases
+pub among-at : (n : ℕ) (entries : List Entry) (i : ℕ) (key : List Datum) → slice_get (entry_keys entries) i ≡ Some key → i < n
+    → is_among (entry_keys (take n entries)) key ≡ true
+among-at n [] i key at lt = cc
+among-at zero (e ∷ entries) i key at lt = absurd (omega (arith, lt))
+among-at (suc n) (e ∷ entries) zero key at lt =
+    ap (λ b. b || is_among (entry_keys (take n entries)) key) (ap (same_key key) (some_is at) ∙ key-refl key)
+among-at (suc n) (e ∷ entries) (suc i) key at lt =
+    ap (λ b. same_key key e.key || b) (among-at n entries i key at (omega (arith, lt))) ∙ or-true (same_key key e.key)
+  where
+    or-true : (b : Bool) → (b || true) ≡ true
+    or-true true = refl
+    or-true false = refl
 
-pushed : (items hits : List StoredHit) (next : StoredHit) → items ≡ hits ++ next ∷ [] → map hit_in items ≡ map hit_in hits ++ hit_in next ∷ []
-pushed items hits next e = ap (map hit_in) e ∙ map-append hit_in hits (next ∷ [])
+-- the key of the reserved entry is that of none that is shown
+pub new-at : (n : ℕ) (entries : List Entry) (key : List Datum) → IsDistinct same_key (entry_keys entries) → slice_get (entry_keys entries) n ≡ Some key
+    → is_among (entry_keys (take n entries)) key ≡ false
+unfolding IsDistinct
+new-at n [] key h at = cc
+new-at zero (e ∷ entries) key h at = refl
+new-at (suc n) (e ∷ entries) key h at =
+    ap (λ b. b || is_among (entry_keys (take n entries)) key)
+    (not_same e.key key (apart-at (λ k. same_key e.key k ≡ false) (entry_keys entries) n key h.0 at))
+    ∙ new-at n entries key h.1 at
 
-pub table-after_known : (h : Inside) (next : StoredHit) (items : List StoredHit) → IsSound h
-    → is_stored h.hits.items (map datum_of next.key.items) ≡ true → items ≡ h.hits.items ++ next ∷ []
-    → table_of (length h.spec.value_sources) (map hit_in items) h.dropped
-    ≡ after_row h.spec.size (length h.spec.value_sources)
-    (table_of (length h.spec.value_sources) (map hit_in h.hits.items) h.dropped) (hit_in next)
-table-after_known h next items sound known e =
-    let width = length h.spec.value_sources in
-    let among = sym (is_stored-is h.hits.items (map datum_of next.key.items)) ∙ known in
-    ap (λ l. table_of width l h.dropped) (pushed items h.hits.items next e)
-    ∙ table-known width (map hit_in h.hits.items) (hit_in next) h.dropped (ltb h.entries h.spec.size) among
-    ∙ sym (row-is h next true (ltb h.entries h.spec.size) sound known refl)
+-- a first row in the reserved entry
+pub first-at : (width n : ℕ) (entries : List Entry) (hit : Hit) → slice_get (entry_keys entries) n ≡ Some hit.key → IsEnd width (drop n entries)
+    → take (suc n) (counted_at hit.numbers n entries) ≡ take n entries ++ first_entry width hit ∷ []
+first-at width n [] hit at end = cc
+first-at width zero (e ∷ []) hit at end =
+    ap (λ (x : Entry). counted_once hit.numbers x ∷ []) end
+    ∙ ap (λ (k : List Datum). counted_once hit.numbers (empty_entry width k) ∷ []) (some_is at)
+first-at width zero (e ∷ f ∷ entries) hit at end = absurd end
+first-at width (suc n) (e ∷ entries) hit at end = ap (λ l. e ∷ l) (first-at width n entries hit at end)
 
-pub table-after_new : (h : Inside) (next : StoredHit) (items : List StoredHit) → IsSound h
-    → is_stored h.hits.items (map datum_of next.key.items) ≡ false → h.entries < h.spec.size → items ≡ h.hits.items ++ next ∷ []
-    → table_of (length h.spec.value_sources) (map hit_in items) h.dropped
-    ≡ after_row h.spec.size (length h.spec.value_sources)
-    (table_of (length h.spec.value_sources) (map hit_in h.hits.items) h.dropped) (hit_in next)
-table-after_new h next items sound new room e =
-    let width = length h.spec.value_sources in
-    let apart = sym (is_stored-is h.hits.items (map datum_of next.key.items)) ∙ new in
-    ap (λ l. table_of width l h.dropped) (pushed items h.hits.items next e)
-    ∙ table-new width (map hit_in h.hits.items) (hit_in next) h.dropped apart
-    ∙ sym (row-is h next false true sound new (lt-ltb _ _ room))
+-- ---- the table
 
-pub table-after_full : (h : Inside) (next : StoredHit) → IsSound h
-    → is_stored h.hits.items (map datum_of next.key.items) ≡ false → h.spec.size ≤ h.entries
-    → table_of (length h.spec.value_sources) (map hit_in h.hits.items) (h.dropped + 1)
-    ≡ after_row h.spec.size (length h.spec.value_sources)
-    (table_of (length h.spec.value_sources) (map hit_in h.hits.items) h.dropped) (hit_in next)
-table-after_full h next sound new full = sym (row-is h next false false sound new (le-ltb _ _ full))
+same_table : (a b : List Entry) (hits dropped : ℕ) → a ≡ b
+    → (let table : Table = record { entries = a; hits = hits; dropped = dropped } in table) ≡ record { entries = b; hits = hits; dropped = dropped }
+same_table a b hits dropped e = ap (λ (l : List Entry). let table : Table = record { entries = l; hits = hits; dropped = dropped } in table) e
 
-pub entries-known : (h : Inside) (next : StoredHit) (items : List StoredHit) → IsSound h
-    → is_stored h.hits.items (map datum_of next.key.items) ≡ true → items ≡ h.hits.items ++ next ∷ []
-    → h.entries ≡ length (distinct (keys_of (map hit_in items)))
-entries-known h next items sound known e =
-    let hits = map hit_in h.hits.items in
-    sound.entries
-    ∙ sym (ap (λ l. length (distinct (keys_of l))) (pushed items h.hits.items next e)
-    ∙ ap (λ l. length (distinct l)) (keys_of-push hits (hit_in next))
-    ∙ ap (λ (l : List (List Datum)). length l)
-    (distinct-known (keys_of hits) (map datum_of next.key.items) (sym (is_stored-is h.hits.items (map datum_of next.key.items)) ∙ known)))
+end-length : (width n : ℕ) (entries : List Entry) → IsEnd width (drop n entries) → length entries ≤ n + 1
+end-length width zero [] end = omega arith
+end-length width zero (e ∷ []) end = omega arith
+end-length width zero (e ∷ f ∷ entries) end = absurd end
+end-length width (suc n) [] end = omega arith
+end-length width (suc n) (e ∷ entries) end = let h = end-length width n entries end in omega (arith, h)
 
-pub entries-new : (h : Inside) (next : StoredHit) (items : List StoredHit) → IsSound h
-    → is_stored h.hits.items (map datum_of next.key.items) ≡ false → items ≡ h.hits.items ++ next ∷ []
-    → h.entries + 1 ≡ length (distinct (keys_of (map hit_in items)))
-entries-new h next items sound new e =
-    let hits = map hit_in h.hits.items in
-    let key = map datum_of next.key.items in
-    ap (λ n. n + 1) sound.entries
-    ∙ sym (ap (λ l. length (distinct (keys_of l))) (pushed items h.hits.items next e)
-    ∙ ap (λ l. length (distinct l)) (keys_of-push hits (hit_in next))
-    ∙ ap (λ (l : List (List Datum)). length l)
-    (distinct-new (keys_of hits) key (sym (is_stored-is h.hits.items key) ∙ new))
-    ∙ length-append (distinct (keys_of hits)) (key ∷ []))
+pub length-counted : (numbers : List ℤ) (i : ℕ) (entries : List Entry) → length (counted_at numbers i entries) ≡ length entries
+length-counted numbers i [] = refl
+length-counted numbers zero (e ∷ entries) = refl
+length-counted numbers (suc i) (e ∷ entries) = ap suc (length-counted numbers i entries)
+
+drop-counted : (numbers : List ℤ) (n i : ℕ) (entries : List Entry) → i < n → drop n (counted_at numbers i entries) ≡ drop n entries
+drop-counted numbers n i [] lt = refl
+drop-counted numbers zero i (e ∷ entries) lt = absurd (omega (arith, lt))
+drop-counted numbers (suc n) zero (e ∷ entries) lt = refl
+drop-counted numbers (suc n) (suc i) (e ∷ entries) lt = drop-counted numbers n i entries (omega (arith, lt))
+
+drop-all : (width n : ℕ) (entries : List Entry) → length entries ≤ n → IsEnd width (drop n entries)
+drop-all width zero [] le = tt
+drop-all width zero (e ∷ entries) le = absurd (omega (arith, le))
+drop-all width (suc n) [] le = tt
+drop-all width (suc n) (e ∷ entries) le = drop-all width n entries (omega (arith, le))
+
+module _ (size width : ℕ) (entries : List Entry) (n i more hits dropped : ℕ) (hit : Hit) (distinct : IsDistinct same_key (entry_keys entries))
+    (at : slice_get (entry_keys entries) i ≡ Some hit.key) (inside : i < length entries) (shown : n ≤ length entries) (fits : length entries ≤ size)
+    (end : IsEnd width (drop n entries)) (below : i < n → more ≡ n) (above : n ≤ i → more ≡ length entries) where
+  now : Table
+  now = record { entries = take n entries; hits = hits; dropped = dropped }
+
+  -- a row whose key has an entry, or a reserved one
+  pub table-at : (let table : Table = record { entries = take more (counted_at hit.numbers i entries); hits = hits + 1; dropped = dropped } in table)
+      ≡ after_row size width (record { entries = take n entries; hits = hits; dropped = dropped }) hit
+  unfolding now
+  table-at =
+      elim (cases_Bool (ltb i n)) [
+        | inl is ↦
+            let lt : i < n = ltb-true _ _ is in
+            let same : more ≡ n = below lt in
+            same_table _ _ (hits + 1) dropped (ap (λ m. take m (counted_at hit.numbers i entries)) same ∙ bumped-at n entries i hit distinct at lt)
+            ∙ ap (λ b. stepped b (ltb (length (take n entries)) size) width now hit) (sym (among-at n entries i hit.key at lt))
+        | inr is ↦
+            let le : n ≤ i = ltb-false _ _ is in
+            let many = end-length width n entries end in
+            let last : i ≡ n = omega (arith, le, many, inside) in
+            let same : more ≡ suc n = omega (arith, above le, last, many, inside) in
+            let there : slice_get (entry_keys entries) n ≡ Some hit.key = subst (λ (k : ℕ). slice_get (entry_keys entries) k ≡ Some hit.key) last at in
+            let count = length-take-le n entries shown in
+            let room : ltb (length (take n entries)) size ≡ true = lt-ltb _ _ (omega (arith, count, last, inside, fits)) in
+            same_table _ _ (hits + 1) dropped (ap (λ m. take m (counted_at hit.numbers i entries)) same
+            ∙ ap (λ (k : ℕ). take (suc n) (counted_at hit.numbers k entries)) last ∙ first-at width n entries hit there end)
+            ∙ ap (λ b. stepped b true width now hit) (sym (new-at n entries hit.key distinct there))
+            ∙ ap (λ b. stepped (is_among (entry_keys (take n entries)) hit.key) b width now hit) (sym room)
+      ]
+
+  pub end-at : IsEnd width (drop more (counted_at hit.numbers i entries))
+  end-at =
+      elim (cases_Bool (ltb i n)) [
+        | inl is ↦
+            let lt : i < n = ltb-true _ _ is in
+            let same : more ≡ n = below lt in
+            subst (IsEnd width) (sym (ap (λ m. drop m (counted_at hit.numbers i entries)) same ∙ drop-counted hit.numbers n i entries lt)) end
+        | inr is ↦
+            let le : n ≤ i = ltb-false _ _ is in
+            let count = length-counted hit.numbers i entries in
+            drop-all width more (counted_at hit.numbers i entries) (omega (arith, above le, count))
+      ]
+
+  pub shown-at : more ≤ length (counted_at hit.numbers i entries)
+  shown-at =
+      let count = length-counted hit.numbers i entries in
+      elim (cases_Bool (ltb i n)) [
+        | inl is ↦ omega (arith, below (ltb-true _ _ is), count, shown)
+        | inr is ↦ omega (arith, above (ltb-false _ _ is), count)
+      ]
+
+-- a row whose key has no entry, where there is no room
+pub table-full : (size width : ℕ) (table : Table) (hit : Hit) → is_among (entry_keys table.entries) hit.key ≡ false → size ≤ length table.entries
+    → (let after : Table = record { entries = table.entries; hits = table.hits; dropped = table.dropped + 1 } in after) ≡ after_row size width table hit
+table-full size width table hit new full =
+    ap (λ b. stepped b false width table hit) (sym new)
+    ∙ ap (λ b. stepped (is_among (entry_keys table.entries) hit.key) b width table hit) (sym (le-ltb _ _ full))
 
 -- ---- what callers see
 
-pub table-empty : (size width : ℕ) → table_of width [] 0 ≡ group size width []
+pub table-empty : (size width : ℕ) → (let table : Table = record { entries = []; hits = 0; dropped = 0 } in table) ≡ group size width []
 table-empty zero width = refl
 table-empty (suc size) width = refl
 
@@ -136,3 +205,110 @@ counted-stepped false false width table hit = omega arith
 
 pub counted-after_hit : (hist : Seen) (hit : Hit) → counted (after_hit hist hit) ≡ counted hist + 1
 counted-after_hit hist hit = counted-stepped _ _ _ hist.table hit
+
+-- ---- the histogram's fields
+
+module _ (h : Inside) (now : Seen) (emission : Emission) (view : seen h ≡ now) (reserved : IsReserved now emission) (active : now.paused ≡ false) where
+  entries : List Entry
+  entries = entries_in h.entries.entries
+
+  -- what was reserved is where the row is counted
+  pub reserved-place : IsPlaceOf (place_in (entries_in h.entries.entries) h.next) h.spec.size (take h.shown (entries_in h.entries.entries))
+      (hit_of h.spec emission).key
+  unfolding IsReserved
+  reserved-place = subst (λ s. IsReserved s emission) (sym view) reserved (ap (λ (s : Seen). s.paused) view ∙ active)
+
+  pub reserved-at : (i : ℕ) → h.next ≡ nexts.At i
+      → (i < length h.entries.entries) × (slice_get (entry_keys (entries_in h.entries.entries)) i ≡ Some (hit_of h.spec emission).key)
+  unfolding entries
+  reserved-at i is =
+      let place : IsPlaceOf (place_at (slice_get entries i)) h.spec.size (take h.shown entries) (hit_of h.spec emission).key =
+      subst (λ (n : Next). IsPlaceOf (place_in entries n) h.spec.size (take h.shown entries) (hit_of h.spec emission).key) is reserved-place in
+      let known = known-at entries i h.spec.size (take h.shown entries) (hit_of h.spec emission).key place in
+      let count = length-map h.entries.entries entry_in in
+      (omega (arith, known.0, count), known.1)
+
+  -- it is counted in an entry
+  module _ (sound : IsSound h) (i more : ℕ) (is : h.next ≡ nexts.At i) (distinct : IsDistinct same_key (entry_keys (entries_in h.entries.entries)))
+      (below : i < h.shown → more ≡ h.shown) (above : h.shown ≤ i → more ≡ length h.entries.entries)
+      (left : List (Vec KeyCell × Tally)) (e : entries_in left ≡ counted_at (hit_of h.spec emission).numbers i (entries_in h.entries.entries)) where
+    hit : Hit
+    hit = hit_of h.spec emission
+
+    width : ℕ
+    width = length h.spec.value_sources
+
+    count : length entries ≡ length h.entries.entries
+    unfolding entries
+    count = length-map h.entries.entries entry_in
+
+    count-left : length (entries_in left) ≡ length left
+    count-left = length-map left entry_in
+
+    inside : i < length entries
+    inside = omega (arith, (reserved-at i is).0, count)
+
+    shown : h.shown ≤ length entries
+    shown = omega (arith, sound.shown, count)
+
+    fits : length entries ≤ h.spec.size
+    fits = omega (arith, sound.size, count)
+
+    all : h.shown ≤ i → more ≡ length entries
+    all le = above le ∙ sym count
+
+    pub seen-at : (let after : Seen = record {
+      spec = h.spec;
+      paused = h.paused;
+      table = record { entries = take more (entries_in left); hits = h.hits + 1; dropped = h.dropped };
+      next = Unknown;
+    } in after)
+        ≡ after_hit now (hit_of now.spec emission)
+    unfolding entries hit width
+    seen-at =
+        ap (λ (l : List Entry). let s : Seen = record {
+          spec = h.spec;
+          paused = h.paused;
+          table = record { entries = take more l; hits = h.hits + 1; dropped = h.dropped };
+          next = Unknown;
+        } in s) e
+        ∙ ap (λ (t : Table). let s : Seen = record { spec = h.spec; paused = h.paused; table = t; next = Unknown } in s)
+        (table-at h.spec.size width entries h.shown i more h.hits h.dropped hit distinct (reserved-at i is).1 inside shown fits sound.end below all)
+        ∙ ap (λ (s : Seen). after_hit s (hit_of s.spec emission)) view
+
+    pub left-shown : more ≤ length left
+    unfolding entries hit width
+    left-shown =
+        let le = shown-at h.spec.size width entries h.shown i more h.hits h.dropped hit distinct (reserved-at i is).1 inside shown fits sound.end below all in
+        omega (arith, le, ap (λ (l : List Entry). length l) e, count-left)
+
+    pub left-size : length left ≤ h.spec.size
+    unfolding entries hit width
+    left-size = omega (arith, fits, ap (λ (l : List Entry). length l) e, count-left, length-counted hit.numbers i entries)
+
+    pub left-end : IsEnd (length h.spec.value_sources) (drop more (entries_in left))
+    unfolding entries hit width
+    left-end =
+        subst (λ (l : List Entry). IsEnd width (drop more l)) (sym e)
+        (end-at h.spec.size width entries h.shown i more h.hits h.dropped hit distinct (reserved-at i is).1 inside shown fits sound.end below all)
+
+  -- it is counted in none
+  pub seen-dropped : h.next ≡ nexts.Dropped
+      → (let after : Seen = record {
+        spec = h.spec;
+        paused = h.paused;
+        table = record { entries = take h.shown (entries_in h.entries.entries); hits = h.hits; dropped = h.dropped + 1 };
+        next = Unknown;
+      } in after)
+      ≡ after_hit now (hit_of now.spec emission)
+  seen-dropped is =
+      let place = subst (λ (n : Next). IsPlaceOf (place_in (entries_in h.entries.entries) n) h.spec.size (take h.shown (entries_in h.entries.entries))
+      (hit_of h.spec emission).key) is reserved-place in
+      ap (λ (t : Table). let s : Seen = record { spec = h.spec; paused = h.paused; table = t; next = Unknown } in s)
+      (table-full h.spec.size (length h.spec.value_sources) (seen h).table (hit_of h.spec emission) place.0 place.1)
+      ∙ ap (λ (s : Seen). after_hit s (hit_of s.spec emission)) view
+
+  pub not-unknown : h.next ≡ nexts.Unknown → ⊥
+  not-unknown is =
+      subst (λ (n : Next). IsPlaceOf (place_in (entries_in h.entries.entries) n) h.spec.size (take h.shown (entries_in h.entries.entries))
+      (hit_of h.spec emission).key) is reserved-place

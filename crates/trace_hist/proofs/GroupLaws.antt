@@ -10,7 +10,6 @@ use Rattle.trace_format.specs.Cells.{Datum}
 use Rattle.trace_hist.specs.Hits.{Hit}
 use Rattle.trace_hist.specs.Groups.{Entry, Table, same_key, is_among, distinct, keys_of, admitted, with_key, added, summed, entry_of, group}
 use Rattle.trace_hist.specs.private.Steps.{bumped, first_entry, stepped, after_row}
-use Rattle.trace_hist.specs.Stored.{table_of}
 use Rattle.trace_hist.proofs.Keys.{not_same, key_decided, key-refl, is_among-distinct, distinct-known, distinct-new}
 
 -- ---- entries
@@ -112,36 +111,6 @@ entries-new width hits hit keys other new =
     map-append (entry_of width (hits ++ hit ∷ [])) keys (hit.key ∷ [])
     ∙ ap (λ l. l ++ entry_of width (hits ++ hit ∷ []) hit.key ∷ []) (entries-push width hits hit keys ∙ bumped-none width hits hit keys other)
     ∙ ap (λ e. map (entry_of width hits) keys ++ e ∷ []) (entry_of-first width hits hit new)
-
--- ---- a table of rows that all have entries
-
-pub table-known : (width : ℕ) (hits : List Hit) (hit : Hit) (dropped : ℕ) (room : Bool) → is_among (keys_of hits) hit.key ≡ true
-    → table_of width (hits ++ hit ∷ []) dropped ≡ stepped true room width (table_of width hits dropped) hit
-table-known width hits hit dropped room known =
-    let keys = ap distinct (keys_of-push hits hit) ∙ distinct-known (keys_of hits) hit.key known in
-    same_table (table_of width (hits ++ hit ∷ []) dropped) (stepped true room width (table_of width hits dropped) hit)
-    (ap (map (entry_of width (hits ++ hit ∷ []))) keys ∙ entries-push width hits hit (distinct (keys_of hits)))
-    (length-append hits (hit ∷ [])) refl
-
-pub table-new : (width : ℕ) (hits : List Hit) (hit : Hit) (dropped : ℕ) → is_among (keys_of hits) hit.key ≡ false
-    → table_of width (hits ++ hit ∷ []) dropped ≡ stepped false true width (table_of width hits dropped) hit
-table-new width hits hit dropped new =
-    let keys = ap distinct (keys_of-push hits hit) ∙ distinct-new (keys_of hits) hit.key new in
-    same_table (table_of width (hits ++ hit ∷ []) dropped) (stepped false true width (table_of width hits dropped) hit)
-    (ap (map (entry_of width (hits ++ hit ∷ []))) keys
-    ∙ entries-new width hits hit (distinct (keys_of hits)) (is_among-distinct (keys_of hits) hit.key ∙ new) new)
-    (length-append hits (hit ∷ [])) refl
-
--- which case it is
-pub after_row-is : (size width : ℕ) (hits : List Hit) (hit : Hit) (dropped entries : ℕ) → entries ≡ length (distinct (keys_of hits))
-    → after_row size width (table_of width hits dropped) hit
-    ≡ stepped (is_among (keys_of hits) hit.key) (ltb entries size) width (table_of width hits dropped) hit
-after_row-is size width hits hit dropped entries count =
-    let keys = distinct (keys_of hits) in
-    let table = table_of width hits dropped in
-    ap (λ b. stepped b (ltb (length table.entries) size) width table hit)
-    (ap (λ l. is_among l hit.key) (entry_keys-of width hits keys) ∙ is_among-distinct (keys_of hits) hit.key)
-    ∙ ap (λ n. stepped (is_among (keys_of hits) hit.key) (ltb n size) width table hit) (length-map keys (entry_of width hits) ∙ sym count)
 
 -- ---- the grouping of all rows
 

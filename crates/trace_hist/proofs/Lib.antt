@@ -1,7 +1,11 @@
+pub mod BucketLaws
+pub mod BucketLemmas
 pub mod Counting
-pub mod EntryLemmas
 pub mod GroupLaws
 pub mod Keys
 pub mod Numbers
 pub mod PrintLaws
 pub mod Printing
+pub mod Reserving
+pub mod SumLaws
+pub mod TableLemmas

@@ -9,7 +9,7 @@ use Rattle.trace_format.specs.declared.kind.NumberType.TheVariants.{U8, U16, U32
 use Rattle.trace_format.specs.Kinds.{least, greatest}
 use Rattle.trace_format.specs.Cells.{Datum, Whole, Bytes, Holds}
 use Rattle.trace_hist.specs.Hits.{number_of, field_cell}
-use Rattle.trace_hist.specs.private.Numbers.{IsFieldNumber}
+use Rattle.trace_hist.specs.Numbers.{IsFieldNumber}
 
 type_in_range : (t : NumberType) (n : ℤ) → least t ≤ℤ n → n ≤ℤ greatest t → IsFieldNumber n
 type_in_range U8 n low high = (omega (arith, ints), omega (arith, ints))

@@ -1,24 +1,47 @@
 -- What a caller sees of a histogram, and when that agrees with a list of rows.
-use Rattle.std.specs.Prelude.{◌≡◌, ℕ, ◌+◌, ◌^◌, ◌<◌, Bool, List, Option, Some}
+use Rattle.std.specs.Prelude.{◌≡◌, ℕ, ◌+◌, ◌^◌, ◌<◌, ◌≤◌, Bool, false, List, length, map}
+use Rattle.trace_format.specs.Cells.{Datum}
 use Rattle.trace_format.specs.Operands.{Emission}
 use Rattle.trace_trigger.specs.HistSpecs.{SpecSeen}
 use Rattle.trace_hist.specs.Hits.{Hit, hit_of}
-use Rattle.trace_hist.specs.Groups.{Table, grouped}
+use Rattle.trace_hist.specs.Groups.{Entry, Table, is_among, grouped}
 
--- a histogram as contracts see it: its trigger, whether it is paused, its entries and totals, and the row that memory was taken for
+-- where the next row will be counted: nothing is reserved; in the entry of a key; in none
+pub data Place : Type 0 where
+  Unknown : Place
+  In : List Datum → Place
+  Nowhere : Place
+
+-- a histogram as contracts see it: its trigger, whether it is paused, its entries and totals, and what was reserved for the next row
 pub record Seen : Type 0 where
   pub spec : SpecSeen
   pub paused : Bool
   pub table : Table
-  pub next : Option Hit
+  pub next : Place
 
 -- its entries and totals are those of the rows
 unfoldable pub StandsFor : Seen → List Hit → Type 0
 StandsFor hist hits = hist.table ≡ grouped hist.spec hits
 
--- memory was taken for a row
+-- the keys that have entries
+abbrev pub entry_keys : List Entry → List (List Datum)
+entry_keys entries = map (λ (entry : Entry). entry.key) entries
+
+-- a row with the key is counted there: in the entry of its key, or in none where there is no room for a new one
+abbrev pub IsPlaceOf : Place → ℕ → List Entry → List Datum → Type 0
+IsPlaceOf Unknown size entries key = ⊥
+IsPlaceOf (In other) size entries key = other ≡ key
+IsPlaceOf Nowhere size entries key = (is_among (entry_keys entries) key ≡ false) × (size ≤ length entries)
+
+-- the next row may be counted: all that it needs was reserved. A paused histogram needs nothing
 unfoldable pub IsReserved : Seen → Emission → Type 0
-IsReserved hist emission = hist.next ≡ Some (hit_of hist.spec emission)
+IsReserved hist emission = hist.paused ≡ false → IsPlaceOf hist.next hist.spec.size hist.table.entries (hit_of hist.spec emission).key
+
+-- the row's key needs a new entry: the histogram is not paused, it is not full, and the key has no entry
+pub record NeedsEntry (hist : Seen) (emission : Emission) : Type 0 where
+  pub active : hist.paused ≡ false
+  pub room : length hist.table.entries < hist.spec.size
+  pub new : is_among (entry_keys hist.table.entries) (hit_of hist.spec emission).key ≡ false
 
 -- how many rows were counted since it was new or cleared
 abbrev pub counted : Seen → ℕ

@@ -5,6 +5,7 @@ use Rattle.trace_format.specs.Cells.{Datum, Whole, Bytes}
 use Rattle.trace_format.specs.Operands.{Emission, operand_value}
 use Rattle.trace_trigger.specs.declared.key.Key.{Key}
 use Rattle.trace_trigger.specs.HistSpecs.{SpecSeen}
+use Rattle.trace_hist.specs.Buckets.{bucket_cell}
 
 pub record Hit : Type 0 where
   pub key : List Datum
@@ -26,8 +27,12 @@ number_of (Bytes bytes) = pos 0
 abbrev pub number_at : Emission → Operand → ℤ
 number_at emission operand = number_of (cell_of emission operand)
 
+-- the cell that a key tells entries apart by: the bucket of the value
+abbrev pub key_cell : Emission → Key → Datum
+key_cell emission key = bucket_cell key.modifier (cell_of emission key.operand)
+
 abbrev pub hit_of : SpecSeen → Emission → Hit
 hit_of spec emission = record {
-  key = map (λ (key : Key). cell_of emission key.operand) spec.keys;
+  key = map (key_cell emission) spec.keys;
   numbers = map (number_at emission) spec.value_sources;
 }

@@ -1,33 +1,70 @@
--- How the histogram of this crate keeps what callers see: the rows that have entries, and two counts.
-use Rattle.std.specs.Prelude.{◌≡◌, ℕ, ◌<◌, Bool, List, length, map, option_map, IsSome, vec_len}
-use Rattle.std.specs.List.{list_any}
-use Rattle.std.specs.Vec.{vec_capacity}
-use Rattle.trace_format.specs.Cells.{Datum, datum_of}
-use Rattle.trace_hist.specs.declared.stored.StoredHit.{StoredHit}
+-- How the histogram of this crate keeps what callers see: a table of entries, of which the first are shown, and two counts.
+use Rattle.std.specs.Prelude.{◌≡◌, ℕ, ◌≤◌, pos, List, [], ◌∷◌, length, map, take, drop, replicate, Option, None, Some, slice_get}
+use Rattle.std.specs.List.{AllByRecursion}
+use Rattle.std.specs.Cow.{cow_slice_items}
+use Rattle.std.specs.Global.{Vec}
+use Rattle.trace_format.specs.Cells.{Datum, Whole, Bytes}
+use Rattle.trace_hist.specs.declared.key_cell.KeyCell.{KeyCell}
+use Rattle.trace_hist.specs.declared.key_cell.KeyCell.TheVariants as cells
+use Rattle.trace_hist.specs.declared.tally.Tally.{Tally}
+use Rattle.trace_hist.specs.declared.next.Next.{Next}
+use Rattle.trace_hist.specs.declared.next.Next.TheVariants as nexts
 use Rattle.trace_hist.specs.declared.hist.Hist.TheInside.{Inside}
-use Rattle.trace_hist.specs.Hits.{Hit}
-use Rattle.trace_hist.specs.Groups.{same_key, Table, entry_of, distinct, keys_of}
-use Rattle.trace_hist.specs.Hists.{Seen}
+use Rattle.trace_hist.specs.Groups.{Entry}
+use Rattle.trace_hist.specs.Hists.{Place, Unknown, In, Nowhere, Seen}
+use Rattle.trace_hist.specs.Numbers.{AreWithin}
 
-abbrev pub hit_in : StoredHit → Hit
-hit_in stored = record { key = map datum_of stored.key.items; numbers = stored.numbers.items }
+-- ---- entries
 
--- whether a row has this key
-abbrev pub is_stored : List StoredHit → List Datum → Bool
-is_stored hits key = list_any (λ (stored : StoredHit). same_key key (map datum_of stored.key.items)) hits
+abbrev pub datum_in : KeyCell → Datum
+datum_in (cells.Num n) = Whole n
+datum_in (cells.Text bytes) = Bytes (cow_slice_items bytes)
 
--- the table of rows that all have entries, and of so many others
-abbrev pub table_of : ℕ → List Hit → ℕ → Table
-table_of width hits dropped = record { entries = map (entry_of width hits) (distinct (keys_of hits)); hits = length hits; dropped = dropped }
+abbrev pub cells_in : Vec KeyCell → List Datum
+cells_in key = map datum_in key.items
+
+abbrev pub entry_in : Vec KeyCell × Tally → Entry
+entry_in pair = record { key = cells_in pair.0; hitcount = pair.1.hitcount; sums = pair.1.sums.items }
+
+abbrev pub entries_in : List (Vec KeyCell × Tally) → List Entry
+entries_in pairs = map entry_in pairs
+
+-- an entry of no rows
+abbrev pub empty_entry : ℕ → List Datum → Entry
+empty_entry width key = record { key = key; hitcount = 0; sums = replicate width (pos 0) }
+
+-- ---- the histogram
+
+abbrev pub place_at : Option Entry → Place
+place_at None = Unknown
+place_at (Some entry) = In entry.key
+
+abbrev pub place_in : List Entry → Next → Place
+place_in entries nexts.Unknown = Unknown
+place_in entries (nexts.At index) = place_at (slice_get entries index)
+place_in entries nexts.Dropped = Nowhere
 
 abbrev pub seen : Inside → Seen
 seen h = record {
   spec = h.spec;
   paused = h.paused;
-  table = table_of (length h.spec.value_sources) (map hit_in h.hits.items) h.dropped;
-  next = option_map hit_in h.next;
+  table = record { entries = take h.shown (entries_in h.entries.entries); hits = h.hits; dropped = h.dropped };
+  next = place_in (entries_in h.entries.entries) h.next;
 }
 
+-- no entry, or one of no rows: what follows the entries that are shown
+abbrev pub IsEnd : ℕ → List Entry → Type 0
+IsEnd width [] = Unit {0}
+IsEnd width (entry ∷ []) = entry ≡ empty_entry width entry.key
+IsEnd width (entry ∷ other ∷ entries) = ⊥
+
+-- counts and sums that so many rows may come to
+abbrev pub AreCounted : ℕ → List Entry → Type 0
+AreCounted rows entries = AllByRecursion (λ (entry : Entry). (entry.hitcount ≤ rows) × AreWithin rows entry.sums) entries
+
 pub record IsSound (h : Inside) : Type 0 where
-  pub entries : h.entries ≡ length (distinct (keys_of (map hit_in h.hits.items)))
-  pub room : IsSome h.next → vec_len h.hits < vec_capacity h.hits
+  pub keys : length h.spec.keys ≤ 3
+  pub shown : h.shown ≤ length h.entries.entries
+  pub size : length h.entries.entries ≤ h.spec.size
+  pub end : IsEnd (length h.spec.value_sources) (drop h.shown (entries_in h.entries.entries))
+  pub rows : AreCounted h.hits (entries_in h.entries.entries)

@@ -1,30 +1,23 @@
-//! What a trigger reads of an emission: the values of its keys, and the numbers that it sums.
+//! What a trigger reads of an emission: the values of its keys, put into buckets, and the numbers that it sums.
 
-ghost use Rattle.std.specs.Prelude.{◌≡◌, map, IfOk};
+ghost use Rattle.std.specs.Prelude.{◌≡◌, map};
 ghost use Rattle.trace_format.specs.Cells.{datum_of};
 ghost use Rattle.trace_hist.specs.Hits as hits;
+ghost use Rattle.trace_hist.specs.Stored.{datum_in};
 
+use crate::bucket::bucket_of;
+use crate::key_cell::KeyCell;
 use crate::number::Number;
-use std::alloc::{AllocError, Global};
 use trace_format::{Emission, Operand, Row, Value};
-
-/// A copy of a value.
-pub(crate) fn copy(alloc: Global, value: &Value) -> Result<Value, AllocError>
-    ensures { IfOk result (λ copied. datum_of copied ≡ datum_of value.now) }
-{
-    match value {
-        Value::Num(number) => Ok(Value::Num(*number)),
-        Value::Text(bytes) => Ok(Value::Text(Vec::from_slice(alloc, bytes)?)),
-    }
-}
+use trace_trigger::{Key, Modifier};
 
 /// The value of a field, or 0 where no field has the index.
-fn field_cell(alloc: Global, emission: &Emission, index: usize) -> Result<Value, AllocError>
-    ensures { IfOk result (λ cell. datum_of cell ≡ hits.field_cell emission.now.values index) }
+fn field_cell<'a>(emission: &'a Emission, index: usize) -> KeyCell<'a>
+    ensures { datum_in result ≡ hits.field_cell emission.now.values index }
 {
     match emission.field(index) {
-        Some(value) => copy(alloc, value),
-        None => Ok(Value::Num(0)),
+        Some(value) => KeyCell::of(value),
+        None => KeyCell::Num(0),
     }
 }
 
@@ -47,17 +40,26 @@ fn row_number(row: &Row, index: usize) -> Number
 }
 
 /// The value of an operand in an emission.
-pub(crate) fn cell_of(
-    alloc: Global,
-    operand: Operand,
-    emission: &Emission,
-) -> Result<Value, AllocError>
-    ensures { IfOk result (λ cell. datum_of cell ≡ hits.cell_of emission.now operand) }
+fn cell_of<'a>(operand: Operand, emission: &'a Emission) -> KeyCell<'a>
+    ensures { datum_in result ≡ hits.cell_of emission.now operand }
 {
     match operand {
-        Operand::Pid => Ok(Value::Num(i128::from(emission.pid))),
-        Operand::Cpu => Ok(Value::Num(i128::from(emission.cpu))),
-        Operand::Field { index, .. } => field_cell(alloc, emission, index),
+        Operand::Pid => KeyCell::Num(i128::from(emission.pid)),
+        Operand::Cpu => KeyCell::Num(i128::from(emission.cpu)),
+        Operand::Field { index, .. } => field_cell(emission, index),
+    }
+}
+
+/// The cell that a key tells entries apart by: the bucket of its value. A string is in one of its own, and is not copied.
+pub(crate) fn key_cell<'a>(key: &Key, emission: &'a Emission) -> KeyCell<'a>
+    ensures { datum_in result ≡ hits.key_cell emission.now key.now }
+{
+    match cell_of(key.operand, emission) {
+        KeyCell::Num(number) => KeyCell::Num(match key.modifier {
+            Modifier::Plain | Modifier::Hex => number,
+            modifier => bucket_of(modifier, &number_of(key.operand, emission)),
+        }),
+        KeyCell::Text(bytes) => KeyCell::Text(bytes),
     }
 }
 

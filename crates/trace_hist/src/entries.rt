@@ -1,134 +1,203 @@
-//! The entries that counted rows come to.
+//! The table of entries: from keys, in first-seen order, to what is kept of their rows.
 
-ghost use Rattle.std.specs.Prelude.{◌≡◌, map, length, IfOk};
-ghost use Rattle.std.specs.List.{list_any, range_with_len};
+ghost use Rattle.std.specs.Prelude.{◌≡◌, ℕ, ◌+◌, ◌<◌, ◌≤◌, ◌^◌, ◌++◌, ◌∷◌, [], map, length, take, slice_get, Some, false, IfOk, IfSome, IfNone, OnOk, OnErr};
+ghost use Rattle.std.specs.List.{IsDistinct};
+ghost use Rattle.indexmap.specs.IndexMap.{spare};
 ghost use Rattle.trace_format.specs.Cells.{datum_of};
-ghost use Rattle.trace_hist.specs.declared.entry.HistRow.{HistRow};
 ghost use Rattle.trace_hist.specs.Groups as groups;
-ghost use Rattle.trace_hist.specs.private.Numbers.{IsFieldNumber};
+ghost use Rattle.trace_hist.specs.Hits.{number_at};
+ghost use Rattle.trace_hist.specs.Hists.{entry_keys};
 ghost use Rattle.trace_hist.specs.PrintOrder as order;
-ghost use Rattle.trace_hist.specs.Stored.{hit_in, table_of};
-ghost use Rattle.trace_hist.specs.private.Sums.{total_at};
+ghost use Rattle.trace_hist.specs.Stored.{datum_in, cells_in, entry_in, entries_in, empty_entry, AreCounted};
+ghost use Rattle.trace_hist.specs.private.Steps.{key_of, counted_at};
 
-use crate::cell::copy;
+use crate::cell::key_cell;
 use crate::entry::HistRow;
-use crate::number::Number;
+use crate::key_cell::{KeyCell, keep, value_of};
 use crate::sort::sort_entries;
-use crate::stored::{StoredHit, is_same_key};
+use crate::tally::Tally;
+use indexmap::IndexMap;
 use std::alloc::{AllocError, Global};
-use trace_format::Value;
-use trace_trigger::HistSpec;
+use trace_format::{Emission, Operand, Value};
+use trace_trigger::{HistSpec, Key};
 
-/// The number at an index, or 0 where there is none.
-fn number_at(numbers: &[Number], index: usize) -> i128
-    ensures value { result ≡ order.sum_at numbers.now index }
-    ensures range { IsFieldNumber result }
+/// A key has the cells of the trigger's keys, in the order in which it names them.
+pub(crate) type Entries = IndexMap<Vec<KeyCell<'static>>, Tally>;
+
+/// The index of the entry of a key.
+fn index_of_cells<'a>(
+    entries: &IndexMap<Vec<KeyCell<'a>>, Tally>,
+    cells: &[KeyCell<'a>],
+) -> Option<usize>
+    ensures known { IfSome result (λ index. slice_get (entry_keys (entries_in entries.now.entries)) index ≡ Some (map datum_in cells.now)) }
+    ensures new { IfNone result (groups.is_among (entry_keys (entries_in entries.now.entries)) (map datum_in cells.now) ≡ false) }
 {
-    match numbers.get(index) {
-        Some(number) => number.value(),
-        None => 0,
-    }
+    entries.get_index_of(cells)
 }
 
-/// The sum of the numbers at an index, over the rows with a key.
-fn sum_of(hits: &[StoredHit], key: &[Value], index: usize) -> i128
-    ensures { result ≡ total_at index (groups.with_key (map datum_of key.now) (map hit_in hits.now)) }
+/// The index of the entry of an emission's key, which is looked up where it lies in the row.
+pub(crate) fn index_of(entries: &Entries, keys: &[Key], emission: &Emission) -> Option<usize>
+    requires { length keys.now ≤ 3 }
+    ensures known { IfSome result (λ index. slice_get (entry_keys (entries_in entries.now.entries)) index ≡ Some (key_of keys.now emission.now)) }
+    ensures new { IfNone result (groups.is_among (entry_keys (entries_in entries.now.entries)) (key_of keys.now emission.now) ≡ false) }
 {
-    let mut sum = 0;
-    for hit in hits {
-        if is_same_key(key, &hit.key) {
-            sum += number_at(&hit.numbers, index);
+    match keys {
+        [] => index_of_cells(entries, &[]),
+        [key] => {
+            let cells = [key_cell(key, emission)];
+            index_of_cells(entries, &cells)
         }
+        [first, second] => {
+            let cells = [key_cell(first, emission), key_cell(second, emission)];
+            index_of_cells(entries, &cells)
+        }
+        [first, second, third] => {
+            let cells = [
+                key_cell(first, emission),
+                key_cell(second, emission),
+                key_cell(third, emission),
+            ];
+            index_of_cells(entries, &cells)
+        }
+        _ => unreachable!(),
     }
-    sum
 }
 
-/// How many rows have a key.
-fn count_of(hits: &[StoredHit], key: &[Value]) -> usize
-    ensures { result ≡ length (groups.with_key (map datum_of key.now) (map hit_in hits.now)) }
+/// The cells of an emission's key, to keep.
+fn kept_key(
+    alloc: Global,
+    keys: &[Key],
+    emission: &Emission,
+) -> Result<Vec<KeyCell<'static>>, AllocError>
+    ensures { IfOk result (λ cells. cells_in cells ≡ key_of keys.now emission.now) }
 {
-    hits.iter().filter(|hit| is_same_key(key, &hit.key)).count()
-}
-
-/// A copy of a key.
-fn copy_key(alloc: Global, key: &[Value]) -> Result<Vec<Value>, AllocError>
-    ensures { IfOk result (λ copied. map datum_of copied.items ≡ map datum_of key.now) }
-{
-    let mut copied = Vec::with_capacity(alloc, key.len())?;
-    for cell in key {
-        copied.push(copy(alloc, cell)?)?;
+    let mut cells = Vec::with_capacity(alloc, keys.len())?;
+    for key in keys {
+        cells.push(keep(alloc, &key_cell(key, emission))?)?;
     }
-    Ok(copied)
+    Ok(cells)
 }
 
-/// The sums of so many values over the rows with a key.
-fn sums_of(
-    alloc: Global,
-    width: usize,
-    hits: &[StoredHit],
-    key: &[Value],
-) -> Result<Vec<i128>, AllocError>
-    ensures { IfOk result (λ sums. sums.items
-        ≡ map (λ index. total_at index (groups.with_key (map datum_of key.now) (map hit_in hits.now))) (range_with_len 0 width)) }
+/// Takes out the entries that follow the first so many.
+pub(crate) fn keep_first(entries: &mut Entries, kept: usize)
+    ensures { entries_in entries.new.entries ≡ take kept (entries_in entries.old.entries) }
 {
-    (0..width)
-        .map(|index| sum_of(hits, key, index))
-        .collect(alloc)
+    if kept < entries.len() {
+        entries.truncate(kept);
+    }
 }
 
-/// The entry of a key, with so many sums.
-fn entry_of(
-    alloc: Global,
-    width: usize,
-    hits: &[StoredHit],
-    key: &[Value],
-) -> Result<HistRow, AllocError>
-    ensures { IfOk result (λ entry. order.row_in entry
-        ≡ groups.entry_of width (map hit_in hits.now) (map datum_of key.now)) }
+/// Puts an entry of no rows in last, where there is room for it.
+fn put_last(entries: &mut Entries, key: Vec<KeyCell<'static>>, tally: Tally)
+    requires room { 0 < spare entries.old }
+    requires new { groups.is_among (entry_keys (entries_in entries.old.entries)) (cells_in key) ≡ false }
+    ensures { entries.new.entries ≡ entries.old.entries ++ (key.entry, tally) ∷ [] }
 {
-    let keys = copy_key(alloc, key)?;
-    let sums = sums_of(alloc, width, hits, key)?;
+    let Ok(_) = entries.insert(key, tally) else {
+        unreachable!()
+    };
+}
+
+/// Puts an entry of no rows in, for an emission's key, after the first so many entries and in place of those that follow them. Memory is taken
+/// before anything changes.
+pub(crate) fn reserve_entry(
+    entries: &mut Entries,
+    alloc: Global,
+    kept: usize,
+    spec: &HistSpec,
+    emission: &Emission,
+) -> Result<(), AllocError>
+    requires new { groups.is_among (entry_keys (entries_in entries.old.entries)) (key_of spec.now.keys emission.now) ≡ false }
+    ensures ok { OnOk result (entries_in entries.new.entries ≡ take kept (entries_in entries.old.entries)
+        ++ empty_entry (length spec.now.value_sources) (key_of spec.now.keys emission.now) ∷ []) }
+    ensures err { OnErr result (entries.new.entries ≡ entries.old.entries) }
+{
+    let key = kept_key(alloc, spec.keys(), emission)?;
+    let tally = Tally::new(alloc, spec.value_sources().len())?;
+    entries.reserve(1)?;
+    entries.truncate(kept);
+    put_last(entries, key, tally);
+    Ok(())
+}
+
+/// How many entries are shown, where the entry at an index is one of them: all, if it isn't yet, since at most the last is not shown.
+pub(crate) fn shown_with(entries: &Entries, shown: usize, index: usize) -> usize
+    ensures below { index < shown → result ≡ shown }
+    ensures above { shown ≤ index → result ≡ length entries.now.entries }
+{
+    if index < shown { shown } else { entries.len() }
+}
+
+/// Counts a row of an emission in the entry at an index.
+pub(crate) fn count_row(
+    entries: &mut Entries,
+    index: usize,
+    operands: &[Operand],
+    emission: &Emission,
+)
+    requires index { index < length entries.old.entries }
+    requires counted { AreCounted (2 ^ 32) (entries_in entries.old.entries) }
+    ensures entries { entries_in entries.new.entries
+        ≡ counted_at (map (number_at emission.now) operands.now) index (entries_in entries.old.entries) }
+    ensures counted { (rows : ℕ) → AreCounted rows (entries_in entries.old.entries)
+        → AreCounted (rows + 1) (counted_at (map (number_at emission.now) operands.now) index (entries_in entries.old.entries)) }
+    ensures distinct { IsDistinct groups.same_key (entry_keys (entries_in entries.old.entries)) }
+{
+    let Some(tally) = entries.get_index_mut(index) else {
+        unreachable!()
+    };
+    tally.count(operands, emission);
+}
+
+/// The values of a kept key.
+fn values_of(alloc: Global, cells: &[KeyCell<'static>]) -> Result<Vec<Value>, AllocError>
+    ensures { IfOk result (λ values. map datum_of values.items ≡ map datum_in cells.now) }
+{
+    let mut values = Vec::with_capacity(alloc, cells.len())?;
+    for cell in cells {
+        values.push(value_of(alloc, cell)?)?;
+    }
+    Ok(values)
+}
+
+/// An entry, to be shown.
+fn row_of(alloc: Global, key: &Vec<KeyCell<'static>>, tally: &Tally) -> Result<HistRow, AllocError>
+    ensures { IfOk result (λ row. order.row_in row ≡ entry_in (key.now, tally.now)) }
+{
     Ok(HistRow {
-        keys,
-        hitcount: count_of(hits, key) as u64,
-        sums,
+        keys: values_of(alloc, key)?,
+        hitcount: tally.hitcount,
+        sums: Vec::from_slice(alloc, &tally.sums)?,
     })
 }
 
-/// Whether one of the entries has a key.
-fn has_entry(entries: &[HistRow], key: &[Value]) -> bool
-    ensures { result ≡ list_any (λ (entry : HistRow). groups.same_key (map datum_of key.now) (map datum_of entry.keys.items))
-        entries.now }
+/// The first so many entries, in first-seen order.
+fn rows_of(alloc: Global, entries: &Entries, count: usize) -> Result<Vec<HistRow>, AllocError>
+    requires { count ≤ length entries.now.entries }
+    ensures { IfOk result (λ rows. map order.row_in rows.items ≡ take count (entries_in entries.now.entries)) }
 {
-    entries.iter().any(|entry| is_same_key(key, &entry.keys))
-}
-
-/// The entries of rows, in order of first occurrence, with so many sums.
-fn entries_of(alloc: Global, width: usize, hits: &[StoredHit]) -> Result<Vec<HistRow>, AllocError>
-    ensures { IfOk result (λ entries. map order.row_in entries.items
-        ≡ map (groups.entry_of width (map hit_in hits.now)) (groups.distinct (groups.keys_of (map hit_in hits.now)))) }
-{
-    let mut entries = Vec::new(alloc);
-    for hit in hits {
-        if has_entry(&entries, &hit.key) {
-            continue;
-        }
-        entries.push(entry_of(alloc, width, hits, &hit.key)?)?;
+    let mut rows = Vec::with_capacity(alloc, count)?;
+    for index in 0..count {
+        let Some((key, tally)) = entries.get_index(index) else {
+            unreachable!()
+        };
+        rows.push(row_of(alloc, key, tally)?)?;
     }
-    Ok(entries)
+    Ok(rows)
 }
 
-/// The entries of the rows that a trigger counted, in print order.
+/// The first so many entries, in print order.
 pub(crate) fn entries_in_order(
     alloc: Global,
     spec: &HistSpec,
-    hits: &[StoredHit],
+    entries: &Entries,
+    count: usize,
 ) -> Result<Vec<HistRow>, AllocError>
+    requires { count ≤ length entries.now.entries }
     ensures { IfOk result (λ shown. map order.row_in shown.items ≡ order.printed spec.now.sort_sources
-        (table_of (length spec.now.value_sources) (map hit_in hits.now) 0).entries) }
+        (take count (entries_in entries.now.entries))) }
 {
-    let width = spec.value_sources().len();
-    let mut entries = entries_of(alloc, width, hits)?;
-    sort_entries(&mut entries, spec.sort_sources())?;
-    Ok(entries)
+    let mut rows = rows_of(alloc, entries, count)?;
+    sort_entries(&mut rows, spec.sort_sources())?;
+    Ok(rows)
 }

@@ -5,7 +5,7 @@ use trace_format::Value;
 /// An entry of a histogram.
 #[derive(Drop)]
 pub struct HistRow {
-    /// The values of the trigger's keys, in the order in which it names them.
+    /// The values of the trigger's keys, in the order in which it names them: of a number its bucket, which has a number too.
     pub keys: Vec<Value>,
     /// How many rows with these keys were counted.
     pub hitcount: u64,

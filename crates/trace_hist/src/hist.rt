@@ -1,28 +1,43 @@
 //! Histograms: what a hist trigger has counted.
 //!
 //! A histogram stands for the list of rows that it has counted, and all that it tells is the grouping of that list: the first distinct keys, as many
-//! as there is room for, each with the number of rows that had it and the sums of their values. A row is counted in two phases, since an emission may
-//! reach many histograms and is refused as a whole where memory is short:
+//! as there is room for, each with the number of rows that had it and the sums of their values. Nothing else is kept of a row. A table has an entry
+//! for each key, in first-seen order; an entry has a count and the sums:
 //!
 //! ```text
-//!   reserve_hit   puts the row's key and numbers aside (`next`), with room for one row more      may be refused, and changes nothing that is seen
-//!   hit           makes `next` the last row, or counts it as dropped where the table is full     takes no memory
+//!                       key          count   sums
+//!   index 0             ["a", 1]         3   [30]
+//!         1             ["b", 1]         1    [5]
+//!   shown = 2  -------------------------------------------- entries from here on are not shown
+//!         2             ["a", 2]         0    [0]           reserved: at most one
 //! ```
 //!
-//! A row that was put aside and is not counted (the emission was refused, or the trigger is paused) is forgotten with the next `reserve_hit`.
+//! A row is counted in two phases, since an emission may reach many histograms and is refused as a whole where memory is short:
+//!
+//! ```text
+//!   reserve_hit   looks the row's key up, and notes the index of its entry (`next`). A new key is put in last, with a count of 0, or
+//!                 dropped where the table is full. Only a new entry takes memory, and before anything changes
+//!   hit           adds the row to the entry at that index. If that is the reserved one, it is shown from then on
+//! ```
+//!
+//! If a row is not counted after all (the emission was refused), the reserved entry is left at the end and not shown. The next `reserve_hit` of another
+//! key takes it out, unless it is refused or the histogram is paused, and so does `clear`. A paused histogram reserves nothing.
+//!
+//! Sums have 128 bits. A row's number is from -2^63 to 2^64 - 1 and a histogram counts at most 2^32 rows, so no sum overflows.
 
 ghost use Rattle.std.specs.Prelude.{◌≡◌, ◌+◌, ◌++◌, List, [], ◌∷◌, IfOk, OnOk, OnErr, length, map};
-ghost use Rattle.std.specs.Prelude.{IsTrue, ◌↔◌, IsSome, Some, false, true};
+ghost use Rattle.std.specs.Prelude.{IsTrue, ◌↔◌, ◌<◌, false, true};
 ghost use Rattle.trace_trigger.specs.declared.spec.Action.TheVariants as actions;
 ghost use Rattle.trace_hist.specs.Groups.{grouped};
 ghost use Rattle.trace_hist.specs.Hits.{Hit, hit_of};
 ghost use Rattle.trace_hist.specs.PrintOrder.{row_in, printed};
 ghost use Rattle.trace_hist.specs.private.Steps.{after_hit};
-ghost use Rattle.trace_hist.specs.Hists.{StandsFor, IsReserved, counted, HasRoom};
+ghost use Rattle.trace_hist.specs.Hists.{StandsFor, IsReserved, NeedsEntry, counted, HasRoom};
 
-use crate::entries::entries_in_order;
+use crate::entries::{Entries, count_row, entries_in_order, shown_with};
 use crate::entry::HistRow;
-use crate::stored::{StoredHit, is_known};
+use crate::next::{Next, reserve};
+use indexmap::IndexMap;
 use std::alloc::{AllocError, Global};
 use std::marker::Model;
 use trace_format::{Emission, Row};
@@ -39,20 +54,22 @@ pub struct Totals {
     pub dropped: u64,
 }
 
+/// How many keys a trigger has at most.
+const MAX_KEYS: usize = 3;
+
 /// The histogram of a trigger: an entry for each key, with a count and sums.
-///
-/// This one keeps the rows that were counted, and groups them when it is read.
 #[derive(Drop)]
 pub struct Hist {
     alloc: Global,
     spec: HistSpec,
     paused: bool,
-    // The rows with an entry, how many entries they have, and how many rows have none.
-    hits: Vec<StoredHit>,
-    entries: u32,
+    // The entries in first-seen order. Those from `shown` on, at most one, are reserved.
+    entries: Entries,
+    shown: usize,
+    // How many rows were counted into entries, and how many had none.
+    hits: u64,
     dropped: u64,
-    // The row that memory was taken for.
-    next: Option<StoredHit>,
+    next: Next,
 }
 
 impl Model for Hist {
@@ -68,27 +85,34 @@ impl Model for Hist {
 }
 
 impl Hist {
-    /// The histogram of a trigger, with nothing counted. It is paused where the trigger asks for it.
+    /// The histogram of a trigger, with nothing counted. It is paused where the trigger asks for it. A trigger with more than three keys, which
+    /// none has, is refused as out of memory.
     pub fn new(alloc: Global, spec: HistSpec) -> Result<Hist, AllocError>
         ensures stands { IfOk result (λ hist. StandsFor hist []) }
         ensures spec { IfOk result (λ hist. hist.spec ≡ spec) }
         ensures paused { IfOk result (λ hist. IsTrue hist.paused ↔ (spec.action ≡ actions.Pause)) }
         ensures counted { IfOk result (λ hist. counted hist ≡ 0) }
+        // It takes no memory.
+        ensures few { OnErr result (3 < length spec.keys) }
     {
+        if spec.keys().len() > MAX_KEYS {
+            return Err(AllocError);
+        }
         let paused = matches!(spec.action(), Action::Pause);
         Ok(Hist {
             alloc,
             spec,
             paused,
-            hits: Vec::new(alloc),
-            entries: 0,
+            entries: IndexMap::new(alloc),
+            shown: 0,
+            hits: 0,
             dropped: 0,
-            next: None,
+            next: Next::Unknown,
         })
     }
 
-    /// Takes the memory that it needs to count a row, until the next row is counted. All that can be seen stays as it was, also where memory
-    /// is refused.
+    /// Makes room for a row, so that `hit` can count it: an entry for its key, if it has none, the table isn't full and the histogram isn't
+    /// paused. In all other cases it takes no memory and succeeds. All that can be seen stays as it was, also where memory is refused.
     pub fn reserve_hit(&mut self, row: &Row, cpu: u32, pid: i32) -> Result<(), AllocError>
         ensures stands { (rows : List Hit) → StandsFor self.old rows → StandsFor self.new rows }
         ensures spec { self.new.spec ≡ self.old.spec }
@@ -98,15 +122,26 @@ impl Hist {
         ensures reserved { OnOk result (IsReserved self.new
             (record { values = row.now.values; cpu = cpu; pid = pid })) }
         ensures err { OnErr result (self.new ≡ self.old) }
+        // Memory is taken, and may be refused, only for a new entry.
+        ensures memory { OnErr result (NeedsEntry self.old
+            (record { values = row.now.values; cpu = cpu; pid = pid })) }
     {
-        let next = StoredHit::of(self.alloc, &self.spec, &Emission { row, cpu, pid })?;
-        self.hits.reserve(1)?;
-        self.next = Some(next);
+        if self.paused {
+            return Ok(());
+        }
+        let emission = Emission { row, cpu, pid };
+        self.next = reserve(
+            &mut self.entries,
+            self.alloc,
+            self.shown,
+            &self.spec,
+            &emission,
+        )?;
         Ok(())
     }
 
     /// Counts a row of the trigger's event, which was emitted on a CPU by a process, unless the trigger is paused. It doesn't look at the
-    /// filter: ask `passes` first. The last `reserve_hit` or `hit` was a `reserve_hit` of this row. It takes no memory.
+    /// filter: ask `passes` first. The last call that changes it was a `reserve_hit` of this row. It takes no memory.
     pub fn hit(&mut self, row: &Row, cpu: u32, pid: i32)
         requires reserved { IsReserved self.old
             (record { values = row.now.values; cpu = cpu; pid = pid }) }
@@ -118,28 +153,33 @@ impl Hist {
         ensures spec { self.new.spec ≡ self.old.spec }
         ensures counted { self.old.paused ≡ false → counted self.new ≡ counted self.old + 1 }
     {
-        if self.paused {
-            return;
+        if !self.paused {
+            self.count(&Emission { row, cpu, pid });
         }
-        self.count_next();
     }
 
-    // Counts the row that memory was taken for.
-    fn count_next(&mut self)
-        requires reserved { IsSome self.old.next }
+    // Counts the row that was reserved.
+    fn count(&mut self, emission: &Emission)
+        requires active { self.old.paused ≡ false }
+        requires reserved { IsReserved self.old emission.now }
         requires few { HasRoom self.old }
-        ensures { (hit : Hit) → self.old.next ≡ Some hit → self.new ≡ after_hit self.old hit }
+        ensures { self.new ≡ after_hit self.old (hit_of self.old.spec emission.now) }
     {
-        let Some(next) = self.next.take() else {
-            return;
-        };
-        if is_known(&self.hits, &next.key) {
-            self.hits.push_reserved(next);
-        } else if self.entries < self.spec.size() {
-            self.entries += 1;
-            self.hits.push_reserved(next);
-        } else {
-            self.dropped += 1;
+        let next = self.next;
+        self.next = Next::Unknown;
+        match next {
+            Next::At(index) => {
+                self.shown = shown_with(&self.entries, self.shown, index);
+                count_row(
+                    &mut self.entries,
+                    index,
+                    self.spec.value_sources(),
+                    emission,
+                );
+                self.hits += 1;
+            }
+            Next::Dropped => self.dropped += 1,
+            Next::Unknown => unreachable!(),
         }
     }
 
@@ -172,9 +212,11 @@ impl Hist {
         ensures paused { self.new.paused ≡ self.old.paused }
         ensures counted { counted self.new ≡ 0 }
     {
-        self.hits.clear();
-        self.entries = 0;
+        self.entries.clear();
+        self.shown = 0;
+        self.hits = 0;
         self.dropped = 0;
+        self.next = Next::Unknown;
     }
 
     /// Whether it is paused.
@@ -203,8 +245,8 @@ impl Hist {
             × (result.dropped ≡ self.now.table.dropped) }
     {
         Totals {
-            hits: self.hits.len() as u64,
-            entries: u64::from(self.entries),
+            hits: self.hits,
+            entries: self.shown as u64,
             dropped: self.dropped,
         }
     }
@@ -215,6 +257,6 @@ impl Hist {
             ≡ printed self.now.spec.sort_sources (grouped self.now.spec rows).entries) }
         ensures table { IfOk result (λ shown. map row_in shown.items ≡ printed self.now.spec.sort_sources self.now.table.entries) }
     {
-        entries_in_order(self.alloc, &self.spec, &self.hits)
+        entries_in_order(self.alloc, &self.spec, &self.entries, self.shown)
     }
 }

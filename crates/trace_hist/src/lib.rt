@@ -4,16 +4,19 @@
 //! the rows that were counted into it; `specs/Groups.antt` says from scratch what such a list comes to.
 #![tactic(auto)]
 
+mod bucket;
 mod cell;
 mod entries;
 mod entry;
 mod hist;
+mod key_cell;
 pub mod laws;
+mod next;
 mod number;
 mod sort;
-mod stored;
+mod tally;
 
 pub use entry::HistRow;
 pub use hist::{Hist, Totals};
 pub use trace_format::Text;
-pub use trace_trigger::{Action, HistSpec, Key, SortKey, TriggerFault};
+pub use trace_trigger::{Action, HistSpec, Key, Modifier, SortKey, TriggerFault};

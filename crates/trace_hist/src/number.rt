@@ -1,7 +1,7 @@
 //! The numbers that are summed.
 
 ghost use Rattle.std.specs.Prelude.{◌≡◌};
-ghost use Rattle.trace_hist.specs.private.Numbers.{IsFieldNumber};
+ghost use Rattle.trace_hist.specs.Numbers.{IsFieldNumber};
 
 use std::marker::Model;
 
@@ -17,7 +17,7 @@ impl Model for Number {
 
     ghost Value = { ℤ };
 
-    ghost use Rattle.trace_hist.specs.private.Numbers.{IsFieldNumber};
+    ghost use Rattle.trace_hist.specs.Numbers.{IsFieldNumber};
 
     ghost view = { λ n. n.value };
 

@@ -19,7 +19,7 @@ use Rattle.trace_command.specs.Requests.{Request, WriteFile, Emission as Emits}
 use Rattle.trace_command.specs.declared.file_name.EventFile.TheVariants as per_event
 use Rattle.trace_history.specs.Emissions.{Emitted, emitted}
 use Rattle.trace_history.specs.HistTriggers.{HistTrigger, Written, asked_by, asked_in, counted_by, counted_hit, empties, has_same, hist_triggers, hists_after, hists_of, hists_said, hits_of, is_of, is_paused, left_by, met_in, new_hist, paused_after, says_same, those_of, written_for, written_to}
-use Rattle.trace_history.specs.Laws.{asks, clears, meets, some_later, IsRowOfEmission, ClearsLeaveNone, CountedRowsAreOfEmissions, EmissionsAreCountedOnce, EmissionsAreCounted, OtherRequestsLeaveHistTriggers, PausesCountNothing, TablesBeginEmpty}
+use Rattle.trace_history.specs.Laws.{clears, meets, some_later, IsRowOfEmission, ClearsLeaveNone, CountedRowsAreOfEmissions, EmissionsAreCountedOnce, EmissionsAreCounted, OtherRequestsLeaveHistTriggers, TablesBeginEmpty, UnmetEmissionsAreNotCounted}
 use Rattle.trace_history.specs.Settings.{NumberedEvent, event_named, makes}
 use Rattle.trace_history.specs.Triggers.{met_by}
 use Rattle.trace_history.proofs.EventHists.{all-one, hists_of-after, own_after, tables-made_before}
@@ -31,7 +31,7 @@ use Rattle.trace_history.proofs.Tables.{AreMadeBefore, IsOneOf, has-one, made-fi
 
 -- ---- each row is that of an emission
 
-first-false : (x y : Bool) → (x || y) ≡ false → (x ≡ false) × (y ≡ false)
+pub first-false : (x y : Bool) → (x || y) ≡ false → (x ≡ false) × (y ≡ false)
 first-false true y is = absurd (cc)
 first-false false y is = (refl, is)
 
@@ -173,6 +173,25 @@ emissions_are_counted_once instance past request e emission k d within active me
     once instance past request e (get_or (hist_triggers instance past) k d)
     (at-index (λ t. IsOneOf t (hist_triggers instance past)) (hist_triggers instance past) (all-one instance past) k d within) emission active met
 
+-- and of an emission that a trigger doesn't meet nothing is counted
+pub unmet_emissions_are_not_counted : UnmetEmissionsAreNotCounted
+unmet_emissions_are_not_counted instance past request e emission k d within unmet =
+    let hists = hist_triggers instance past in
+    let t = get_or hists k d in
+    let one = at-index (λ (u : HistTrigger). IsOneOf u hists) hists (all-one instance past) k d within in
+    let paused = is_paused instance t.table past in
+    let here : map (counted_hit t) (met_by t.event t.spec.filter (Some e)) ≡ [] = rw unmet refl in
+    ap (λ (a : Option Action). if empties a then [] else hits_of instance t.table past ++ counted_by t.table paused hists (emitted past request))
+    (emitted-unasked instance t.table past request e emission)
+    ∙ ap (λ (rows : List Hit). hits_of instance t.table past ++ rows)
+    (ap (counted_by t.table paused hists) emission ∙ by t.table paused (one-met t (Some e) hists one ∙ here))
+    ∙ append-nil (hits_of instance t.table past)
+  where
+    by : (table : ℕ) (paused : Bool) → flat_map (met_in table (Some e)) (hist_triggers instance past) ≡ []
+        → counted_by table paused (hist_triggers instance past) (Some e) ≡ []
+    by table true none = refl
+    by table false none = none
+
 -- what is counted stays
 counted-later : (instance : Option (List ℕ)) (table : ℕ) (later past : List Request) (rows : List Hit) (hit : Hit)
     → some_later (clears instance table) later past ≡ false → hits_of instance table past ≡ rows ++ hit ∷ []
@@ -193,33 +212,6 @@ emissions_are_counted instance later request before e emission k d within kept a
     let t = get_or (hist_triggers instance before) k d in
     counted-later instance t.table later (request ∷ before) (hits_of instance t.table before) (counted_hit t e) kept
     (emissions_are_counted_once instance before request e emission k d within active met)
-
--- ---- pauses
-
--- what is not asked of a table does not empty it
-unasked-kept : (asked : Option Action) → is_some asked ≡ false → empties asked ≡ false
-unasked-kept None is = refl
-unasked-kept (Some asked) is = absurd (cc)
-
-unasked-paused : (asked : Option Action) (paused : Bool) → is_some asked ≡ false → paused_after asked paused ≡ paused
-unasked-paused None paused is = refl
-unasked-paused (Some asked) paused is = absurd (cc)
-
-pub pauses_count_nothing : PausesCountNothing
-pauses_count_nothing instance table [] past paused unasked = (paused, refl)
-pauses_count_nothing instance table (next ∷ later) past paused unasked =
-    let parts = first-false (asks instance table (later ++ past) next) (some_later (asks instance table) later past) unasked in
-    let older = pauses_count_nothing instance table later past paused parts.1 in
-    let asked = asked_by instance table (later ++ past) next in
-    let hists = hist_triggers instance (later ++ past) in
-    let new : counted_by table (is_paused instance table (later ++ past)) hists (emitted (later ++ past) next) ≡ [] =
-    ap (λ (b : Bool). counted_by table b hists (emitted (later ++ past) next)) older.0 in (
-      unasked-paused asked (is_paused instance table (later ++ past)) parts.0 ∙ older.0,
-      ap (λ (b : Bool). if b then [] else hits_of instance table (later ++ past)
-          ++ counted_by table (is_paused instance table (later ++ past)) hists (emitted (later ++ past) next)) (unasked-kept asked parts.0)
-          ∙ ap (λ (rows : List Hit). hits_of instance table (later ++ past) ++ rows) new
-          ∙ append-nil (hits_of instance table (later ++ past)) ∙ older.1,
-    )
 
 -- ---- what empties a table
 

@@ -12,6 +12,7 @@ use Rattle.trace_trigger.specs.declared.trigger.TriggerText.TheVariants.{Nothing
 use Rattle.trace_command.specs.Requests.{Request}
 use Rattle.trace_history.specs.HistTriggers.{HistTrigger, Written, has_same, hist_triggers, hists_after, hists_of, hists_said, is_of, kept_by, left_by, new_hist, says_same, those_of, written_for, written_to}
 use Rattle.trace_history.specs.Settings.{makes}
+use Rattle.trace_history.proofs.OwnFiles.{bytes-differ}
 use Rattle.trace_history.proofs.Tables.{AreMadeBefore, HaveOwnTables, IsOneOf, each-one, made-filter, made-later, made-push, own-filter, own-push}
 
 -- ---- what becomes of an event's own hist triggers
@@ -90,13 +91,6 @@ other-event one other differ t is =
     let names : other.name ≡ t.event.name = (bytes_eq-Decides other.name t.event.name).0 is in
     ap (bytes_eq one.name) (sym names) ∙ differ
 
-differ-back : (one other : List ℕ) → bytes_eq one other ≡ false → bytes_eq other one ≡ false
-differ-back one other differ = by (bytes_eq other one) refl
-  where
-    by : (same : Bool) → bytes_eq other one ≡ same → same ≡ false
-    by true is = absurd (false≢true (sym differ ∙ (bytes_eq-Decides one other).1 (sym ((bytes_eq-Decides other one).0 is))))
-    by false is = refl
-
 -- ---- a text for the event
 
 pub own-left : (event : Definition) (append : Bool) (hists : List HistTrigger) → those_of event (left_by event append hists) ≡ kept_by append (those_of event hists)
@@ -147,7 +141,7 @@ said-other number other event hists (Ok (Hist spec)) differ = by (has_same spec 
     pushed : those_of event (hists ++ new ∷ []) ≡ those_of event hists
     pushed =
         filter-append (is_of event) hists (new ∷ [])
-        ∙ ap (λ (b : Bool). those_of event hists ++ (if b then new ∷ [] else [])) (differ-back other.name event.name differ)
+        ∙ ap (λ (b : Bool). those_of event hists ++ (if b then new ∷ [] else [])) (bytes-differ other.name event.name differ)
         ∙ append-nil (those_of event hists)
 
     by : (same : Bool) → those_of event (if same then hists else hists ++ new ∷ []) ≡ those_of event hists

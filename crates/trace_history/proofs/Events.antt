@@ -7,7 +7,7 @@ use Rattle.std.proofs.lemmas.Option.{get_or_from_slice_get}
 use Rattle.trace_format.specs.Catalogs.{id_of, event_of}
 use Rattle.trace_format.specs.Definitions.{Definition}
 use Rattle.trace_history.specs.Settings.{NumberedEvent, event_named_in}
-use Rattle.trace_history.specs.Declarations.{IsPlaceOf, IsFit}
+use Rattle.trace_history.specs.Declarations.{IsIndexOf, IsFit}
 
 -- the event of a name among those after others
 abbrev pub found_from : ℕ → List ℕ → List Definition → Option NumberedEvent
@@ -104,7 +104,7 @@ id-position events name i is = from_next _ i is
 
 -- an event that was found by its name stands at its place
 pub place_of_id : (events : List Definition) (name : List ℕ) (id : ℕ) (event : Definition) → id_of events name ≡ Some id → event_of events id ≡ Some event
-    → IsPlaceOf events name (id - 1) event
+    → IsIndexOf events name (id - 1) event
 place_of_id events name zero event named there = absurd (let h : None ≡ Some event = there in cc)
 place_of_id events name (suc i) event named there =
     let at : position (λ (e : Definition). bytes_eq name e.name) events ≡ Some i = id-position events name i named in

@@ -1,10 +1,12 @@
 pub mod AnsweredTrails
 pub mod EventLists
 pub mod Events
+pub mod EmptySpares
 pub mod Examples
 pub mod Exchanges
 pub mod Families
 pub mod CountedRows
+pub mod Pauses
 pub mod HistTriggerExamples
 pub mod Tables
 pub mod EventHists

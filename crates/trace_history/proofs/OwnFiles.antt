@@ -21,7 +21,7 @@ use Rattle.trace_history.proofs.LegalEvents.{named_in-more, named-is_numbered}
 
 -- ---- names
 
-bytes-differ : (one other : List ℕ) → bytes_eq one other ≡ false → bytes_eq other one ≡ false
+pub bytes-differ : (one other : List ℕ) → bytes_eq one other ≡ false → bytes_eq other one ≡ false
 bytes-differ one other differ = by (bytes_eq other one) refl
   where
     by : (same : Bool) → bytes_eq other one ≡ same → same ≡ false

@@ -1,38 +1,28 @@
--- A spare is there where an event has a trigger, and without one the other side is empty.
-use Rattle.std.proofs.Common.{◌≡◌, ◌⊎◌, inl, inr, ℕ, suc, ◌+◌, ◌-◌, ◌<◌, Bool, true, false, ◌&&◌, ◌||◌, if◌then◌else◌, List, [], ◌∷◌, length, replicate, get_or, bytes_eq, is_some, Option, None, Some, unwrap_or, IsOk, Result, Ok, Err, refl, sym, ap, ◌∙◌, subst, arith, true≢false}
+-- A spare is there where an event has a trigger.
+use Rattle.std.proofs.Common.{◌≡◌, ℕ, suc, ◌-◌, ◌<◌, Bool, true, false, ◌||◌, if◌then◌else◌, List, [], ◌∷◌, length, get_or, bytes_eq, is_some, Option, None, Some, unwrap_or, IsOk, Result, Ok, Err, refl, sym, ap, ◌∙◌, subst, arith, true≢false}
 use Rattle.std.specs.List.{list_any}
 use Rattle.std.specs.Option.{option_to_list}
-use Rattle.std.proofs.lemmas.Bool.{and_parts}
-use Rattle.std.proofs.lemmas.List.{length-replicate}
 use Rattle.std.proofs.lemmas.List.Folds.{list_any_at}
 use Rattle.std.proofs.lemmas.Slice.Eq.{bytes_eq-Decides}
-use Rattle.page_ring.specs.Events as ring
-use Rattle.trace_buffer.specs.Families.{all_cleared}
 use Rattle.trace_format.specs.Definitions.{Definition}
-use Rattle.trace_format.specs.Cells.{Cells}
-use Rattle.trace_format.specs.Rows.{row_of}
 use Rattle.trace_trigger.specs.TriggerTexts.{said_of}
 use Rattle.trace_trigger.specs.declared.fault.TriggerFault.{TriggerFault}
 use Rattle.trace_trigger.specs.declared.trigger.TriggerText.{TriggerText}
 use Rattle.trace_trigger.specs.declared.trigger.TriggerText.TheVariants.{Nothing, Attach, Remove, Hist, RemoveHist}
 use Rattle.trace_command.specs.Paths.{File, OfInstance, OfEvent}
-use Rattle.trace_command.specs.Requests.{Request, Emission, MakeInstance, WriteFile, request_of}
+use Rattle.trace_command.specs.Requests.{Request, WriteFile, request_of}
 use Rattle.trace_command.specs.declared.command.Config.{Config}
 use Rattle.trace_command.specs.declared.command.Entry.{Entry}
 use Rattle.trace_command.specs.declared.file_name.EventFile.TheVariants as per_event
 use Rattle.trace_command.specs.declared.file_name.TopFile.TheVariants as top
-use Rattle.trace_history.specs.Emissions.{Emitted, emitted, emitted_event, emitted_row}
 use Rattle.trace_history.specs.History.{answer_with_room, missing_event, unless_refused, spare_answer, snapshot_answer, named_trigger_answer, requests_of, IsLegalNewestFirst}
-use Rattle.trace_history.specs.Laws.{TriggersHaveTheirSpare, SparesBeginEmpty}
-use Rattle.trace_history.specs.Rings.{new_rings, spare_after, other_rings}
-use Rattle.trace_history.specs.Settings.{NumberedEvent, is_same, makes, set_by, event_named, declares, declared_events, now_of}
-use Rattle.trace_history.specs.Snapshots.{SnapshotWrite, Frees, Takes, Empties, written_snapshot, takes_snapshot, clears_spare, spare_written, spare_armed, spare_armed_for, sets_spare, has_spare, is_exchanged_by, exchanges, live_side}
-use Rattle.trace_history.specs.Triggers.{Trigger, written_trigger, sets_trigger, trigger_of, has_trigger, acts}
+use Rattle.trace_history.specs.Laws.{TriggersHaveTheirSpare}
+use Rattle.trace_history.specs.Settings.{NumberedEvent, is_same, makes, set_by, event_named, declares, declared_events}
+use Rattle.trace_history.specs.Snapshots.{SnapshotWrite, Frees, Takes, Empties, written_snapshot, spare_written, spare_armed, spare_armed_for, sets_spare, has_spare}
+use Rattle.trace_history.specs.Triggers.{Trigger, written_trigger, sets_trigger, trigger_of, has_trigger}
 use Rattle.trace_history.proofs.Events.{named_in-fewer, place_of_id}
 use Rattle.trace_history.proofs.EventLists.{named_at}
 use Rattle.trace_history.proofs.LegalEvents.{done-had_room, asked-done, named_in-more, named-is_numbered, legal-events}
-use Rattle.trace_history.proofs.PipeReads.{is_same-self}
-use Rattle.trace_history.proofs.Sides.{rings-stay, rings-made, side-has_all_cpus}
 
 -- ---- one instance by two names
 
@@ -45,7 +35,7 @@ same-instance (Some name) None same = absurd (cc)
 -- ---- the events that are declared
 
 -- a test of all events that one of them passes
-named-passes : (test : Definition → Bool) (past : List Request) (name : List ℕ) (k : NumberedEvent) → event_named name past ≡ Some k → test k.event ≡ true
+pub named-passes : (test : Definition → Bool) (past : List Request) (name : List ℕ) (k : NumberedEvent) → event_named name past ≡ Some k → test k.event ≡ true
     → list_any test (declared_events past) ≡ true
 named-passes test past name k found passes =
     let events = declared_events past in
@@ -187,7 +177,7 @@ record IsArmed (instance : Option (List ℕ)) (past : List Request) (k : Numbere
   armed : (t : Trigger) → event_named k.event.name past ≡ Some k → trigger_of instance k.event past ≡ Some t → has_spare instance past ≡ true
 
 -- a setting after a request
-abbrev left : {A : Type 0} → A → Bool → Option A → A → A
+abbrev pub left : {A : Type 0} → A → Bool → Option A → A → A
 left default new set before = if new then default else unwrap_or set before
 
 armed-after : (g : Config) (instance : Option (List ℕ)) (past : List Request) (request : Request) (k : NumberedEvent) → IsOk (answer_with_room g past request)
@@ -292,110 +282,3 @@ triggers_have_their_spare g entries instance legal has =
     (named_at events found.place found.event (legal-events g entries legal).are found.inside) in
     value_of-some (trigger_of instance found.event past) (has_spare instance past ≡ true) found.passes
     (λ t attached. (armed-legal g entries instance k legal).armed t there attached)
-
--- ---- without a spare
-
--- new rings stay so on the other side
-new-stay : (g : Config) (instance : Option (List ℕ)) (request : Request) → spare_after g instance request (new_rings g) ≡ new_rings g
-new-stay g instance (WriteFile other (Some (OfInstance top.Snapshot)) append text) = by (is_same instance other && clears_spare (written_snapshot text))
-  where
-    by : (clears : Bool) → (if clears then all_cleared (new_rings g) else new_rings g) ≡ new_rings g
-    by true =
-        let none : List ring.Event = [] in
-        ap (λ (n : ℕ). let rings : List (List ring.Event) = replicate n none in rings) (length-replicate g.cpus none)
-    by false = refl
-new-stay g instance (MakeInstance name) = by (makes instance (MakeInstance name))
-  where
-    by : (new : Bool) → (if new then new_rings g else new_rings g) ≡ new_rings g
-    by true = refl
-    by false = refl
-new-stay g instance request = refl
-
--- a spare that is freed is emptied
-freed-new : (g : Config) (instance : Option (List ℕ)) (past : List Request) (request : Request) → IsFreed instance request
-    → spare_after g instance request (other_rings g instance past) ≡ new_rings g
-freed-new g instance past request free =
-    let none : List ring.Event = [] in
-    let family = other_rings g instance past in
-    ap (λ (r : Request). spare_after g instance r family) free.is
-    ∙ rw (is_same-self instance, free.frees)
-    (ap (λ (n : ℕ). let rings : List (List ring.Event) = replicate n none in rings) (side-has_all_cpus g instance (1 - live_side instance past) past))
-
-takes-spare : (write : Option SnapshotWrite) → takes_snapshot write ≡ true → spare_written write ≡ Some true
-takes-spare (Some Takes) is = refl
-takes-spare (Some Frees) is = absurd (cc)
-takes-spare (Some Empties) is = absurd (cc)
-takes-spare None is = absurd (cc)
-
--- what exchanges the sides makes a spare, or is an emission on which a trigger acts
-exchange-armed : (instance : Option (List ℕ)) (past : List Request) (request : Request) → exchanges instance past request ≡ true
-    → (set_by instance (sets_spare past) request ≡ Some true)
-    ⊎ ((is_exchanged_by instance past (emitted past request) ≡ true) × (set_by instance (sets_spare past) request ≡ None))
-exchange-armed instance past (WriteFile other (Some (OfInstance top.Snapshot)) append text) is =
-    let parts = and_parts (is_same instance other) (takes_snapshot (written_snapshot text)) is in
-    inl (rw parts.0 (takes-spare (written_snapshot text) parts.1))
-exchange-armed instance past (Emission name cpu pid pairs) is = inr (is, refl)
-exchange-armed instance past _ is = absurd (cc)
-
--- Without a spare the other side is empty, where it was so and a trigger that acts has a spare.
-pub empty-after : (g : Config) (instance : Option (List ℕ)) (past : List Request) (request : Request)
-    → (is_exchanged_by instance past (emitted past request) ≡ true → has_spare instance past ≡ true)
-    → (has_spare instance past ≡ false → other_rings g instance past ≡ new_rings g)
-    → has_spare instance (request ∷ past) ≡ false → other_rings g instance (request ∷ past) ≡ new_rings g
-empty-after g instance past request acting before without = by_life (makes instance request) refl without
-  where
-    set_spare : Option Bool
-    set_spare = set_by instance (sets_spare past) request
-
-    by_set : (set : Option Bool) → set_spare ≡ set → unwrap_or set (has_spare instance past) ≡ false
-        → spare_after g instance request (other_rings g instance past) ≡ new_rings g
-    by_set None is h = ap (spare_after g instance request) (before h) ∙ new-stay g instance request
-    by_set (Some true) is h = absurd (cc)
-    by_set (Some false) is h = freed-new g instance past request (set-freed instance past request is)
-
-    no_exchange : unwrap_or set_spare (has_spare instance past) ≡ false
-        → (set_spare ≡ Some true) ⊎ ((is_exchanged_by instance past (emitted past request) ≡ true) × (set_spare ≡ None)) → ⊥
-    no_exchange h (inl set) = let e = rw set at h in cc
-    no_exchange h (inr acts) =
-        let e : has_spare instance past ≡ false = rw acts.1 at h in
-        true≢false (sym (acting acts.0) ∙ e)
-
-    by_exchange : (flips : Bool) → makes instance request ≡ false → exchanges instance past request ≡ flips
-        → unwrap_or set_spare (has_spare instance past) ≡ false → other_rings g instance (request ∷ past) ≡ new_rings g
-    by_exchange true alive is h = absurd (no_exchange h (exchange-armed instance past request is))
-    by_exchange false alive is h = (rings-stay g instance past request alive is).spare ∙ by_set set_spare refl h
-
-    by_life : (new : Bool) → makes instance request ≡ new → left false new set_spare (has_spare instance past) ≡ false
-        → other_rings g instance (request ∷ past) ≡ new_rings g
-    by_life true new h = (rings-made g instance past request new).spare
-    by_life false alive h = by_exchange (exchanges instance past request) alive refl h
-
--- an emission on which a trigger acts is one of a declared event that has it
-pub acting-has_trigger : (instance : Option (List ℕ)) (past : List Request) (request : Request)
-    → is_exchanged_by instance past (emitted past request) ≡ true → has_trigger instance past ≡ true
-acting-has_trigger instance past (Emission name cpu pid pairs) is = by (event_named name past) refl is
-  where
-    by_trigger : (e : Emitted) (o : Option Trigger) → trigger_of instance e.k.event past ≡ o → event_named name past ≡ Some e.k
-        → acts past e o ≡ true → has_trigger instance past ≡ true
-    by_trigger e None was there h = absurd (cc)
-    by_trigger e (Some t) was there h =
-        named-passes (λ (event : Definition). is_some (trigger_of instance event past)) past name e.k there (ap is_some was)
-
-    by_row : (k : NumberedEvent) (row : Result Cells (List ℕ)) → event_named name past ≡ Some k
-        → is_exchanged_by instance past (emitted_row (now_of past + 1) cpu pid k row) ≡ true → has_trigger instance past ≡ true
-    by_row k (Err missing) there h = absurd (cc)
-    by_row k (Ok row) there h =
-        by_trigger (record { k = k; row = row; cpu = cpu; pid = pid; timestamp = now_of past + 1 }) (trigger_of instance k.event past) refl there h
-
-    by : (found : Option NumberedEvent) → event_named name past ≡ found
-        → is_exchanged_by instance past (emitted_event (now_of past + 1) cpu pid pairs found) ≡ true → has_trigger instance past ≡ true
-    by None none h = absurd (cc)
-    by (Some k) there h = by_row k (row_of k.event pairs) there h
-acting-has_trigger instance past _ is = absurd (cc)
-
-pub spares_begin_empty : SparesBeginEmpty
-spares_begin_empty g [] instance legal without = refl
-spares_begin_empty g (entry ∷ entries) instance legal without =
-    empty-after g instance (requests_of entries) (request_of entry.command)
-    (λ acting. triggers_have_their_spare g entries instance legal.3 (acting-has_trigger instance (requests_of entries) (request_of entry.command) acting))
-    (spares_begin_empty g entries instance legal.3) without

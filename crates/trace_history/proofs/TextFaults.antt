@@ -1,5 +1,5 @@
 -- What is read of a text that is written is never refused for memory: the definitions take none.
-use Rattle.std.proofs.Common.{◌≡◌, inl, inr, ℕ, ◌+◌, ◌-◌, ◌^◌, Bool, true, false, if◌then◌else◌, codes, List, [], ◌∷◌, Option, None, Some, Result, Ok, Err, refl, ap}
+use Rattle.std.proofs.Common.{◌≡◌, ◌≢◌, ◌⊎◌, inl, inr, ℕ, ◌+◌, ◌-◌, ◌^◌, Bool, true, false, if◌then◌else◌, codes, List, [], ◌∷◌, Option, None, Some, Result, Ok, Err, refl, ap}
 use Rattle.std.specs.List.{list_all, prefix_len}
 use Rattle.std.specs.Prelude.{nat_lt, nat_le, ◌==◌, ◌&&◌, is_some, length}
 use Rattle.trace_filter.specs.declared.fault.FilterFault.{FilterFault}
@@ -9,6 +9,8 @@ use Rattle.trace_filter.proofs.FilterLemmas.{refusal_is_answered}
 use Rattle.trace_format.specs.Catalogs.{id_for, id_of}
 use Rattle.trace_format.specs.Cells.{record_size_of}
 use Rattle.trace_format.specs.Definitions.{Definition}
+use Rattle.trace_format.specs.declared.operand.Operand.{Operand}
+use Rattle.trace_format.specs.Operands.{operand_named, is_text}
 use Rattle.trace_format.specs.declared.fault.CatalogFault.TheVariants as catalogs
 use Rattle.trace_lex.specs.Blanks.{is_blank}
 use Rattle.trace_lex.specs.Decimals.{decimal_number, up_to}
@@ -64,7 +66,12 @@ hist_refused definition text (inr is) = by is.refusal
 
     by : {settings : List Setting} {only_if : Option (List ℕ)} → IsRefusal definition text settings only_if faults.Memory → ⊥
     by (ForMany over same) = cc
-    by (ForKey within offset is same) = cc
+    by (ForKey within is) = key is.wrong.wrong
+      where
+        key : ((operand_named definition.fields is.wrong.name ≡ None) × (faults.Memory ≡ faults.NoSuchField is.offset))
+            ⊎ ((operand : Operand) × (operand_named definition.fields is.wrong.name ≡ Some operand) × (is_text operand ≡ true) × (is.wrong.suffix ≢ []) × (faults.Memory ≡ faults.WrongOperator is.offset)) → ⊥
+        key (inl h) = let same : faults.Memory ≡ faults.NoSuchField is.offset = h.1 in cc
+        key (inr h) = let same : faults.Memory ≡ faults.WrongOperator is.offset = h.4 in cc
     by (ForValue within keys is) = value is.name is.offset is.wrong
     by (ForSize within keys values size same) = cc
     by (ForFilter within keys values size sized filter at told refused same) = condition filter _ told refused same

@@ -5,7 +5,7 @@ use Rattle.trace_format.specs.Cells.{record_size_of}
 use Rattle.trace_format.specs.Definitions.{Definition}
 
 -- the event has this name, and so many events were declared before it
-pub record IsPlaceOf (events : List Definition) (name : List ℕ) (index : ℕ) (event : Definition) : Type 0 where
+pub record IsIndexOf (events : List Definition) (name : List ℕ) (index : ℕ) (event : Definition) : Type 0 where
   pub inside : index < length events
   pub there : event ≡ slice_index_or events index event
   pub named : bytes_eq name event.name ≡ true

@@ -275,6 +275,18 @@ EmissionsAreCounted =
     → (rest : List Hit) × (hits_of instance t.table (later ++ request ∷ before) ≡ hits_of instance t.table before ++ counted_hit t e ∷ rest))
     (hist_triggers instance before)
 
+-- an emission that a trigger doesn't meet leaves the rows of its table as they are
+abbrev pub UnmetEmissionsAreNotCounted : Type 0
+UnmetEmissionsAreNotCounted =
+    (instance : Option (List ℕ)) (past : List Request) (request : Request) (e : Emitted) → emitted past request ≡ Some e
+    → All (λ t. meets t e ≡ false → hits_of instance t.table (request ∷ past) ≡ hits_of instance t.table past) (hist_triggers instance past)
+
+-- until something is asked of a table, it stays paused or not, whatever else is done
+abbrev pub OnlyAskingPauses : Type 0
+OnlyAskingPauses =
+    (instance : Option (List ℕ)) (table : ℕ) (later past : List Request) → some_later (asks instance table) later past ≡ false
+    → is_paused instance table (later ++ past) ≡ is_paused instance table past
+
 -- until something is asked of a table that is paused, it stays so and counts nothing, whatever else is done
 abbrev pub PausesCountNothing : Type 0
 PausesCountNothing =

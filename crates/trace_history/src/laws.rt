@@ -5,7 +5,7 @@ ghost use Rattle.trace_history.specs.Examples.{small, IsAnswered, merged_reads, 
 ghost use Rattle.trace_history.specs.SnapshotExamples.{two_snapshots, counted_trigger, unlimited_trigger, removed_trigger, trigger_of_disabled_event, refused_triggers, sides_of_an_instance};
 ghost use Rattle.trace_history.specs.HistTriggerExamples.{shown_triggers, refused_hist_triggers, paused_and_cleared, counted_unrecorded, histograms_of_an_instance, removed_hist_triggers, hist_triggers_anew, four_triggers, triggers_of_two_events};
 ghost use Rattle.trace_history.specs.SettingExamples.{switched, filters_of_all, options_of_an_instance, recorded_by_its_settings, emptied, refused_in_order, eight_instances, short, full_history};
-ghost use Rattle.trace_history.specs.Laws.{FiltersAreOfTheirEvents, FiltersHoldAsTheirTrees, RecordsShowTheirRows, KeptRecordsShowEmissions, KeptSpareRecordsShowEmissions, SnapshotsSwapTheSides, TriggersSwapTheSides, SnapshotsStay, TriggersHaveTheirSpare, SparesBeginEmpty, PipeReadsConsumeWhatTheyShow, WholePipeReadsConsumeWhatTheyShow, AtMostFourTriggers, HistTriggersDiffer, HistTriggersAreInOrder, CountedRowsAreOfEmissions, EmissionsAreCountedOnce, EmissionsAreCounted, PausesCountNothing, ClearsLeaveNone, OtherRequestsLeaveHistTriggers, TablesBeginEmpty, HistTriggersAreThoseAttached};
+ghost use Rattle.trace_history.specs.Laws.{FiltersAreOfTheirEvents, FiltersHoldAsTheirTrees, RecordsShowTheirRows, KeptRecordsShowEmissions, KeptSpareRecordsShowEmissions, SnapshotsSwapTheSides, TriggersSwapTheSides, SnapshotsStay, TriggersHaveTheirSpare, SparesBeginEmpty, PipeReadsConsumeWhatTheyShow, WholePipeReadsConsumeWhatTheyShow, AtMostFourTriggers, HistTriggersDiffer, HistTriggersAreInOrder, CountedRowsAreOfEmissions, EmissionsAreCountedOnce, EmissionsAreCounted, UnmetEmissionsAreNotCounted, OnlyAskingPauses, PausesCountNothing, ClearsLeaveNone, OtherRequestsLeaveHistTriggers, TablesBeginEmpty, HistTriggersAreThoseAttached};
 ghost use Rattle.trace_history.specs.TrailLaws.{TrailsHoldDoneCallsOnce, EachCallIsAnswered, LoneCallersAreAnswered, WornIsNoAnswer, MemoryIsNoAnswer};
 ghost use Rattle.trace_history.specs.TrailExamples.{FirstMakes, SecondMakes, ExactlyOneMakes};
 
@@ -69,12 +69,14 @@ pub fn emissions_are_counted()
     ensures rows { CountedRowsAreOfEmissions }
     ensures once { EmissionsAreCountedOnce }
     ensures counted { EmissionsAreCounted }
+    ensures unmet { UnmetEmissionsAreNotCounted }
 {}
 
-/// A table begins with no row. A pause counts nothing; `clear` leaves no row and ends no pause; and while the instance is there only emissions, and what
-/// is written to the event's own trigger file, reach a hist trigger and its table.
+/// A table begins with no row. It stays paused, or not, until it is asked for something; a pause counts nothing; `clear` leaves no row and ends no
+/// pause; and while the instance is there only emissions, and what is written to the event's own trigger file, reach a hist trigger and its table.
 pub fn only_their_own_file_changes_hist_triggers()
     ensures empty { TablesBeginEmpty }
+    ensures state { OnlyAskingPauses }
     ensures pause { PausesCountNothing }
     ensures clear { ClearsLeaveNone }
     ensures others { OtherRequestsLeaveHistTriggers }

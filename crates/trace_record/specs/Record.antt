@@ -38,6 +38,10 @@ record_of head payload = head_bytes head ++ payload ++ replicate (padding (lengt
 abbrev pub payload_in : Head → List ℕ → List ℕ
 payload_in head bytes = take head.payload (drop 16 bytes)
 
+-- the length of the record that the bytes begin with, as its head tells
+abbrev pub told_length : List ℕ → ℕ
+told_length bytes = record_size (number_at w16 14 bytes)
+
 -- a record: its length is the one that the head at its front tells
 unfoldable pub IsRecord : List ℕ → Type 0
 IsRecord bytes = IsSomeAnd (head_of bytes) (λ head. length bytes ≡ record_size head.payload)

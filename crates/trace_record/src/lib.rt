@@ -9,4 +9,4 @@ pub mod laws;
 mod record;
 
 pub use head::{HEAD_SIZE, Head, read_head, timestamp, write_head};
-pub use record::{payload_in, record_size};
+pub use record::{payload_in, record_size, told_length};

@@ -1,6 +1,6 @@
 //! A whole record: its size, and where its payload lies.
 
-ghost use Rattle.std.specs.Prelude.{◌≡◌, ◌+◌, ◌<◌, ◌^◌};
+ghost use Rattle.std.specs.Prelude.{◌≡◌, ◌+◌, ◌<◌, ◌≤◌, ◌^◌, length};
 ghost use Rattle.trace_record.specs.Record as records;
 
 use crate::head::{HEAD_SIZE, Head};
@@ -12,6 +12,14 @@ pub fn record_size(payload: usize) -> usize
     ensures bound { result < payload + 24 }
 {
     HEAD_SIZE + payload.div_ceil(8) * 8
+}
+
+/// The length of the record that the bytes begin with, as its head tells.
+pub fn told_length(bytes: &[u8]) -> usize
+    requires { 16 ≤ length bytes.now }
+    ensures { result ≡ records.told_length bytes.now }
+{
+    record_size(usize::from(u16::from_le_bytes([bytes[14], bytes[15]])))
 }
 
 /// The payload of a record with this head: as many bytes as the head tells, following the head, or as many as there are.

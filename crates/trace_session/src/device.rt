@@ -33,9 +33,15 @@ pub trait Sink {
     fn hears(&self) -> bool
         ensures { result ≡ false → heard self.now ≡ None };
 
+    /// Whether it is to hear of each line only once it has taken all that is written up to there. Each reply is then written by itself.
+    fn wants_output_first(&self) -> bool {
+        false
+    }
+
     /// Hears what became of the line of this number. Of a refusal or a fault it hears once it has taken all that is written up to there. Of a
     /// parallel part it hears of each command, in the order of their lines, once all of them were asked; if one was refused, it has taken all that
-    /// the part gives by then. It may tell of it elsewhere; the bytes that it holds stay, and that counts as no failure.
+    /// the part gives by then. If it wants the output first, that holds of what was done, too. It may tell of it elsewhere; the bytes that it holds
+    /// stay, and that counts as no failure.
     fn hear(&mut self, number: usize, line: &[u8], outcome: &Option<Outcome>)
         ensures bytes { contents self.new ≡ contents self.old }
         ensures failures { failures self.new ≡ failures self.old }

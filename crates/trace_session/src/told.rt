@@ -27,7 +27,8 @@ fn line_status(outcome: &Option<Outcome>) -> Status
     }
 }
 
-/// Writes what waits, unless all was done that a writer is to hear of: what it tells of a refusal or a fault comes after the lines of that.
+/// Writes what waits, unless all was done that a writer is to hear of and it doesn't want the output first: what it tells of a refusal or a fault
+/// comes after the lines of that.
 fn write_before<W: Sink>(status: Status, waiting: &mut Replies, writer: &mut W) -> Result<(), Stop>
     ensures written { OnOk result (Passes (W.contents writer.old) waiting.old (W.contents writer.new) waiting.new []) }
     ensures all { OnOk result (status ≢ Status.Done → waiting.new ≡ []) }
@@ -39,7 +40,7 @@ fn write_before<W: Sink>(status: Status, waiting: &mut Replies, writer: &mut W) 
     ensures heard { W.heard writer.new ≡ W.heard writer.old }
 {
     match status {
-        Status::Done => Ok(()),
+        Status::Done if !writer.wants_output_first() => Ok(()),
         _ => waiting.flush(writer),
     }
 }

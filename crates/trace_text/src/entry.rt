@@ -1,15 +1,16 @@
 //! The line of an entry of a histogram.
 
-ghost use Rattle.std.specs.Prelude.{◌≡◌, ◌++◌, ◌-◌, map, replicate, codes, OnOk};
+ghost use Rattle.std.specs.Prelude.{◌≡◌, ◌++◌, ◌-◌, map, replicate, codes, IfOk, OnOk};
 ghost use Rattle.std.specs.List.{flat_map, join_by, zip};
 ghost use Rattle.trace_format.specs.Cells.{datum_of};
+ghost use Rattle.trace_hist.specs.Buckets.{pattern_of as spec_pattern_of};
 ghost use Rattle.trace_hist.specs.PrintOrder.{row_in};
 ghost use Rattle.trace_text.specs.EntryText as texts;
 
 use itoa::{Buffer, Integer};
-use std::alloc::AllocError;
+use std::alloc::{AllocError, Global};
 use trace_format::{Text, Value};
-use trace_hist::{HistRow, HistSpec, Key};
+use trace_hist::{HistRow, HistSpec, Key, Modifier};
 
 /// Appends so many blanks.
 fn push_blanks(out: &mut Vec<u8>, count: usize) -> Result<(), AllocError>
@@ -21,22 +22,67 @@ fn push_blanks(out: &mut Vec<u8>, count: usize) -> Result<(), AllocError>
     Ok(())
 }
 
+/// Appends bytes on the right of 10 columns.
+fn push_on_the_right(out: &mut Vec<u8>, text: &[u8]) -> Result<(), AllocError>
+    ensures { OnOk result (out.new.items ≡ out.old.items ++ texts.on_the_right 10 text.now) }
+{
+    push_blanks(out, 10usize.saturating_sub(text.len()))?;
+    out.extend_from_slice(text)
+}
+
 /// Appends a number on the right of 10 columns.
 fn push_number_on_the_right<N: Integer>(out: &mut Vec<u8>, n: N) -> Result<(), AllocError>
     ensures { OnOk result (out.new.items ≡ out.old.items ++ texts.on_the_right 10 (N.text n)) }
 {
-    let mut buffer = Buffer::new();
-    let digits = buffer.format(n).as_bytes();
-    push_blanks(out, 10usize.saturating_sub(digits.len()))?;
-    out.extend_from_slice(digits)
+    push_on_the_right(out, Buffer::new().format(n).as_bytes())
 }
 
-/// Appends the value of a key.
-fn push_key_value(out: &mut Vec<u8>, value: &Value) -> Result<(), AllocError>
-    ensures { OnOk result (out.new.items ≡ out.old.items ++ texts.key_value (datum_of value.now)) }
+/// The 64-bit two's complement pattern of a number.
+fn pattern_of(number: i128) -> u64
+    ensures { result ≡ spec_pattern_of number }
+{
+    number.rem_euclid(1 << 64) as u64
+}
+
+/// The least and the greatest number of a bucket.
+fn range_text(alloc: Global, size: u32, lowest: i128) -> Result<Vec<u8>, AllocError>
+    ensures { IfOk result (λ text. text.items ≡ texts.bucket_text (Modifier.Buckets size) lowest) }
+{
+    let more = size.saturating_sub(1);
+    if lowest < 0 {
+        let highest = lowest + i128::from(more);
+        Ok(format!(in alloc; "~ {lowest}-{highest}")?.into_bytes())
+    } else {
+        let highest = lowest.unsigned_abs() + u128::from(more);
+        Ok(format!(in alloc; "~ {lowest}-{highest}")?.into_bytes())
+    }
+}
+
+/// Appends a bucket by its number, as a modifier shows it, on the right of 10 columns.
+fn push_bucket(out: &mut Vec<u8>, modifier: Modifier, number: i128) -> Result<(), AllocError>
+    ensures { OnOk result (out.new.items
+        ≡ out.old.items ++ texts.on_the_right 10 (texts.bucket_text modifier number)) }
+{
+    let alloc = *out.allocator();
+    let text = match modifier {
+        Modifier::Plain => return push_number_on_the_right(out, number),
+        Modifier::Hex => {
+            let pattern = pattern_of(number);
+            format!(in alloc; "{pattern:x}")?.into_bytes()
+        }
+        Modifier::Log2 => format!(in alloc; "~ 2^{number}")?.into_bytes(),
+        Modifier::Buckets(size) => range_text(alloc, size, number)?,
+    };
+    push_on_the_right(out, &text)
+}
+
+/// Appends the value of a key: a bucket, or a string.
+fn push_key_value(out: &mut Vec<u8>, modifier: Modifier, value: &Value) -> Result<(), AllocError>
+    ensures { OnOk result (out.new.items
+        ≡ out.old.items ++ texts.key_value modifier (datum_of value.now)) }
 {
     match value {
-        Value::Num(number) => push_number_on_the_right(out, *number),
+        Value::Num(number) => push_bucket(out, modifier, *number),
         Value::Text(bytes) => {
             out.extend_from_slice(bytes)?;
             push_blanks(out, 16usize.saturating_sub(bytes.len()))
@@ -51,7 +97,7 @@ fn push_key(out: &mut Vec<u8>, key: &Key, value: &Value) -> Result<(), AllocErro
 {
     out.extend_from_slice(key.name.as_bytes())?;
     out.extend_from_slice(b": ".as_slice())?;
-    push_key_value(out, value)
+    push_key_value(out, key.modifier, value)
 }
 
 /// Appends keys that follow another one.

@@ -12,7 +12,7 @@ use crate::append::{append_text, push_decimal};
 use crate::record::push_record_line;
 use std::alloc::{AllocError, Global};
 use trace_buffer::Taken;
-use trace_format::Catalog;
+use trace_format::{Catalog, RowMemory};
 
 /// Appends the line that says how many records of a CPU were lost; nothing if none was.
 #[tactic(auto, unfolding(crate::specs::TraceText::lost_line))]
@@ -33,6 +33,7 @@ pub(crate) fn push_lost_line(out: &mut Vec<u8>, cpu: u32, lost: u64) -> Result<(
 #[tactic(auto, unfolding(crate::specs::BufferText::taken_lines))]
 fn push_taken_lines(
     alloc: Global,
+    memory: &mut RowMemory,
     out: &mut Vec<u8>,
     catalog: &Catalog,
     taken: &Taken<'_>,
@@ -41,7 +42,7 @@ fn push_taken_lines(
         ≡ out.old.items ++ files.taken_lines catalog.now (taken_reading taken.now)) }
 {
     push_lost_line(out, taken.cpu, taken.lost)?;
-    push_record_line(alloc, out, catalog, taken.cpu, taken.rec)
+    push_record_line(alloc, memory, out, catalog, taken.cpu, taken.rec)
 }
 
 /// Appends the lines of all records.
@@ -54,8 +55,9 @@ fn push_taken(
     ensures { OnOk result (out.new.items
         ≡ out.old.items ++ flat_map (files.taken_lines catalog.now) (map taken_reading taken.now)) }
 {
+    let mut memory = RowMemory::new(alloc);
     for record in taken {
-        push_taken_lines(alloc, out, catalog, record)?;
+        push_taken_lines(alloc, &mut memory, out, catalog, record)?;
     }
     Ok(())
 }

@@ -8,7 +8,7 @@ ghost use Rattle.trace_text.specs.RecordText as texts;
 
 use crate::append::push_number;
 use std::alloc::{AllocError, Global};
-use trace_format::{Catalog, EventDef, Field, Row, Value};
+use trace_format::{Catalog, EventDef, Field, Row, RowMemory, Value};
 use trace_record::{Head, payload_in, read_head};
 
 /// Appends a number below 1,000 in three digits.
@@ -98,6 +98,7 @@ fn push_row_line(
 #[tactic(auto, using(crate::proofs::FrontLemmas::appending))]
 fn push_event_line(
     alloc: Global,
+    memory: &mut RowMemory,
     out: &mut Vec<u8>,
     cpu: u32,
     head: &Head,
@@ -107,20 +108,23 @@ fn push_event_line(
     ensures text { OnOk result (out.new.items ≡ out.old.items ++ texts.line_of_row cpu head.now def.now (row_from def.now payload.now)) }
     ensures kept { OnErr result (BeginWith out.old.items out.new.items) }
 {
-    match Row::decode(alloc, def, payload)? {
-        Some(row) => push_row_line(out, cpu, head, def, &row),
-        None => Ok(()),
-    }
+    let Some(row) = Row::decode_in(alloc, memory, def, payload)? else {
+        return Ok(());
+    };
+    push_row_line(out, cpu, head, def, &row)?;
+    *memory = RowMemory::from(row);
+    Ok(())
 }
 
 /// Appends the line of a record in `trace` and `trace_pipe` ("Output format" of ftrace.rst): pid, CPU in three digits, timestamp in ticks of
 /// the clock, event, and each field with its value, in order of declaration.
 ///
 /// `rec` is the record's bytes: its head, which names an event of the catalog, the payload of a row of that event, and what fills it up. Bytes
-/// with no head, of no such event, or with no row of it have no line.
+/// with no head, of no such event, or with no row of it have no line. The row is made in the memory of an earlier one.
 #[tactic(auto, using(crate::proofs::FrontLemmas::appending), unfolding(crate::specs::RecordText::record_line))]
 pub(crate) fn push_record_line(
     alloc: Global,
+    memory: &mut RowMemory,
     out: &mut Vec<u8>,
     catalog: &Catalog,
     cpu: u32,
@@ -135,5 +139,5 @@ pub(crate) fn push_record_line(
     let Some(def) = catalog.def(head.event) else {
         return Ok(());
     };
-    push_event_line(alloc, out, cpu, &head, def, payload_in(&head, rec))
+    push_event_line(alloc, memory, out, cpu, &head, def, payload_in(&head, rec))
 }

@@ -18,7 +18,7 @@ use crate::record::push_record_line;
 use page_ring::{Kept, KeptRecords};
 use std::alloc::{AllocError, Global};
 use trace_buffer::Buffer;
-use trace_format::Catalog;
+use trace_format::{Catalog, RowMemory};
 
 /// Appends the lines before the counts.
 #[tactic(auto, unfolding(crate::specs::TraceText::trace_title))]
@@ -84,8 +84,9 @@ fn push_merged(
     ensures { OnOk result (out.new.items
         ≡ out.old.items ++ flat_map (files.reading_line catalog.now) (map kept_reading records.now)) }
 {
+    let mut memory = RowMemory::new(alloc);
     for (cpu, kept) in records {
-        push_record_line(alloc, out, catalog, *cpu, kept.rec)?;
+        push_record_line(alloc, &mut memory, out, catalog, *cpu, kept.rec)?;
     }
     Ok(())
 }
@@ -101,8 +102,9 @@ fn push_kept(
     ensures { OnOk result (out.new.items
         ≡ out.old.items ++ flat_map (λ (r : Reading). record_line catalog.now cpu r.rec) records.entry) }
 {
+    let mut memory = RowMemory::new(alloc);
     for kept in records {
-        push_record_line(alloc, out, catalog, cpu, kept.rec)?;
+        push_record_line(alloc, &mut memory, out, catalog, cpu, kept.rec)?;
     }
     Ok(())
 }

@@ -10,7 +10,7 @@ use Rattle.trace_trigger.specs.declared.attribute.Attribute.{Attribute}
 use Rattle.trace_trigger.specs.HistAttributes.{head_len, attribute_of}
 use Rattle.trace_trigger.specs.HistPieces.{pieces_of}
 use Rattle.trace_trigger.specs.HistLists.{names_of, items_of}
-use Rattle.trace_trigger.specs.HistGrammar.{IsCut, Setting, Keys, Values, Sort, Size, Asks, Subject, OfKeys, OfValues, OfSort, OfSize, IsSortItem, WritesNames, WritesSort, Writes}
+use Rattle.trace_trigger.specs.HistGrammar.{IsCut, Setting, Keys, Values, Sort, Size, Asks, OfKeys, OfValues, OfSort, OfSize, IsKey, IsSortItem, AreNamedApart, WritesKeys, WritesValues, WritesSort, Writes}
 use Rattle.trace_trigger.proofs.CutLemmas.{found_is_cut, cut_names}
 use Rattle.trace_trigger.proofs.HeadLemmas.{value_in, value_read, action_read, read_value, read_action, HasTopic}
 
@@ -20,6 +20,11 @@ pub record AreNames (attribute : Attribute) (names : List (List ℕ)) : Type 0 w
   pub items : names_of (items_of attribute) ≡ names
   pub named : All (λ name. IsTrue (is_name name)) names
   pub apart : AllPairs (λ one other. one ≢ other) names
+
+pub record AreKeys (attribute : Attribute) (keys : List (List ℕ)) : Type 0 where
+  pub items : names_of (items_of attribute) ≡ keys
+  pub each : All IsKey keys
+  pub apart : AllPairs AreNamedApart keys
 
 pub record AreSortKeys (attribute : Attribute) (keys : List SortKey) : Type 0 where
   pub each : AllZip IsSortItem (names_of (items_of attribute)) keys
@@ -34,7 +39,7 @@ topic_of_setting (Size entries) = topic.Size
 topic_of_setting (Asks action) = topic.Asked action
 
 abbrev pub Holds : Attribute → Setting → Type 0
-Holds attribute (Keys names) = AreNames attribute names
+Holds attribute (Keys keys) = AreKeys attribute keys
 Holds attribute (Values names) = AreNames attribute names
 Holds attribute (Sort keys) = AreSortKeys attribute keys
 Holds attribute (Size entries) = decimal_number attribute.value ≡ Some entries
@@ -53,9 +58,14 @@ module _ (at : ℕ) (written : List ℕ) where
   items_are : (value : List ℕ) (items : List (List ℕ)) → value_in written ≡ value → IsCut 44 value items → names_of (items_of it) ≡ items
   items_are value items e cut = ap (λ (v : List ℕ). names_of (pieces_of 44 (at + head_len written) v)) e ∙ cut_names 44 (at + head_len written) value items cut
 
-  names_read : (subject : Subject) (names : List (List ℕ)) → (is : WritesNames subject written names) → AreNames it names
-  names_read subject names is =
-      let read = value_read subject written is.head is.value is.has in
+  keys_read : (keys : List (List ℕ)) → WritesKeys written keys → AreKeys it keys
+  keys_read keys is =
+      let read = value_read OfKeys written is.head is.value is.has in
+      record { items = items_are is.value keys read.found is.cut; each = is.each; apart = is.apart }
+
+  names_read : (names : List (List ℕ)) → WritesValues written names → AreNames it names
+  names_read names is =
+      let read = value_read OfValues written is.head is.value is.has in
       record { items = items_are is.value names read.found is.cut; named = is.named; apart = is.apart }
 
   sort_keys_read : (keys : List SortKey) → WritesSort written keys → AreSortKeys it keys
@@ -65,8 +75,8 @@ module _ (at : ℕ) (written : List ℕ) where
       record { each = subst (λ (parts : List (List ℕ)). AllZip IsSortItem parts keys) (sym items) is.each; apart = is.apart }
 
   pub written_is_read : (setting : Setting) → Writes written setting → IsRead it setting
-  written_is_read (Keys names) is = record { topic = (value_read OfKeys written is.head is.value is.has).topic; holds = names_read OfKeys names is }
-  written_is_read (Values names) is = record { topic = (value_read OfValues written is.head is.value is.has).topic; holds = names_read OfValues names is }
+  written_is_read (Keys keys) is = record { topic = (value_read OfKeys written is.head is.value is.has).topic; holds = keys_read keys is }
+  written_is_read (Values names) is = record { topic = (value_read OfValues written is.head is.value is.has).topic; holds = names_read names is }
   written_is_read (Sort keys) is = record { topic = (value_read OfSort written is.head is.value is.has).topic; holds = sort_keys_read keys is }
   written_is_read (Size entries) is =
       let read = value_read OfSize written is.head is.digits is.has in
@@ -78,13 +88,17 @@ module _ (at : ℕ) (written : List ℕ) where
   items_cut : (names : List (List ℕ)) → names_of (items_of it) ≡ names → IsCut 44 (value_in written) names
   items_cut names e = subst (IsCut 44 (value_in written)) e (found_is_cut 44 (at + head_len written) (value_in written))
 
-  names_written : (subject : Subject) (names : List (List ℕ)) → HasTopic subject written → AreNames it names → WritesNames subject written names
-  names_written subject names e is =
-      record { head = take (head_len written) written; value = value_in written; has = read_value subject written e; cut = items_cut names is.items; named = is.named; apart = is.apart }
+  keys_written : (keys : List (List ℕ)) → HasTopic OfKeys written → AreKeys it keys → WritesKeys written keys
+  keys_written keys e is =
+      record { head = take (head_len written) written; value = value_in written; has = read_value OfKeys written e; cut = items_cut keys is.items; each = is.each; apart = is.apart }
+
+  names_written : (names : List (List ℕ)) → HasTopic OfValues written → AreNames it names → WritesValues written names
+  names_written names e is =
+      record { head = take (head_len written) written; value = value_in written; has = read_value OfValues written e; cut = items_cut names is.items; named = is.named; apart = is.apart }
 
   pub read_is_written : (setting : Setting) → IsRead it setting → Writes written setting
-  read_is_written (Keys names) is = names_written OfKeys names is.topic is.holds
-  read_is_written (Values names) is = names_written OfValues names is.topic is.holds
+  read_is_written (Keys keys) is = keys_written keys is.topic is.holds
+  read_is_written (Values names) is = names_written names is.topic is.holds
   read_is_written (Sort keys) is =
       record {
         head = take (head_len written) written;

@@ -1,5 +1,5 @@
 -- What follows the `!` of a trigger text, if one is there, is as its grammar says: a word and a tail.
-use Rattle.std.proofs.Common.{◌≡◌, ℕ, codes, List, ◌∷◌, ◌++◌, take, drop, Option, Some, None, Ok, ap, sym, ◌∙◌}
+use Rattle.std.proofs.Common.{◌≡◌, ℕ, codes, List, ◌∷◌, ◌++◌, Option, Some, None, Ok, ap, sym, ◌∙◌}
 use Rattle.std.proofs.lemmas.List.{take-append-drop}
 use Rattle.std.specs.List.{prefix_len}
 use Rattle.trace_trigger.specs.Frames.{is_unblank, IsTail}

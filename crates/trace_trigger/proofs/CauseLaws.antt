@@ -227,7 +227,7 @@ module _ (definition : Definition) (text : List ℕ) (settings : List Setting) (
       at_values keys have (inr passed) = at_size keys passed.found have (values_right passed.found passed.is) (refused (size_of lists.size) (λ size. after_size keys passed.found size) fault passed.after)
 
       at_keys : (each (key_in definition.fields) lists.keys ≡ Err fault) ⊎ IsPassed (each (key_in definition.fields) lists.keys) (λ keys. after_keys keys) fault → Cause fault
-      at_keys (inl f) = let it = key_fault definition text cut fault f in ForKey within it.offset it.is it.same
+      at_keys (inl f) = ForKey within (key_fault definition text cut fault f)
       at_keys (inr passed) =
           at_values passed.found (keys_right passed.found passed.is)
           (refused (each (value_source definition.fields) (summed_items lists.values)) (λ values. after_values passed.found values) fault passed.after)
@@ -255,8 +255,8 @@ module _ (definition : Definition) (text : List ℕ) (settings : List Setting) (
   pub cause_told : (fault : TriggerFault) → Cause fault → from_lists ≡ Err fault
   cause_told fault (ForMany many same) =
       ap (λ (b : Bool). (if b then Err TooMany else Ok lists) >>= λ ls. spec_from definition text ls) (too_many many) ∙ ap (λ (f : TriggerFault). Err f) (sym same)
-  cause_told fault (ForKey within offset is same) =
-      few_so (few_enough within) ∙ ap (λ (r : Result (List Key) TriggerFault). r >>= λ keys. after_keys keys) (fault_key definition text offset is) ∙ ap (λ (f : TriggerFault). Err f) (sym same)
+  cause_told fault (ForKey within is) =
+      few_so (few_enough within) ∙ ap (λ (r : Result (List Key) TriggerFault). r >>= λ keys. after_keys keys) (fault_key definition text fault is)
   cause_told fault (ForValue within have is) =
       with_keys fault within have (ap (λ (r : Result (List Operand) TriggerFault). r >>= λ values. after_values (right_keys have).0 values) (fault_value definition text fault is))
   cause_told fault (ForSize within have right is same) =

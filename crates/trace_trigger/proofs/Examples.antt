@@ -9,15 +9,17 @@ use Rattle.trace_trigger.specs.HistLists.{lists_of}
 use Rattle.trace_trigger.specs.HistOffsets.{attribute_offsets, key_offsets, value_offsets, sort_offsets, wrong_offsets}
 use Rattle.trace_trigger.specs.Frames.{filter_of}
 use Rattle.trace_trigger.specs.HistTexts.{read_of, spec_from, spec_of}
-use Rattle.trace_trigger.specs.HistExamples.{tick, move, AreRead, accepted, accepted_of_move, wrong_attributes, wrong_items, too_many, wrong_names, wrong_values_of_move}
+use Rattle.trace_trigger.specs.HistExamples.{tick, move, AreRead, accepted, accepted_of_move, wrong_attributes, wrong_items, wrong_modifiers, too_many, wrong_names, wrong_keys_of_move, wrong_values_of_move}
 
 pub record AreAllRead : Type 0 where
   pub accepted : AreRead tick accepted
   pub accepted_of_move : AreRead move accepted_of_move
   pub attributes : AreRead tick wrong_attributes
   pub items : AreRead tick wrong_items
+  pub modifiers : AreRead tick wrong_modifiers
   pub many : AreRead tick too_many
   pub names : AreRead tick wrong_names
+  pub keys : AreRead move wrong_keys_of_move
   pub values : AreRead move wrong_values_of_move
 
 pub examples-are_read : AreAllRead
@@ -28,7 +30,9 @@ examples-are_read = record {
   accepted_of_move = refl;
   attributes = refl;
   items = refl;
+  modifiers = refl;
   many = refl;
   names = refl;
+  keys = refl;
   values = refl;
 }

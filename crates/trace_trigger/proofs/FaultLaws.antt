@@ -1,28 +1,26 @@
 -- The offsets that are found wrong in a text are those that are wrong in it: attributes, and items of lists.
-use Rattle.std.proofs.Common.{◌≡◌, ◌⊎◌, inl, inr, refl, ℕ, ◌+◌, Bool, true, false, not, ◌&&◌, ◌||◌, ◌==◌, if◌then◌else◌, bytes_eq, codes, List, [], ◌∷◌, ◌++◌, length, take, map, Option, Some, ap, sym, ◌∙◌, subst, append-nil}
-use Rattle.std.specs.List.{AllByRecursion, Any, prefix_len}
-use Rattle.std.proofs.lemmas.Bool.{or_cases, or_left, or_right, and_from, and_parts, not-true, not_from_false, not-false, eqb-true, false_from_ne_true}
-use Rattle.std.proofs.lemmas.List.{take-append-drop}
+use Rattle.std.proofs.Common.{◌≡◌, ◌⊎◌, inl, inr, refl, ℕ, ◌+◌, Bool, true, false, not, ◌&&◌, ◌||◌, if◌then◌else◌, codes, List, [], ◌∷◌, ◌++◌, length, take, map, Option, Some, ap, sym, ◌∙◌, subst}
+use Rattle.std.specs.List.{AllByRecursion, Any}
+use Rattle.std.proofs.lemmas.Bool.{or_cases, or_left, or_right, and_from, and_parts, not-true, not_from_false, false_from_ne_true}
 use Rattle.std.proofs.lemmas.List.Elements.{All-from_recursion, recursion_from_All}
 use Rattle.std.proofs.lemmas.Slice.Eq.{bytes_eq-Decides}
 use Rattle.trace_lex.specs.Names.{is_name}
-use Rattle.trace_lex.specs.Prefixes.{is_not}
-use Rattle.trace_lex.proofs.Lists.{BeginsNot}
 use Rattle.trace_trigger.specs.declared.spec.SortKey.{SortKey}
 use Rattle.trace_trigger.specs.declared.attribute.Attribute.{Attribute}
 use Rattle.trace_trigger.specs.declared.piece.ListItem.{ListItem}
 use Rattle.trace_trigger.specs.HistAttributes.{head_len, attribute_of}
 use Rattle.trace_trigger.specs.HistPieces.{pieces_of}
-use Rattle.trace_trigger.specs.HistLists.{first_about, items_in, Lists, lists_of, names_of, is_listed, is_hitcount, sort_name, sort_suffix, is_direction, is_sortable}
-use Rattle.trace_trigger.specs.HistOffsets.{wrong_after, is_wrong_attribute, attribute_offsets, is_wrong_name, is_sorted_by, is_wrong_sort}
-use Rattle.trace_trigger.specs.HistGrammar.{Subject, OfKeys, OfValues, OfSort, IsSortItem}
-use Rattle.trace_trigger.specs.HistFaultOffsets.{IsAt, IsAbout, IsUnknown, IsNoSize, IsRepeated, IsList, IsWrongName, IsLentBy, IsLent, HasSortName, IsWrongSort}
+use Rattle.trace_trigger.specs.HistLists.{first_about, items_in, Lists, lists_of, names_of, is_listed, is_named, is_hitcount, item_name, item_suffix, is_direction, is_sortable}
+use Rattle.trace_trigger.specs.HistOffsets.{wrong_after, is_wrong_attribute, attribute_offsets, is_wrong_key, is_wrong_value, is_wrong_sort}
+use Rattle.trace_trigger.specs.HistGrammar.{Subject, OfKeys, OfValues, OfSort, HasName, IsSortItem}
+use Rattle.trace_trigger.specs.HistFaultOffsets.{IsAt, IsAbout, IsUnknown, IsNoSize, IsRepeated, IsList, IsNoKey, IsNoValue, IsLentBy, IsLent, IsWrongSort}
 use Rattle.trace_trigger.proofs.CutLemmas.{located, cut_pieces, found_is_cut, names_of-located}
-use Rattle.trace_trigger.proofs.WordLemmas.{sort_key_in, sort_read, sort_written, begins_dotted}
+use Rattle.trace_trigger.proofs.WordLemmas.{sort_key_in, sort_read, sort_written}
 use Rattle.trace_trigger.proofs.HeadLemmas.{topic_in, value_in, topic_for, HasTopic, value_read, read_value}
 use Rattle.trace_trigger.proofs.ListLaws.{Member, member_from, from_member}
 use Rattle.trace_trigger.proofs.SettingLaws.{listed_member, member_listed}
-use Rattle.trace_trigger.proofs.PartLaws.{run_stops}
+use Rattle.trace_trigger.proofs.NameLaws.{own_name, name_is, some_named, named_some}
+use Rattle.trace_trigger.proofs.KeyLaws.{unkeyed, key_good, good_key}
 use Rattle.trace_trigger.proofs.OffsetLemmas.{size, offsets, IsWrongThere, sound, complete}
 use Rattle.trace_trigger.proofs.SubjectLaws.{is_keys, is_values, is_sort, about_topic, HasSome, any_some, some_any, wrong_is, is_wrong, located_attributes, FirstIs, FirstIsNone, first_at, first_or_none}
 
@@ -158,58 +156,49 @@ module _ (start : ℕ) (parts : List (List ℕ)) where
 
 -- ---- items of keys and of values
 
-pub item_wrong : (start offset : ℕ) (before : List (List ℕ)) (item : List ℕ) → is_wrong_name (located start before) (record { at = offset; bytes = item }) ≡ true → IsWrongName before item
-item_wrong start offset before item e = by (or_cases (not (is_name item)) (is_listed (located start before) item) e)
+pub key_wrong : (start offset : ℕ) (before : List (List ℕ)) (item : List ℕ) → is_wrong_key (located start before) (record { at = offset; bytes = item }) ≡ true → IsNoKey before item
+key_wrong start offset before item e = by (or_cases (unkeyed item) (is_named (located start before) (item_name item)) e)
   where
-    by : (not (is_name item) ≡ true) ⊎ (is_listed (located start before) item ≡ true) → IsWrongName before item
+    by : (unkeyed item ≡ true) ⊎ (is_named (located start before) (item_name item) ≡ true) → IsNoKey before item
+    by (inl f) = inl (λ is. (let good = good_key item is in cc))
+    by (inr f) =
+        inr (
+          item_name item,
+          own_name item,
+          some_any (HasName (item_name item)) before (subst (HasSome (HasName (item_name item))) (names_of-located 44 start before) (some_named (item_name item) (located start before) f)),
+        )
+
+pub wrong_key : (start offset : ℕ) (before : List (List ℕ)) (item : List ℕ) → IsNoKey before item → is_wrong_key (located start before) (record { at = offset; bytes = item }) ≡ true
+wrong_key start offset before item (inl none) = or_left (unkeyed item) (is_named (located start before) (item_name item)) (by (unkeyed item) refl)
+  where
+    by : (b : Bool) → unkeyed item ≡ b → b ≡ true
+    by true e = refl
+    by false e = absurd (none (key_good item e))
+wrong_key start offset before item (inr is) =
+    or_right (unkeyed item) (is_named (located start before) (item_name item))
+    (ap (is_named (located start before)) (name_is is.0 item is.1)
+    ∙ named_some is.0 (located start before) (subst (HasSome (HasName is.0)) (sym (names_of-located 44 start before)) (any_some (HasName is.0) before is.2)))
+
+pub value_wrong : (start offset : ℕ) (before : List (List ℕ)) (item : List ℕ) → is_wrong_value (located start before) (record { at = offset; bytes = item }) ≡ true → IsNoValue before item
+value_wrong start offset before item e = by (or_cases (not (is_name item)) (is_listed (located start before) item) e)
+  where
+    by : (not (is_name item) ≡ true) ⊎ (is_listed (located start before) item ≡ true) → IsNoValue before item
     by (inl f) = inl (not-true (is_name item) f)
     by (inr f) = inr (from_member item before (subst (Member item) (names_of-located 44 start before) (listed_member item (located start before) f)))
 
-pub wrong_item : (start offset : ℕ) (before : List (List ℕ)) (item : List ℕ) → IsWrongName before item → is_wrong_name (located start before) (record { at = offset; bytes = item }) ≡ true
-wrong_item start offset before item (inl e) = or_left (not (is_name item)) (is_listed (located start before) item) (not_from_false (is_name item) e)
-wrong_item start offset before item (inr is) =
+pub wrong_value : (start offset : ℕ) (before : List (List ℕ)) (item : List ℕ) → IsNoValue before item → is_wrong_value (located start before) (record { at = offset; bytes = item }) ≡ true
+wrong_value start offset before item (inl e) = or_left (not (is_name item)) (is_listed (located start before) item) (not_from_false (is_name item) e)
+wrong_value start offset before item (inr is) =
     or_right (not (is_name item)) (is_listed (located start before) item) (member_listed item (located start before) (subst (Member item) (sym (names_of-located 44 start before)) (member_from item before is)))
 
 -- ---- items to sort by
 
--- an item has a name up to its first `.`
-suffix_begins : (item : List ℕ) → (sort_suffix item ≡ []) ⊎ ((rest : List ℕ) × (sort_suffix item ≡ 46 ∷ rest))
-suffix_begins item = by (sort_suffix item) (run_stops (is_not 46) item)
-  where
-    by : (suffix : List ℕ) → BeginsNot (is_not 46) suffix → (suffix ≡ []) ⊎ ((rest : List ℕ) × (suffix ≡ 46 ∷ rest))
-    by [] stops = inl refl
-    by (b ∷ rest) stops = inr (rest, ap (λ c. c ∷ rest) (eqb-true b 46 (not-false (b == 46) stops)))
-
-item_cut : (item : List ℕ) → item ≡ sort_name item ++ sort_suffix item
-item_cut item = sym (take-append-drop (prefix_len (is_not 46) item) item)
-
-has_name : (name item : List ℕ) → sort_name item ≡ name → HasSortName name item
-has_name name item e = by (suffix_begins item)
-  where
-    by : (sort_suffix item ≡ []) ⊎ ((rest : List ℕ) × (sort_suffix item ≡ 46 ∷ rest)) → HasSortName name item
-    by (inl none) = inl (item_cut item ∙ (λ i. e i ++ none i) ∙ append-nil name)
-    by (inr some) = inr (some.0, item_cut item ∙ (λ i. e i ++ some.1 i))
-
-name_is : (name item : List ℕ) → is_name name ≡ true → HasSortName name item → sort_name item ≡ name
-name_is name item named (inl e) = ap sort_name (e ∙ sym (append-nil name)) ∙ (begins_dotted name [] named tt).0
-name_is name item named (inr is) = ap sort_name is.1 ∙ (begins_dotted name (46 ∷ is.0) named refl).0
-
 -- one of the items has this name
-among_sorts : (name : List ℕ) (start : ℕ) (before : List (List ℕ)) → is_sorted_by (located start before) name ≡ true → HasSome (HasSortName name) before
-among_sorts name start [] e = absurd (cc)
-among_sorts name start (item ∷ before) e = by (or_cases (bytes_eq name (sort_name item)) (is_sorted_by (located (start + 1 + length item) before) name) e) (among_sorts name (start + 1 + length item) before)
-  where
-    by : (bytes_eq name (sort_name item) ≡ true) ⊎ (is_sorted_by (located (start + 1 + length item) before) name ≡ true) → (is_sorted_by (located (start + 1 + length item) before) name ≡ true → HasSome (HasSortName name) before)
-        → HasSome (HasSortName name) (item ∷ before)
-    by (inl f) next = record { element = item; member = inl refl; holds = has_name name item (sym ((bytes_eq-Decides name (sort_name item)).0 f)) }
-    by (inr f) next = let rest = next f in record { element = rest.element; member = inr rest.member; holds = rest.holds }
+among_sorts : (name : List ℕ) (start : ℕ) (before : List (List ℕ)) → is_named (located start before) name ≡ true → HasSome (HasName name) before
+among_sorts name start before e = subst (HasSome (HasName name)) (names_of-located 44 start before) (some_named name (located start before) e)
 
-sorts_among : (name : List ℕ) (start : ℕ) (before : List (List ℕ)) (item : List ℕ) → sort_name item ≡ name → Member item before → is_sorted_by (located start before) name ≡ true
-sorts_among name start [] item e is = absurd is
-sorts_among name start (other ∷ before) item e (inl same) =
-    or_left (bytes_eq name (sort_name other)) (is_sorted_by (located (start + 1 + length other) before) name) ((bytes_eq-Decides name (sort_name other)).1 (sym e ∙ ap sort_name same))
-sorts_among name start (other ∷ before) item e (inr is) =
-    or_right (bytes_eq name (sort_name other)) (is_sorted_by (located (start + 1 + length other) before) name) (sorts_among name (start + 1 + length other) before item e is)
+sorts_among : (name : List ℕ) (start : ℕ) (before : List (List ℕ)) → HasSome (HasName name) before → is_named (located start before) name ≡ true
+sorts_among name start before some = named_some name (located start before) (subst (HasSome (HasName name)) (sym (names_of-located 44 start before)) some)
 
 module _ (begin : ℕ) (parts : List (List ℕ)) where
   abbrev lists : Lists
@@ -217,46 +206,56 @@ module _ (begin : ℕ) (parts : List (List ℕ)) where
 
   -- ---- what can be sorted by
 
-  lent_by : (subject : Subject) (name : List ℕ) → FoundList begin parts subject ⊎ NoList begin parts subject
-      → is_listed (items_in (first_about (topic_for subject) (located_attributes begin parts))) name ≡ true → IsLentBy subject parts name
-  lent_by subject name (inl is) e =
-      let are = items_are begin parts subject is.before is.attribute is.head is.items is.about is.list in
+  lent_key : (name : List ℕ) → FoundList begin parts OfKeys ⊎ NoList begin parts OfKeys → is_named (items_in (first_about (topic_for OfKeys) (located_attributes begin parts))) name ≡ true → IsLentBy OfKeys parts name
+  lent_key name (inl is) e =
+      let are = items_are begin parts OfKeys is.before is.attribute is.head is.items is.about is.list in
+      let some : HasSome (HasName name) is.items = among_sorts name (items_start begin parts is.before is.head) is.items (ap (λ (pieces : List ListItem). is_named pieces name) (sym are.are) ∙ e) in
+      record { before = is.before; attribute = is.attribute; head = is.head; items = is.items; list = is.list; among = some_any (HasName name) is.items some }
+  lent_key name (inr none) e = let no : is_named (items_in (first_about (topic_for OfKeys) (located_attributes begin parts))) name ≡ false = ap (λ (pieces : List ListItem). is_named pieces name) none.none in absurd (cc)
+
+  key_lent : (name : List ℕ) → (is : IsLentBy OfKeys parts name) → is_named (items_in (first_about (topic_for OfKeys) (located_attributes begin parts))) name ≡ true
+  key_lent name is =
+      let are = items_are begin parts OfKeys is.before is.attribute is.head is.items (is.head, is.list.value, is.list.has) is.list in
+      ap (λ (pieces : List ListItem). is_named pieces name) are.are ∙ sorts_among name (items_start begin parts is.before is.head) is.items (any_some (HasName name) is.items is.among)
+
+  lent_value : (name : List ℕ) → FoundList begin parts OfValues ⊎ NoList begin parts OfValues → is_listed (items_in (first_about (topic_for OfValues) (located_attributes begin parts))) name ≡ true → IsLentBy OfValues parts name
+  lent_value name (inl is) e =
+      let are = items_are begin parts OfValues is.before is.attribute is.head is.items is.about is.list in
       let member : Member name (names_of (located (items_start begin parts is.before is.head) is.items)) =
       listed_member name (located (items_start begin parts is.before is.head) is.items) (ap (λ (pieces : List ListItem). is_listed pieces name) (sym are.are) ∙ e) in
       record { before = is.before; attribute = is.attribute; head = is.head; items = is.items; list = is.list; among = from_member name is.items (subst (Member name) (names_of-located 44 (items_start begin parts is.before is.head) is.items) member) }
-  lent_by subject name (inr none) e = let no : is_listed (items_in (first_about (topic_for subject) (located_attributes begin parts))) name ≡ false = ap (λ (pieces : List ListItem). is_listed pieces name) none.none in absurd (cc)
+  lent_value name (inr none) e = let no : is_listed (items_in (first_about (topic_for OfValues) (located_attributes begin parts))) name ≡ false = ap (λ (pieces : List ListItem). is_listed pieces name) none.none in absurd (cc)
 
-  by_lent : (subject : Subject) (name : List ℕ) → (is : IsLentBy subject parts name) → IsAbout subject is.attribute
-      → is_listed (items_in (first_about (topic_for subject) (located_attributes begin parts))) name ≡ true
-  by_lent subject name is about =
-      let are = items_are begin parts subject is.before is.attribute is.head is.items about is.list in
+  value_lent : (name : List ℕ) → (is : IsLentBy OfValues parts name) → is_listed (items_in (first_about (topic_for OfValues) (located_attributes begin parts))) name ≡ true
+  value_lent name is =
+      let are = items_are begin parts OfValues is.before is.attribute is.head is.items (is.head, is.list.value, is.list.has) is.list in
       ap (λ (pieces : List ListItem). is_listed pieces name) are.are
       ∙ member_listed name (located (items_start begin parts is.before is.head) is.items) (subst (Member name) (sym (names_of-located 44 (items_start begin parts is.before is.head) is.items)) (member_from name is.items is.among))
 
   lent_is : (name : List ℕ) → is_name name ≡ true → is_sortable lists name ≡ true → IsLent parts name
   unfolding lists_of
-  lent_is name named e = by (or_cases (is_hitcount name) (is_name name && (is_listed lists.keys name || is_listed lists.values name)) e)
+  lent_is name named e = by (or_cases (is_hitcount name) (is_name name && (is_named lists.keys name || is_listed lists.values name)) e)
     where
-      either : (is_listed (lists_of (located_attributes begin parts)).keys name ≡ true) ⊎ (is_listed (lists_of (located_attributes begin parts)).values name ≡ true) → IsLent parts name
-      either (inl f) = inr (inl (lent_by OfKeys name (keys_list begin parts) f))
-      either (inr f) = inr (inr (lent_by OfValues name (values_list begin parts) f))
+      either : (is_named (lists_of (located_attributes begin parts)).keys name ≡ true) ⊎ (is_listed (lists_of (located_attributes begin parts)).values name ≡ true) → IsLent parts name
+      either (inl f) = inr (inl (lent_key name (keys_list begin parts) f))
+      either (inr f) = inr (inr (lent_value name (values_list begin parts) f))
 
-      by : (is_hitcount name ≡ true) ⊎ ((is_name name && (is_listed (lists_of (located_attributes begin parts)).keys name || is_listed (lists_of (located_attributes begin parts)).values name)) ≡ true) → IsLent parts name
+      by : (is_hitcount name ≡ true) ⊎ ((is_name name && (is_named (lists_of (located_attributes begin parts)).keys name || is_listed (lists_of (located_attributes begin parts)).values name)) ≡ true) → IsLent parts name
       by (inl f) = inl ((bytes_eq-Decides name (codes "hitcount")).0 f)
-      by (inr f) = either (or_cases (is_listed (lists_of (located_attributes begin parts)).keys name) (is_listed (lists_of (located_attributes begin parts)).values name)
-          (and_parts (is_name name) (is_listed (lists_of (located_attributes begin parts)).keys name || is_listed (lists_of (located_attributes begin parts)).values name) f).1)
+      by (inr f) = either (or_cases (is_named (lists_of (located_attributes begin parts)).keys name) (is_listed (lists_of (located_attributes begin parts)).values name)
+          (and_parts (is_name name) (is_named (lists_of (located_attributes begin parts)).keys name || is_listed (lists_of (located_attributes begin parts)).values name) f).1)
 
   is_lent : (name : List ℕ) → is_name name ≡ true → IsLent parts name → is_sortable lists name ≡ true
   unfolding lists_of
-  is_lent name named (inl e) = or_left (is_hitcount name) (is_name name && (is_listed lists.keys name || is_listed lists.values name)) ((bytes_eq-Decides name (codes "hitcount")).1 e)
+  is_lent name named (inl e) = or_left (is_hitcount name) (is_name name && (is_named lists.keys name || is_listed lists.values name)) ((bytes_eq-Decides name (codes "hitcount")).1 e)
   is_lent name named (inr (inl is)) =
-      or_right (is_hitcount name) (is_name name && (is_listed lists.keys name || is_listed lists.values name))
-      (and_from (is_name name) (is_listed lists.keys name || is_listed lists.values name) named
-      (or_left (is_listed lists.keys name) (is_listed lists.values name) (by_lent OfKeys name is (is.head, is.list.value, is.list.has))))
+      or_right (is_hitcount name) (is_name name && (is_named lists.keys name || is_listed lists.values name))
+      (and_from (is_name name) (is_named lists.keys name || is_listed lists.values name) named
+      (or_left (is_named lists.keys name) (is_listed lists.values name) (key_lent name is)))
   is_lent name named (inr (inr is)) =
-      or_right (is_hitcount name) (is_name name && (is_listed lists.keys name || is_listed lists.values name))
-      (and_from (is_name name) (is_listed lists.keys name || is_listed lists.values name) named
-      (or_right (is_listed lists.keys name) (is_listed lists.values name) (by_lent OfValues name is (is.head, is.list.value, is.list.has))))
+      or_right (is_hitcount name) (is_name name && (is_named lists.keys name || is_listed lists.values name))
+      (and_from (is_name name) (is_named lists.keys name || is_listed lists.values name) named
+      (or_right (is_named lists.keys name) (is_listed lists.values name) (value_lent name is)))
 
   -- ---- wrong items
 
@@ -264,46 +263,46 @@ module _ (begin : ℕ) (parts : List (List ℕ)) where
     abbrev there : ListItem
     there = record { at = offset; bytes = item }
 
-    never_sort : (is_name (sort_name item) && is_direction (sort_suffix item)) ≡ false → (key : SortKey) → IsSortItem item key → ⊥
+    never_sort : (is_name (item_name item) && is_direction (item_suffix item)) ≡ false → (key : SortKey) → IsSortItem item key → ⊥
     never_sort e key is =
         let read = sort_read item key is in
-        let named : is_name (sort_name item) ≡ true = ap is_name read.name ∙ is.named in
-        let both : (is_name (sort_name item) && is_direction (sort_suffix item)) ≡ true = and_from (is_name (sort_name item)) (is_direction (sort_suffix item)) named read.direction in
+        let named : is_name (item_name item) ≡ true = ap is_name read.name ∙ is.named in
+        let both : (is_name (item_name item) && is_direction (item_suffix item)) ≡ true = and_from (is_name (item_name item)) (is_direction (item_suffix item)) named read.direction in
         cc
 
-    sort_wrong_by : is_name (sort_name item) ≡ true → is_direction (sort_suffix item) ≡ true
-        → ((not (is_sortable lists (sort_name item)) || not (is_direction (sort_suffix item))) ≡ true) ⊎ (is_sorted_by (located start before) (sort_name item) ≡ true) → IsWrongSort parts before item
-    sort_wrong_by named direction (inl e) = inr (sort_key_in item, sort_written item named direction, inr (not_lent (or_cases (not (is_sortable lists (sort_name item))) (not (is_direction (sort_suffix item))) e)))
+    sort_wrong_by : is_name (item_name item) ≡ true → is_direction (item_suffix item) ≡ true
+        → ((not (is_sortable lists (item_name item)) || not (is_direction (item_suffix item))) ≡ true) ⊎ (is_named (located start before) (item_name item) ≡ true) → IsWrongSort parts before item
+    sort_wrong_by named direction (inl e) = inr (sort_key_in item, sort_written item named direction, inr (not_lent (or_cases (not (is_sortable lists (item_name item))) (not (is_direction (item_suffix item))) e)))
       where
-        not_lent : (not (is_sortable lists (sort_name item)) ≡ true) ⊎ (not (is_direction (sort_suffix item)) ≡ true) → IsLent parts (sort_name item) → ⊥
-        not_lent (inl f) lent = let can = is_lent (sort_name item) named lent in let cannot = not-true (is_sortable lists (sort_name item)) f in cc
-        not_lent (inr f) lent = let no = not-true (is_direction (sort_suffix item)) f in let is = direction in cc
-    sort_wrong_by named direction (inr e) = inr (sort_key_in item, sort_written item named direction, inl (some_any (HasSortName (sort_name item)) before (among_sorts (sort_name item) start before e)))
+        not_lent : (not (is_sortable lists (item_name item)) ≡ true) ⊎ (not (is_direction (item_suffix item)) ≡ true) → IsLent parts (item_name item) → ⊥
+        not_lent (inl f) lent = let can = is_lent (item_name item) named lent in let cannot = not-true (is_sortable lists (item_name item)) f in cc
+        not_lent (inr f) lent = let no = not-true (is_direction (item_suffix item)) f in let is = direction in cc
+    sort_wrong_by named direction (inr e) = inr (sort_key_in item, sort_written item named direction, inl (some_any (HasName (item_name item)) before (among_sorts (item_name item) start before e)))
 
     pub sort_wrong : is_wrong_sort lists (located start before) there ≡ true → IsWrongSort parts before item
-    sort_wrong e = by (is_name (sort_name item) && is_direction (sort_suffix item)) refl
+    sort_wrong e = by (is_name (item_name item) && is_direction (item_suffix item)) refl
       where
-        by : (b : Bool) → (is_name (sort_name item) && is_direction (sort_suffix item)) ≡ b → IsWrongSort parts before item
+        by : (b : Bool) → (is_name (item_name item) && is_direction (item_suffix item)) ≡ b → IsWrongSort parts before item
         by false f = inl (never_sort f)
         by true f =
-            let both = and_parts (is_name (sort_name item)) (is_direction (sort_suffix item)) f in
-            sort_wrong_by both.0 both.1 (or_cases (not (is_sortable lists (sort_name item)) || not (is_direction (sort_suffix item))) (is_sorted_by (located start before) (sort_name item)) e)
+            let both = and_parts (is_name (item_name item)) (is_direction (item_suffix item)) f in
+            sort_wrong_by both.0 both.1 (or_cases (not (is_sortable lists (item_name item)) || not (is_direction (item_suffix item))) (is_named (located start before) (item_name item)) e)
 
     -- what can be sorted by is a name
-    unnamed_unsorted : is_name (sort_name item) ≡ false → is_sortable lists (sort_name item) ≡ false
-    unnamed_unsorted e = false_from_ne_true (is_sortable lists (sort_name item)) (λ is. by (or_cases (is_hitcount (sort_name item)) (is_name (sort_name item) && (is_listed lists.keys (sort_name item) || is_listed lists.values (sort_name item))) is))
+    unnamed_unsorted : is_name (item_name item) ≡ false → is_sortable lists (item_name item) ≡ false
+    unnamed_unsorted e = false_from_ne_true (is_sortable lists (item_name item)) (λ is. by (or_cases (is_hitcount (item_name item)) (is_name (item_name item) && (is_named lists.keys (item_name item) || is_listed lists.values (item_name item))) is))
       where
-        by : (is_hitcount (sort_name item) ≡ true) ⊎ ((is_name (sort_name item) && (is_listed lists.keys (sort_name item) || is_listed lists.values (sort_name item))) ≡ true) → ⊥
-        by (inl f) = let named : is_name (sort_name item) ≡ true = ap is_name ((bytes_eq-Decides (sort_name item) (codes "hitcount")).0 f) in cc
-        by (inr f) = let parts = and_parts (is_name (sort_name item)) (is_listed lists.keys (sort_name item) || is_listed lists.values (sort_name item)) f in let named = parts.0 in cc
+        by : (is_hitcount (item_name item) ≡ true) ⊎ ((is_name (item_name item) && (is_named lists.keys (item_name item) || is_listed lists.values (item_name item))) ≡ true) → ⊥
+        by (inl f) = let named : is_name (item_name item) ≡ true = ap is_name ((bytes_eq-Decides (item_name item) (codes "hitcount")).0 f) in cc
+        by (inr f) = let parts = and_parts (is_name (item_name item)) (is_named lists.keys (item_name item) || is_listed lists.values (item_name item)) f in let named = parts.0 in cc
 
-    flagged : (not (is_sortable lists (sort_name item)) || not (is_direction (sort_suffix item))) ≡ true → is_wrong_sort lists (located start before) there ≡ true
-    flagged e = or_left (not (is_sortable lists (sort_name item)) || not (is_direction (sort_suffix item))) (is_sorted_by (located start before) (sort_name item)) e
+    flagged : (not (is_sortable lists (item_name item)) || not (is_direction (item_suffix item))) ≡ true → is_wrong_sort lists (located start before) there ≡ true
+    flagged e = or_left (not (is_sortable lists (item_name item)) || not (is_direction (item_suffix item))) (is_named (located start before) (item_name item)) e
 
-    no_sort : ((key : SortKey) → IsSortItem item key → ⊥) → (is_name (sort_name item) ≡ false) ⊎ (is_direction (sort_suffix item) ≡ false)
-    no_sort none = by (is_name (sort_name item)) (is_direction (sort_suffix item)) refl refl
+    no_sort : ((key : SortKey) → IsSortItem item key → ⊥) → (is_name (item_name item) ≡ false) ⊎ (is_direction (item_suffix item) ≡ false)
+    no_sort none = by (is_name (item_name item)) (is_direction (item_suffix item)) refl refl
       where
-        by : (named direction : Bool) → is_name (sort_name item) ≡ named → is_direction (sort_suffix item) ≡ direction → (is_name (sort_name item) ≡ false) ⊎ (is_direction (sort_suffix item) ≡ false)
+        by : (named direction : Bool) → is_name (item_name item) ≡ named → is_direction (item_suffix item) ≡ direction → (is_name (item_name item) ≡ false) ⊎ (is_direction (item_suffix item) ≡ false)
         by false direction e f = inl e
         by true false e f = inr f
         by true true e f = absurd (none (sort_key_in item) (sort_written item e f))
@@ -311,20 +310,19 @@ module _ (begin : ℕ) (parts : List (List ℕ)) where
     pub wrong_sort : IsWrongSort parts before item → is_wrong_sort lists (located start before) there ≡ true
     wrong_sort (inl none) = by (no_sort none)
       where
-        by : (is_name (sort_name item) ≡ false) ⊎ (is_direction (sort_suffix item) ≡ false) → is_wrong_sort lists (located start before) there ≡ true
-        by (inl e) = flagged (or_left (not (is_sortable lists (sort_name item))) (not (is_direction (sort_suffix item))) (not_from_false (is_sortable lists (sort_name item)) (unnamed_unsorted e)))
-        by (inr e) = flagged (or_right (not (is_sortable lists (sort_name item))) (not (is_direction (sort_suffix item))) (not_from_false (is_direction (sort_suffix item)) e))
+        by : (is_name (item_name item) ≡ false) ⊎ (is_direction (item_suffix item) ≡ false) → is_wrong_sort lists (located start before) there ≡ true
+        by (inl e) = flagged (or_left (not (is_sortable lists (item_name item))) (not (is_direction (item_suffix item))) (not_from_false (is_sortable lists (item_name item)) (unnamed_unsorted e)))
+        by (inr e) = flagged (or_right (not (is_sortable lists (item_name item))) (not (is_direction (item_suffix item))) (not_from_false (is_direction (item_suffix item)) e))
     wrong_sort (inr is) = by is.2
       where
-        name : sort_name item ≡ is.0.name
+        name : item_name item ≡ is.0.name
         name = (sort_read item is.0 is.1).name
 
-        by : Any (HasSortName is.0.name) before ⊎ (IsLent parts is.0.name → ⊥) → is_wrong_sort lists (located start before) there ≡ true
+        by : Any (HasName is.0.name) before ⊎ (IsLent parts is.0.name → ⊥) → is_wrong_sort lists (located start before) there ≡ true
         by (inl some) =
-            let other = any_some (HasSortName is.0.name) before some in
-            let same : sort_name other.element ≡ sort_name item = name_is is.0.name other.element is.1.named other.holds ∙ sym name in
-            or_right (not (is_sortable lists (sort_name item)) || not (is_direction (sort_suffix item))) (is_sorted_by (located start before) (sort_name item)) (sorts_among (sort_name item) start before other.element same other.member)
+            let there : HasSome (HasName (item_name item)) before = subst (λ (n : List ℕ). HasSome (HasName n) before) (sym name) (any_some (HasName is.0.name) before some) in
+            or_right (not (is_sortable lists (item_name item)) || not (is_direction (item_suffix item))) (is_named (located start before) (item_name item)) (sorts_among (item_name item) start before there)
         by (inr none) =
-            let unsortable : is_sortable lists (sort_name item) ≡ false =
-            false_from_ne_true (is_sortable lists (sort_name item)) (λ can. none (subst (IsLent parts) name (lent_is (sort_name item) (ap is_name name ∙ is.1.named) can))) in
-            flagged (or_left (not (is_sortable lists (sort_name item))) (not (is_direction (sort_suffix item))) (not_from_false (is_sortable lists (sort_name item)) unsortable))
+            let unsortable : is_sortable lists (item_name item) ≡ false =
+            false_from_ne_true (is_sortable lists (item_name item)) (λ can. none (subst (IsLent parts) name (lent_is (item_name item) (ap is_name name ∙ is.1.named) can))) in
+            flagged (or_left (not (is_sortable lists (item_name item))) (not (is_direction (item_suffix item))) (not_from_false (is_sortable lists (item_name item)) unsortable))

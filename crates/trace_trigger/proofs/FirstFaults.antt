@@ -1,6 +1,7 @@
 -- The first item of a list that is refused, at its offset.
-use Rattle.std.proofs.Common.{◌≡◌, ◌⊎◌, inl, inr, refl, ℕ, ◌+◌, Bool, true, false, not, if◌then◌else◌, cond, bytes_eq, codes, List, [], ◌∷◌, ◌++◌, length, filter, Option, Some, None, Result, Ok, Err, ap, sym, ◌∙◌, arith}
+use Rattle.std.proofs.Common.{◌≡◌, ◌≢◌, ◌⊎◌, inl, inr, refl, ℕ, ◌+◌, Bool, true, false, not, ◌&&◌, if◌then◌else◌, cond, bytes_eq, codes, List, [], ◌∷◌, ◌++◌, length, filter, Option, Some, None, Result, Ok, Err, ap, sym, ◌∙◌, arith}
 use Rattle.std.specs.List.{AllByRecursion, AllZip}
+use Rattle.std.proofs.lemmas.Bool.{and_from, false_from_ne_true, not_from_false}
 use Rattle.std.proofs.lemmas.Slice.Eq.{bytes_eq-Decides}
 use Rattle.trace_format.specs.Definitions.{Definition}
 use Rattle.trace_format.specs.declared.operand.Operand.{Operand}
@@ -9,11 +10,13 @@ use Rattle.trace_trigger.specs.declared.fault.TriggerFault.{TriggerFault}
 use Rattle.trace_trigger.specs.declared.fault.TriggerFault.TheVariants.{NoSuchField, WrongOperator}
 use Rattle.trace_trigger.specs.declared.piece.ListItem.{ListItem}
 use Rattle.trace_trigger.specs.TriggerAnswers.{◌>>=◌}
-use Rattle.trace_trigger.specs.HistMeanings.{each, key_meant, value_meant}
+use Rattle.trace_trigger.specs.HistLists.{item_name, item_suffix}
+use Rattle.trace_trigger.specs.HistMeanings.{each, key_as, key_meant, key_in, value_meant}
 use Rattle.trace_trigger.specs.HistGrammar.{summed_names, IsValueOf}
-use Rattle.trace_trigger.specs.HistRefusals.{CanBeValue, CannotBeValue}
+use Rattle.trace_trigger.specs.HistRefusals.{CannotBeKey, CanBeValue, CannotBeValue}
 use Rattle.trace_trigger.proofs.CutLemmas.{located}
-use Rattle.trace_trigger.proofs.MeaningLaws.{bound, as_number}
+use Rattle.trace_trigger.proofs.NameLaws.{item_split, item_is}
+use Rattle.trace_trigger.proofs.MeaningLaws.{bound, never_ok, as_number}
 use Rattle.trace_trigger.proofs.OffsetLemmas.{size, size_first}
 
 -- ---- results
@@ -136,11 +139,44 @@ pub filter_all : {X : Type 0} (xs : List X) → filter (λ _. true) xs ≡ xs
 filter_all [] = refl
 filter_all (x ∷ xs) = ap (λ (ys : List _). x ∷ ys) (filter_all xs)
 
-pub key_refused : (item : ListItem) (named : Option Operand) (fault : TriggerFault) → key_meant item named ≡ Err fault → (named ≡ None) × (fault ≡ NoSuchField item.at)
-key_refused item None fault e = let same : NoSuchField item.at ≡ fault = cc in (refl, sym same)
-key_refused item (Some named) fault e = absurd (cc)
-
 module _ (definition : Definition) where
+  abbrev Wrong : ListItem → TriggerFault → Type 0
+  Wrong item fault = ((operand_named definition.fields (item_name item.bytes) ≡ None) × (fault ≡ NoSuchField item.at))
+      ⊎ ((operand : Operand) × (operand_named definition.fields (item_name item.bytes) ≡ Some operand) × (is_text operand ≡ true) × (item_suffix item.bytes ≢ []) × (fault ≡ WrongOperator item.at))
+
+  pub key_refused : (item : ListItem) (fault : TriggerFault) → key_in definition.fields item ≡ Err fault → CannotBeKey definition item.bytes item.at fault
+  key_refused item fault e = record { name = item_name item.bytes; suffix = item_suffix item.bytes; cut = item_split item.bytes; wrong = by (operand_named definition.fields (item_name item.bytes)) refl e }
+    where
+      of : (operand : Operand) → operand_named definition.fields (item_name item.bytes) ≡ Some operand → (text unmodified : Bool) → is_text operand ≡ text → bytes_eq (item_suffix item.bytes) [] ≡ unmodified
+          → (if text && not unmodified then Err (WrongOperator item.at) else Ok (key_as item operand)) ≡ Err fault → Wrong item fault
+      of operand f true false g h k =
+          let same : WrongOperator item.at ≡ fault = cc in
+          inr (operand, f, g, λ none. (let equal : bytes_eq (item_suffix item.bytes) [] ≡ true = (bytes_eq-Decides (item_suffix item.bytes) []).1 none in let other = h in cc), sym same)
+      of operand f true true g h k = absurd (never_ok (key_as item operand) fault k)
+      of operand f false unmodified g h k = absurd (never_ok (key_as item operand) fault k)
+
+      by : (found : Option Operand) → operand_named definition.fields (item_name item.bytes) ≡ found → key_meant item found ≡ Err fault → Wrong item fault
+      by None f g = let same : NoSuchField item.at ≡ fault = cc in inl (f, sym same)
+      by (Some operand) f g = of operand f (is_text operand) (bytes_eq (item_suffix item.bytes) []) refl refl g
+
+  pub refused_key : (item : ListItem) (fault : TriggerFault) → CannotBeKey definition item.bytes item.at fault → key_in definition.fields item ≡ Err fault
+  refused_key item fault is = by is.wrong
+    where
+      parts : (item_name item.bytes ≡ is.name) × (item_suffix item.bytes ≡ is.suffix)
+      parts = item_is item.bytes is.name is.suffix is.cut
+
+      some : is.suffix ≢ [] → not (bytes_eq (item_suffix item.bytes) []) ≡ true
+      some other =
+          not_from_false (bytes_eq (item_suffix item.bytes) []) (false_from_ne_true (bytes_eq (item_suffix item.bytes) []) (λ equal. other (sym parts.1 ∙ (bytes_eq-Decides (item_suffix item.bytes) []).0 equal)))
+
+      by : ((operand_named definition.fields is.name ≡ None) × (fault ≡ NoSuchField item.at))
+          ⊎ ((operand : Operand) × (operand_named definition.fields is.name ≡ Some operand) × (is_text operand ≡ true) × (is.suffix ≢ []) × (fault ≡ WrongOperator item.at)) → key_in definition.fields item ≡ Err fault
+      by (inl none) = ap (λ (name : List ℕ). key_meant item (operand_named definition.fields name)) parts.0 ∙ ap (key_meant item) none.0 ∙ ap (λ (f : TriggerFault). Err f) (sym none.1)
+      by (inr text) =
+          ap (λ (name : List ℕ). key_meant item (operand_named definition.fields name)) parts.0 ∙ ap (key_meant item) text.1
+          ∙ ap (λ (b : Bool). if b then Err (WrongOperator item.at) else Ok (key_as item text.0)) (and_from (is_text text.0) (not (bytes_eq (item_suffix item.bytes) [])) text.2 (some text.3))
+          ∙ ap (λ (f : TriggerFault). Err f) (sym text.4)
+
   -- ---- values
 
   pub value_refused : (at : ℕ) (name : List ℕ) (fault : TriggerFault) → value_meant at (operand_named definition.fields name) ≡ Err fault → CannotBeValue definition name at fault

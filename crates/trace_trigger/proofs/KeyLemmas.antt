@@ -1,5 +1,5 @@
 -- Keys, their names and their offsets.
-use Rattle.std.proofs.Common.{◌≡◌, ℕ, ◌+◌, Bool, true, false, not, nat_lt, cond, bytes_eq, List, [], ◌∷◌, length, map, Option, Some, None, refl, ap}
+use Rattle.std.proofs.Common.{◌≡◌, ℕ, ◌+◌, Bool, not, nat_lt, cond, bytes_eq, List, [], ◌∷◌, map, Some, None, refl, ap}
 use Rattle.std.specs.List.{position, position_or_len}
 use Rattle.std.proofs.lemmas.List.{length-map}
 use Rattle.trace_trigger.specs.declared.key.Key.{Key}

@@ -1,5 +1,5 @@
 -- What is told of a hist trigger's text once its syntax is right.
-use Rattle.std.proofs.Common.{◌≡◌, ℕ, ◌-◌, Bool, true, false, if◌then◌else◌, List, [], ◌∷◌, length, Option, Some, None, Result, Ok, Err, subst}
+use Rattle.std.proofs.Common.{◌≡◌, ℕ, ◌-◌, Bool, true, false, not, ◌&&◌, if◌then◌else◌, bytes_eq, List, [], ◌∷◌, length, Option, Some, None, Result, Ok, Err, subst}
 use Rattle.trace_format.specs.Definitions.{Definition}
 use Rattle.trace_format.specs.declared.operand.Operand.{Operand}
 use Rattle.trace_format.specs.Operands.{operand_named, is_text}
@@ -12,9 +12,9 @@ use Rattle.trace_trigger.specs.declared.fault.TriggerFault.TheVariants.{BadText,
 use Rattle.trace_trigger.specs.Frames.{moved, filter_read, filter_of}
 use Rattle.trace_trigger.specs.TriggerAnswers.{◌>>=◌}
 use Rattle.trace_trigger.specs.HistParts.{attributes_of, tail_of, condition_of}
-use Rattle.trace_trigger.specs.HistLists.{Lists, lists_of, summed_items}
+use Rattle.trace_trigger.specs.HistLists.{Lists, lists_of, summed_items, item_name, item_suffix}
 use Rattle.trace_trigger.specs.HistOffsets.{wrong_offsets, least}
-use Rattle.trace_trigger.specs.HistMeanings.{is_too_many, few, each, key_meant, key_in, value_meant, value_source, told_size, size_of}
+use Rattle.trace_trigger.specs.HistMeanings.{is_too_many, few, each, key_as, key_meant, key_in, value_meant, value_source, told_size, size_of}
 use Rattle.trace_trigger.specs.HistSpecs.{SpecSeen}
 use Rattle.trace_trigger.specs.HistTexts.{unless_wrong, read_of, spec_from, spec_of}
 
@@ -43,7 +43,11 @@ each_later read are (x ∷ xs) = then_later (read x) (λ y. each read xs >>= λ 
 
 key_later : (item : ListItem) (named : Option Operand) → IsAnyLater (key_meant item named)
 key_later item None = tt
-key_later item (Some named) = tt
+key_later item (Some named) = by (is_text named && not (bytes_eq (item_suffix item.bytes) []))
+  where
+    by : (b : Bool) → IsAnyLater (if b then Err (WrongOperator item.at) else Ok (key_as item named))
+    by true = tt
+    by false = tt
 
 value_later : (at : ℕ) (named : Option Operand) → IsAnyLater (value_meant at named)
 value_later at None = tt
@@ -87,7 +91,7 @@ few_later lists = by (is_too_many lists)
 from_later : (definition : Definition) (text : List ℕ) (lists : Lists) → IsAnyLater (spec_from definition text lists)
 unfolding spec_from
 from_later definition text lists =
-    then_later (each (key_in definition.fields) lists.keys) _ (each_later (key_in definition.fields) (λ item. key_later item (operand_named definition.fields item.bytes)) lists.keys) (λ keys.
+    then_later (each (key_in definition.fields) lists.keys) _ (each_later (key_in definition.fields) (λ item. key_later item (operand_named definition.fields (item_name item.bytes))) lists.keys) (λ keys.
     then_later (each (value_source definition.fields) (summed_items lists.values)) _ (each_later (value_source definition.fields) (λ item. value_later item.at (operand_named definition.fields item.bytes)) (summed_items lists.values)) (λ values.
     then_later (size_of lists.size) _ (size_later lists.size) (λ size.
     then_later (filter_of definition text (condition_of (tail_of text))) _ (filter_later definition text (condition_of (tail_of text))) (λ only_if. tt))))

@@ -12,12 +12,15 @@ use Rattle.trace_trigger.specs.declared.attribute.Topic.{Topic}
 use Rattle.trace_trigger.specs.declared.attribute.Topic.TheVariants as topic
 use Rattle.trace_trigger.specs.declared.attribute.Attribute.{Attribute}
 use Rattle.trace_trigger.specs.declared.piece.ListItem.{ListItem}
-use Rattle.trace_trigger.specs.HistLists.{is_same_topic, first_about, items_of, items_in, lists_of, names_of, is_listed, is_hitcount, sort_key_of, is_sortable}
-use Rattle.trace_trigger.specs.HistOffsets.{wrong_after, is_unknown, is_repeated, is_bad_size, is_wrong_attribute, attribute_offsets, is_wrong_name, key_offsets, value_offsets, is_wrong_sort, sort_offsets, keyless_offsets}
-use Rattle.trace_trigger.specs.HistGrammar.{Setting, Keys, Values, Sort, Size, Asks, subject_of, IsListed, AreLawful, IsSet}
+use Rattle.trace_trigger.specs.HistLists.{is_same_topic, first_about, items_of, items_in, lists_of, names_of, is_listed, is_named, is_hitcount, sort_key_of, is_sortable}
+use Rattle.trace_trigger.specs.HistOffsets.{wrong_after, is_unknown, is_repeated, is_bad_size, is_wrong_attribute, attribute_offsets, is_wrong_key, is_wrong_value, key_offsets, value_offsets, is_wrong_sort, sort_offsets, keyless_offsets}
+use Rattle.trace_trigger.specs.HistGrammar.{Setting, Keys, Values, Sort, Size, Asks, subject_of, HasName, IsListed, AreLawful, IsSet}
 use Rattle.trace_trigger.proofs.WrongLemmas.{Apart, pairs_from, each_weaker, NoneWrong, none_from, none_each, none_left, none_right, Unlike, unlike_each_other}
 use Rattle.trace_trigger.proofs.ItemLaws.{names_right, sorts_right, sort_keys_are}
-use Rattle.trace_trigger.proofs.AttributeLaws.{AreNames, topic_of_setting, IsRead}
+use Rattle.trace_trigger.proofs.KeyLaws.{keys_right}
+use Rattle.trace_trigger.proofs.NameLaws.{some_named}
+use Rattle.trace_trigger.proofs.SubjectLaws.{some_any}
+use Rattle.trace_trigger.proofs.AttributeLaws.{AreKeys, AreNames, topic_of_setting, IsRead}
 use Rattle.trace_trigger.proofs.ListLaws.{Member, member_from, from_member, topics_sym, same_topic, Once, IsFound, IsMissing, found_or_missing}
 use Rattle.trace_trigger.proofs.SettingLaws.{listed_member, given, ListsAre, lists_are}
 use Rattle.trace_trigger.proofs.RightLaws.{AreAllRight, same_topics}
@@ -102,13 +105,13 @@ module _ (attributes : List Attribute) (end : ℕ) (right : AreAllRight attribut
   sizes : AllByRecursion (λ (a : Attribute). is_bad_size a ≡ false) attributes
   sizes = none_each is_bad_size [] attributes (none_right (λ before a. is_unknown a.topic || is_repeated before a) (λ _ a. is_bad_size a) [] attributes none_wrong)
 
-  keys_items : (a : Attribute) → first_about topic.Keys attributes ≡ Some a → wrong_after is_wrong_name [] (items_of a) ≡ []
+  keys_items : (a : Attribute) → first_about topic.Keys attributes ≡ Some a → wrong_after is_wrong_key [] (items_of a) ≡ []
   unfolding lists_of key_offsets
-  keys_items a first = map-nil (λ (item : ListItem). item.at) (wrong_after is_wrong_name [] (items_of a)) (sym (ap (λ (o : Option Attribute). key_offsets (items_in o)) first) ∙ right.keys)
+  keys_items a first = map-nil (λ (item : ListItem). item.at) (wrong_after is_wrong_key [] (items_of a)) (sym (ap (λ (o : Option Attribute). key_offsets (items_in o)) first) ∙ right.keys)
 
-  values_items : (a : Attribute) → first_about topic.Values attributes ≡ Some a → wrong_after is_wrong_name [] (items_of a) ≡ []
+  values_items : (a : Attribute) → first_about topic.Values attributes ≡ Some a → wrong_after is_wrong_value [] (items_of a) ≡ []
   unfolding lists_of value_offsets
-  values_items a first = map-nil (λ (item : ListItem). item.at) (wrong_after is_wrong_name [] (items_of a)) (sym (ap (λ (o : Option Attribute). value_offsets (items_in o)) first) ∙ right.values)
+  values_items a first = map-nil (λ (item : ListItem). item.at) (wrong_after is_wrong_value [] (items_of a)) (sym (ap (λ (o : Option Attribute). value_offsets (items_in o)) first) ∙ right.values)
 
   sort_items : (a : Attribute) → first_about topic.Sort attributes ≡ Some a → wrong_after (is_wrong_sort (lists_of attributes)) [] (items_of a) ≡ []
   unfolding lists_of sort_offsets
@@ -116,7 +119,10 @@ module _ (attributes : List Attribute) (end : ℕ) (right : AreAllRight attribut
       map-nil (λ (item : ListItem). item.at) (wrong_after (is_wrong_sort (lists_of attributes)) [] (items_of a))
       (sym (ap (λ (o : Option Attribute). map (λ (item : ListItem). item.at) (wrong_after (is_wrong_sort (lists_of attributes)) [] (items_in o))) first) ∙ right.sort)
 
-  names_held : (a : Attribute) → wrong_after is_wrong_name [] (items_of a) ≡ [] → AreNames a (names_of (items_of a))
+  keys_held : (a : Attribute) → wrong_after is_wrong_key [] (items_of a) ≡ [] → AreKeys a (names_of (items_of a))
+  keys_held a none = let are = keys_right (items_of a) none in record { items = refl; each = are.each; apart = are.apart }
+
+  names_held : (a : Attribute) → wrong_after is_wrong_value [] (items_of a) ≡ [] → AreNames a (names_of (items_of a))
   names_held a none = let are = names_right (items_of a) none in record { items = refl; named = are.named; apart = are.apart }
 
   some_number : (o : Option ℕ) → is_none o ≡ false → o ≡ Some (unwrap_or o 0)
@@ -131,7 +137,7 @@ module _ (attributes : List Attribute) (end : ℕ) (right : AreAllRight attribut
       by (inr f) = some_number (decimal_number a.value) f
 
   read_by : (a : Attribute) (t : Topic) → a.topic ≡ t → is_unknown a.topic ≡ false → is_bad_size a ≡ false → first_about t attributes ≡ Some a → IsRead a (setting_by t a)
-  read_by a topic.Keys e named good first = record { topic = e; holds = names_held a (keys_items a first) }
+  read_by a topic.Keys e named good first = record { topic = e; holds = keys_held a (keys_items a first) }
   read_by a topic.Values e named good first = record { topic = e; holds = names_held a (values_items a first) }
   read_by a topic.Sort e named good first =
       let are = sorts_right (lists_of attributes) (items_of a) (sort_items a first) in
@@ -175,30 +181,30 @@ module _ (attributes : List Attribute) (end : ℕ) (right : AreAllRight attribut
   lists : ListsAre settings (lists_of attributes)
   lists = lists_are attributes settings all_read once keys_there.0 keys_there.1
 
-  listed_key : (name : List ℕ) → is_listed (lists_of attributes).keys name ≡ true → IsListed settings name
+  listed_key : (name : List ℕ) → is_named (lists_of attributes).keys name ≡ true → IsListed settings name
   listed_key name e =
-      record { names = names_of (lists_of attributes).keys; set = inl lists.keys; among = from_member name (names_of (lists_of attributes).keys) (listed_member name (lists_of attributes).keys e) }
+      inl (names_of (lists_of attributes).keys, lists.keys, some_any (HasName name) (names_of (lists_of attributes).keys) (some_named name (lists_of attributes).keys e))
 
   listed_value : (name : List ℕ) → is_listed (lists_of attributes).values name ≡ true → IsListed settings name
   listed_value name e = by lists.values
     where
       by : IsSet settings Values [] (names_of (lists_of attributes).values) → IsListed settings name
       by (inl set) =
-          record { names = names_of (lists_of attributes).values; set = inr set; among = from_member name (names_of (lists_of attributes).values) (listed_member name (lists_of attributes).values e) }
+          inr (names_of (lists_of attributes).values, set, from_member name (names_of (lists_of attributes).values) (listed_member name (lists_of attributes).values e))
       by (inr none) = absurd (subst (Member name) none.1 (listed_member name (lists_of attributes).values e))
 
   sortable_is : (name : List ℕ) → is_sortable (lists_of attributes) name ≡ true → (name ≡ codes "hitcount") ⊎ IsListed settings name
-  sortable_is name e = by (or_cases (is_hitcount name) (is_name name && (is_listed (lists_of attributes).keys name || is_listed (lists_of attributes).values name)) e)
+  sortable_is name e = by (or_cases (is_hitcount name) (is_name name && (is_named (lists_of attributes).keys name || is_listed (lists_of attributes).values name)) e)
     where
-      either : (is_listed (lists_of attributes).keys name ≡ true) ⊎ (is_listed (lists_of attributes).values name ≡ true) → IsListed settings name
+      either : (is_named (lists_of attributes).keys name ≡ true) ⊎ (is_listed (lists_of attributes).values name ≡ true) → IsListed settings name
       either (inl f) = listed_key name f
       either (inr f) = listed_value name f
 
-      by : (is_hitcount name ≡ true) ⊎ ((is_name name && (is_listed (lists_of attributes).keys name || is_listed (lists_of attributes).values name)) ≡ true) → (name ≡ codes "hitcount") ⊎ IsListed settings name
+      by : (is_hitcount name ≡ true) ⊎ ((is_name name && (is_named (lists_of attributes).keys name || is_listed (lists_of attributes).values name)) ≡ true) → (name ≡ codes "hitcount") ⊎ IsListed settings name
       by (inl f) = inl ((bytes_eq-Decides name (codes "hitcount")).0 f)
       by (inr f) =
-          inr (either (or_cases (is_listed (lists_of attributes).keys name) (is_listed (lists_of attributes).values name)
-          (and_parts (is_name name) (is_listed (lists_of attributes).keys name || is_listed (lists_of attributes).values name) f).1))
+          inr (either (or_cases (is_named (lists_of attributes).keys name) (is_listed (lists_of attributes).values name)
+          (and_parts (is_name name) (is_named (lists_of attributes).keys name || is_listed (lists_of attributes).values name) f).1))
 
   sorted_by : (keys : List SortKey) → Contains settings (Sort keys) → All (λ (key : SortKey). (key.name ≡ codes "hitcount") ⊎ IsListed settings key.name) keys
   sorted_by keys set =

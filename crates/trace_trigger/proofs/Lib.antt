@@ -18,6 +18,9 @@ pub mod KeyLemmas
 pub mod LaterFaults
 pub mod LawfulLaws
 pub mod ListLaws
+pub mod ModifierLaws
+pub mod NameLaws
+pub mod KeyLaws
 pub mod MeaningLaws
 pub mod PartLaws
 pub mod PieceLemmas
@@ -33,6 +36,7 @@ pub mod SpecLaws
 pub mod SubjectLaws
 pub mod SyntaxLaws
 pub mod HistTextLaws
+pub mod UnblankLemmas
 pub mod WordLemmas
 pub mod WrongLaws
 pub mod WrongLemmas

@@ -1,7 +1,7 @@
 -- What names and sizes come to is what the grammar says that they mean.
-use Rattle.std.proofs.Common.{◌≡◌, ◌≢◌, ◌⊎◌, inl, inr, refl, ℕ, suc, zero, ◌+◌, ◌<◌, ◌≤◌, Bool, true, false, not, nat_lt, if◌then◌else◌, cond, bytes_eq, codes, List, [], ◌∷◌, length, slice_get, Option, Some, None, Result, Ok, Err, unwrap_or, ap, sym, ◌∙◌, subst, arith, lt-ltb, le-ltb, ltb-true}
+use Rattle.std.proofs.Common.{◌≡◌, ◌≢◌, ◌⊎◌, inl, inr, refl, ℕ, suc, zero, ◌+◌, ◌<◌, ◌≤◌, Bool, true, false, not, ◌&&◌, nat_lt, if◌then◌else◌, cond, bytes_eq, codes, List, [], ◌∷◌, length, map, slice_get, Option, Some, None, Result, Ok, Err, unwrap_or, ap, sym, ◌∙◌, subst, arith, lt-ltb, le-ltb, ltb-true}
 use Rattle.std.specs.List.{AllByRecursion, AllZip, position, position_or_len}
-use Rattle.std.proofs.lemmas.Bool.{false_from_ne_true}
+use Rattle.std.proofs.lemmas.Bool.{false_from_ne_true, and_left, and_right}
 use Rattle.std.proofs.lemmas.Slice.Eq.{bytes_eq-Decides}
 use Rattle.trace_format.specs.Definitions.{Definition}
 use Rattle.trace_format.specs.declared.operand.Operand.{Operand}
@@ -10,14 +10,19 @@ use Rattle.trace_trigger.specs.declared.fault.TriggerFault.{TriggerFault}
 use Rattle.trace_trigger.specs.declared.fault.TriggerFault.TheVariants.{WrongOperator}
 use Rattle.trace_trigger.specs.declared.sort_rule.SortSource.{SortSource}
 use Rattle.trace_trigger.specs.declared.key.Key.{Key}
+use Rattle.trace_trigger.specs.declared.modifier.Modifier.{Modifier}
+use Rattle.trace_trigger.specs.declared.modifier.Modifier.TheVariants.{Plain}
 use Rattle.trace_trigger.specs.declared.sort_rule.SortSource.TheVariants as sorted
 use Rattle.trace_trigger.specs.declared.piece.ListItem.{ListItem}
-use Rattle.trace_trigger.specs.HistLists.{names_of, summed_items, is_hitcount}
+use Rattle.trace_trigger.specs.HistLists.{names_of, summed_items, is_hitcount, item_name, item_suffix}
 use Rattle.trace_trigger.specs.TriggerAnswers.{◌>>=◌}
 use Rattle.trace_trigger.specs.HistMeanings.{each, key_as, key_meant, key_in, value_meant, value_source, told_size, sort_found, sort_source}
 use Rattle.trace_trigger.specs.HistSpecs.{written_of, key_names}
 use Rattle.trace_trigger.specs.HistRefusals.{CanBeKey}
-use Rattle.trace_trigger.specs.HistGrammar.{summed_names, IsKeyOf, IsValueOf, IsSortedBy}
+use Rattle.trace_trigger.specs.HistGrammar.{summed_names, IsKeyItem, IsKey, IsKeyOf, IsValueOf, IsSortedBy}
+use Rattle.trace_trigger.specs.Modifiers.{IsSuffix, modifier_of}
+use Rattle.trace_trigger.proofs.NameLaws.{item_split, item_is}
+use Rattle.trace_trigger.proofs.KeyLaws.{modifier_in, key_modifier, own_key}
 use Rattle.trace_trigger.proofs.WrongLemmas.{Apart}
 use Rattle.trace_trigger.proofs.ListLaws.{Member, member_from, from_member}
 
@@ -31,6 +36,12 @@ pub record IsBound {A B : Type 0} (first : Result A TriggerFault) (next : A → 
 pub bound : {A B : Type 0} (first : Result A TriggerFault) (next : A → Result B TriggerFault) (value : B) → (first >>= next) ≡ Ok value → IsBound first next value
 bound (Ok found) next value e = record { found = found; is = refl; after = e }
 bound (Err fault) next value e = absurd (cc)
+
+pub ok_same : {A : Type 0} (one other : A) → ◌≡◌ {A = Result A TriggerFault} (Ok one) (Ok other) → one ≡ other
+ok_same one other e = cc
+
+pub never_ok : {A : Type 0} (value : A) (fault : TriggerFault) → ◌≡◌ {A = Result A TriggerFault} (Ok value) (Err fault) → ⊥
+never_ok value fault e = cc
 
 -- ---- keys and values
 
@@ -46,16 +57,40 @@ abbrev pub as_number : ℕ → Operand → Bool → Result Operand TriggerFault
 as_number at operand b = if b then Err (WrongOperator at) else Ok operand
 
 module _ (definition : Definition) where
+  -- a key of which this is known is a number, or a key without a modifier
+  abbrev IsTaken : ListItem → Operand → Type 0
+  IsTaken item operand = (item_suffix item.bytes ≡ []) ⊎ (is_text operand ≡ false)
+
+  meant : (item : ListItem) (operand : Operand) → IsTaken item operand → key_meant item (Some operand) ≡ Ok (key_as item operand)
+  meant item operand (inl e) =
+      let equal : bytes_eq (item_suffix item.bytes) [] ≡ true = (bytes_eq-Decides (item_suffix item.bytes) []).1 e in
+      ap (λ (b : Bool). if b then Err (WrongOperator item.at) else Ok (key_as item operand)) (and_right (is_text operand) (not (bytes_eq (item_suffix item.bytes) [])) (ap not equal))
+  meant item operand (inr e) =
+      ap (λ (b : Bool). if b then Err (WrongOperator item.at) else Ok (key_as item operand)) (and_left (is_text operand) (not (bytes_eq (item_suffix item.bytes) [])) e)
+
   -- what a key is read as
-  key_read : (item : ListItem) (found : Option Operand) (key : Key) → key_meant item found ≡ Ok key → (operand : Operand) × (found ≡ Some operand) × (key_as item operand ≡ key)
-  key_read item None key e = absurd (cc)
-  key_read item (Some operand) key e = let same : key_as item operand ≡ key = cc in (operand, refl, same)
+  key_found : (item : ListItem) (found : Option Operand) (key : Key) → key_meant item found ≡ Ok key → (operand : Operand) × (found ≡ Some operand) × IsTaken item operand × (key_as item operand ≡ key)
+  key_found item None key e = absurd (cc)
+  key_found item (Some operand) key e = by (is_text operand) (bytes_eq (item_suffix item.bytes) []) refl refl e
+    where
+      by : (text unmodified : Bool) → is_text operand ≡ text → bytes_eq (item_suffix item.bytes) [] ≡ unmodified
+          → (if text && not unmodified then Err (WrongOperator item.at) else Ok (key_as item operand)) ≡ Ok key → (o : Operand) × (Some operand ≡ Some o) × IsTaken item o × (key_as item o ≡ key)
+      by false unmodified f g h = (operand, refl, inr f, ok_same (key_as item operand) key h)
+      by true true f g h = (operand, refl, inl ((bytes_eq-Decides (item_suffix item.bytes) []).0 g), ok_same (key_as item operand) key h)
+      by true false f g h = absurd (cc)
 
   read_key : (item : ListItem) (key : Key) → item.bytes ≡ key.written → IsKeyOf definition key → key_in definition.fields item ≡ Ok key
   read_key item key written is =
-      let name : item.bytes ≡ key.name = written ∙ sym is.name in
-      ap (λ (bytes : List ℕ). key_meant item (operand_named definition.fields bytes)) name ∙ ap (key_meant item) is.means
-      ∙ (λ i. Ok (record { written = written i; name = name i; operand = key.operand }))
+      let it : IsKeyItem item.bytes key.name key.modifier = subst (λ (bytes : List ℕ). IsKeyItem bytes key.name key.modifier) (sym written) is.written in
+      let parts = item_is item.bytes key.name it.suffix it.cut in
+      let modifier : modifier_in item.bytes ≡ key.modifier = key_modifier item.bytes key.name key.modifier it in
+      ap (λ (name : List ℕ). key_meant item (operand_named definition.fields name)) parts.0 ∙ ap (key_meant item) is.means
+      ∙ meant item key.operand (taken it is.number)
+      ∙ (λ i. Ok (record { written = written i; name = parts.0 i; modifier = modifier i; operand = key.operand }))
+    where
+      taken : (it : IsKeyItem item.bytes key.name key.modifier) → (key.modifier ≡ Plain) ⊎ (is_text key.operand ≡ false) → IsTaken item key.operand
+      taken it (inl e) = inl ((item_is item.bytes key.name it.suffix it.cut).1 ∙ subst (λ (m : Modifier). IsSuffix m it.suffix) e it.modifies)
+      taken it (inr e) = inr e
 
   abbrev pub AreRead : List ListItem → List Key → Type 0
   AreRead items keys = AllZip (λ item key. key_in definition.fields item ≡ Ok key) items keys
@@ -86,25 +121,29 @@ module _ (definition : Definition) where
   keys_written [] (key ∷ keys) zip = absurd zip
   keys_written (item ∷ items) [] zip = absurd zip
   keys_written (item ∷ items) (key ∷ keys) zip =
-      let is = key_read item (operand_named definition.fields item.bytes) key zip.0 in
-      (λ i. (is.2 i).written ∷ keys_written items keys zip.1 i)
+      let is = key_found item (operand_named definition.fields (item_name item.bytes)) key zip.0 in
+      (λ i. (is.3 i).written ∷ keys_written items keys zip.1 i)
 
-  pub keys_named : (items : List ListItem) (keys : List Key) → AreRead items keys → names_of items ≡ key_names keys
+  pub keys_named : (items : List ListItem) (keys : List Key) → AreRead items keys → map item_name (names_of items) ≡ key_names keys
   keys_named [] [] zip = refl
   keys_named [] (key ∷ keys) zip = absurd zip
   keys_named (item ∷ items) [] zip = absurd zip
   keys_named (item ∷ items) (key ∷ keys) zip =
-      let is = key_read item (operand_named definition.fields item.bytes) key zip.0 in
-      (λ i. (is.2 i).name ∷ keys_named items keys zip.1 i)
+      let is = key_found item (operand_named definition.fields (item_name item.bytes)) key zip.0 in
+      (λ i. (is.3 i).name ∷ keys_named items keys zip.1 i)
 
-  -- and are keys of the event
-  pub keys_of_event : (items : List ListItem) (keys : List Key) → AreRead items keys → AllByRecursion (IsKeyOf definition) keys
-  keys_of_event [] [] zip = tt
-  keys_of_event [] (key ∷ keys) zip = absurd zip
-  keys_of_event (item ∷ items) [] zip = absurd zip
-  keys_of_event (item ∷ items) (key ∷ keys) zip =
-      let is = key_read item (operand_named definition.fields item.bytes) key zip.0 in
-      (subst (IsKeyOf definition) is.2 (record { name = refl; means = is.1 }), keys_of_event items keys zip.1)
+  -- and are keys of the event, if they are written so
+  pub keys_of_event : (items : List ListItem) (keys : List Key) → AllByRecursion IsKey (names_of items) → AreRead items keys → AllByRecursion (IsKeyOf definition) keys
+  keys_of_event [] [] all zip = tt
+  keys_of_event [] (key ∷ keys) all zip = absurd zip
+  keys_of_event (item ∷ items) [] all zip = absurd zip
+  keys_of_event (item ∷ items) (key ∷ keys) all zip =
+      let is = key_found item (operand_named definition.fields (item_name item.bytes)) key zip.0 in
+      (subst (IsKeyOf definition) is.3 (record { written = own_key item.bytes all.0; means = is.1; number = plain is.0 is.2 }), keys_of_event items keys all.1 zip.1)
+    where
+      plain : (operand : Operand) → IsTaken item operand → (modifier_in item.bytes ≡ Plain) ⊎ (is_text operand ≡ false)
+      plain operand (inl e) = inl (ap (λ (suffix : List ℕ). unwrap_or (modifier_of suffix) Plain) e)
+      plain operand (inr e) = inr e
 
   pub event_keys : (items : List ListItem) (keys : List Key) → names_of items ≡ written_of keys → AllByRecursion (IsKeyOf definition) keys → AreRead items keys
   event_keys [] [] e all = tt
@@ -120,14 +159,23 @@ module _ (definition : Definition) where
   keys_can [] keys zip = tt
   keys_can (item ∷ items) [] zip = absurd zip
   keys_can (item ∷ items) (key ∷ keys) zip =
-      let is = key_read item (operand_named definition.fields item.bytes) key zip.0 in
-      ((is.0, is.1), keys_can items keys zip.1)
+      let is = key_found item (operand_named definition.fields (item_name item.bytes)) key zip.0 in
+      (record { name = item_name item.bytes; suffix = item_suffix item.bytes; cut = item_split item.bytes; operand = is.0; means = is.1; number = is.2 }, keys_can items keys zip.1)
+
+  can_key : (item : ListItem) → (can : CanBeKey definition item.bytes) → key_in definition.fields item ≡ Ok (key_as item can.operand)
+  can_key item can =
+      let parts = item_is item.bytes can.name can.suffix can.cut in
+      ap (λ (name : List ℕ). key_meant item (operand_named definition.fields name)) parts.0 ∙ ap (key_meant item) can.means ∙ meant item can.operand (taken can.number)
+    where
+      taken : (can.suffix ≡ []) ⊎ (is_text can.operand ≡ false) → IsTaken item can.operand
+      taken (inl e) = inl ((item_is item.bytes can.name can.suffix can.cut).1 ∙ e)
+      taken (inr e) = inr e
 
   pub can_keys : (items : List ListItem) → AllByRecursion (CanBeKey definition) (names_of items) → (keys : List Key) × AreRead items keys
   can_keys [] all = ([], tt)
   can_keys (item ∷ items) all =
       let rest = can_keys items all.1 in
-      (key_as item all.0.0 ∷ rest.0, (ap (key_meant item) all.0.1, rest.1))
+      (key_as item all.0.operand ∷ rest.0, (can_key item all.0, rest.1))
 
   pub values_found : (items : List ListItem) (sources : List Operand) → each (value_source definition.fields) items ≡ Ok sources → AllZip (IsValueOf definition) (names_of items) sources
   values_found [] [] e = tt

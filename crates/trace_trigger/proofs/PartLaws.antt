@@ -2,14 +2,12 @@
 use Rattle.std.proofs.Common.{◌≡◌, ◌⊎◌, inl, inr, refl, ℕ, suc, cond, append-nil, ◌+◌, ◌<◌, Bool, true, false, not, ◌&&◌, ◌==◌, nat_lt, if◌then◌else◌, bytes_eq, codes, List, [], ◌∷◌, ◌++◌, length, take, drop, map, Option, Some, None, ap, sym, ◌∙◌, subst, arith, lt-ltb, ltb-true}
 use Rattle.std.specs.List.{AllByRecursion, AllPass, AllZip, join_with_byte, list_all, prefix_len}
 use Rattle.std.proofs.lemmas.Bool.{or_cases, and_parts, and_from, eqb-true, ltb-false}
-use Rattle.std.proofs.lemmas.Bool.Decides.{nat_tests}
 use Rattle.std.proofs.lemmas.List.{take-append-drop}
 use Rattle.std.proofs.lemmas.List.Elements.{All-head, recursion_from_All}
-use Rattle.std.proofs.lemmas.List.Folds.{length-prefix_len, list_all-append}
+use Rattle.std.proofs.lemmas.List.Folds.{length-prefix_len}
 use Rattle.std.proofs.lemmas.List.Sums.{AllPass-from_list_all, list_all-from_AllPass}
 use Rattle.std.proofs.lemmas.Slice.Eq.{bytes_eq-Decides}
 use Rattle.trace_lex.specs.Blanks.{is_blank, AreBlanks, BeginsUnblank}
-use Rattle.trace_lex.specs.Decimals.{is_digit, value_after, decimal_number}
 use Rattle.trace_lex.specs.Names.{is_name_byte, is_name}
 use Rattle.trace_lex.proofs.Lists.{BeginsNot, run_ends}
 use Rattle.trace_trigger.specs.Frames.{mark, is_unblank, after_blanks, IsConditional, IsTail}
@@ -23,10 +21,12 @@ use Rattle.trace_trigger.specs.HistLists.{names_of}
 use Rattle.trace_trigger.specs.HistParts.{start_of, body_of, word_len, attributes_of, end_of, tail_of, is_condition, condition_of, offset_in}
 use Rattle.trace_trigger.specs.HistOffsets.{tail_offsets}
 use Rattle.trace_trigger.specs.HistTexts.{IsHistText}
-use Rattle.trace_trigger.specs.HistGrammar.{IsCut, Setting, Keys, Values, Sort, Size, Asks, Subject, OfKeys, OfValues, OfSort, OfSize, OfAction, IsHead, HasValue, IsWordFor, IsDirected, IsSortItem, WritesNames, Writes}
+use Rattle.trace_trigger.specs.HistGrammar.{IsCut, Setting, Keys, Values, Sort, Size, Asks, Subject, OfKeys, OfValues, OfSort, OfSize, OfAction, IsHead, HasValue, IsWordFor, IsDirected, IsKey, IsSortItem, WritesKeys, WritesValues, Writes}
 use Rattle.trace_trigger.proofs.CutLemmas.{located, cut_pieces}
 use Rattle.trace_trigger.proofs.WordLemmas.{run_taken, run_dropped, name_passes}
 use Rattle.trace_trigger.proofs.WrongLemmas.{each_weaker}
+use Rattle.trace_trigger.proofs.UnblankLemmas.{IsUnblank, both_unblank, weaker_all, number_unblank}
+use Rattle.trace_trigger.proofs.ModifierLaws.{suffix_unblank}
 use Rattle.trace_trigger.proofs.AttributeLaws.{IsRead, written_is_read, read_is_written}
 
 -- ---- runs
@@ -220,22 +220,12 @@ tail_written text tail stops right = by (list_all is_blank tail) refl
 
 -- ---- no attribute has a blank
 
-abbrev IsUnblank : List ℕ → Type 0
-IsUnblank text = list_all is_unblank text ≡ true
-
-both_unblank : (front rest : List ℕ) → IsUnblank front → IsUnblank rest → IsUnblank (front ++ rest)
-both_unblank front rest e f = list_all-append is_unblank front rest ∙ and_from (list_all is_unblank front) (list_all is_unblank rest) e f
-
 joined_unblank : (byte : ℕ) → is_unblank byte ≡ true → (parts : List (List ℕ)) → AllByRecursion IsUnblank parts → IsUnblank (join_with_byte byte parts)
 joined_unblank byte e [] all = refl
 joined_unblank byte e (part ∷ []) all = all.0
 joined_unblank byte e (part ∷ next ∷ parts) all =
     both_unblank part (byte ∷ join_with_byte byte (next ∷ parts)) all.0
     (and_from (is_unblank byte) (list_all is_unblank (join_with_byte byte (next ∷ parts))) e (joined_unblank byte e (next ∷ parts) all.1))
-
-weaker_all : (p q : ℕ → Bool) → ((b : ℕ) → p b ≡ true → q b ≡ true) → (bs : List ℕ) → list_all p bs ≡ true → list_all q bs ≡ true
-weaker_all p q f [] e = refl
-weaker_all p q f (b ∷ bs) e = let parts = and_parts (p b) (list_all p bs) e in and_from (q b) (list_all q bs) (f b parts.0) (weaker_all p q f bs parts.1)
 
 unnamed_blank : (b : ℕ) → is_blank b ≡ true → is_name_byte b ≡ false
 unnamed_blank b e = by (or_cases (b == 32) (b == 9) e)
@@ -253,17 +243,6 @@ named_unblank b e = by (is_blank b) refl
 
 name_unblank : (name : List ℕ) → is_name name ≡ true → IsUnblank name
 name_unblank name e = weaker_all is_name_byte is_unblank named_unblank name (list_all-from_AllPass is_name_byte name (name_passes name e))
-
-digit_unblank : (b : ℕ) → is_digit b ≡ true → is_unblank b ≡ true
-digit_unblank b is = grind (arith, nat_tests)
-
-number_unblank : (digits : List ℕ) (n : ℕ) → decimal_number digits ≡ Some n → IsUnblank digits
-number_unblank [] n is = absurd (cc)
-number_unblank (d ∷ ds) n is = by (list_all is_digit (d ∷ ds)) refl is
-  where
-    by : (b : Bool) → list_all is_digit (d ∷ ds) ≡ b → (if b then Some (value_after 0 (d ∷ ds)) else None) ≡ Some n → IsUnblank (d ∷ ds)
-    by false e h = absurd (cc)
-    by true e h = weaker_all is_digit is_unblank digit_unblank (d ∷ ds) e
 
 head_unblank : (subject : Subject) (head : List ℕ) → IsHead subject head → IsUnblank head
 head_unblank OfKeys head (inl e) = ap (list_all is_unblank) e
@@ -295,9 +274,17 @@ items_unblank (item ∷ items) (key ∷ keys) each = (directed_unblank item key.
 names_unblank : (names : List (List ℕ)) → AllByRecursion (λ name. is_name name ≡ true) names → AllByRecursion IsUnblank names
 names_unblank names all = each_weaker (λ name. is_name name ≡ true) IsUnblank name_unblank names all
 
-list_unblank : (subject : Subject) (attribute : List ℕ) (names : List (List ℕ)) → WritesNames subject attribute names → IsUnblank attribute
-list_unblank subject attribute names is =
-    value_unblank subject attribute is.head is.value is.has (cut_unblank is.value names is.cut (names_unblank names (recursion_from_All (λ name. is_name name ≡ true) names is.named)))
+values_unblank : (attribute : List ℕ) (names : List (List ℕ)) → WritesValues attribute names → IsUnblank attribute
+values_unblank attribute names is =
+    value_unblank OfValues attribute is.head is.value is.has (cut_unblank is.value names is.cut (names_unblank names (recursion_from_All (λ name. is_name name ≡ true) names is.named)))
+
+key_unblank : (item : List ℕ) → IsKey item → IsUnblank item
+key_unblank item is =
+    ap (list_all is_unblank) is.2.cut.cut ∙ both_unblank is.0 is.2.suffix (name_unblank is.0 is.2.named) (suffix_unblank is.1 is.2.suffix is.2.modifies)
+
+keys_unblank : (attribute : List ℕ) (items : List (List ℕ)) → WritesKeys attribute items → IsUnblank attribute
+keys_unblank attribute items is =
+    value_unblank OfKeys attribute is.head is.value is.has (cut_unblank is.value items is.cut (each_weaker IsKey IsUnblank key_unblank items (recursion_from_All IsKey items is.each)))
 
 word_unblank : (action : Action) (attribute : List ℕ) → IsWordFor action attribute → IsUnblank attribute
 word_unblank Attach attribute e = absurd e
@@ -307,8 +294,8 @@ word_unblank Continue attribute (inr e) = ap (list_all is_unblank) e
 word_unblank Clear attribute e = ap (list_all is_unblank) e
 
 attribute_unblank : (attribute : List ℕ) (setting : Setting) → Writes attribute setting → IsUnblank attribute
-attribute_unblank attribute (Keys names) is = list_unblank OfKeys attribute names is
-attribute_unblank attribute (Values names) is = list_unblank OfValues attribute names is
+attribute_unblank attribute (Keys items) is = keys_unblank attribute items is
+attribute_unblank attribute (Values names) is = values_unblank attribute names is
 attribute_unblank attribute (Sort keys) is = value_unblank OfSort attribute is.head is.value is.has (cut_unblank is.value is.items is.cut (items_unblank is.items keys is.each))
 attribute_unblank attribute (Size entries) is = value_unblank OfSize attribute is.head is.digits is.has (number_unblank is.digits entries is.number)
 attribute_unblank attribute (Asks action) is = word_unblank action attribute is

@@ -6,18 +6,16 @@ use Rattle.std.proofs.lemmas.List.Elements.{All-from_recursion, recursion_from_A
 use Rattle.std.proofs.lemmas.Slice.Eq.{bytes_eq-Decides}
 use Rattle.trace_format.specs.Definitions.{Definition}
 use Rattle.trace_format.specs.declared.operand.Operand.{Operand}
-use Rattle.trace_format.specs.Operands.{operand_named}
 use Rattle.trace_trigger.specs.declared.fault.TriggerFault.{TriggerFault}
-use Rattle.trace_trigger.specs.declared.fault.TriggerFault.TheVariants.{NoSuchField}
 use Rattle.trace_trigger.specs.declared.key.Key.{Key}
 use Rattle.trace_trigger.specs.declared.attribute.Attribute.{Attribute}
 use Rattle.trace_trigger.specs.declared.piece.ListItem.{ListItem}
 use Rattle.trace_trigger.specs.HistParts.{attributes_of}
 use Rattle.trace_trigger.specs.HistLists.{first_about, items_in, Lists, lists_of, names_of, summed_items, is_hitcount}
-use Rattle.trace_trigger.specs.HistMeanings.{each, key_meant, key_in, value_source}
+use Rattle.trace_trigger.specs.HistMeanings.{each, key_in, value_source}
 use Rattle.trace_trigger.specs.HistGrammar.{Subject, OfKeys, OfValues, summed_names, IsValueOf}
 use Rattle.trace_trigger.specs.HistFaultOffsets.{Cut, IsList, items_offset}
-use Rattle.trace_trigger.specs.HistRefusals.{IsItemAt, CanBeKey, CanBeValue, IsUnknownKey, CannotBeValue, IsWrongValue}
+use Rattle.trace_trigger.specs.HistRefusals.{IsItemAt, CanBeKey, CanBeValue, CannotBeKey, IsWrongKey, CannotBeValue, IsWrongValue}
 use Rattle.trace_trigger.proofs.CutLemmas.{located, names_of-located}
 use Rattle.trace_trigger.proofs.HeadLemmas.{topic_for}
 use Rattle.trace_trigger.proofs.PartLaws.{start_for}
@@ -26,7 +24,7 @@ use Rattle.trace_trigger.proofs.OffsetLemmas.{size}
 use Rattle.trace_trigger.proofs.SubjectLaws.{located_attributes}
 use Rattle.trace_trigger.proofs.FaultLaws.{FoundList, NoList, items_are, keys_list, values_list}
 use Rattle.trace_trigger.proofs.WrongLaws.{attributes_there}
-use Rattle.trace_trigger.proofs.FirstFaults.{first_fault, fault_first, filter_all, key_refused, value_refused, refused_value, values_can, can_values}
+use Rattle.trace_trigger.proofs.FirstFaults.{first_fault, fault_first, filter_all, key_refused, refused_key, value_refused, refused_value, values_can, can_values}
 
 -- ---- the items of lists are at their offsets
 
@@ -119,55 +117,46 @@ module _ (definition : Definition) (text : List ℕ) where
   abbrev lists : Lists
   lists = lists_of (attributes_of text)
 
-  pub record KeyFault (fault : TriggerFault) : Type 0 where
-    pub offset : ℕ
-    pub is : IsUnknownKey definition text offset
-    pub same : fault ≡ NoSuchField offset
-
-  pub key_fault : Cut text → (fault : TriggerFault) → each (key_in definition.fields) lists.keys ≡ Err fault → KeyFault fault
+  pub key_fault : Cut text → (fault : TriggerFault) → each (key_in definition.fields) lists.keys ≡ Err fault → IsWrongKey definition text fault
   key_fault cut fault e = by (keys_at text cut)
     where
-      at : ListAt cut OfKeys (lists_of (attributes_of text)).keys → KeyFault fault
+      at : ListAt cut OfKeys (lists_of (attributes_of text)).keys → IsWrongKey definition text fault
       at list =
           let begin : ℕ = items_offset cut list.before list.head in
           let there : each (key_in definition.fields) (filter (λ _. true) (located begin list.items)) ≡ Err fault =
           ap (each (key_in definition.fields)) (filter_all (located begin list.items) ∙ sym list.are) ∙ e in
           let first = first_fault (key_in definition.fields) (λ _. true) begin list.items fault there in
-          let wrong = key_refused (record { at = begin + size 44 first.before; bytes = first.item }) (operand_named definition.fields first.item) fault first.fault_there in
           record {
+            cut = cut;
+            before = first.before;
+            item = first.item;
             offset = begin + size 44 first.before;
-            is = record {
-              cut = cut;
-              before = first.before;
-              name = first.item;
-              is_at = record {
-                attributes_before = list.before;
-                attribute = list.attribute;
-                head = list.head;
-                items = list.items;
-                list = list.list;
-                is_at = record { after = first.after; cut = first.cut; is_there = refl };
-              };
-              unknown = wrong.0;
-              first = keys_before begin first.before first.values first.first;
+            is_at = record {
+              attributes_before = list.before;
+              attribute = list.attribute;
+              head = list.head;
+              items = list.items;
+              list = list.list;
+              is_at = record { after = first.after; cut = first.cut; is_there = refl };
             };
-            same = wrong.1;
+            wrong = key_refused definition (record { at = begin + size 44 first.before; bytes = first.item }) fault first.fault_there;
+            first = keys_before begin first.before first.values first.first;
           }
 
-      by : ((lists_of (attributes_of text)).keys ≡ []) ⊎ ListAt cut OfKeys (lists_of (attributes_of text)).keys → KeyFault fault
+      by : ((lists_of (attributes_of text)).keys ≡ []) ⊎ ListAt cut OfKeys (lists_of (attributes_of text)).keys → IsWrongKey definition text fault
       by (inl none) = let fine : each (key_in definition.fields) (lists_of (attributes_of text)).keys ≡ Ok [] = ap (each (key_in definition.fields)) none in absurd (cc)
       by (inr list) = at list
 
-  pub fault_key : (offset : ℕ) → IsUnknownKey definition text offset → each (key_in definition.fields) lists.keys ≡ Err (NoSuchField offset)
-  fault_key offset is =
+  pub fault_key : (fault : TriggerFault) → IsWrongKey definition text fault → each (key_in definition.fields) lists.keys ≡ Err fault
+  fault_key fault is =
       let at = is.is_at in
       let begin : ℕ = items_offset is.cut at.attributes_before at.head in
-      let same : offset ≡ begin + size 44 is.before = at.is_at.is_there in
+      let same : is.offset ≡ begin + size 44 is.before = at.is_at.is_there in
       let before = before_keys begin is.before is.first in
-      let wrong : key_in definition.fields (record { at = begin + size 44 is.before; bytes = is.name }) ≡ Err (NoSuchField offset) =
-      ap (key_meant (record { at = begin + size 44 is.before; bytes = is.name })) is.unknown ∙ ap (λ n. Err (NoSuchField n)) (sym same) in
-      ap (each (key_in definition.fields)) (keys_of_item text is.cut is.before is.name offset at ∙ ap (located begin) at.is_at.cut ∙ sym (filter_all (located begin (is.before ++ is.name ∷ at.is_at.after))))
-      ∙ fault_first (key_in definition.fields) (λ _. true) begin is.before is.name at.is_at.after (NoSuchField offset) before.found refl wrong before.is
+      let wrong : key_in definition.fields (record { at = begin + size 44 is.before; bytes = is.item }) ≡ Err fault =
+      refused_key definition (record { at = begin + size 44 is.before; bytes = is.item }) fault (subst (λ n. CannotBeKey definition is.item n fault) same is.wrong) in
+      ap (each (key_in definition.fields)) (keys_of_item text is.cut is.before is.item is.offset at ∙ ap (located begin) at.is_at.cut ∙ sym (filter_all (located begin (is.before ++ is.item ∷ at.is_at.after))))
+      ∙ fault_first (key_in definition.fields) (λ _. true) begin is.before is.item at.is_at.after fault before.found refl wrong before.is
 
   -- ---- the first wrong value
 

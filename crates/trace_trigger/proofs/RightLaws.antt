@@ -11,12 +11,15 @@ use Rattle.trace_trigger.specs.declared.spec.SortKey.{SortKey}
 use Rattle.trace_trigger.specs.declared.attribute.Topic.TheVariants as topic
 use Rattle.trace_trigger.specs.declared.attribute.Attribute.{Attribute}
 use Rattle.trace_trigger.specs.declared.piece.ListItem.{ListItem}
-use Rattle.trace_trigger.specs.HistLists.{is_same_topic, first_about, items_of, items_in, lists_of, is_listed, is_hitcount, is_sortable}
-use Rattle.trace_trigger.specs.HistOffsets.{wrong_after, is_unknown, is_repeated, is_bad_size, is_wrong_attribute, attribute_offsets, is_wrong_name, key_offsets, value_offsets, is_wrong_sort, sort_offsets, keyless_offsets}
-use Rattle.trace_trigger.specs.HistGrammar.{Setting, Keys, Values, Sort, Size, Asks, subject_of, IsListed, AreLawful}
+use Rattle.trace_trigger.specs.HistLists.{is_same_topic, first_about, items_of, items_in, lists_of, is_listed, is_named, is_hitcount, is_sortable}
+use Rattle.trace_trigger.specs.HistOffsets.{wrong_after, is_unknown, is_repeated, is_bad_size, is_wrong_attribute, attribute_offsets, is_wrong_key, is_wrong_value, key_offsets, value_offsets, is_wrong_sort, sort_offsets, keyless_offsets}
+use Rattle.trace_trigger.specs.HistGrammar.{Setting, Keys, Values, Sort, Size, Asks, subject_of, HasName, IsKey, IsListed, AreLawful}
 use Rattle.trace_trigger.proofs.WrongLemmas.{Apart, from_pairs, each_weaker, from_none, each_none, none_or, Unlike, none_alike}
 use Rattle.trace_trigger.proofs.ItemLaws.{AreRight, right_names, right_sorts}
-use Rattle.trace_trigger.proofs.AttributeLaws.{AreNames, AreSortKeys, topic_of_setting, IsRead}
+use Rattle.trace_trigger.proofs.KeyLaws.{AreRightKeys, right_keys, key_named}
+use Rattle.trace_trigger.proofs.NameLaws.{named_some}
+use Rattle.trace_trigger.proofs.SubjectLaws.{HasSome, any_some}
+use Rattle.trace_trigger.proofs.AttributeLaws.{AreKeys, AreNames, AreSortKeys, topic_of_setting, IsRead}
 use Rattle.trace_trigger.proofs.ListLaws.{Member, member_from, from_member, same_subject, Once, IsFound, IsMissing, found_or_missing}
 use Rattle.trace_trigger.proofs.SettingLaws.{member_listed, some_items, keyed, given, keys_are, values_are}
 
@@ -92,10 +95,15 @@ module _ (attributes : List Attribute) (settings : List Setting) (zip : AllZip I
       (each_none is_bad_size [] attributes (each_sized attributes settings zip))) in
       ap (map (λ (a : Attribute). a.at)) none
 
-  items_right : (attribute : Attribute) (names : List (List ℕ)) → AreNames attribute names → map (λ (item : ListItem). item.at) (wrong_after is_wrong_name [] (items_of attribute)) ≡ []
+  items_right : (attribute : Attribute) (names : List (List ℕ)) → AreNames attribute names → map (λ (item : ListItem). item.at) (wrong_after is_wrong_value [] (items_of attribute)) ≡ []
   items_right attribute names are =
       let right : AreRight names = record { named = are.named; apart = are.apart } in
       ap (map (λ (item : ListItem). item.at)) (right_names (items_of attribute) (subst AreRight (sym are.items) right))
+
+  key_items_right : (attribute : Attribute) (keys : List (List ℕ)) → AreKeys attribute keys → map (λ (item : ListItem). item.at) (wrong_after is_wrong_key [] (items_of attribute)) ≡ []
+  key_items_right attribute keys are =
+      let right : AreRightKeys keys = record { each = are.each; apart = are.apart } in
+      ap (map (λ (item : ListItem). item.at)) (right_keys (items_of attribute) (subst AreRightKeys (sym are.items) right))
 
   keys_right : key_offsets (lists_of attributes).keys ≡ []
   unfolding lists_of key_offsets
@@ -105,7 +113,7 @@ module _ (attributes : List Attribute) (settings : List Setting) (zip : AllZip I
       by (inl found) = of found.setting found.same found.read
         where
           of : (s : Setting) → is_same_topic topic.Keys (topic_of_setting s) ≡ true → IsRead found.attribute s → key_offsets (items_in (first_about topic.Keys attributes)) ≡ []
-          of (Keys names) e read = ap (λ (a : Option Attribute). key_offsets (items_in a)) found.first ∙ items_right found.attribute names read.holds
+          of (Keys keys) e read = ap (λ (a : Option Attribute). key_offsets (items_in a)) found.first ∙ key_items_right found.attribute keys read.holds
           of (Values names) e read = absurd (cc)
           of (Sort keys) e read = absurd (cc)
           of (Size entries) e read = absurd (cc)
@@ -132,34 +140,32 @@ module _ (attributes : List Attribute) (settings : List Setting) (zip : AllZip I
   named_in : (name : List ℕ) (names : List (List ℕ)) (attribute : Attribute) → AreNames attribute names → Contains names name → is_name name ≡ true
   named_in name names attribute are among = All-contains (λ n. IsTrue (is_name n)) names name are.named among
 
-  sortable_key : (name : List ℕ) (names : List (List ℕ)) → Contains settings (Keys names) → Contains names name → is_sortable (lists_of attributes) name ≡ true
-  sortable_key name names set among =
-      let it = given attributes settings zip once (Keys names) (member_from (Keys names) settings set) in
-      let listed : is_listed (lists_of attributes).keys name ≡ true =
-      member_listed name (lists_of attributes).keys (subst (Member name) (sym (keys_are attributes settings zip once names set)) (member_from name names among)) in
-      or_right (is_hitcount name) (is_name name && (is_listed (lists_of attributes).keys name || is_listed (lists_of attributes).values name))
-      (and_from (is_name name) (is_listed (lists_of attributes).keys name || is_listed (lists_of attributes).values name)
-      (named_in name names it.attribute it.read.holds among)
-      (or_left (is_listed (lists_of attributes).keys name) (is_listed (lists_of attributes).values name) listed))
+  sortable_key : (name : List ℕ) (items : List (List ℕ)) → Contains settings (Keys items) → HasSome (HasName name) items → is_sortable (lists_of attributes) name ≡ true
+  sortable_key name items set some =
+      let it = given attributes settings zip once (Keys items) (member_from (Keys items) settings set) in
+      let listed : is_named (lists_of attributes).keys name ≡ true =
+      named_some name (lists_of attributes).keys (subst (HasSome (HasName name)) (sym (keys_are attributes settings zip once items set)) some) in
+      let key : IsKey some.element = All-contains IsKey items some.element it.read.holds.each (from_member some.element items some.member) in
+      or_right (is_hitcount name) (is_name name && (is_named (lists_of attributes).keys name || is_listed (lists_of attributes).values name))
+      (and_from (is_name name) (is_named (lists_of attributes).keys name || is_listed (lists_of attributes).values name)
+      (key_named some.element name key some.holds)
+      (or_left (is_named (lists_of attributes).keys name) (is_listed (lists_of attributes).values name) listed))
 
   sortable_value : (name : List ℕ) (names : List (List ℕ)) → Contains settings (Values names) → Contains names name → is_sortable (lists_of attributes) name ≡ true
   sortable_value name names set among =
       let it = given attributes settings zip once (Values names) (member_from (Values names) settings set) in
       let listed : is_listed (lists_of attributes).values name ≡ true =
       member_listed name (lists_of attributes).values (subst (Member name) (sym (values_are attributes settings zip once names set)) (member_from name names among)) in
-      or_right (is_hitcount name) (is_name name && (is_listed (lists_of attributes).keys name || is_listed (lists_of attributes).values name))
-      (and_from (is_name name) (is_listed (lists_of attributes).keys name || is_listed (lists_of attributes).values name)
+      or_right (is_hitcount name) (is_name name && (is_named (lists_of attributes).keys name || is_listed (lists_of attributes).values name))
+      (and_from (is_name name) (is_named (lists_of attributes).keys name || is_listed (lists_of attributes).values name)
       (named_in name names it.attribute it.read.holds among)
-      (or_right (is_listed (lists_of attributes).keys name) (is_listed (lists_of attributes).values name) listed))
+      (or_right (is_named (lists_of attributes).keys name) (is_listed (lists_of attributes).values name) listed))
 
   sortable : (name : List ℕ) → (name ≡ codes "hitcount") ⊎ IsListed settings name → is_sortable (lists_of attributes) name ≡ true
   sortable name (inl e) =
-      or_left (is_hitcount name) (is_name name && (is_listed (lists_of attributes).keys name || is_listed (lists_of attributes).values name)) ((bytes_eq-Decides name (codes "hitcount")).1 e)
-  sortable name (inr is) = by is.set
-    where
-      by : Contains settings (Keys is.names) ⊎ Contains settings (Values is.names) → is_sortable (lists_of attributes) name ≡ true
-      by (inl set) = sortable_key name is.names set is.among
-      by (inr set) = sortable_value name is.names set is.among
+      or_left (is_hitcount name) (is_name name && (is_named (lists_of attributes).keys name || is_listed (lists_of attributes).values name)) ((bytes_eq-Decides name (codes "hitcount")).1 e)
+  sortable name (inr (inl is)) = sortable_key name is.0 is.1 (any_some (HasName name) is.0 is.2)
+  sortable name (inr (inr is)) = sortable_value name is.0 is.1 is.2
 
   sort_items_right : (attribute : Attribute) (keys : List SortKey) → Contains settings (Sort keys) → AreSortKeys attribute keys → wrong_after (is_wrong_sort (lists_of attributes)) [] (items_of attribute) ≡ []
   sort_items_right attribute keys set are =

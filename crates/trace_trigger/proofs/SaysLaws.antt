@@ -13,13 +13,16 @@ use Rattle.trace_trigger.specs.declared.spec.SortKey.{SortKey}
 use Rattle.trace_trigger.specs.declared.sort_rule.SortRule.{SortRule}
 use Rattle.trace_trigger.specs.declared.piece.ListItem.{ListItem}
 use Rattle.trace_trigger.specs.HistParts.{attributes_of}
-use Rattle.trace_trigger.specs.HistLists.{Lists, lists_of, names_of, summed_items, is_hitcount, sort_keys, sort_key_of}
+use Rattle.trace_trigger.specs.HistLists.{Lists, lists_of, names_of, summed_items, is_hitcount, item_name, sort_keys, sort_key_of}
 use Rattle.trace_trigger.specs.HistMeanings.{is_too_many, few, size_of, told_size, sort_source, sort_rule}
 use Rattle.trace_trigger.specs.HistSizes.{rounded_size}
 use Rattle.trace_trigger.specs.HistSpecs.{SpecSeen, written_of, key_names}
 use Rattle.trace_trigger.specs.Frames.{filter_of}
-use Rattle.trace_trigger.specs.HistGrammar.{Setting, Keys, Values, Sort, Size, Asks, subject_of, IsListed, IsSet, summed_names, AreSettingsOf, IsWithinLimits, IsKeyOf, IsValueOf, IsSortedBy, IsRuleOf, FitsEvent}
-use Rattle.trace_trigger.proofs.WrongLemmas.{Apart, from_pairs, each_weaker}
+use Rattle.trace_trigger.specs.HistGrammar.{Setting, Keys, Values, Sort, Size, Asks, subject_of, HasName, IsKey, AreNamedApart, IsListed, IsSet, summed_names, AreSettingsOf, IsWithinLimits, IsKeyOf, IsValueOf, IsSortedBy, IsRuleOf, FitsEvent}
+use Rattle.trace_trigger.proofs.WrongLemmas.{Apart, from_pairs, each_weaker, apart_weaker, apart_map}
+use Rattle.trace_trigger.proofs.NameLaws.{name_is}
+use Rattle.trace_trigger.proofs.KeyLaws.{apart_named}
+use Rattle.trace_trigger.proofs.SubjectLaws.{HasSome, any_some}
 use Rattle.trace_trigger.proofs.ListLaws.{Member, member_from, Once, one_setting}
 use Rattle.trace_trigger.proofs.SettingLaws.{default_sort, ListsAre, given, keys_are, values_are, lists_are}
 use Rattle.trace_trigger.proofs.MeaningLaws.{keys_found, keys_given, keys_written, keys_named, keys_of_event, event_keys, values_found, values_given, summed_are, told, by_is, is_by}
@@ -56,6 +59,14 @@ no_hitcount (first ∷ names) is = by (bytes_eq first (codes "hitcount")) refl i
     by false e (inl same) next = let equal : bytes_eq first (codes "hitcount") ≡ true = (bytes_eq-Decides first (codes "hitcount")).1 (sym same) in cc
     by false e (inr is) next = next is
 
+named_member : (name : List ℕ) (items : List (List ℕ)) → HasSome (HasName name) items → Member name (map item_name items)
+named_member name items is = by items is.member
+  where
+    by : (items : List (List ℕ)) → Member is.element items → Member name (map item_name items)
+    by [] member = absurd member
+    by (item ∷ items) (inl same) = inl (sym (name_is name is.element is.holds) ∙ ap item_name same)
+    by (item ∷ items) (inr member) = inr (by items member)
+
 -- ---- the lists of a text
 
 module _ (definition : Definition) (text : List ℕ) (settings : List Setting) (condition : Option (List ℕ)) (finds : Finds text settings condition) where
@@ -68,10 +79,20 @@ module _ (definition : Definition) (text : List ℕ) (settings : List Setting) (
   pub are : ListsAre settings (lists_of (attributes_of text))
   are = lists_are (attributes_of text) settings finds.read once finds.lawful.keys.0 finds.lawful.keys.1
 
-  keys_apart : Apart (λ one other. one ≢ other) (names_of lists.keys)
+  -- the names of the keys
+  abbrev named : List (List ℕ)
+  named = map item_name (names_of lists.keys)
+
+  keys_apart : Apart (λ one other. one ≢ other) named
   keys_apart =
       let it = given (attributes_of text) settings finds.read once (Keys (names_of lists.keys)) (member_from (Keys (names_of lists.keys)) settings are.keys) in
-      from_pairs (λ one other. one ≢ other) (names_of lists.keys) it.read.holds.apart
+      apart_map (λ one other. one ≢ other) item_name (names_of lists.keys)
+      (apart_weaker AreNamedApart (λ one other. item_name one ≢ item_name other) apart_named (names_of lists.keys) (from_pairs AreNamedApart (names_of lists.keys) it.read.holds.apart))
+
+  keys_good : AllByRecursion IsKey (names_of lists.keys)
+  keys_good =
+      let it = given (attributes_of text) settings finds.read once (Keys (names_of lists.keys)) (member_from (Keys (names_of lists.keys)) settings are.keys) in
+      recursion_from_All IsKey (names_of lists.keys) it.read.holds.each
 
   listed_apart : AllPairs (λ one other. one ≢ other) (names_of lists.values)
   listed_apart = by are.values
@@ -91,7 +112,7 @@ module _ (definition : Definition) (text : List ℕ) (settings : List Setting) (
   -- ---- what is sorted by is found
 
   abbrev Lent : List ℕ → Type 0
-  Lent name = (name ≡ codes "hitcount") ⊎ (Member name (names_of lists.keys) ⊎ Member name (names_of (summed_items lists.values)))
+  Lent name = (name ≡ codes "hitcount") ⊎ (Member name named ⊎ Member name (names_of (summed_items lists.values)))
 
   lent_value : (name : List ℕ) → Member name (names_of lists.values) → Lent name
   lent_value name is = by (is_hitcount name) refl
@@ -104,11 +125,9 @@ module _ (definition : Definition) (text : List ℕ) (settings : List Setting) (
 
   lent : (name : List ℕ) → (name ≡ codes "hitcount") ⊎ IsListed settings name → Lent name
   lent name (inl same) = inl same
-  lent name (inr is) = by is.set
-    where
-      by : Contains settings (Keys is.names) ⊎ Contains settings (Values is.names) → Lent name
-      by (inl set) = inr (inl (subst (Member name) (sym (keys_are (attributes_of text) settings finds.read once is.names set)) (member_from name is.names is.among)))
-      by (inr set) = lent_value name (subst (Member name) (sym (values_are (attributes_of text) settings finds.read once is.names set)) (member_from name is.names is.among))
+  lent name (inr (inl is)) =
+      inr (inl (subst (λ (items : List (List ℕ)). Member name (map item_name items)) (sym (keys_are (attributes_of text) settings finds.read once is.0 is.1)) (named_member name is.0 (any_some (HasName name) is.0 is.2))))
+  lent name (inr (inr is)) = lent_value name (subst (Member name) (sym (values_are (attributes_of text) settings finds.read once is.0 is.1)) (member_from name is.0 is.2))
 
   sort_lent : (keys : List SortKey) → IsSet settings Sort default_sort keys → AllByRecursion (λ (key : SortKey). Lent key.name) keys
   sort_lent keys (inl set) = each_weaker (λ (key : SortKey). (key.name ≡ codes "hitcount") ⊎ IsListed settings key.name) (λ (key : SortKey). Lent key.name) (λ key is. lent key.name is) keys
@@ -116,36 +135,36 @@ module _ (definition : Definition) (text : List ℕ) (settings : List Setting) (
   sort_lent keys (inr none) = subst (AllByRecursion (λ (key : SortKey). Lent key.name)) (sym none.1) (inl refl, tt)
 
   abbrev rule : SortKey → SortRule
-  rule = sort_rule (names_of lists.keys) (names_of (summed_items lists.values))
+  rule = sort_rule named (names_of (summed_items lists.values))
 
-  source_lent : (name : List ℕ) → Lent name → IsSortedBy (names_of lists.keys) (names_of (summed_items lists.values)) name (sort_source (names_of lists.keys) (names_of (summed_items lists.values)) name)
-  source_lent name lent = is_by (names_of lists.keys) (names_of (summed_items lists.values)) keys_apart values_apart no_count name lent
+  source_lent : (name : List ℕ) → Lent name → IsSortedBy named (names_of (summed_items lists.values)) name (sort_source named (names_of (summed_items lists.values)) name)
+  source_lent name lent = is_by named (names_of (summed_items lists.values)) keys_apart values_apart no_count name lent
 
-  sorted_same : (keys values : List (List ℕ)) → names_of lists.keys ≡ keys → names_of (summed_items lists.values) ≡ values → (key : SortKey) → Lent key.name
-      → IsSortedBy keys values key.name (sort_source (names_of lists.keys) (names_of (summed_items lists.values)) key.name)
+  sorted_same : (keys values : List (List ℕ)) → named ≡ keys → names_of (summed_items lists.values) ≡ values → (key : SortKey) → Lent key.name
+      → IsSortedBy keys values key.name (sort_source named (names_of (summed_items lists.values)) key.name)
   sorted_same keys values e f key lent =
-      subst (λ (ks : List (List ℕ)). IsSortedBy ks values key.name (sort_source (names_of lists.keys) (names_of (summed_items lists.values)) key.name)) e
-      (subst (λ (vs : List (List ℕ)). IsSortedBy (names_of lists.keys) vs key.name (sort_source (names_of lists.keys) (names_of (summed_items lists.values)) key.name)) f (source_lent key.name lent))
+      subst (λ (ks : List (List ℕ)). IsSortedBy ks values key.name (sort_source named (names_of (summed_items lists.values)) key.name)) e
+      (subst (λ (vs : List (List ℕ)). IsSortedBy named vs key.name (sort_source named (names_of (summed_items lists.values)) key.name)) f (source_lent key.name lent))
 
-  rules_found : (spec : SpecSeen) → names_of lists.keys ≡ key_names spec.keys → names_of (summed_items lists.values) ≡ spec.values → (keys : List SortKey) → AllByRecursion (λ (key : SortKey). Lent key.name) keys
+  rules_found : (spec : SpecSeen) → named ≡ key_names spec.keys → names_of (summed_items lists.values) ≡ spec.values → (keys : List SortKey) → AllByRecursion (λ (key : SortKey). Lent key.name) keys
       → AllZip (IsRuleOf spec) keys (map rule keys)
   rules_found spec e f [] all = tt
   rules_found spec e f (key ∷ keys) all = ((sorted_same (key_names spec.keys) spec.values e f key all.0, refl), rules_found spec e f keys all.1)
 
-  rules_given : (spec : SpecSeen) → names_of lists.keys ≡ key_names spec.keys → names_of (summed_items lists.values) ≡ spec.values → (keys : List SortKey) (rules : List SortRule)
+  rules_given : (spec : SpecSeen) → named ≡ key_names spec.keys → names_of (summed_items lists.values) ≡ spec.values → (keys : List SortKey) (rules : List SortRule)
       → AllZip (IsRuleOf spec) keys rules → map rule keys ≡ rules
   rules_given spec e f [] [] zip = refl
   rules_given spec e f [] (it ∷ rules) zip = absurd zip
   rules_given spec e f (key ∷ keys) [] zip = absurd zip
   rules_given spec e f (key ∷ keys) (it ∷ rules) zip =
-      let sorted : IsSortedBy (names_of lists.keys) (names_of (summed_items lists.values)) key.name it.source =
+      let sorted : IsSortedBy named (names_of (summed_items lists.values)) key.name it.source =
       subst (λ (ks : List (List ℕ)). IsSortedBy ks (names_of (summed_items lists.values)) key.name it.source) (sym e)
       (subst (λ (vs : List (List ℕ)). IsSortedBy (key_names spec.keys) vs key.name it.source) (sym f) zip.0.0) in
-      let source : it.source ≡ sort_source (names_of lists.keys) (names_of (summed_items lists.values)) key.name =
-      by_is (names_of lists.keys) (names_of (summed_items lists.values)) keys_apart values_apart no_count key.name it.source sorted in
+      let source : it.source ≡ sort_source named (names_of (summed_items lists.values)) key.name =
+      by_is named (names_of (summed_items lists.values)) keys_apart values_apart no_count key.name it.source sorted in
       (λ i. record { source = sym source i; descending = sym zip.0.1 i } ∷ rules_given spec e f keys rules zip.1 i)
 
-  by_names : (names : List (List ℕ)) → names_of lists.keys ≡ names → map rule (sort_keys lists.sort) ≡ map (sort_rule names (names_of (summed_items lists.values))) (sort_keys lists.sort)
+  by_names : (names : List (List ℕ)) → named ≡ names → map rule (sort_keys lists.sort) ≡ map (sort_rule names (names_of (summed_items lists.values))) (sort_keys lists.sort)
   by_names names e = ap (λ (ns : List (List ℕ)). map (sort_rule ns (names_of (summed_items lists.values))) (sort_keys lists.sort)) e
 
   -- ---- how many
@@ -209,7 +228,7 @@ module _ (definition : Definition) (text : List ℕ) (settings : List Setting) (
       let read = keys_found definition lists.keys spec.keys is.keys in
       let named = keys_named definition lists.keys spec.keys read in
       record {
-        keys = All-from_recursion (IsKeyOf definition) spec.keys (keys_of_event definition lists.keys spec.keys read);
+        keys = All-from_recursion (IsKeyOf definition) spec.keys (keys_of_event definition lists.keys spec.keys keys_good read);
         values = subst (λ (names : List (List ℕ)). AllZip (IsValueOf definition) names spec.value_sources) is.values (values_found definition (summed_items lists.values) spec.value_sources is.value_sources);
         sort =
             subst (λ (keys : List SortKey). AllZip (IsRuleOf spec) keys spec.sort_sources) is.sort

@@ -1,5 +1,5 @@
 -- A text is refused for its syntax exactly at the leftmost offset where it is wrong.
-use Rattle.std.proofs.Common.{◌≡◌, ◌⊎◌, ◌↔◌, inl, inr, refl, ℕ, Bool, true, false, not, List, [], ◌∷◌, Option, Some, None, Result, Ok, Err, ap, sym, ◌∙◌, subst}
+use Rattle.std.proofs.Common.{◌≡◌, ◌⊎◌, ◌↔◌, inl, inr, refl, ℕ, Bool, true, false, not, List, [], ◌∷◌, Option, Some, None, Result, Err, ap, sym, ◌∙◌, subst}
 use Rattle.std.proofs.lemmas.List.Elements.{All-weaker}
 use Rattle.trace_format.specs.Definitions.{Definition}
 use Rattle.trace_lex.specs.Blanks.{is_blank}

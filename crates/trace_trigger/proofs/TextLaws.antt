@@ -2,13 +2,12 @@
 use Rattle.std.proofs.Common.{◌≡◌, ◌↔◌, ◌⊎◌, inl, inr, ℕ, ◌-◌, Bool, true, false, codes, List, ◌∷◌, ◌++◌, length, take, drop, Option, Some, None, Result, Ok, Err, if◌then◌else◌, refl, sym, ap, ◌∙◌, subst}
 use Rattle.std.specs.List.{list_all}
 use Rattle.std.proofs.lemmas.List.{take-append-drop}
-use Rattle.std.specs.List.{prefix_len}
 use Rattle.std.proofs.lemmas.List.Sums.{AllPass-from_list_all, list_all-from_AllPass}
 use Rattle.trace_format.specs.Definitions.{Definition}
 use Rattle.trace_lex.specs.Blanks.{is_blank, AreBlanks}
 use Rattle.trace_filter.specs.declared.fault.FilterFault.{FilterFault}
 use Rattle.trace_filter.specs.Filters.{Parsed, IsRefused}
-use Rattle.trace_trigger.specs.Frames.{is_unblank, IsTail, moved, filter_of}
+use Rattle.trace_trigger.specs.Frames.{moved, filter_of}
 use Rattle.trace_trigger.specs.TriggerAnswers.{◌>>=◌}
 use Rattle.trace_trigger.specs.HistSpecs.{SpecSeen}
 use Rattle.trace_trigger.specs.HistTexts.{IsHistText, spec_of}
@@ -18,13 +17,13 @@ use Rattle.trace_trigger.specs.declared.trigger.SnapshotTrigger.{SnapshotTrigger
 use Rattle.trace_trigger.specs.declared.trigger.TriggerText.{TriggerText}
 use Rattle.trace_trigger.specs.declared.trigger.TriggerText.TheVariants.{Nothing, Attach, Remove, Hist, RemoveHist}
 use Rattle.trace_trigger.specs.TriggerTexts.{after, word_of, after_word, count_of, condition_of, trigger_of, said_after, snapshot_said, begins, said_of}
-use Rattle.trace_trigger.specs.TriggerGrammar.{IsWord, IsWritten, Writes}
+use Rattle.trace_trigger.specs.TriggerGrammar.{IsWritten, Writes}
 use Rattle.trace_trigger.specs.Laws.{WritesRemoval, IsBad}
 use Rattle.trace_trigger.proofs.FilterLaws.{filter_given, filter_refused, filter_found}
 use Rattle.trace_trigger.proofs.LaterFaults.{IsAnyLater, filter_later, never_bad}
-use Rattle.trace_trigger.proofs.Cuts.{after_append, after_is, begins_so, so_begins, run_taken, run_dropped, run_stops}
-use Rattle.trace_trigger.proofs.WordLaws.{word_is, count_is, bad_word, word_unblank}
-use Rattle.trace_trigger.proofs.TailLaws.{tail_begins, tail_is, condition_is, bad_tail}
+use Rattle.trace_trigger.proofs.Cuts.{after_append, after_is, begins_so, so_begins}
+use Rattle.trace_trigger.proofs.WordLaws.{bad_word}
+use Rattle.trace_trigger.proofs.TailLaws.{bad_tail}
 use Rattle.trace_trigger.proofs.BodyLaws.{IsBody, body_counts, body_conditions, body_is, Begins, word_begins}
 
 -- ---- the filter

@@ -11,7 +11,7 @@ use Rattle.trace_lex.specs.Names.{is_letter, is_name_byte, is_name}
 use Rattle.trace_lex.specs.Prefixes.{is_not}
 use Rattle.trace_lex.proofs.Lists.{BeginsNot, run_ends}
 use Rattle.trace_trigger.specs.declared.spec.SortKey.{SortKey}
-use Rattle.trace_trigger.specs.HistLists.{sort_name, sort_suffix, is_descending, is_direction}
+use Rattle.trace_trigger.specs.HistLists.{item_name, item_suffix, is_descending, is_direction}
 use Rattle.trace_trigger.specs.HistGrammar.{IsDirected, IsSortItem}
 use Rattle.trace_trigger.proofs.CutLemmas.{IsFree, free_passes}
 
@@ -48,22 +48,22 @@ name_is_free byte name other e = All-weaker (λ b. is_name_byte b ≡ true) (λ 
 -- ---- names to sort by
 
 -- nothing, or a `.` and more
-pub begins_dotted : (name rest : List ℕ) → is_name name ≡ true → BeginsNot (is_not 46) rest → (sort_name (name ++ rest) ≡ name) × (sort_suffix (name ++ rest) ≡ rest)
+pub begins_dotted : (name rest : List ℕ) → is_name name ≡ true → BeginsNot (is_not 46) rest → (item_name (name ++ rest) ≡ name) × (item_suffix (name ++ rest) ≡ rest)
 begins_dotted name rest e dot =
     let passes : AllPass (is_not 46) name = free_passes 46 name (name_is_free 46 name refl e) in
     (run_taken (is_not 46) name rest passes dot, run_dropped (is_not 46) name rest passes dot)
 
 pub record IsSortRead (item : List ℕ) (key : SortKey) : Type 0 where
-  pub name : sort_name item ≡ key.name
-  pub direction : is_direction (sort_suffix item) ≡ true
-  pub descending : is_descending (sort_suffix item) ≡ key.descending
+  pub name : item_name item ≡ key.name
+  pub direction : is_direction (item_suffix item) ≡ true
+  pub descending : is_descending (item_suffix item) ≡ key.descending
 
 read_sort : (item name suffix : List ℕ) (key : SortKey) → is_name name ≡ true → BeginsNot (is_not 46) suffix → item ≡ name ++ suffix → name ≡ key.name
     → is_direction suffix ≡ true → is_descending suffix ≡ key.descending → IsSortRead item key
 read_sort item name suffix key e dot cut same direction descending =
     let parts = begins_dotted name suffix e dot in
-    let first : sort_name item ≡ name = ap sort_name cut ∙ parts.0 in
-    let second : sort_suffix item ≡ suffix = ap sort_suffix cut ∙ parts.1 in
+    let first : item_name item ≡ name = ap item_name cut ∙ parts.0 in
+    let second : item_suffix item ≡ suffix = ap item_suffix cut ∙ parts.1 in
     record { name = first ∙ same; direction = ap is_direction second ∙ direction; descending = ap is_descending second ∙ descending }
 
 pub sort_read : (item : List ℕ) (key : SortKey) → IsSortItem item key → IsSortRead item key
@@ -76,9 +76,9 @@ sort_read item key is = by key.descending refl is.directed
 
 -- and what is read so is written so
 abbrev pub sort_key_in : List ℕ → SortKey
-sort_key_in item = record { name = sort_name item; descending = is_descending (sort_suffix item) }
+sort_key_in item = record { name = item_name item; descending = is_descending (item_suffix item) }
 
-sort_cut : (item : List ℕ) → item ≡ sort_name item ++ sort_suffix item
+sort_cut : (item : List ℕ) → item ≡ item_name item ++ item_suffix item
 sort_cut item = sym (take-append-drop (prefix_len (is_not 46) item) item)
 
 directed_so : (item name suffix : List ℕ) → item ≡ name ++ suffix → is_direction suffix ≡ true → IsDirected item name (is_descending suffix)
@@ -96,8 +96,8 @@ directed_so item name suffix cut e = by (is_descending suffix) refl
         either (inl g) = plain (or_cases (bytes_eq suffix []) (bytes_eq suffix (codes ".ascending")) g)
         either (inr g) = absurd (cc)
 
-pub sort_written : (item : List ℕ) → is_name (sort_name item) ≡ true → is_direction (sort_suffix item) ≡ true → IsSortItem item (sort_key_in item)
-sort_written item named e = record { named = named; directed = directed_so item (sort_name item) (sort_suffix item) (sort_cut item) e }
+pub sort_written : (item : List ℕ) → is_name (item_name item) ≡ true → is_direction (item_suffix item) ≡ true → IsSortItem item (sort_key_in item)
+sort_written item named e = record { named = named; directed = directed_so item (item_name item) (item_suffix item) (sort_cut item) e }
 
 -- an item is of one key
 pub sort_key_is : (item : List ℕ) (key : SortKey) → IsSortItem item key → sort_key_in item ≡ key

@@ -13,7 +13,7 @@ use Rattle.trace_trigger.specs.declared.piece.ListItem.{ListItem}
 use Rattle.trace_trigger.specs.HistAttributes.{attribute_of}
 use Rattle.trace_trigger.specs.HistParts.{attributes_of, end_of, tail_of, is_condition, condition_of, offset_in}
 use Rattle.trace_trigger.specs.HistLists.{first_about, items_in, Lists, lists_of}
-use Rattle.trace_trigger.specs.HistOffsets.{wrong_after, attribute_offsets, is_wrong_name, key_offsets, value_offsets, is_wrong_sort, sort_offsets, list_offsets, keyless_offsets, tail_offsets, wrong_offsets}
+use Rattle.trace_trigger.specs.HistOffsets.{wrong_after, attribute_offsets, is_wrong_key, is_wrong_value, key_offsets, value_offsets, is_wrong_sort, sort_offsets, list_offsets, keyless_offsets, tail_offsets, wrong_offsets}
 use Rattle.trace_trigger.specs.HistGrammar.{Subject, OfKeys, OfValues, OfSort, OfSize, OfAction}
 use Rattle.trace_trigger.specs.HistFaultOffsets.{Cut, BeginsBlank, IsAt, IsAbout, IsList, IsWrongItem, WrongItem, WrongTail, IsWrongAt}
 use Rattle.trace_trigger.proofs.CutLemmas.{located, cut_pieces}
@@ -23,7 +23,7 @@ use Rattle.trace_trigger.proofs.ListLaws.{Member}
 use Rattle.trace_trigger.proofs.PartLaws.{start_for, attributes_are, tail_is, end_is, run_passes, run_stops, begins_unblank, begins_not, tail_found, tail_written}
 use Rattle.trace_trigger.proofs.OffsetLemmas.{size, offsets, member_left, member_right, member_cases}
 use Rattle.trace_trigger.proofs.SubjectLaws.{located_attributes}
-use Rattle.trace_trigger.proofs.FaultLaws.{attributes_sound, attributes_complete, FoundList, NoList, items_are, keys_list, values_list, sort_list, items_sound, items_complete, item_wrong, wrong_item, sort_wrong, wrong_sort}
+use Rattle.trace_trigger.proofs.FaultLaws.{attributes_sound, attributes_complete, FoundList, NoList, items_are, keys_list, values_list, sort_list, items_sound, items_complete, key_wrong, wrong_key, value_wrong, wrong_value, sort_wrong, wrong_sort}
 
 -- ---- attributes and their items
 
@@ -52,7 +52,7 @@ module _ (begin : ℕ) (parts : List (List ℕ)) where
     where
       by : FoundList begin parts OfKeys ⊎ NoList begin parts OfKeys → WrongItemAt offset
       by (inl list) =
-          let it = items_sound begin parts is_wrong_name OfKeys offset list is in
+          let it = items_sound begin parts is_wrong_key OfKeys offset list is in
           record {
             subject = OfKeys;
             attributes_before = list.before;
@@ -63,9 +63,9 @@ module _ (begin : ℕ) (parts : List (List ℕ)) where
             before = it.before;
             item = it.part;
             is_at = it.is_at;
-            wrong = item_wrong (begin + size 58 list.before + length list.head) offset it.before it.part it.wrong_there;
+            wrong = key_wrong (begin + size 58 list.before + length list.head) offset it.before it.part it.wrong_there;
           }
-      by (inr none) = absurd (subst (λ (pieces : List ListItem). Member offset (offsets (wrong_after is_wrong_name [] pieces))) none.none is)
+      by (inr none) = absurd (subst (λ (pieces : List ListItem). Member offset (offsets (wrong_after is_wrong_key [] pieces))) none.none is)
 
   values_sound : (offset : ℕ) → Member offset (value_offsets lists.values) → WrongItemAt offset
   unfolding lists_of value_offsets
@@ -73,7 +73,7 @@ module _ (begin : ℕ) (parts : List (List ℕ)) where
     where
       by : FoundList begin parts OfValues ⊎ NoList begin parts OfValues → WrongItemAt offset
       by (inl list) =
-          let it = items_sound begin parts is_wrong_name OfValues offset list is in
+          let it = items_sound begin parts is_wrong_value OfValues offset list is in
           record {
             subject = OfValues;
             attributes_before = list.before;
@@ -84,9 +84,9 @@ module _ (begin : ℕ) (parts : List (List ℕ)) where
             before = it.before;
             item = it.part;
             is_at = it.is_at;
-            wrong = item_wrong (begin + size 58 list.before + length list.head) offset it.before it.part it.wrong_there;
+            wrong = value_wrong (begin + size 58 list.before + length list.head) offset it.before it.part it.wrong_there;
           }
-      by (inr none) = absurd (subst (λ (pieces : List ListItem). Member offset (offsets (wrong_after is_wrong_name [] pieces))) none.none is)
+      by (inr none) = absurd (subst (λ (pieces : List ListItem). Member offset (offsets (wrong_after is_wrong_value [] pieces))) none.none is)
 
   sort_sound : (offset : ℕ) → Member offset (sort_offsets lists) → WrongItemAt offset
   unfolding lists_of sort_offsets
@@ -126,15 +126,15 @@ module _ (begin : ℕ) (parts : List (List ℕ)) where
       → IsAt 44 (begin + size 58 attributes + length head) items before item offset → IsWrongItem OfKeys parts before item → Member offset (key_offsets lists.keys)
   unfolding lists_of key_offsets
   keys_complete offset attributes items before attribute head item list is_at wrong =
-      items_complete begin parts is_wrong_name OfKeys offset attribute head attributes items before item (head, list.value, list.has) list is_at
-      (wrong_item (begin + size 58 attributes + length head) offset before item wrong)
+      items_complete begin parts is_wrong_key OfKeys offset attribute head attributes items before item (head, list.value, list.has) list is_at
+      (wrong_key (begin + size 58 attributes + length head) offset before item wrong)
 
   values_complete : (offset : ℕ) (attributes items before : List (List ℕ)) (attribute head item : List ℕ) → IsList OfValues parts attributes attribute head items
       → IsAt 44 (begin + size 58 attributes + length head) items before item offset → IsWrongItem OfValues parts before item → Member offset (value_offsets lists.values)
   unfolding lists_of value_offsets
   values_complete offset attributes items before attribute head item list is_at wrong =
-      items_complete begin parts is_wrong_name OfValues offset attribute head attributes items before item (head, list.value, list.has) list is_at
-      (wrong_item (begin + size 58 attributes + length head) offset before item wrong)
+      items_complete begin parts is_wrong_value OfValues offset attribute head attributes items before item (head, list.value, list.has) list is_at
+      (wrong_value (begin + size 58 attributes + length head) offset before item wrong)
 
   sort_complete : (offset : ℕ) (attributes items before : List (List ℕ)) (attribute head item : List ℕ) → IsList OfSort parts attributes attribute head items
       → IsAt 44 (begin + size 58 attributes + length head) items before item offset → IsWrongItem OfSort parts before item → Member offset (sort_offsets lists)

@@ -10,6 +10,8 @@ use Rattle.trace_trigger.specs.declared.fault.TriggerFault.{TriggerFault}
 use Rattle.trace_trigger.specs.declared.fault.TriggerFault.TheVariants.{HistSyntax, TooMany, NoSuchField, WrongOperator, BadSize, FilterSyntax}
 use Rattle.trace_trigger.specs.declared.spec.Action.TheVariants.{Attach, Pause, Continue, Clear}
 use Rattle.trace_trigger.specs.declared.key.Key.{Key}
+use Rattle.trace_trigger.specs.declared.modifier.Modifier.{Modifier}
+use Rattle.trace_trigger.specs.declared.modifier.Modifier.TheVariants.{Plain, Hex, Log2, Buckets}
 use Rattle.trace_trigger.specs.declared.spec.SortKey.{SortKey}
 use Rattle.trace_trigger.specs.declared.sort_rule.SortRule.{SortRule}
 use Rattle.trace_trigger.specs.declared.sort_rule.SortSource.{SortSource}
@@ -51,9 +53,12 @@ number_field index = Field index false
 abbrev pub text_field : ℕ → Operand
 text_field index = Field index true
 
--- a key that is a name
+-- a key that is a name, and one with a modifier
 abbrev pub key : List ℕ → Operand → Key
-key name operand = record { written = name; name = name; operand = operand }
+key name operand = record { written = name; name = name; modifier = Plain; operand = operand }
+
+abbrev pub modified : List ℕ → List ℕ → Modifier → Operand → Key
+modified written name modifier operand = record { written = written; name = name; modifier = modifier; operand = operand }
 
 -- a name to sort by, and where it is found
 abbrev pub upwards : List ℕ → SortKey
@@ -80,6 +85,13 @@ by_n = record {
   sort_sources = by sorted.Hitcount false ∷ [];
 }
 
+-- another key alone, and sorted by it
+abbrev pub by_key : Key → SpecSeen
+by_key other = record by_n { keys = other ∷ [] }
+
+abbrev pub sorted_by : List ℕ → SpecSeen → SpecSeen
+sorted_by name spec = record spec { sort = upwards name ∷ []; sort_sources = by (sorted.Key 0) false ∷ [] }
+
 -- `hitcount` is there whether it is written or not, and a size is rounded up to a power of two
 abbrev pub accepted : List Case
 accepted =
@@ -87,6 +99,10 @@ accepted =
     ∷ codes "!hist:vals=hitcount:key=n:sort=hitcount.ascending \t " gives Ok by_n
     ∷ codes "hist:size=0065:keys=n:clear" gives Ok (record by_n { size = 128; action = Clear })
     ∷ codes "hist:keys=n:size=131072:cont" gives Ok (record by_n { size = 131072; action = Continue })
+    ∷ codes "hist:keys=n.hex" gives Ok (by_key (modified (codes "n.hex") (codes "n") Hex (number_field 0)))
+    ∷ codes "hist:keys=n.log2:sort=n" gives Ok (sorted_by (codes "n") (by_key (modified (codes "n.log2") (codes "n") Log2 (number_field 0))))
+    ∷ codes "hist:keys=n.buckets=4294967295" gives Ok (by_key (modified (codes "n.buckets=4294967295") (codes "n") (Buckets 4294967295) (number_field 0)))
+    ∷ codes "hist:keys=common_pid.buckets=1" gives Ok (by_key (modified (codes "common_pid.buckets=1") (codes "common_pid") (Buckets 1) Pid))
     ∷ []
 
 -- all that a string can say: lists in the order written, the field of a sum and of a filter
@@ -145,13 +161,29 @@ abbrev pub wrong_items : List Case
 wrong_items =
     codes "hist:keys=" gives Err (HistSyntax 10)
     ∷ codes "!hist:keys=n,9x" gives Err (HistSyntax 13)
-    ∷ codes "hist:keys=n.hex" gives Err (HistSyntax 10)
     ∷ codes "hist:keys=n,n" gives Err (HistSyntax 12)
+    ∷ codes "hist:keys=n.log2,n.hex" gives Err (HistSyntax 17)
+    ∷ codes "hist:keys=n:vals=n.hex" gives Err (HistSyntax 17)
+    ∷ codes "hist:keys=n.log2:sort=n.log2" gives Err (HistSyntax 22)
     ∷ codes "hist:keys=n:vals=,n" gives Err (HistSyntax 17)
     ∷ codes "hist:sort=n" gives Err (HistSyntax 10)
     ∷ codes "hist:sort=m:keys=n:keys=m" gives Err (HistSyntax 10)
     ∷ codes "hist:keys=n:sort=n,n.descending" gives Err (HistSyntax 19)
     ∷ codes "hist:keys=n:sort=n.upwards" gives Err (HistSyntax 17)
+    ∷ []
+
+-- what is no modifier; the key's name may be sorted by all the same
+abbrev pub wrong_modifiers : List Case
+wrong_modifiers =
+    codes "hist:keys=n.foo" gives Err (HistSyntax 10)
+    ∷ codes "hist:sort=n:keys=n.foo" gives Err (HistSyntax 17)
+    ∷ codes "hist:keys=n." gives Err (HistSyntax 10)
+    ∷ codes "hist:keys=.hex" gives Err (HistSyntax 10)
+    ∷ codes "hist:keys=common_pid,n.hex.hex" gives Err (HistSyntax 21)
+    ∷ codes "hist:keys=n.buckets=" gives Err (HistSyntax 10)
+    ∷ codes "hist:keys=n.buckets=0" gives Err (HistSyntax 10)
+    ∷ codes "hist:keys=n.buckets=010" gives Err (HistSyntax 10)
+    ∷ codes "hist:keys=n.buckets=4294967296" gives Err (HistSyntax 10)
     ∷ []
 
 -- too much of something comes before the names that the event does not have
@@ -176,7 +208,14 @@ wrong_names =
     ∷ codes "!hist:keys=n  if\tn ~ 1" gives Err (WrongOperator 19)
     ∷ []
 
--- a string cannot be summed
+-- a string is in no bucket, and cannot be summed
+abbrev pub wrong_keys_of_move : List Case
+wrong_keys_of_move =
+    codes "hist:keys=who.hex" gives Err (WrongOperator 10)
+    ∷ codes "hist:keys=d.buckets=10,who.log2,x" gives Err (WrongOperator 23)
+    ∷ codes "hist:keys=x.hex,who.hex" gives Err (NoSuchField 10)
+    ∷ []
+
 abbrev pub wrong_values_of_move : List Case
 wrong_values_of_move =
     codes "hist:keys=who:vals=d,who,x" gives Err (WrongOperator 21)

@@ -8,7 +8,7 @@ use Rattle.trace_lex.specs.Names.{is_name}
 use Rattle.trace_trigger.specs.Frames.{mark, IsTail}
 use Rattle.trace_trigger.specs.declared.spec.Action.{Action}
 use Rattle.trace_trigger.specs.declared.spec.SortKey.{SortKey}
-use Rattle.trace_trigger.specs.HistGrammar.{IsCut, Subject, OfKeys, OfValues, OfSort, OfSize, OfAction, HasValue, IsWordFor, IsSortItem}
+use Rattle.trace_trigger.specs.HistGrammar.{IsCut, Subject, OfKeys, OfValues, OfSort, OfSize, OfAction, HasValue, HasName, IsKey, IsWordFor, IsSortItem}
 
 -- ---- how each text is cut
 
@@ -81,38 +81,38 @@ pub record IsList (subject : Subject) (attributes before : List (List ℕ)) (att
   pub has : HasValue subject attribute head value
   pub listed : IsCut 44 value items
 
--- an item is no name, or one of the items before it
-abbrev pub IsWrongName : List (List ℕ) → List ℕ → Type 0
-IsWrongName before item = (is_name item ≡ false) ⊎ Contains before item
-
--- a key is a name, and so is a value
+-- an item is no key, or an item before it has its name
 abbrev pub IsNoKey : List (List ℕ) → List ℕ → Type 0
-IsNoKey before item = IsWrongName before item
+IsNoKey before item = (IsKey item → ⊥) ⊎ ((name : List ℕ) × HasName name item × Any (HasName name) before)
 
+-- an item is no name, or one of the items before it
 abbrev pub IsNoValue : List (List ℕ) → List ℕ → Type 0
-IsNoValue before item = IsWrongName before item
+IsNoValue before item = (is_name item ≡ false) ⊎ Contains before item
 
--- a name that is an item of a list
+-- a name that the items of a list lend: that of a key, or a value
+abbrev pub Lend : Subject → List (List ℕ) → List ℕ → Type 0
+Lend OfKeys items name = Any (HasName name) items
+Lend OfValues items name = Contains items name
+Lend OfSort items name = ⊥
+Lend OfSize items name = ⊥
+Lend OfAction items name = ⊥
+
 pub record IsLentBy (subject : Subject) (attributes : List (List ℕ)) (name : List ℕ) : Type 0 where
   pub before : List (List ℕ)
   pub attribute : List ℕ
   pub head : List ℕ
   pub items : List (List ℕ)
   pub list : IsList subject attributes before attribute head items
-  pub among : Contains items name
+  pub among : Lend subject items name
 
 -- what can be sorted by
 abbrev pub IsLent : List (List ℕ) → List ℕ → Type 0
 IsLent attributes name = (name ≡ codes "hitcount") ⊎ (IsLentBy OfKeys attributes name ⊎ IsLentBy OfValues attributes name)
 
--- an item has this name to sort by, whatever follows a `.` (46)
-abbrev pub HasSortName : List ℕ → List ℕ → Type 0
-HasSortName name item = (item ≡ name) ⊎ ((rest : List ℕ) × (item ≡ name ++ 46 ∷ rest))
-
 -- the item of a list to sort by is none; or an item before it has its name, or that cannot be sorted by
 abbrev pub IsWrongSort : List (List ℕ) → List (List ℕ) → List ℕ → Type 0
 IsWrongSort attributes before item = ((key : SortKey) → IsSortItem item key → ⊥)
-    ⊎ ((key : SortKey) × IsSortItem item key × (Any (HasSortName key.name) before ⊎ (IsLent attributes key.name → ⊥)))
+    ⊎ ((key : SortKey) × IsSortItem item key × (Any (HasName key.name) before ⊎ (IsLent attributes key.name → ⊥)))
 
 abbrev pub IsWrongItem : Subject → List (List ℕ) → List (List ℕ) → List ℕ → Type 0
 IsWrongItem OfKeys attributes before item = IsNoKey before item

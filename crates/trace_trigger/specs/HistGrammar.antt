@@ -1,7 +1,7 @@
 -- How the text of a hist trigger is written: what it is put together of, and what it then says (histogram.rst, "hist triggers"). Nothing in this
 -- file goes over the text. That `HistTexts` says the same is stated in `HistLaws`.
-use Rattle.std.specs.Prelude.{◌≡◌, ◌≢◌, ◌⊎◌, ℕ, ◌<◌, ◌≤◌, Bool, true, false, not, IsTrue, bytes_eq, codes, List, [], ◌∷◌, ◌++◌, length, filter, slice_get, Option, None, Some}
-use Rattle.std.specs.List.{All, AllPairs, AllZip, Contains, join_with_byte}
+use Rattle.std.specs.Prelude.{◌≡◌, ◌≢◌, ◌⊎◌, ℕ, ◌<◌, ◌≤◌, Bool, true, false, not, IsTrue, bytes_eq, codes, List, [], ◌∷◌, ◌++◌, length, filter, slice_get, Option, Some}
+use Rattle.std.specs.List.{All, Any, AllPairs, AllZip, Contains, join_with_byte}
 use Rattle.trace_lex.specs.Decimals.{decimal_number}
 use Rattle.trace_lex.specs.Names.{is_name}
 use Rattle.trace_format.specs.Definitions.{Definition}
@@ -9,6 +9,8 @@ use Rattle.trace_format.specs.declared.operand.Operand.{Operand}
 use Rattle.trace_format.specs.Operands.{operand_named, is_text}
 use Rattle.trace_trigger.specs.Frames.{mark, IsTail, IsReadAs}
 use Rattle.trace_trigger.specs.declared.key.Key.{Key}
+use Rattle.trace_trigger.specs.declared.modifier.Modifier.{Modifier}
+use Rattle.trace_trigger.specs.declared.modifier.Modifier.TheVariants.{Plain}
 use Rattle.trace_trigger.specs.declared.spec.Action.{Action}
 use Rattle.trace_trigger.specs.declared.spec.Action.TheVariants.{Attach, Pause, Continue, Clear}
 use Rattle.trace_trigger.specs.declared.spec.SortKey.{SortKey}
@@ -16,6 +18,7 @@ use Rattle.trace_trigger.specs.declared.sort_rule.SortRule.{SortRule}
 use Rattle.trace_trigger.specs.declared.sort_rule.SortSource.{SortSource}
 use Rattle.trace_trigger.specs.declared.sort_rule.SortSource.TheVariants as sorted
 use Rattle.trace_trigger.specs.HistSizes.{rounded_size}
+use Rattle.trace_trigger.specs.Modifiers.{IsSuffix}
 use Rattle.trace_trigger.specs.HistSpecs.{SpecSeen, written_of, key_names}
 
 -- a text is these parts, with the byte between each two of them and in none
@@ -26,7 +29,7 @@ pub record IsCut (byte : ℕ) (text : List ℕ) (parts : List (List ℕ)) : Type
 
 -- ---- attributes
 
--- what an attribute sets: the keys, the values, what is sorted by, how many entries are asked for, what is asked for
+-- what an attribute sets: the keys as written, the values, what is sorted by, how many entries are asked for, what is asked for
 pub data Setting : Type 0 where
   Keys : List (List ℕ) → Setting
   Values : List (List ℕ) → Setting
@@ -43,7 +46,7 @@ pub data Subject : Type 0 where
   OfAction : Subject
 
 abbrev pub subject_of : Setting → Subject
-subject_of (Keys names) = OfKeys
+subject_of (Keys items) = OfKeys
 subject_of (Values names) = OfValues
 subject_of (Sort keys) = OfSort
 subject_of (Size entries) = OfSize
@@ -69,6 +72,25 @@ IsWordFor Pause word = word ≡ codes "pause"
 IsWordFor Continue word = (word ≡ codes "continue") ⊎ (word ≡ codes "cont")
 IsWordFor Clear word = word ≡ codes "clear"
 
+-- an item of a list has this name, which goes up to its first `.` (46), and this after it
+pub record IsItem (item name suffix : List ℕ) : Type 0 where
+  pub cut : item ≡ name ++ suffix
+  pub undotted : All (λ b. b ≢ 46) name
+  pub begins : (suffix ≡ []) ⊎ ((rest : List ℕ) × (suffix ≡ 46 ∷ rest))
+
+abbrev pub HasName : List ℕ → List ℕ → Type 0
+HasName name item = (suffix : List ℕ) × IsItem item name suffix
+
+-- a key: a name, perhaps with a modifier
+pub record IsKeyItem (item name : List ℕ) (modifier : Modifier) : Type 0 where
+  pub named : IsTrue (is_name name)
+  pub suffix : List ℕ
+  pub cut : IsItem item name suffix
+  pub modifies : IsSuffix modifier suffix
+
+abbrev pub IsKey : List ℕ → Type 0
+IsKey item = (name : List ℕ) × (modifier : Modifier) × IsKeyItem item name modifier
+
 -- a name to sort by, perhaps with a direction
 abbrev pub IsDirected : List ℕ → List ℕ → Bool → Type 0
 IsDirected item name true = item ≡ name ++ codes ".descending"
@@ -78,11 +100,24 @@ pub record IsSortItem (item : List ℕ) (key : SortKey) : Type 0 where
   pub named : IsTrue (is_name key.name)
   pub directed : IsDirected item key.name key.descending
 
--- a list of names, with `,` (44) between them, none of them twice
-pub record WritesNames (subject : Subject) (attribute : List ℕ) (names : List (List ℕ)) : Type 0 where
+-- two items have no name in common
+abbrev pub AreNamedApart : List ℕ → List ℕ → Type 0
+AreNamedApart one other = (name : List ℕ) → HasName name one → HasName name other → ⊥
+
+-- a list of keys, with `,` (44) between them, none of their names twice
+pub record WritesKeys (attribute : List ℕ) (items : List (List ℕ)) : Type 0 where
   pub head : List ℕ
   pub value : List ℕ
-  pub has : HasValue subject attribute head value
+  pub has : HasValue OfKeys attribute head value
+  pub cut : IsCut 44 value items
+  pub each : All IsKey items
+  pub apart : AllPairs AreNamedApart items
+
+-- likewise values, which are names
+pub record WritesValues (attribute : List ℕ) (names : List (List ℕ)) : Type 0 where
+  pub head : List ℕ
+  pub value : List ℕ
+  pub has : HasValue OfValues attribute head value
   pub cut : IsCut 44 value names
   pub named : All (λ name. IsTrue (is_name name)) names
   pub apart : AllPairs (λ one other. one ≢ other) names
@@ -105,22 +140,21 @@ pub record WritesSize (attribute : List ℕ) (entries : ℕ) : Type 0 where
 
 -- how each setting is written
 abbrev pub Writes : List ℕ → Setting → Type 0
-Writes attribute (Keys names) = WritesNames OfKeys attribute names
-Writes attribute (Values names) = WritesNames OfValues attribute names
+Writes attribute (Keys items) = WritesKeys attribute items
+Writes attribute (Values names) = WritesValues attribute names
 Writes attribute (Sort keys) = WritesSort attribute keys
 Writes attribute (Size entries) = WritesSize attribute entries
 Writes attribute (Asks action) = IsWordFor action attribute
 
--- a name is one of the keys or of the values
-pub record IsListed (settings : List Setting) (name : List ℕ) : Type 0 where
-  pub names : List (List ℕ)
-  pub set : Contains settings (Keys names) ⊎ Contains settings (Values names)
-  pub among : Contains names name
+-- a name is that of a key, or it is one of the values
+abbrev pub IsListed : List Setting → List ℕ → Type 0
+IsListed settings name = ((items : List (List ℕ)) × Contains settings (Keys items) × Any (HasName name) items)
+    ⊎ ((names : List (List ℕ)) × Contains settings (Values names) × Contains names name)
 
 -- the settings of one text: each at most once, keys always; and what is sorted by is a key, a value or `hitcount`
 pub record AreLawful (settings : List Setting) : Type 0 where
   pub once : AllPairs (λ one other. subject_of one ≢ subject_of other) settings
-  pub keys : (names : List (List ℕ)) × Contains settings (Keys names)
+  pub keys : (items : List (List ℕ)) × Contains settings (Keys items)
   pub sort : (keys : List SortKey) → Contains settings (Sort keys) → All (λ (key : SortKey). (key.name ≡ codes "hitcount") ⊎ IsListed settings key.name) keys
 
 -- ---- texts
@@ -165,10 +199,11 @@ pub record IsWithinLimits (spec : SpecSeen) : Type 0 where
   pub values : length spec.values ≤ 3
   pub sort : length spec.sort ≤ 2
 
--- a key is a name, and means this in the event
+-- a key is written so, and its name means this in the event: with a modifier, a number
 pub record IsKeyOf (definition : Definition) (key : Key) : Type 0 where
-  pub name : key.name ≡ key.written
+  pub written : IsKeyItem key.written key.name key.modifier
   pub means : operand_named definition.fields key.name ≡ Some key.operand
+  pub number : (key.modifier ≡ Plain) ⊎ (is_text key.operand ≡ false)
 
 -- what a value means, which is a number
 abbrev pub IsValueOf : Definition → List ℕ → Operand → Type 0

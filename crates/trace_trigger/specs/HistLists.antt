@@ -86,14 +86,21 @@ is_hitcount name = bytes_eq name (codes "hitcount")
 abbrev pub summed_items : List ListItem → List ListItem
 summed_items items = filter (λ (item : ListItem). not (is_hitcount item.bytes)) items
 
+-- ---- names with a suffix
+
+-- the name of a key or of a sort key comes before the first `.` (46)
+abbrev pub item_name : List ℕ → List ℕ
+item_name written = take (prefix_len (is_not 46) written) written
+
+-- and what follows is a modifier or a direction
+abbrev pub item_suffix : List ℕ → List ℕ
+item_suffix written = drop (prefix_len (is_not 46) written) written
+
+-- whether an item has this name, with whatever suffix
+abbrev pub is_named : List ListItem → List ℕ → Bool
+is_named items name = list_any (λ (item : ListItem). bytes_eq name (item_name item.bytes)) items
+
 -- ---- sort keys
-
--- a sort key's name comes before the first `.` (46)
-abbrev pub sort_name : List ℕ → List ℕ
-sort_name written = take (prefix_len (is_not 46) written) written
-
-abbrev pub sort_suffix : List ℕ → List ℕ
-sort_suffix written = drop (prefix_len (is_not 46) written) written
 
 abbrev pub is_descending : List ℕ → Bool
 is_descending suffix = bytes_eq suffix (codes ".descending")
@@ -102,14 +109,14 @@ abbrev pub is_direction : List ℕ → Bool
 is_direction suffix = (bytes_eq suffix [] || bytes_eq suffix (codes ".ascending")) || is_descending suffix
 
 abbrev pub sort_key_of : ListItem → SortKey
-sort_key_of item = record { name = sort_name item.bytes; descending = is_descending (sort_suffix item.bytes) }
+sort_key_of item = record { name = item_name item.bytes; descending = is_descending (item_suffix item.bytes) }
 
 -- by `hitcount` where nothing else is said
 abbrev pub sort_keys : List ListItem → List SortKey
 sort_keys [] = record { name = codes "hitcount"; descending = false } ∷ []
 sort_keys (item ∷ items) = map sort_key_of (item ∷ items)
 
--- what may be sorted by: `hitcount`, and the names among the keys and the values
+-- what may be sorted by: `hitcount`, the names of the keys, and the values
 abbrev pub is_sortable : Lists → List ℕ → Bool
 is_sortable lists name = is_hitcount name
-    || (is_name name && (is_listed lists.keys name || is_listed lists.values name))
+    || (is_name name && (is_named lists.keys name || is_listed lists.values name))

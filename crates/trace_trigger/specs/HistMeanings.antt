@@ -1,5 +1,5 @@
 -- What the names of a hist trigger come to in an event, and why they may be refused there (histogram.rst, "hist triggers").
-use Rattle.std.specs.Prelude.{ℕ, Bool, ◌||◌, nat_lt, if◌then◌else◌, bytes_eq, List, [], ◌∷◌, length, Option, None, Some, option_and_then, unwrap_or, Result, Ok, Err}
+use Rattle.std.specs.Prelude.{ℕ, Bool, not, ◌&&◌, ◌||◌, nat_lt, if◌then◌else◌, bytes_eq, List, [], ◌∷◌, length, Option, None, Some, option_and_then, unwrap_or, Result, Ok, Err}
 use Rattle.std.specs.List.{position}
 use Rattle.trace_lex.specs.Decimals.{decimal_number}
 use Rattle.trace_format.specs.declared.event.Field.{Field}
@@ -8,6 +8,7 @@ use Rattle.trace_format.specs.Operands.{operand_named, is_text}
 use Rattle.trace_trigger.specs.declared.fault.TriggerFault.{TriggerFault}
 use Rattle.trace_trigger.specs.declared.fault.TriggerFault.TheVariants.{TooMany, NoSuchField, WrongOperator, BadSize}
 use Rattle.trace_trigger.specs.declared.key.Key.{Key}
+use Rattle.trace_trigger.specs.declared.modifier.Modifier.TheVariants.{Plain}
 use Rattle.trace_trigger.specs.declared.spec.SortKey.{SortKey}
 use Rattle.trace_trigger.specs.declared.sort_rule.SortRule.{SortRule}
 use Rattle.trace_trigger.specs.declared.sort_rule.SortSource.{SortSource}
@@ -15,7 +16,8 @@ use Rattle.trace_trigger.specs.declared.sort_rule.SortSource.TheVariants as sort
 use Rattle.trace_trigger.specs.declared.piece.ListItem.{ListItem}
 use Rattle.trace_trigger.specs.TriggerAnswers.{◌>>=◌}
 use Rattle.trace_trigger.specs.HistSizes.{rounded_size}
-use Rattle.trace_trigger.specs.HistLists.{Lists, summed_items, is_hitcount}
+use Rattle.trace_trigger.specs.HistLists.{Lists, summed_items, is_hitcount, item_name, item_suffix}
+use Rattle.trace_trigger.specs.Modifiers.{modifier_of}
 
 -- ---- how many
 
@@ -36,16 +38,24 @@ abbrev pub each : {A B : Type 0} → (A → Result B TriggerFault) → List A �
 each read [] = Ok []
 each read (x ∷ xs) = read x >>= λ y. each read xs >>= λ ys. Ok (y ∷ ys)
 
--- a key is a name, and may be a number or a string
+-- a key that means this. (One with another suffix than a modifier is refused before.)
 abbrev pub key_as : ListItem → Operand → Key
-key_as item operand = record { written = item.bytes; name = item.bytes; operand = operand }
+key_as item operand = record {
+  written = item.bytes;
+  name = item_name item.bytes;
+  modifier = unwrap_or (modifier_of (item_suffix item.bytes)) Plain;
+  operand = operand;
+}
 
+-- a key is a number or a string; one with a modifier is a number
 abbrev pub key_meant : ListItem → Option Operand → Result Key TriggerFault
 key_meant item None = Err (NoSuchField item.at)
-key_meant item (Some operand) = Ok (key_as item operand)
+key_meant item (Some operand) = if is_text operand && not (bytes_eq (item_suffix item.bytes) [])
+    then Err (WrongOperator item.at)
+    else Ok (key_as item operand)
 
 abbrev pub key_in : List Field → ListItem → Result Key TriggerFault
-key_in fields item = key_meant item (operand_named fields item.bytes)
+key_in fields item = key_meant item (operand_named fields (item_name item.bytes))
 
 -- a value is a number
 abbrev pub value_meant : ℕ → Option Operand → Result Operand TriggerFault

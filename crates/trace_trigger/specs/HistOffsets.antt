@@ -1,5 +1,5 @@
 -- The offsets at which a trigger string breaks the grammar (histogram.rst, "hist triggers"). The least of them is told.
-use Rattle.std.specs.Prelude.{ℕ, Bool, true, false, not, ◌&&◌, ◌||◌, nat_lt, if◌then◌else◌, List, [], ◌∷◌, ◌++◌, bytes_eq, length, map, min, Option, None, Some}
+use Rattle.std.specs.Prelude.{ℕ, Bool, true, false, not, ◌&&◌, ◌||◌, nat_lt, if◌then◌else◌, List, [], ◌∷◌, ◌++◌, length, map, min, Option, None, Some}
 use Rattle.std.specs.Option.{is_none}
 use Rattle.std.specs.List.{list_any}
 use Rattle.trace_lex.specs.Names.{is_name}
@@ -9,7 +9,8 @@ use Rattle.trace_trigger.specs.declared.attribute.Topic.TheVariants.{Size, Unkno
 use Rattle.trace_trigger.specs.declared.attribute.Attribute.{Attribute}
 use Rattle.trace_trigger.specs.declared.piece.ListItem.{ListItem}
 use Rattle.trace_trigger.specs.HistParts.{attributes_of, end_of, tail_of, is_condition, offset_in}
-use Rattle.trace_trigger.specs.HistLists.{Lists, lists_of, is_same_topic, is_listed, is_sortable, sort_name, sort_suffix, is_direction}
+use Rattle.trace_trigger.specs.HistLists.{Lists, lists_of, is_same_topic, is_listed, is_sortable, is_named, item_name, item_suffix, is_direction}
+use Rattle.trace_trigger.specs.Modifiers.{modifier_of}
 
 -- the elements of a list that are wrong, each judged by those before it and by itself
 abbrev pub wrong_after : {X : Type 0} → (List X → X → Bool) → List X → List X → List X
@@ -40,32 +41,25 @@ attribute_offsets attributes = map (λ (attribute : Attribute). attribute.at) (w
 
 -- ---- items
 
--- what is no name, and a name that stands in the list before
-abbrev pub is_wrong_name : List ListItem → ListItem → Bool
-is_wrong_name before item = not (is_name item.bytes) || is_listed before item.bytes
-
--- a key is a name
+-- among the keys: what has no name, another suffix than a modifier, and a name that stands in the list before, with whatever modifier
 abbrev pub is_wrong_key : List ListItem → ListItem → Bool
-is_wrong_key before item = is_wrong_name before item
+is_wrong_key before item = (not (is_name (item_name item.bytes)) || is_none (modifier_of (item_suffix item.bytes)))
+    || is_named before (item_name item.bytes)
 
 unfoldable pub key_offsets : List ListItem → List ℕ
 key_offsets keys = map (λ (item : ListItem). item.at) (wrong_after is_wrong_key [] keys)
 
--- and so is a value
+-- among the values: what is no name, and a name that stands in the list before
 abbrev pub is_wrong_value : List ListItem → ListItem → Bool
-is_wrong_value before item = is_wrong_name before item
+is_wrong_value before item = not (is_name item.bytes) || is_listed before item.bytes
 
 unfoldable pub value_offsets : List ListItem → List ℕ
 value_offsets values = map (λ (item : ListItem). item.at) (wrong_after is_wrong_value [] values)
 
--- whether a sort key has this name
-abbrev pub is_sorted_by : List ListItem → List ℕ → Bool
-is_sorted_by items name = list_any (λ (item : ListItem). bytes_eq name (sort_name item.bytes)) items
-
 -- among sort keys: what cannot be sorted by, another suffix, and a name that stands in the list before, in whatever direction
 abbrev pub is_wrong_sort : Lists → List ListItem → ListItem → Bool
-is_wrong_sort lists before item = (not (is_sortable lists (sort_name item.bytes)) || not (is_direction (sort_suffix item.bytes)))
-    || is_sorted_by before (sort_name item.bytes)
+is_wrong_sort lists before item = (not (is_sortable lists (item_name item.bytes)) || not (is_direction (item_suffix item.bytes)))
+    || is_named before (item_name item.bytes)
 
 unfoldable pub sort_offsets : Lists → List ℕ
 sort_offsets lists = map (λ (item : ListItem). item.at) (wrong_after (is_wrong_sort lists) [] lists.sort)

@@ -1,6 +1,6 @@
 -- Why a trigger string is refused for an event (histogram.rst, "hist triggers"), in the order in which the refusals are looked for. Nothing in this
 -- file goes over the string. That `HistTexts` says the same is stated in `HistLaws`.
-use Rattle.std.specs.Prelude.{◌≡◌, ◌≢◌, ◌⊎◌, ℕ, ◌-◌, ◌<◌, true, codes, List, [], length, Option, None, Some}
+use Rattle.std.specs.Prelude.{◌≡◌, ◌≢◌, ◌⊎◌, ℕ, ◌-◌, ◌<◌, true, false, codes, List, [], length, Option, None, Some}
 use Rattle.std.specs.List.{All, Contains}
 use Rattle.trace_format.specs.Definitions.{Definition}
 use Rattle.trace_format.specs.declared.operand.Operand.{Operand}
@@ -12,7 +12,7 @@ use Rattle.trace_trigger.specs.declared.fault.TriggerFault.TheVariants.{HistSynt
 use Rattle.trace_trigger.specs.declared.spec.SortKey.{SortKey}
 use Rattle.trace_trigger.specs.HistSizes.{rounded_size}
 use Rattle.trace_trigger.specs.Frames.{moved}
-use Rattle.trace_trigger.specs.HistGrammar.{Setting, Keys, Values, Sort, Size, Subject, OfKeys, OfValues, IsWritten, IsSet, summed_names, IsValueOf}
+use Rattle.trace_trigger.specs.HistGrammar.{Setting, Keys, Values, Sort, Size, Subject, OfKeys, OfValues, IsItem, IsWritten, IsSet, summed_names, IsValueOf}
 use Rattle.trace_trigger.specs.HistFaultOffsets.{Cut, IsAt, IsList, items_offset, IsLeftmostWrong}
 
 -- ---- over the limits
@@ -23,7 +23,7 @@ IsOver settings = ((keys : List (List ℕ)) × Contains settings (Keys keys) × 
     ⊎ (((listed : List (List ℕ)) × Contains settings (Values listed) × (3 < length (summed_names listed)))
     ⊎ ((keys : List SortKey) × Contains settings (Sort keys) × (2 < length keys)))
 
--- ---- names that the event does not have
+-- ---- names that the event does not have, and strings where numbers are due
 
 -- an item of the first attribute about this, at an offset, after these items
 pub record IsItemAt {text : List ℕ} (cut : Cut text) (subject : Subject) (before : List (List ℕ)) (item : List ℕ) (offset : ℕ) : Type 0 where
@@ -34,20 +34,36 @@ pub record IsItemAt {text : List ℕ} (cut : Cut text) (subject : Subject) (befo
   pub list : IsList subject cut.attributes attributes_before attribute head items
   pub is_at : IsAt 44 (items_offset cut attributes_before head) items before item offset
 
--- a key means something, and one in a list of values means something as a value
-abbrev pub CanBeKey : Definition → List ℕ → Type 0
-CanBeKey definition name = (operand : Operand) × (operand_named definition.fields name ≡ Some operand)
+-- a key's name means something: with a modifier, a number
+pub record CanBeKey (definition : Definition) (item : List ℕ) : Type 0 where
+  pub name : List ℕ
+  pub suffix : List ℕ
+  pub cut : IsItem item name suffix
+  pub operand : Operand
+  pub means : operand_named definition.fields name ≡ Some operand
+  pub number : (suffix ≡ []) ⊎ (is_text operand ≡ false)
 
+-- and one in a list of values means something as a value
 abbrev pub CanBeValue : Definition → List ℕ → Type 0
 CanBeValue definition name = (name ≡ codes "hitcount") ⊎ ((operand : Operand) × IsValueOf definition name operand)
 
--- the first key that means nothing is at this offset
-pub record IsUnknownKey (definition : Definition) (text : List ℕ) (offset : ℕ) : Type 0 where
+-- a key's name means nothing, or it is a string and has a modifier
+pub record CannotBeKey (definition : Definition) (item : List ℕ) (offset : ℕ) (fault : TriggerFault) : Type 0 where
+  pub name : List ℕ
+  pub suffix : List ℕ
+  pub cut : IsItem item name suffix
+  pub wrong : ((operand_named definition.fields name ≡ None) × (fault ≡ NoSuchField offset))
+      ⊎ ((operand : Operand) × (operand_named definition.fields name ≡ Some operand) × (is_text operand ≡ true)
+      × (suffix ≢ []) × (fault ≡ WrongOperator offset))
+
+-- the first key that cannot be one has this fault
+pub record IsWrongKey (definition : Definition) (text : List ℕ) (fault : TriggerFault) : Type 0 where
   pub cut : Cut text
   pub before : List (List ℕ)
-  pub name : List ℕ
-  pub is_at : IsItemAt cut OfKeys before name offset
-  pub unknown : operand_named definition.fields name ≡ None
+  pub item : List ℕ
+  pub offset : ℕ
+  pub is_at : IsItemAt cut OfKeys before item offset
+  pub wrong : CannotBeKey definition item offset fault
   pub first : All (CanBeKey definition) before
 
 -- a value means nothing, or it is a string
@@ -82,7 +98,7 @@ IsSized settings size = (entries : ℕ) × IsSet settings Size 2048 entries × (
 
 pub data IsRefusal (definition : Definition) (text : List ℕ) (settings : List Setting) (condition : Option (List ℕ)) (fault : TriggerFault) : Type 0 where
   ForMany : IsOver settings → fault ≡ TooMany → IsRefusal definition text settings condition fault
-  ForKey : (IsOver settings → ⊥) → (offset : ℕ) → IsUnknownKey definition text offset → fault ≡ NoSuchField offset → IsRefusal definition text settings condition fault
+  ForKey : (IsOver settings → ⊥) → IsWrongKey definition text fault → IsRefusal definition text settings condition fault
   ForValue : (IsOver settings → ⊥) → HaveKeys definition settings → IsWrongValue definition text fault → IsRefusal definition text settings condition fault
   ForSize : (IsOver settings → ⊥) → HaveKeys definition settings → HaveValues definition settings → IsSized settings None → fault ≡ BadSize
       → IsRefusal definition text settings condition fault

@@ -17,5 +17,6 @@ pub mod HistRefusals
 pub mod HistSizes
 pub mod HistSpecs
 pub mod HistTexts
+pub mod Modifiers
 pub mod SameSpecs
 pub mod TriggerFaultTexts

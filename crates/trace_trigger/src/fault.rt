@@ -22,7 +22,8 @@ pub enum TriggerFault {
     FilterSyntax { at: usize },
     /// The event has no field of this name, which is in the filter, or is a key or a value of a hist trigger.
     NoSuchField { at: usize },
-    /// The filter compares a field as it can't be, or a hist trigger's value is a string, which can't be summed.
+    /// The filter compares a field as it can't be; or a hist trigger's value is a string, which can't be summed, or its key is a string with a
+    /// modifier, which numbers alone take.
     WrongOperator { at: usize },
     /// The leftmost offset at which a hist trigger's text breaks the grammar: an attribute, an item of a list, the end of the first word if there
     /// are no keys, or what follows that word and is no condition.

@@ -1,13 +1,13 @@
 //! What the definitions of hist triggers' texts mean. Each function does nothing: its contract is a theorem.
 
 ghost use Rattle.trace_trigger.specs.HistLaws.{OkIsWritten, SyntaxIsLeftmost, SyntaxIsUnwritten, RefusalIsAsWritten};
-ghost use Rattle.trace_trigger.specs.HistExamples.{tick, move, AreRead, accepted as accepted_of_tick, accepted_of_move, wrong_attributes, wrong_items, too_many, wrong_names, wrong_values_of_move};
+ghost use Rattle.trace_trigger.specs.HistExamples.{tick, move, AreRead, accepted as accepted_of_tick, accepted_of_move, wrong_attributes, wrong_items, wrong_modifiers, too_many, wrong_names, wrong_keys_of_move, wrong_values_of_move};
 
 /// A string says this of a hist trigger of an event exactly if it can be written so: attributes that each set something, in any order, each at
 /// most once, the keys always; within the limits, with names of the event, and with a filter of it, if with any. It is refused for its syntax
 /// exactly if it cannot be written so, whatever the event, at the leftmost offset where it is wrong: an attribute, an item of a list, the first
 /// word's end without keys, or what follows the word. If it can be written so, it is refused exactly for the first cause that there is: too many
-/// names, the first key that the event does not have, the first value that is none or a string, the size, the filter.
+/// names, the first key that is none or a string with a modifier, the first value that is none or a string, the size, the filter.
 pub fn hist_triggers_are_as_written()
     ensures ok { OkIsWritten }
     ensures leftmost { SyntaxIsLeftmost }
@@ -21,7 +21,9 @@ pub fn examples_are_read()
     ensures accepted_of_move { AreRead move accepted_of_move }
     ensures attributes { AreRead tick wrong_attributes }
     ensures items { AreRead tick wrong_items }
+    ensures modifiers { AreRead tick wrong_modifiers }
     ensures many { AreRead tick too_many }
     ensures names { AreRead tick wrong_names }
+    ensures keys { AreRead move wrong_keys_of_move }
     ensures values { AreRead move wrong_values_of_move }
 {}

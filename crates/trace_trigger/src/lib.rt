@@ -9,6 +9,7 @@ mod hist_parts;
 mod key;
 pub mod laws;
 mod meaning;
+mod modifier;
 mod offset;
 mod parts;
 mod piece;
@@ -21,6 +22,7 @@ mod written_lists;
 
 pub use fault::TriggerFault;
 pub use key::Key;
+pub use modifier::Modifier;
 pub use sort_rule::{SortRule, SortSource};
 pub use spec::{Action, HistSpec, SortKey};
 pub use trigger::{SnapshotTrigger, TriggerText};

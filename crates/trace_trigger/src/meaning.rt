@@ -10,11 +10,12 @@ ghost use Rattle.trace_trigger.specs.TriggerAnswers.{IsTold};
 
 use crate::fault::TriggerFault;
 use crate::key::Key;
+use crate::modifier::Modifier;
 use crate::piece::ListItem;
 use crate::size::rounded_size;
 use crate::sort_rule::{SortRule, SortSource};
 use crate::spec::SortKey;
-use crate::written_lists::{WrittenLists, is_descending, is_hitcount, sort_name, sort_suffix};
+use crate::written_lists::{WrittenLists, is_descending, is_hitcount, item_name, item_suffix};
 use std::alloc::{AllocError, Global};
 use trace_format::{Field, Operand, Text};
 use trace_lex::decimal_number;
@@ -55,13 +56,17 @@ pub(crate) fn is_too_many(written: &WrittenLists) -> bool
         || written.sort.len() > MOST_SORT_KEYS
 }
 
-/// What a key means. It may be a number or a string.
+/// What a key means. It may be a number, or a string if it has no modifier.
 fn key_operand(fields: &[Field], key: &ListItem) -> Result<Operand, TriggerFault>
     ensures { MatchResult result
         (λ operand. meanings.key_in fields.now key.now ≡ Ok (meanings.key_as key.now operand))
         (λ fault. meanings.key_in fields.now key.now ≡ Err fault) }
 {
-    match Operand::named(fields, key.bytes.as_bytes()) {
+    let written = key.bytes.as_bytes();
+    match Operand::named(fields, item_name(written)) {
+        Some(operand) if operand.is_text() && !item_suffix(written).is_empty() => {
+            Err(TriggerFault::WrongOperator { at: key.at })
+        }
         Some(operand) => Ok(operand),
         None => Err(TriggerFault::NoSuchField { at: key.at }),
     }
@@ -71,9 +76,11 @@ fn key_operand(fields: &[Field], key: &ListItem) -> Result<Operand, TriggerFault
 fn key_as(alloc: Global, key: &ListItem, operand: Operand) -> Result<Key, AllocError>
     ensures { IfOk result (λ read. read ≡ meanings.key_as key.now operand) }
 {
+    let written = key.bytes.as_bytes();
     Ok(Key {
         written: key.bytes.clone()?,
-        name: key.bytes.clone()?,
+        name: Text::from_slice(alloc, item_name(written))?,
+        modifier: Modifier::read(item_suffix(written)).unwrap_or(Modifier::Plain),
         operand,
     })
 }
@@ -160,8 +167,8 @@ fn sort_key_of(alloc: Global, item: &ListItem) -> Result<SortKey, AllocError>
 {
     let written = item.bytes.as_bytes();
     Ok(SortKey {
-        name: Text::from_slice(alloc, sort_name(written))?,
-        descending: is_descending(sort_suffix(written)),
+        name: Text::from_slice(alloc, item_name(written))?,
+        descending: is_descending(item_suffix(written)),
     })
 }
 

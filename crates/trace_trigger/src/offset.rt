@@ -7,9 +7,10 @@ ghost use Rattle.trace_trigger.specs.HistOffsets as offsets;
 
 use crate::attribute::{Attribute, Topic};
 use crate::hist_parts::condition_of;
+use crate::modifier::Modifier;
 use crate::piece::ListItem;
 use crate::written_lists::{
-    WrittenLists, is_direction, is_listed, is_same_topic, sort_name, sort_suffix,
+    WrittenLists, is_direction, is_listed, is_named, is_same_topic, item_name, item_suffix,
 };
 use trace_lex::{all_digits, is_name};
 
@@ -73,19 +74,13 @@ fn attribute_offset(attributes: &[Attribute]) -> Option<usize>
     offset
 }
 
-/// Whether an item is no name, or one that stands in the list before.
-fn is_wrong_name(before: &[ListItem], item: &ListItem) -> bool
-    ensures { result ≡ offsets.is_wrong_name before.now item.now }
-{
-    let name = item.bytes.as_bytes();
-    !is_name(name) || is_listed(before, name)
-}
-
-/// A key is a name.
+/// Whether a key has no name, has another suffix than a modifier, or has a name that stands in the list before.
 fn is_wrong_key(before: &[ListItem], item: &ListItem) -> bool
     ensures { result ≡ offsets.is_wrong_key before.now item.now }
 {
-    is_wrong_name(before, item)
+    let written = item.bytes.as_bytes();
+    let name = item_name(written);
+    !is_name(name) || Modifier::read(item_suffix(written)).is_none() || is_named(before, name)
 }
 
 /// The first offset of a key that is wrong.
@@ -102,11 +97,12 @@ fn key_offset(keys: &[ListItem]) -> Option<usize>
     offset
 }
 
-/// A value is a name.
+/// Whether a value is no name, or one that stands in the list before.
 fn is_wrong_value(before: &[ListItem], item: &ListItem) -> bool
     ensures { result ≡ offsets.is_wrong_value before.now item.now }
 {
-    is_wrong_name(before, item)
+    let name = item.bytes.as_bytes();
+    !is_name(name) || is_listed(before, name)
 }
 
 /// The first offset of a value that is wrong.
@@ -123,23 +119,14 @@ fn value_offset(values: &[ListItem]) -> Option<usize>
     offset
 }
 
-/// Whether a sort key of this name is among these.
-fn is_sorted_by(items: &[ListItem], name: &[u8]) -> bool
-    ensures { result ≡ offsets.is_sorted_by items.now name.now }
-{
-    items
-        .iter()
-        .any(|item| name == sort_name(item.bytes.as_bytes()))
-}
-
 /// Whether a sort key can't be sorted by, has another suffix than a direction, or has a name that stands in the list before.
 fn is_wrong_sort(written: &WrittenLists, before: &[ListItem], item: &ListItem) -> bool
     ensures { result ≡ offsets.is_wrong_sort written.now before.now item.now }
 {
-    let name = sort_name(item.bytes.as_bytes());
+    let name = item_name(item.bytes.as_bytes());
     !written.is_sortable(name)
-        || !is_direction(sort_suffix(item.bytes.as_bytes()))
-        || is_sorted_by(before, name)
+        || !is_direction(item_suffix(item.bytes.as_bytes()))
+        || is_named(before, name)
 }
 
 /// The first offset of a sort key that is wrong.

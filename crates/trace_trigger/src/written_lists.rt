@@ -54,12 +54,12 @@ impl WrittenLists {
         })
     }
 
-    /// Whether entries may be sorted by a name: by `hitcount`, and by the names among the keys and the values.
+    /// Whether entries may be sorted by a name: by `hitcount`, by the names of the keys, and by the values.
     pub(crate) fn is_sortable(&self, name: &[u8]) -> bool
         ensures { result ≡ lists.is_sortable self.now name.now }
     {
         is_hitcount(name)
-            || is_name(name) && (is_listed(&self.keys, name) || is_listed(&self.values, name))
+            || is_name(name) && (is_named(&self.keys, name) || is_listed(&self.values, name))
     }
 }
 
@@ -135,22 +135,31 @@ pub(crate) fn is_listed(items: &[ListItem], name: &[u8]) -> bool
     items.iter().any(|item| name == item.bytes.as_bytes())
 }
 
+/// Whether an item has this name, with whatever suffix.
+pub(crate) fn is_named(items: &[ListItem], name: &[u8]) -> bool
+    ensures { result ≡ lists.is_named items.now name.now }
+{
+    items
+        .iter()
+        .any(|item| name == item_name(item.bytes.as_bytes()))
+}
+
 pub(crate) fn is_hitcount(name: &[u8]) -> bool
     ensures { result ≡ lists.is_hitcount name.now }
 {
     name == b"hitcount".as_slice()
 }
 
-/// The name of a sort key: what comes before the first `.`.
-pub(crate) fn sort_name(written: &[u8]) -> &[u8]
-    ensures { result.now ≡ lists.sort_name written.now }
+/// The name of a key or of a sort key: what comes before the first `.`.
+pub(crate) fn item_name(written: &[u8]) -> &[u8]
+    ensures { result.now ≡ lists.item_name written.now }
 {
     &written[..len_before(b'.', written)]
 }
 
-/// The direction of a sort key: its first `.` and what follows, or nothing.
-pub(crate) fn sort_suffix(written: &[u8]) -> &[u8]
-    ensures { result.now ≡ lists.sort_suffix written.now }
+/// A key's modifier, or a sort key's direction: the first `.` and what follows, or nothing.
+pub(crate) fn item_suffix(written: &[u8]) -> &[u8]
+    ensures { result.now ≡ lists.item_suffix written.now }
 {
     rest_of(written, len_before(b'.', written))
 }

@@ -5,4 +5,4 @@ mod stop;
 mod words;
 
 pub use stop::Stop;
-pub use words::{Script, Words, words_of};
+pub use words::{Notes, Script, Words, words_of};

@@ -19,6 +19,8 @@ const PAGE_BYTES: &str = "page-bytes";
 
 const EXPLAIN: &str = "explain";
 
+const BARS: &str = "bars";
+
 const SCRIPT: &str = "SCRIPT";
 
 const LINE: &str = "LINE";
@@ -75,12 +77,20 @@ pub enum Script<'a> {
     Lines(Vec<u8>),
 }
 
+/// What is told on standard error beside a session.
+#[derive(Clone, Copy)]
+pub struct Notes {
+    /// What is wrong with a line.
+    pub explains: bool,
+    /// The histograms that are read, as bars.
+    pub draws: bool,
+}
+
 /// What the command line asks for.
 #[derive(Drop)]
 pub struct Words<'a> {
     pub config: Config,
-    /// Whether it is told on standard error what is wrong with a line.
-    pub is_explained: bool,
+    pub notes: Notes,
     pub script: Script<'a>,
 }
 
@@ -94,7 +104,16 @@ fn option<'a>(alloc: Global, name: &'a str, default: &'a str, help: &'a str) -> 
         .help(help)
 }
 
-fn command<'a>(alloc: Global) -> Result<Command<'a>, Error> {
+/// An option that takes no value.
+fn flag<'a>(alloc: Global, name: &'a str, help: &'a str) -> Arg<'a> {
+    Arg::new(alloc, name)
+        .long(name)
+        .action(ArgAction::SetTrue)
+        .help(help)
+}
+
+/// A command with the options of the configuration too.
+fn with_config<'a>(alloc: Global, command: Command<'a>) -> Result<Command<'a>, AllocError> {
     let cpus = option(alloc, CPUS, "1", "How many CPUs there are, 1 to 8");
     let pages = option(
         alloc,
@@ -108,10 +127,26 @@ fn command<'a>(alloc: Global) -> Result<Command<'a>, Error> {
         "4080",
         "How many bytes a page has, 64 to 4080, a multiple of 8",
     );
-    let explain = Arg::new(alloc, EXPLAIN)
-        .long(EXPLAIN)
-        .action(ArgAction::SetTrue)
-        .help("After a refusal or a fault, tell on standard error what is wrong and where");
+    command.arg(cpus)?.arg(pages)?.arg(page_bytes)
+}
+
+/// A command with the options that have something told on standard error too.
+fn with_notes<'a>(alloc: Global, command: Command<'a>) -> Result<Command<'a>, AllocError> {
+    let explain = flag(
+        alloc,
+        EXPLAIN,
+        "After a refusal or a fault, tell on standard error what is wrong and where",
+    );
+    let bars = flag(
+        alloc,
+        BARS,
+        "After each cat of a hist file, draw its counts as bars on standard error",
+    );
+    command.arg(explain)?.arg(bars)
+}
+
+/// A command with the words that say which lines are to be done too: either the script that has them, or the lines themselves.
+fn with_script<'a>(alloc: Global, command: Command<'a>) -> Result<Command<'a>, AllocError> {
     let lines = Arg::new(alloc, LINE)
         .short('c')
         .value_name(LINE)
@@ -122,18 +157,18 @@ fn command<'a>(alloc: Global) -> Result<Command<'a>, Error> {
     let script = Arg::new(alloc, SCRIPT)
         .required_unless_present(LINE)?
         .help("A file, or - for standard input");
+    command.arg(lines)?.arg(script)
+}
+
+fn command<'a>(alloc: Global) -> Result<Command<'a>, AllocError> {
     let command = Command::new(alloc, "tracectl")
         .version(VERSION)
         .about(ABOUT)
         .override_usage(USAGE)
-        .after_help(SCRIPTS)
-        .arg(cpus)?
-        .arg(pages)?
-        .arg(page_bytes)?
-        .arg(explain)?
-        .arg(lines)?
-        .arg(script)?;
-    Ok(command)
+        .after_help(SCRIPTS);
+    let command = with_config(alloc, command)?;
+    let command = with_notes(alloc, command)?;
+    with_script(alloc, command)
 }
 
 /// The error for words that are not all in UTF-8.
@@ -190,10 +225,13 @@ fn parsed<'a>(alloc: Global, words: &'a [String]) -> Result<Words<'a>, Error>
             name => Script::File(name),
         },
     };
-    let is_explained = matches.get_flag(EXPLAIN);
+    let notes = Notes {
+        explains: matches.get_flag(EXPLAIN),
+        draws: matches.get_flag(BARS),
+    };
     Ok(Words {
         config,
-        is_explained,
+        notes,
         script,
     })
 }

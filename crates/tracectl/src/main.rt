@@ -1,11 +1,14 @@
 //! Reads a tracer's script, does it, and writes the replies to standard output.
 #![tactic(auto)]
 
+mod bars;
+mod drawn;
 mod explained;
 mod stop;
 
 ghost use Rattle.trace_command.specs.Configs.{IsInRange};
 
+use drawn::Drawn;
 use explained::Explained;
 use std::fs::File;
 use std::io::Read;
@@ -14,32 +17,20 @@ use std::sync::Wait;
 use std::thread::Threads;
 use stop::tell;
 use trace_command::Config;
-use trace_session::{Input, OpenGate, Output, Status, run_session};
-use trace_words::{Script, Stop, Words, words_of};
+use trace_session::{Input, OpenGate, Output, Sink, Status, run_session};
+use trace_words::{Notes, Script, Stop, Words, words_of};
 
-/// Does the session of a script, its parts on these threads, and explains it on standard error, if that is asked for.
-fn session<R: Read + Drop>(
+/// Does the session of a script with this output, its parts on these threads.
+fn session_to<R: Read + Drop, W: Sink + Drop>(
     rt: &HostRuntime,
     threads: &(impl Threads + Wait + Sync),
     config: Config,
-    is_explained: bool,
     script: R,
+    mut output: W,
 ) -> Status
     requires { IsInRange config }
 {
     let mut input = Input::new(script);
-    if is_explained {
-        let mut output = Explained::new(rt.alloc(), rt.stdout(), rt.stderr());
-        return run_session(
-            threads,
-            rt.alloc(),
-            config,
-            &mut input,
-            &mut output,
-            &OpenGate,
-        );
-    }
-    let mut output = Output::new(rt.stdout());
     run_session(
         threads,
         rt.alloc(),
@@ -50,21 +41,53 @@ fn session<R: Read + Drop>(
     )
 }
 
+/// Does the session of a script, its parts on these threads, and tells on standard error what is asked for beside it.
+fn session<R: Read + Drop>(
+    rt: &HostRuntime,
+    threads: &(impl Threads + Wait + Sync),
+    config: Config,
+    notes: Notes,
+    script: R,
+) -> Status
+    requires { IsInRange config }
+{
+    match (notes.explains, notes.draws) {
+        (false, false) => {
+            let output = Output::new(rt.stdout());
+            session_to(rt, threads, config, script, output)
+        }
+        (true, false) => {
+            let output = Explained::new(rt.alloc(), rt.stdout(), rt.stderr());
+            session_to(rt, threads, config, script, output)
+        }
+        (false, true) => {
+            let output = Output::new(rt.stdout());
+            let output = Drawn::new(rt.alloc(), output, rt.stderr());
+            session_to(rt, threads, config, script, output)
+        }
+        (true, true) => {
+            let output = Explained::new(rt.alloc(), rt.stdout(), rt.stderr());
+            let output = Drawn::new(rt.alloc(), output, rt.stderr());
+            session_to(rt, threads, config, script, output)
+        }
+    }
+}
+
 /// Does the session that the command line asks for.
 fn run(rt: &HostRuntime, threads: &(impl Threads + Wait + Sync)) -> Result<Status, Stop> {
     let words = words_of(rt)?;
     let Words {
         config,
-        is_explained,
+        notes,
         script,
     } = Words::read(rt, &words)?;
     let status = match script {
         Script::File(name) => {
             let file = File::open(rt, name).map_err(|_| Stop::Device)?;
-            session(rt, threads, config, is_explained, file)
+            session(rt, threads, config, notes, file)
         }
-        Script::Input => session(rt, threads, config, is_explained, rt.stdin()),
-        Script::Lines(lines) => session(rt, threads, config, is_explained, lines.as_slice()),
+        Script::Input => session(rt, threads, config, notes, rt.stdin()),
+        Script::Lines(lines) => session(rt, threads, config, notes, lines.as_slice()),
     };
     Ok(status)
 }

@@ -5,7 +5,6 @@ ghost use Rattle.trace_buffer.specs.Buffers.{offers};
 ghost use Rattle.trace_buffer.specs.Buffers as seen;
 
 use page_ring::{Head, Kept, Put, read_head, write_head};
-use std::alloc::AllocError;
 use std::process::Abort;
 use std::test::Fail;
 use trace_buffer::{Buffer, Taken};
@@ -27,7 +26,7 @@ fn tick(ts: u64) -> [u8; 24]
 }
 
 // Writes a record of this time on a CPU.
-fn write(buffer: &mut Buffer, cpu: u32, ts: u64) -> Result<Put, AllocError>
+fn write(buffer: &mut Buffer, cpu: u32, ts: u64) -> Put
     requires cpu { cpu < seen.cpus buffer.old }
     requires fits { 24 ≤ buffer.old.page_bytes }
     requires few { sum (offers buffer.old) < 2 ^ 32 }
@@ -36,8 +35,7 @@ fn write(buffer: &mut Buffer, cpu: u32, ts: u64) -> Result<Put, AllocError>
     ensures offers { sum (offers buffer.new) ≤ sum (offers buffer.old) + 1 }
 {
     let rec = tick(ts);
-    buffer.ready(cpu, rec.len())?;
-    Ok(buffer.put(cpu, &rec, true))
+    buffer.put(cpu, &rec, true)
 }
 
 // When a record was written.
@@ -69,10 +67,10 @@ fn expect_taken(rt: &impl Abort, records: &[Taken<'_>], expected: &[(u32, u64)])
 #[test]
 fn falling_and_equal_times(rt: HostRuntime) -> Result<(), Fail> {
     let mut buffer = Buffer::new(rt.alloc(), 2, 4, 64)?;
-    write(&mut buffer, 0, 9)?;
-    write(&mut buffer, 0, 2)?;
-    write(&mut buffer, 1, 9)?;
-    write(&mut buffer, 1, 4)?;
+    write(&mut buffer, 0, 9);
+    write(&mut buffer, 0, 2);
+    write(&mut buffer, 1, 9);
+    write(&mut buffer, 1, 4);
     expect_merged(&rt, &buffer.merged()?, &[(0, 2), (1, 4), (0, 9), (1, 9)]);
     expect_taken(
         &rt,

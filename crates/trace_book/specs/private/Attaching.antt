@@ -18,7 +18,7 @@ use Rattle.trace_command.specs.declared.refusal.Refusal.TheVariants.{TriggerExis
 use Rattle.trace_history.specs.History.{trigger_answer}
 use Rattle.trace_history.specs.Settings.{event_named}
 use Rattle.trace_history.specs.Snapshots.{spare_armed}
-use Rattle.trace_book.specs.Changes.{IsOfOne, hists_changed, trigger_changed}
+use Rattle.trace_book.specs.Changes.{IsPossible, hists_changed, trigger_changed}
 use Rattle.trace_book.specs.Instances.{kept_trigger}
 use Rattle.trace_book.specs.KeptHists.{kept_hists, kept_of}
 use Rattle.trace_book.specs.declared.attach.EventTriggers.{EventTriggers}
@@ -47,7 +47,7 @@ pub record IsTriggerEffect (name : Option (List ℕ)) (past : List Request) (eve
   pub snapshot : kept_trigger name (write_of name event written ∷ past) event ≡ trigger_changed change (kept_trigger name past event)
   pub hists : kept_hists name (write_of name event written ∷ past) event
       ≡ hists_changed change (if written.append then kept_hists name past event else [])
-  pub one : IsOfOne change (length (if written.append then kept_hists name past event else []))
+  pub possible : IsPossible change (length (if written.append then kept_hists name past event else []))
   pub spare : spare_armed (said_of event written.text.now) ≡ arms change
 
 abbrev pub IsTriggerChange : Option (List ℕ) → List Request → Definition → WrittenText → Result TriggerChange Refusal → Type 0

@@ -1,43 +1,30 @@
--- What an emission that is prepared does in each instance, and the room that it has there.
+-- What an emission that is prepared does in each instance, and its record.
 use Rattle.std.specs.Prelude.{◌≡◌, ℕ, ℤ, ◌+◌, ◌<◌, ◌≤◌, true, false, List, length, slice_index_or, Option, Some, None}
-use Rattle.trace_buffer.specs.Buffers as buffers
 use Rattle.trace_format.specs.Cells.{Cells}
 use Rattle.trace_record.specs.Record.{IsRecord}
 use Rattle.trace_history.specs.Emissions.{record_bytes}
 use Rattle.trace_book.specs.Instances.{InstanceSeen, IsAlike}
 use Rattle.trace_book.specs.private.Rows.{reach_of}
-use Rattle.trace_book.specs.States.{AllReached, EachCame, HasRoom}
+use Rattle.trace_book.specs.States.{AllReached, EachCame}
 use Rattle.trace_book.specs.declared.change.Pending.{Pending}
 use Rattle.trace_book.specs.declared.change.Reach.{Reach}
 use Rattle.trace_book.specs.declared.change.Reaches.{Reaches}
 use Rattle.trace_book.specs.declared.state.Named.{Named}
 use Rattle.trace_book.specs.declared.state.State.{State}
 
--- what an emission of the event at this place does in each instance is this, and if none is said to record it, none does
+-- what an emission of the event at this index does in each instance is this, and if none is said to record it, none does
 pub record AreReached (event : ℕ) (row : Cells) (cpu : ℕ) (pid : ℤ) (reaches : Reaches) (instances : List Named) : Type 0 where
   pub each : AllReached (λ reach i. reach ≡ reach_of i event row cpu pid) reaches instances
   pub none : reaches.recorded ≡ false → AllReached (λ reach i. reach.records ≡ false) reaches instances
 
--- room was made, perhaps
-abbrev pub IsReadied : InstanceSeen → InstanceSeen → Type 0
-IsReadied i j = IsAlike i j × (j.hists ≡ i.hists)
-
--- the ring of a CPU has room for so many bytes, if a record is written
-abbrev pub HasBytes : ℕ → ℕ → Reach → InstanceSeen → Type 0
-HasBytes cpu bytes reach i = reach.records ≡ true → bytes ≤ slice_index_or (buffers.readies i.sides.live) cpu 0
-
--- a state agrees with another in all but room
+-- a state agrees with another in all but the memory of its hist triggers
 pub record IsStateAlike (old new : State) : Type 0 where
   pub catalog : new.catalog ≡ old.catalog
   pub clock : new.clock ≡ old.clock
   pub instances : EachCame IsAlike old.instances.items new.instances.items
 
--- what was written ahead is the emission's record, for which each instance that records it has room; nothing was, where none records it. The hist
--- triggers are as they were
-pub record IsAhead (old new : State) (event : ℕ) (row : Cells) (cpu : ℕ) (pid : ℤ) (reaches : Reaches) (pending : Option Pending) : Type 0 where
+-- what was written ahead is the emission's record; nothing was, where no instance records it
+pub record IsAhead (state : State) (event : ℕ) (row : Cells) (cpu : ℕ) (pid : ℤ) (reaches : Reaches) (pending : Option Pending) : Type 0 where
   pub bytes : (p : Pending) → pending ≡ Some p
-      → (p.cpu ≡ cpu) × (p.bytes.items ≡ record_bytes (old.clock + 1) pid (event + 1) row) × IsRecord p.bytes.items
-      × AllReached (HasRoom p) reaches new.instances.items
-  pub hists : (k : ℕ) (d : Named) → k < length old.instances.items
-      → (slice_index_or new.instances.items k d).instance.hists ≡ (slice_index_or old.instances.items k d).instance.hists
+      → (p.cpu ≡ cpu) × (p.bytes.items ≡ record_bytes (state.clock + 1) pid (event + 1) row) × IsRecord p.bytes.items
   pub none : pending ≡ None → reaches.recorded ≡ false

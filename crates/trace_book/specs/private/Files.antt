@@ -1,4 +1,4 @@
--- Files that are there: a CPU by its number, an event by its place among the declared ones.
+-- Files that are there: a CPU by its number, an event by its index among the declared ones.
 use Rattle.std.specs.Prelude.{◌≡◌, ℕ, zero, suc, ◌<◌, nat_lt, true, false, List, [], ◌∷◌, length, slice_index_or, Option, Some, None, Result, Ok, Err, ⊤}
 use Rattle.trace_format.specs.Definitions.{Definition}
 use Rattle.trace_command.specs.Paths as paths
@@ -17,11 +17,11 @@ use Rattle.trace_book.specs.declared.resolve.Target.TheVariants as target
 use Rattle.trace_book.specs.declared.state.Named.{Named}
 use Rattle.trace_book.specs.declared.state.State.{State}
 
--- the name of the event at a place
+-- the name of the event at an index
 abbrev pub name_at : List Definition → ℕ → List ℕ
-name_at [] place = []
+name_at [] index = []
 name_at (event ∷ events) zero = event.name
-name_at (event ∷ events) (suc place) = name_at events place
+name_at (event ∷ events) (suc index) = name_at events index
 
 -- the file, as a path names it
 abbrev pub file_at : List Definition → File → paths.File
@@ -45,10 +45,10 @@ abbrev pub IsCpu : ℕ → ℕ → Result ℕ Refusal → Type 0
 IsCpu number cpus (Ok cpu) = (number ≡ cpu) × (cpu < cpus)
 IsCpu number cpus (Err refusal) = (nat_lt number cpus ≡ false) × (refusal ≡ NoSuchCpu)
 
--- the place of the event of this name
-abbrev pub IsEventPlace : List Definition → List ℕ → Result ℕ Refusal → Type 0
-IsEventPlace events name (Ok place) = (place < length events) × (name ≡ name_at events place)
-IsEventPlace events name (Err refusal) = (event_named_in events name ≡ None) × (refusal ≡ NoSuchEvent)
+-- the index of the event of this name
+abbrev pub IsEventIndex : List Definition → List ℕ → Result ℕ Refusal → Type 0
+IsEventIndex events name (Ok index) = (index < length events) × (name ≡ name_at events index)
+IsEventIndex events name (Err refusal) = (event_named_in events name ≡ None) × (refusal ≡ NoSuchEvent)
 
 -- what was found for a path's file: none where the path is that of the declarations
 abbrev pub IsFound : Config → List Request → List Definition → paths.File → Result (Option File) Refusal → Type 0
@@ -56,17 +56,17 @@ IsFound g past events named (Ok None) = named ≡ paths.SyntheticEvents
 IsFound g past events named (Ok (Some found)) = (named ≡ file_at events found) × IsThere g.cpus events found
 IsFound g past events named (Err refusal) = missing g past named ≡ Some refusal
 
--- the instance at this place has the name
+-- the instance at this index has the name
 abbrev pub IsAt : State → ℕ → Option (List ℕ) → Type 0
-IsAt state place name =
-    (place < length state.instances.items) × ((d : Named) → (slice_index_or state.instances.items place d).name ≡ name)
+IsAt state index name =
+    (index < length state.instances.items) × ((d : Named) → (slice_index_or state.instances.items index d).name ≡ name)
 
 -- what was found for an address, or why it is refused
 abbrev pub IsResolved : Config → State → List Request → Address → Result Target Refusal → Type 0
 IsResolved g state past address (Ok target.Declarations) =
     (is_there address.instance past ≡ true) × (address.file ≡ Some paths.SyntheticEvents)
-IsResolved g state past address (Ok (target.Of place found)) =
-    (is_there address.instance past ≡ true) × IsAt state place address.instance × (address.file ≡ Some (file_at state.catalog found))
+IsResolved g state past address (Ok (target.Of index found)) =
+    (is_there address.instance past ≡ true) × IsAt state index address.instance × (address.file ≡ Some (file_at state.catalog found))
     × IsThere g.cpus state.catalog found
 IsResolved g state past address (Err refusal) =
     (answered : paths.File → Result Reply Refusal) → instance_answer address.instance past (file_answer g past answered address.file) ≡ Err refusal
@@ -74,4 +74,4 @@ IsResolved g state past address (Err refusal) =
 -- what was found is there
 abbrev pub IsTarget : ℕ → State → Target → Type 0
 IsTarget cpus state target.Declarations = ⊤
-IsTarget cpus state (target.Of place found) = (place < length state.instances.items) × IsThere cpus state.catalog found
+IsTarget cpus state (target.Of index found) = (index < length state.instances.items) × IsThere cpus state.catalog found

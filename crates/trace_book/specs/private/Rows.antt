@@ -4,7 +4,7 @@ use Rattle.trace_filter.specs.Filters.{Parsed}
 use Rattle.trace_filter.specs.Values.{holds_of}
 use Rattle.trace_format.specs.Cells.{Cells}
 use Rattle.trace_history.specs.Triggers.{is_left}
-use Rattle.trace_book.specs.Instances.{InstanceSeen}
+use Rattle.trace_book.specs.Instances.{InstanceSeen, passed_in}
 use Rattle.trace_book.specs.declared.change.Reach.{Reach}
 use Rattle.trace_book.specs.declared.trigger.Trigger.{Trigger}
 
@@ -13,7 +13,7 @@ unfoldable pub kept_holds : Option Parsed → Cells → ℕ → ℤ → Bool
 kept_holds None row cpu pid = true
 kept_holds (Some kept) row cpu pid = holds_of kept (record { values = row.values; cpu = cpu; pid = pid })
 
--- whether an instance records an emission of the event at this place
+-- whether an instance records an emission of the event at this index
 abbrev pub records : InstanceSeen → ℕ → Cells → ℕ → ℤ → Bool
 records i event row cpu pid =
     i.tracing && (slice_index_or i.enabled event false && kept_holds (slice_index_or i.filters event None) row cpu pid)
@@ -23,10 +23,14 @@ abbrev pub kept_acts : Option Trigger → Cells → ℕ → ℤ → Bool
 kept_acts None row cpu pid = false
 kept_acts (Some t) row cpu pid = is_left t.left && kept_holds t.filter row cpu pid
 
--- whether an emission of the event at this place makes its trigger act
+-- whether an emission of the event at this index makes its trigger act
 abbrev pub fires : InstanceSeen → ℕ → Cells → ℕ → ℤ → Bool
 fires i event row cpu pid = kept_acts (slice_index_or i.triggers event None) row cpu pid
 
 -- what it does in an instance
 abbrev pub reach_of : InstanceSeen → ℕ → Cells → ℕ → ℤ → Reach
-reach_of i event row cpu pid = record { records = records i event row cpu pid; fires = fires i event row cpu pid }
+reach_of i event row cpu pid = record {
+  records = records i event row cpu pid;
+  passed = passed_in (record { values = row.values; cpu = cpu; pid = pid }) event i;
+  fires = fires i event row cpu pid;
+}

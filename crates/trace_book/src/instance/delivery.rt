@@ -1,4 +1,5 @@
-//! What an emission does to an instance: first it is looked what that is, then room is made for its record, and then it is taken in.
+//! What an emission does to an instance: first it is looked what that is, then its hist triggers take the memory that they need, and then it is taken
+//! in.
 
 ghost use Rattle.std.specs.Prelude.{◌≡◌, ◌≤◌, ◌<◌, true, is_some, length, slice_index_or, OnOk};
 ghost use Rattle.trace_record.specs.Record.{IsRecord};
@@ -6,61 +7,71 @@ ghost use Rattle.trace_buffer.specs.Buffers as buffers;
 ghost use Rattle.trace_book.specs.Instances.{IsAlike};
 ghost use Rattle.trace_book.specs.private.Rows as rows;
 ghost use Rattle.trace_book.specs.private.Rows.{kept_holds};
-ghost use Rattle.trace_book.specs.States.{CanCountRow, CanFire, HasFewRows, row_of, IsDelivered, IsOffered, IsExchanged, IsWritable, IsWritten, HasRoom, HasFew};
+ghost use Rattle.trace_book.specs.States.{CanCountRow, CanFire, HasFewRows, row_of, IsDelivered, IsOffered, IsExchanged, IsWritable, IsWritten, HasFew};
+ghost use Rattle.trace_book.specs.Instances.{passed_in};
 
 use super::Instance;
 use crate::change::{Delivery, Pending, Reach};
+use crate::hists::MOST_TRIGGERS;
 use crate::trigger::passes;
 use std::alloc::AllocError;
 use trace_format::Row;
 
 impl Instance {
-    /// Takes the memory that the hist triggers of the event at this place need to count a row.
+    /// Takes the memory that the hist triggers of the event at this index need to count a row. It is known which of their filters that passes.
     pub(crate) fn reserve(
         &mut self,
+        passed: [bool; MOST_TRIGGERS],
         event: usize,
         row: &Row,
         cpu: u32,
         pid: i32,
     ) -> Result<(), AllocError>
-        requires { event < length self.old.hists }
+        requires event { event < length self.old.hists }
+        requires passed { passed ≡ passed_in (record { values = row.now.values; cpu = cpu; pid = pid }) event self.old }
         ensures alike { IsAlike self.old self.new }
-        ensures rest { self.new ≡ record self.old { hists = self.new.hists } }
         ensures ready { OnOk result (CanCountRow (record { values = row.now.values; cpu = cpu; pid = pid }) event self.new) }
     {
-        self.hists[event].reserve(row, cpu, pid)
+        self.hists[event].reserve(passed, row, cpu, pid)
     }
 
-    /// What an emission of the event at this place does here: whether it is recorded, and whether it makes the event's snapshot trigger act.
-    /// It is recorded where tracing is on, the event is enabled, and its filter passes. The trigger heeds its own filter alone.
-    #[tactic(auto, unfolding(crate::specs::private::Rows::kept_holds))]
+    /// What an emission of the event at this index does here: whether it is recorded, which filters of the event's hist triggers it passes,
+    /// and whether it makes the event's snapshot trigger act. It is recorded where tracing is on, the event is enabled, and its filter passes. A
+    /// trigger heeds its own filter alone.
     pub(crate) fn reach(&self, event: usize, row: &Row, cpu: u32, pid: i32) -> Reach
         requires enabled { event < length self.now.enabled }
         requires filters { event < length self.now.filters }
         requires triggers { event < length self.now.triggers }
+        requires hists { event < length self.now.hists }
         ensures { result ≡ rows.reach_of self.now event row.now cpu pid }
     {
-        let fires = match &self.triggers[event] {
-            Some(trigger) => trigger.acts(row, cpu, pid),
-            None => false,
-        };
-        let records = self.tracing
-            && self.enabled[event]
-            && passes(self.filter(event), row, cpu, pid);
-        Reach { records, fires }
+        Reach {
+            records: self.records(event, row, cpu, pid),
+            passed: self.hists(event).passed(row, cpu, pid),
+            fires: self.fires(event, row, cpu, pid),
+        }
     }
 
-    /// Makes room for a record of this length, if one is written here. All that can be seen stays as it was.
-    pub(crate) fn ready(&mut self, reach: Reach, cpu: u32, len: usize) -> Result<(), AllocError>
-        requires { cpu < buffers.cpus self.old.sides.live }
-        ensures alike { IsAlike self.old self.new }
-        ensures hists { self.new.hists ≡ self.old.hists }
-        ensures room { OnOk result (reach.records ≡ true → len ≤ slice_index_or (buffers.readies self.new.sides.live) cpu 0) }
+    // Whether an emission of the event at this index is recorded here.
+    #[tactic(auto, unfolding(crate::specs::private::Rows::kept_holds))]
+    fn records(&self, event: usize, row: &Row, cpu: u32, pid: i32) -> bool
+        requires enabled { event < length self.now.enabled }
+        requires filters { event < length self.now.filters }
+        ensures { result ≡ rows.records self.now event row.now cpu pid }
     {
-        if reach.records {
-            self.sides.live_mut().ready(cpu, len)?;
+        self.tracing && self.enabled[event] && passes(self.filter(event), row, cpu, pid)
+    }
+
+    // Whether it makes the event's snapshot trigger act.
+    #[tactic(auto, unfolding(crate::specs::private::Rows::kept_holds))]
+    fn fires(&self, event: usize, row: &Row, cpu: u32, pid: i32) -> bool
+        requires { event < length self.now.triggers }
+        ensures { result ≡ rows.fires self.now event row.now cpu pid }
+    {
+        match &self.triggers[event] {
+            Some(trigger) => trigger.acts(row, cpu, pid),
+            None => false,
         }
-        Ok(())
     }
 
     /// Takes in an emission, which does this here: its record is written if it is to be, over older ones where the ring is full and that is
@@ -69,9 +80,10 @@ impl Instance {
     pub(crate) fn deliver(&mut self, delivery: &Delivery, reach: Reach)
         requires event { delivery.now.event < length self.old.triggers }
         requires hists { delivery.now.event < length self.old.hists }
+        requires passed { reach.passed ≡ passed_in (row_of delivery.now) delivery.now.event self.old }
         requires counted { CanCountRow (row_of delivery.now) delivery.now.event self.old }
         requires few_rows { HasFewRows self.old }
-        requires record { IsWritable delivery.now.record reach self.old }
+        requires record { IsWritable delivery.now.record self.old }
         requires few { HasFew self.old }
         requires spare { CanFire reach self.old }
         ensures { IsDelivered delivery.now reach self.old self.new }
@@ -79,7 +91,7 @@ impl Instance {
         if let Some(pending) = &delivery.record {
             self.write(pending, reach);
         }
-        self.offer(delivery);
+        self.offer(delivery, reach);
         if reach.fires {
             self.exchange(delivery.event);
         }
@@ -89,7 +101,7 @@ impl Instance {
     fn write(&mut self, pending: &Pending, reach: Reach)
         requires is_record { IsRecord pending.now.bytes.items }
         requires fits { length pending.now.bytes.items ≤ self.old.sides.live.page_bytes }
-        requires room { HasRoom pending.now reach self.old }
+        requires cpu { pending.now.cpu < buffers.cpus self.old.sides.live }
         requires few { HasFew self.old }
         ensures { IsWritten pending.now reach self.old self.new }
     {
@@ -102,16 +114,17 @@ impl Instance {
     }
 
     // Offers the row of an emission to the hist triggers of its event.
-    fn offer(&mut self, delivery: &Delivery)
+    fn offer(&mut self, delivery: &Delivery, reach: Reach)
         requires hists { delivery.now.event < length self.old.hists }
+        requires passed { reach.passed ≡ passed_in (row_of delivery.now) delivery.now.event self.old }
         requires counted { CanCountRow (row_of delivery.now) delivery.now.event self.old }
         requires few_rows { HasFewRows self.old }
         ensures { IsOffered delivery.now self.old self.new }
     {
-        self.hists[delivery.event].hit(&delivery.row, delivery.cpu, delivery.pid);
+        self.hists[delivery.event].hit(reach.passed, &delivery.row, delivery.cpu, delivery.pid);
     }
 
-    // Exchanges the sides for the trigger of the event at this place, which acts once less.
+    // Exchanges the sides for the trigger of the event at this index, which acts once less.
     fn exchange(&mut self, event: usize)
         requires event { event < length self.old.triggers }
         requires spare { is_some self.old.sides.spare ≡ true }

@@ -1,21 +1,33 @@
 -- What one more row does to a histogram: the way in which it is kept. That this agrees with the grouping of all rows is proved in
 -- proofs/GroupLaws.antt.
-use Rattle.std.specs.Prelude.{ℕ, pos, ◌+◌, Bool, true, false, nat_lt, if◌then◌else◌, List, [], ◌∷◌, ◌++◌, length, map, replicate, None}
+use Rattle.std.specs.Prelude.{ℕ, zero, suc, ℤ, pos, ◌+◌, Bool, true, false, nat_lt, if◌then◌else◌, List, [], ◌∷◌, ◌++◌, length, map, replicate}
 use Rattle.trace_format.specs.Cells.{Datum}
-use Rattle.trace_hist.specs.Hits.{Hit}
+use Rattle.trace_format.specs.Operands.{Emission}
+use Rattle.trace_trigger.specs.declared.key.Key.{Key}
+use Rattle.trace_hist.specs.Hits.{Hit, key_cell}
 use Rattle.trace_hist.specs.Groups.{Entry, Table, same_key, is_among, added}
-use Rattle.trace_hist.specs.Hists.{Seen}
+use Rattle.trace_hist.specs.Hists.{Seen, Unknown, entry_keys}
+
+-- the key that a trigger reads of an emission
+abbrev pub key_of : List Key → Emission → List Datum
+key_of keys emission = map (key_cell emission) keys
+
+-- an entry with a row more, whose numbers are these
+abbrev pub counted_once : List ℤ → Entry → Entry
+counted_once numbers entry = record { key = entry.key; hitcount = entry.hitcount + 1; sums = added entry.sums numbers }
 
 abbrev pub bumped : Hit → Entry → Entry
 bumped hit entry = if same_key entry.key hit.key
-    then record { key = entry.key; hitcount = entry.hitcount + 1; sums = added entry.sums hit.numbers }
+    then counted_once hit.numbers entry
     else entry
 
 abbrev pub first_entry : ℕ → Hit → Entry
 first_entry width hit = record { key = hit.key; hitcount = 1; sums = added (replicate width (pos 0)) hit.numbers }
 
-abbrev pub entry_keys : Table → List (List Datum)
-entry_keys table = map (λ (entry : Entry). entry.key) table.entries
+abbrev pub counted_at : List ℤ → ℕ → List Entry → List Entry
+counted_at numbers index [] = []
+counted_at numbers zero (entry ∷ entries) = counted_once numbers entry ∷ entries
+counted_at numbers (suc index) (entry ∷ entries) = entry ∷ counted_at numbers index entries
 
 -- by whether the row's key has an entry, and whether there is room for one
 abbrev pub stepped : Bool → Bool → ℕ → Table → Hit → Table
@@ -27,12 +39,12 @@ stepped false false width table hit = record { entries = table.entries; hits = t
 
 abbrev pub after_row : ℕ → ℕ → Table → Hit → Table
 after_row size width table hit =
-    stepped (is_among (entry_keys table) hit.key) (nat_lt (length table.entries) size) width table hit
+    stepped (is_among (entry_keys table.entries) hit.key) (nat_lt (length table.entries) size) width table hit
 
 abbrev pub after_hit : Seen → Hit → Seen
 after_hit hist hit = record {
   spec = hist.spec;
   paused = hist.paused;
   table = after_row hist.spec.size (length hist.spec.value_sources) hist.table hit;
-  next = None;
+  next = Unknown;
 }

@@ -15,8 +15,8 @@ loop-i-preserved c =
       left = λ k d above. let other : k ≢ c.loop-i.i = omega arith in rw get_or-set_other (was.left k d (omega arith));
     }
 
-pub deliver-requires-clause-record : goal.deliver-requires-clause-record
-deliver-requires-clause-record c =
+pub deliver-requires-clause-passed : goal.deliver-requires-clause-passed
+deliver-requires-clause-passed c =
     let was = c.loop-i.invariant in
     let read = c.index-instances-i.result in
-    rw (was.left c.loop-i.i read (omega arith)) (c.requires.record c.loop-i.i read (omega (arith, was.many)))
+    rw (was.left c.loop-i.i read (omega arith)) (c.requires.passed c.loop-i.i read (omega (arith, was.many)))

@@ -1,7 +1,7 @@
 use Rattle.std.proofs.Common.{sym, ap, ◌∙◌, subst, arith}
 use Rattle.std.proofs.lemmas.Int.{ints}
 use Rattle.trace_hist.specs.Hits.{number_of, field_cell}
-use Rattle.trace_hist.specs.private.Numbers.{IsFieldNumber}
+use Rattle.trace_hist.specs.Numbers.{IsFieldNumber}
 use Rattle.trace_hist.proofs.Numbers.{row_in_range}
 use Rattle.trace_hist.proofs.cell.row_number.Goals as goal
 

@@ -1,8 +1,12 @@
-use Rattle.trace_history.proofs.CountedRows.{tables_begin_empty, pauses_count_nothing, clears_leave_none, other_requests_leave_hist_triggers}
+use Rattle.trace_history.proofs.CountedRows.{tables_begin_empty, clears_leave_none, other_requests_leave_hist_triggers}
+use Rattle.trace_history.proofs.Pauses.{only_asking_pauses, pauses_count_nothing}
 use Rattle.trace_history.proofs.laws.only_their_own_file_changes_hist_triggers.Goals as goal
 
 pub returns-clause-empty : goal.returns-clause-empty
 returns-clause-empty c = tables_begin_empty
+
+pub returns-clause-state : goal.returns-clause-state
+returns-clause-state c = only_asking_pauses
 
 pub returns-clause-pause : goal.returns-clause-pause
 returns-clause-pause c = pauses_count_nothing

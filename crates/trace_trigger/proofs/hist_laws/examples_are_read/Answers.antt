@@ -13,11 +13,17 @@ returns-clause-attributes c = examples-are_read.attributes
 pub returns-clause-items : goal.returns-clause-items
 returns-clause-items c = examples-are_read.items
 
+pub returns-clause-modifiers : goal.returns-clause-modifiers
+returns-clause-modifiers c = examples-are_read.modifiers
+
 pub returns-clause-many : goal.returns-clause-many
 returns-clause-many c = examples-are_read.many
 
 pub returns-clause-names : goal.returns-clause-names
 returns-clause-names c = examples-are_read.names
+
+pub returns-clause-keys : goal.returns-clause-keys
+returns-clause-keys c = examples-are_read.keys
 
 pub returns-clause-values : goal.returns-clause-values
 returns-clause-values c = examples-are_read.values

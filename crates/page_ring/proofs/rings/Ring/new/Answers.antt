@@ -7,4 +7,5 @@ use Rattle.page_ring.proofs.rings.Ring.new.Goals as goal
 pub returns-clause-stands : goal.returns-clause-stands
 unfolding StandsFor shown_by account cut
 returns-clause-stands c =
-    rw (c.new.ensures.records, c.in_ok-circle.ensures.items, c.new-2.ensures.records, c.new-2.ensures.number, c.new-2.ensures.filled) refl
+    let p = c.in_ok-new.ensures in
+    rw (p.reader, p.circle, p.tail) refl

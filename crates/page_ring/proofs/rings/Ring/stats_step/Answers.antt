@@ -1,6 +1,6 @@
 use Rattle.std.proofs.Common.{◌≡◌, ◌-◌, ◌<◌, length, subst, refl}
 use Rattle.std.proofs.lemmas.List.Elements.{All-from_recursion}
-use Rattle.page_ring.specs.declared.pages.Page.{Page}
+use Rattle.page_ring.specs.StoredPage.{StoredPage}
 use Rattle.page_ring.specs.Shown.{Seen}
 use Rattle.page_ring.specs.Pages.{kept_in}
 use Rattle.page_ring.specs.Sound.{page_after, IsStorable}
@@ -11,7 +11,7 @@ use Rattle.page_ring.proofs.rings.Ring.stats_step.Goals as goal
 pub oldest-requires-clause-circle : goal.oldest-requires-clause-circle
 oldest-requires-clause-circle c =
     let a = c.self.inside in
-    All-from_recursion (λ (p : Page). 0 < length p.records.items) a.pages.circle.items (circle_nonempty a.page_count a.pages.tail.number (page_after a.reader_page) a.pages.circle.items c.self.invariant.arranged.circle)
+    All-from_recursion (λ (p : StoredPage). 0 < length p.records) a.pages.circle.items (circle_nonempty a.page_count a.pages.tail.number (page_after a.reader_page) a.pages.circle.items c.self.invariant.arranged.circle)
 
 pub oldest-requires-clause-records : goal.oldest-requires-clause-records
 oldest-requires-clause-records c =

@@ -5,8 +5,8 @@ use Rattle.trace_book.specs.KeptHists.{IsHit, kept_of}
 use Rattle.trace_book.proofs.EachHist.{hit_passed}
 use Rattle.trace_book.proofs.hists.AttachedHist.hit.Goals as goal
 
-pub returns-then-passes : goal.returns-then-passes
-returns-then-passes c =
+pub returns-then-passed : goal.returns-then-passed
+returns-then-passed c =
     let hit = c.hit.ensures in
     let old = c.args.self.now in
     let pid : to_z w32 (of_z w32 c.args.pid) ≡ c.args.pid = to_z-of_z w32 c.args.pid (search rules) in

@@ -1,4 +1,4 @@
-use Rattle.trace_book.proofs.HistChanges.{attached, detached, hist_asked, hist_attached, hist_detached, hists_left, one_of}
+use Rattle.trace_book.proofs.HistChanges.{attached, detached, hist_asked, hist_attached, hist_detached, hists_left, one_of, room_of}
 use Rattle.trace_book.proofs.instance.Instance.change_triggers.Goals as goal
 use Rattle.trace_book.proofs.instance.Instance.change_triggers.Goals.{in-Some+in-Some-index_mut-2, in-Some+in-None-1, in-None-2, in-Some+in-Some-index_mut-4, in-Some+in-None-2, in-None-3}
 
@@ -32,22 +32,27 @@ returns-in_ok-attach-in-AttachHist-clause-applied c =
     rw c.in-AttachHist.is (hist_attached c.args.event c.args.append c.in-AttachHist.attached c.args.self.now _ c.index_mut-in-AttachHist.result.now
     c.attach.new.self c.self.view_is c.requires.hists c.index_mut-in-AttachHist.ensures.value c.in_ok-attach-in-AttachHist.ensures.attached)
 
+pub attach-requires : goal.attach-requires
+attach-requires c =
+    room_of c.args.append c.args.event c.args.self.now _ c.index_mut-in-AttachHist.result.now c.self.view_is c.requires.hists
+    c.index_mut-in-AttachHist.ensures.value (rw c.in-AttachHist.is at c.requires.possible)
+
 pub remove-requires : goal.remove-requires
 remove-requires c =
     one_of c.args.append c.args.event c.in-DetachHist.index c.args.self.now _ c.index_mut-in-DetachHist.result.now c.self.view_is c.requires.hists
-    c.index_mut-in-DetachHist.ensures.value (rw c.in-DetachHist.is at c.requires.one)
+    c.index_mut-in-DetachHist.ensures.value (rw c.in-DetachHist.is at c.requires.possible)
 
 pub ask-requires : goal.ask-requires
 ask-requires c =
     one_of c.args.append c.args.event c.in-AskHist.index c.args.self.now _ c.index_mut-in-AskHist.result.now c.self.view_is c.requires.hists
-    c.index_mut-in-AskHist.ensures.value (rw c.in-AskHist.is at c.requires.one)
+    c.index_mut-in-AskHist.ensures.value (rw c.in-AskHist.is at c.requires.possible)
 
 pub returns-in-DetachHist-clause-applied : goal.returns-in-DetachHist-clause-applied
 returns-in-DetachHist-clause-applied c =
     rw c.in-DetachHist.is (hist_detached c.args.event c.args.append c.in-DetachHist.index c.args.self.now _ c.index_mut-in-DetachHist.result.now
-    c.remove.new.self c.self.view_is c.requires.hists c.index_mut-in-DetachHist.ensures.value (rw c.in-DetachHist.is at c.requires.one) c.remove.ensures)
+    c.remove.new.self c.self.view_is c.requires.hists c.index_mut-in-DetachHist.ensures.value (rw c.in-DetachHist.is at c.requires.possible) c.remove.ensures)
 
 pub returns-in-AskHist-clause-applied : goal.returns-in-AskHist-clause-applied
 returns-in-AskHist-clause-applied c =
     rw c.in-AskHist.is (hist_asked c.args.event c.args.append c.in-AskHist.index c.in-AskHist.action c.args.self.now _ c.index_mut-in-AskHist.result.now
-    c.ask.new.self c.self.view_is c.requires.hists c.index_mut-in-AskHist.ensures.value (rw c.in-AskHist.is at c.requires.one) c.ask.ensures)
+    c.ask.new.self c.self.view_is c.requires.hists c.index_mut-in-AskHist.ensures.value (rw c.in-AskHist.is at c.requires.possible) c.ask.ensures)

@@ -8,13 +8,13 @@ use Rattle.trace_book.proofs.instance.Instance.reserve.Goals as goal
 
 pub returns-clause-alike : goal.returns-clause-alike
 returns-clause-alike c =
-    alike_one c.args.event c.args.self.now _ c.index_mut.result.now c.reserve.new.self c.self.view_is c.requires c.index_mut.ensures.value c.reserve.ensures.alike
+    alike_one c.args.event c.args.self.now _ c.index_mut.result.now c.reserve.new.self c.self.view_is c.requires.event c.index_mut.ensures.value c.reserve.ensures.alike
 
 pub returns-clause-ready : goal.returns-clause-ready
 returns-clause-ready c =
     let pid : to_z w32 (of_z w32 c.args.pid) ≡ c.args.pid = to_z-of_z w32 c.args.pid (search rules) in
     let inside : c.args.event < length c.self.inside.hists.items =
-    subst (λ (i : InstanceSeen). c.args.event < length i.hists) (sym c.self.view_is) c.requires in
+    subst (λ (i : InstanceSeen). c.args.event < length i.hists) (sym c.self.view_is) c.requires.event in
     subst (λ (l : List AttachedHist). OnOk c.reserve.result (All (CanCount (record { values = c.args.row.now.values; cpu = c.args.cpu; pid = c.args.pid })) l))
     (sym (get_or-set_same c.self.inside.hists.items c.args.event c.reserve.new.self [] inside))
     (subst (λ (p : ℤ). OnOk c.reserve.result (All (CanCount (record { values = c.args.row.now.values; cpu = c.args.cpu; pid = p })) c.reserve.new.self))

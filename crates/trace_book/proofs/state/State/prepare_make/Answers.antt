@@ -14,33 +14,33 @@ returns-then-not-is_name c = λ past stands.
 pub returns-then-is_some : goal.returns-then-is_some
 returns-then-is_some c = λ past stands.
     let good : is_name c.in-Some.name.now ≡ true = search rules in
-    let some : is_some c.place_of.result ≡ true = search rules in
-    make-exists c.args.config.now c.args.self.now past (paths.instance_of c.args.path.now) c.in-Some.name.now c.place_of.result stands (sym c.in-Some.ensures)
-    good (sym c.place_of.ensures) some
+    let some : is_some c.index_of.result ≡ true = search rules in
+    make-exists c.args.config.now c.args.self.now past (paths.instance_of c.args.path.now) c.in-Some.name.now c.index_of.result stands (sym c.in-Some.ensures)
+    good (sym c.index_of.ensures) some
 
 pub returns-then-len-ge-INSTANCES : goal.returns-then-len-ge-INSTANCES
 returns-then-len-ge-INSTANCES c = λ past stands.
     let good : is_name c.in-Some.name.now ≡ true = search rules in
-    let none : is_some c.place_of.result ≡ false = search rules in
+    let none : is_some c.index_of.result ≡ false = search rules in
     let many : 8 ≤ length c.args.self.now.instances.items = search rules in
-    make-too_many c.args.config.now c.args.self.now past (paths.instance_of c.args.path.now) c.in-Some.name.now c.place_of.result stands
-    (sym c.in-Some.ensures) good (sym c.place_of.ensures) none many
+    make-too_many c.args.config.now c.args.self.now past (paths.instance_of c.args.path.now) c.in-Some.name.now c.index_of.result stands
+    (sym c.in-Some.ensures) good (sym c.index_of.ensures) none many
 
 pub returns-in_err-named : goal.returns-in_err-named
 returns-in_err-named c = λ past stands.
     let good : is_name c.in-Some.name.now ≡ true = search rules in
-    let none : is_some c.place_of.result ≡ false = search rules in
+    let none : is_some c.index_of.result ≡ false = search rules in
     let few : length c.args.self.now.instances.items < 8 = search rules in
     let out : c.from_residual.result ≡ Err Memory = search rules in
-    rw out (make-memory c.args.config.now c.args.self.now past (paths.instance_of c.args.path.now) c.in-Some.name.now c.place_of.result stands
-    (sym c.in-Some.ensures) good (sym c.place_of.ensures) none few)
+    rw out (make-memory c.args.config.now c.args.self.now past (paths.instance_of c.args.path.now) c.in-Some.name.now c.index_of.result stands
+    (sym c.in-Some.ensures) good (sym c.index_of.ensures) none few)
 
 pub returns : goal.returns
 returns c = λ past stands.
     let good : is_name c.in-Some.name.now ≡ true = search rules in
-    let none : is_some c.place_of.result ≡ false = search rules in
+    let none : is_some c.index_of.result ≡ false = search rules in
     let few : length c.args.self.now.instances.items < 8 = search rules in
     let events : c.len-2.result ≡ length (declared_events past) =
     c.len-2.ensures.len ∙ ap (λ (l : List Definition). length l) stands.events in
-    make-done c.args.config.now c.args.self.now past (paths.instance_of c.args.path.now) c.in-Some.name.now c.place_of.result c.in_ok-named.named stands
-    (sym c.in-Some.ensures) good (sym c.place_of.ensures) none few c.in_ok-named.ensures.named (c.in_ok-named.ensures.stands past events)
+    make-done c.args.config.now c.args.self.now past (paths.instance_of c.args.path.now) c.in-Some.name.now c.index_of.result c.in_ok-named.named stands
+    (sym c.in-Some.ensures) good (sym c.index_of.ensures) none few c.in_ok-named.ensures.named (c.in_ok-named.ensures.stands past events)

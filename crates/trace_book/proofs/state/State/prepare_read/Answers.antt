@@ -12,15 +12,15 @@ returns-in_err-change-in-Of-clause-prepared c = λ past stands.
     let g = c.args.config.now in
     let state = c.args.self.now in
     let address : Address = paths.address_of c.args.path.now in
-    let place = c.in-Of.place in
+    let index = c.in-Of.index in
     let refused = c.in_err-change-in-Of.field-0.0 in
     let led = c.in_ok-resolve.ensures.resolved past stands in
-    let resolved : IsResolved g state past address (Ok (Of place c.in-Of.file)) = rw c.in-Of.is at led in
-    let source = is-source g state past _ place address.instance c.index.result.now stands resolved.1 refl refl c.index.ensures refl in
+    let resolved : IsResolved g state past address (Ok (Of index c.in-Of.file)) = rw c.in-Of.is at led in
+    let source = is-source g state past _ index address.instance c.index.result.now stands resolved.1 refl refl c.index.ensures refl in
     let read : IsRead g address.instance past c.args.limit (file_at state.catalog c.in-Of.file) (Err refused) =
     c.in_err-change-in-Of.ensures g address.instance past source resolved.3 in
     let out : c.from_residual-in_err-change-in-Of.result ≡ Err refused = search rules in
-    rw out (address-read_refused g state past address place c.in-Of.file c.args.limit refused stands resolved read)
+    rw out (address-read_refused g state past address index c.in-Of.file c.args.limit refused stands resolved read)
 
 pub returns-in-Declarations-clause-prepared : goal.returns-in-Declarations-clause-prepared
 returns-in-Declarations-clause-prepared c = λ past stands.
@@ -37,9 +37,9 @@ returns-in_ok-change-in-Of-clause-prepared c = λ past stands.
     let g = c.args.config.now in
     let state = c.args.self.now in
     let address : Address = paths.address_of c.args.path.now in
-    let place = c.in-Of.place in
+    let index = c.in-Of.index in
     let led = c.in_ok-resolve.ensures.resolved past stands in
-    let resolved : IsResolved g state past address (Ok (Of place c.in-Of.file)) = rw c.in-Of.is at led in
-    address-reads g state past address place c.in-Of.file c.args.limit c.in_ok-change-in-Of.field-0 c.requires.usable stands resolved
+    let resolved : IsResolved g state past address (Ok (Of index c.in-Of.file)) = rw c.in-Of.is at led in
+    address-reads g state past address index c.in-Of.file c.args.limit c.in_ok-change-in-Of.field-0 c.requires.usable stands resolved
     (c.in_ok-change-in-Of.ensures g address.instance past
-    (is-source g state past _ place address.instance c.index.result.now stands resolved.1 refl refl c.index.ensures refl) resolved.3)
+    (is-source g state past _ index address.instance c.index.result.now stands resolved.1 refl refl c.index.ensures refl) resolved.3)

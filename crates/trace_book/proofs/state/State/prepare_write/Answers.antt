@@ -14,12 +14,12 @@ returns-in_err-written_change-in-Of-clause-prepared c = λ past number stands.
     let address : Address = paths.address_of c.args.path.now in
     let refused = c.in_err-written_change-in-Of.field-0.0 in
     let led = c.in_ok-resolve.ensures.resolved past stands in
-    let resolved : IsResolved g state past address (Ok (Of c.in-Of.place c.in-Of.file)) = rw c.in-Of.is at led in
+    let resolved : IsResolved g state past address (Ok (Of c.in-Of.index c.in-Of.file)) = rw c.in-Of.is at led in
     let change : IsWriteChange g address.instance past c.args.written.append c.args.written.text.now (file_at state.catalog c.in-Of.file) (Err refused) =
     c.in_err-written_change-in-Of.ensures.change g address.instance past number stands.events c.requires.usable.distinct
-    (stands-at g state past c.in-Of.place address.instance c.index.result.now stands resolved.1 c.index.ensures) resolved.3 in
+    (stands-at g state past c.in-Of.index address.instance c.index.result.now stands resolved.1 c.index.ensures) resolved.3 in
     let out : c.from_residual-in_err-written_change-in-Of.result ≡ Err refused = search rules in
-    rw out (address-write_refused g state past address c.in-Of.place c.in-Of.file c.args.written.append c.args.written.text.now refused stands resolved change)
+    rw out (address-write_refused g state past address c.in-Of.index c.in-Of.file c.args.written.append c.args.written.text.now refused stands resolved change)
 
 pub returns-in_ok-written_change-in-Of-clause-prepared : goal.returns-in_ok-written_change-in-Of-clause-prepared
 returns-in_ok-written_change-in-Of-clause-prepared c = λ past number stands.
@@ -27,10 +27,10 @@ returns-in_ok-written_change-in-Of-clause-prepared c = λ past number stands.
     let state = c.args.self.now in
     let address : Address = paths.address_of c.args.path.now in
     let led = c.in_ok-resolve.ensures.resolved past stands in
-    let resolved : IsResolved g state past address (Ok (Of c.in-Of.place c.in-Of.file)) = rw c.in-Of.is at led in
-    address-writes g state past address c.in-Of.place c.in-Of.file c.args.written.append c.args.written.text.now c.in_ok-written_change-in-Of.field-0 stands resolved
+    let resolved : IsResolved g state past address (Ok (Of c.in-Of.index c.in-Of.file)) = rw c.in-Of.is at led in
+    address-writes g state past address c.in-Of.index c.in-Of.file c.args.written.append c.args.written.text.now c.in_ok-written_change-in-Of.field-0 stands resolved
     (c.in_ok-written_change-in-Of.ensures.change g address.instance past number stands.events c.requires.usable.distinct
-    (stands-at g state past c.in-Of.place address.instance c.index.result.now stands resolved.1 c.index.ensures) resolved.3)
+    (stands-at g state past c.in-Of.index address.instance c.index.result.now stands resolved.1 c.index.ensures) resolved.3)
 
 pub returns-in-Declarations-clause-memory : goal.returns-in-Declarations-clause-memory
 returns-in-Declarations-clause-memory c = λ past stands late.
@@ -44,6 +44,6 @@ returns-in_err-written_change-in-Of-clause-memory c = λ past stands late.
     let address : Address = paths.address_of c.args.path.now in
     let refused = c.in_err-written_change-in-Of.field-0.0 in
     let led = c.in_ok-resolve.ensures.resolved past stands in
-    let resolved : IsResolved c.args.config.now c.args.self.now past address (Ok (Of c.in-Of.place c.in-Of.file)) = rw c.in-Of.is at led in
+    let resolved : IsResolved c.args.config.now c.args.self.now past address (Ok (Of c.in-Of.index c.in-Of.file)) = rw c.in-Of.is at led in
     let out : c.from_residual-in_err-written_change-in-Of.result ≡ Err refused = search rules in
     rw out (c.in_err-written_change-in-Of.ensures.memory (rw resolved.2 at late))

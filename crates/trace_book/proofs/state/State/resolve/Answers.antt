@@ -12,7 +12,7 @@ returns-in_default-clause-resolved c = λ past stands answered.
     let g = c.args.config.now in
     let address = paths.address_of c.args.path.now in
     let name = ap (λ (a : Address). a.instance) c.address_of-address.ensures in
-    let lost = lost-there g c.args.self.now past _ address stands name (sym c.place_of.ensures ∙ search rules) in
+    let lost = lost-there g c.args.self.now past _ address stands name (sym c.index_of.ensures ∙ search rules) in
     no-instance g past address answered lost
 
 pub returns-in_default-file-clause-resolved : goal.returns-in_default-file-clause-resolved
@@ -20,7 +20,7 @@ returns-in_default-file-clause-resolved c = λ past stands answered.
     let g = c.args.config.now in
     let address : Address = paths.address_of c.args.path.now in
     let name = ap (λ (a : Address). a.instance) c.address_of-address.ensures in
-    let there = found-there g c.args.self.now past _ address c.in-Some.place stands name (sym c.in-Some.ensures) in
+    let there = found-there g c.args.self.now past _ address c.in-Some.index stands name (sym c.in-Some.ensures) in
     let none : address.file ≡ None = sym (ap (λ (a : Address). a.file) c.address_of-address.ensures) ∙ search rules in
     no-file g past address answered there.0 none
 
@@ -29,7 +29,7 @@ returns-in_err-file-clause-resolved c = λ past stands.
     let g = c.args.config.now in
     let address : Address = paths.address_of c.args.path.now in
     let name = ap (λ (a : Address). a.instance) c.address_of-address.ensures in
-    let there = found-there g c.args.self.now past _ address c.in-Some.place stands name (sym c.in-Some.ensures) in
+    let there = found-there g c.args.self.now past _ address c.in-Some.index stands name (sym c.in-Some.ensures) in
     let named : address.file ≡ Some (file_at c.in-Some-file.named) = sym (ap (λ (a : Address). a.file) c.address_of-address.ensures) ∙ search rules in
     let missed = c.in_err-file.ensures.found g past refl stands.events in
     let out : c.from_residual.result ≡ Err c.in_err-file.field-0.0 = search rules in
@@ -40,7 +40,7 @@ returns-in-Some-2-clause-resolved c = λ past stands.
     let g = c.args.config.now in
     let address : Address = paths.address_of c.args.path.now in
     let name = ap (λ (a : Address). a.instance) c.address_of-address.ensures in
-    let there = found-there g c.args.self.now past _ address c.in-Some.place stands name (sym c.in-Some.ensures) in
+    let there = found-there g c.args.self.now past _ address c.in-Some.index stands name (sym c.in-Some.ensures) in
     let named : address.file ≡ Some (file_at c.in-Some-file.named) = sym (ap (λ (a : Address). a.file) c.address_of-address.ensures) ∙ search rules in
     let some : c.in_ok-file.field-0 ≡ Some c.in-Some-2.file = search rules in
     let is : IsFound g past c.args.self.now.catalog (file_at c.in-Some-file.named) (Ok (Some c.in-Some-2.file)) =
@@ -52,7 +52,7 @@ returns-in-None-clause-resolved c = λ past stands.
     let g = c.args.config.now in
     let address : Address = paths.address_of c.args.path.now in
     let name = ap (λ (a : Address). a.instance) c.address_of-address.ensures in
-    let there = found-there g c.args.self.now past _ address c.in-Some.place stands name (sym c.in-Some.ensures) in
+    let there = found-there g c.args.self.now past _ address c.in-Some.index stands name (sym c.in-Some.ensures) in
     let named : address.file ≡ Some (file_at c.in-Some-file.named) = sym (ap (λ (a : Address). a.file) c.address_of-address.ensures) ∙ search rules in
     let none : c.in_ok-file.field-0 ≡ None = search rules in
     let is : IsFound g past c.args.self.now.catalog (file_at c.in-Some-file.named) (Ok None) =

@@ -9,11 +9,6 @@ put-requires-clause-fits c =
     let r = ring_read _ _ _ _ c.self.view_is c.self.invariant.shape c.index_mut.ensures.value c.requires.cpu in
     rw r.page_bytes c.requires.fits
 
-pub put-requires-clause-ready : goal.put-requires-clause-ready
-put-requires-clause-ready c =
-    let e = number_read (λ (r : ring.Seen). r.ready) _ _ _ _ c.self.view_is c.index_mut.ensures.value c.requires.cpu in
-    subst (λ (n : ℕ). length c.args.rec.now ≤ n) e c.requires.ready
-
 pub put-requires-clause-few : goal.put-requires-clause-few
 put-requires-clause-few c =
     let e = number_read ring.offered _ _ _ _ c.self.view_is c.index_mut.ensures.value c.requires.cpu in

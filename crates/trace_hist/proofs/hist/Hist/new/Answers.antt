@@ -1,13 +1,9 @@
-use Rattle.std.proofs.Common.{length, map, ap, ◌∙◌, List}
 use Rattle.trace_hist.specs.Groups.{grouped}
 use Rattle.trace_hist.specs.Hists.{StandsFor}
-use Rattle.trace_hist.specs.Stored.{hit_in, table_of}
-use Rattle.trace_hist.specs.declared.stored.StoredHit.{StoredHit}
 use Rattle.trace_hist.proofs.Counting.{table-empty}
+use Rattle.std.proofs.Common.{length}
 use Rattle.trace_hist.proofs.hist.Hist.new.Goals as goal
 
 pub returns-clause-stands : goal.returns-clause-stands
 unfolding StandsFor grouped
-returns-clause-stands c =
-    let width = length c.args.spec.value_sources in
-    ap (λ (l : List StoredHit). table_of width (map hit_in l) 0) c.new.ensures.items ∙ table-empty c.args.spec.size width
+returns-clause-stands c = table-empty c.args.spec.size (length c.args.spec.value_sources)
