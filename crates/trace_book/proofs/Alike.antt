@@ -10,18 +10,25 @@ use Rattle.trace_book.specs.Instances.{InstanceSeen, InstanceStandsFor, IsAlike,
 use Rattle.trace_book.specs.States.{IsUnchanged, StandsFor, names_of}
 use Rattle.trace_book.specs.declared.state.Named.{Named}
 use Rattle.trace_book.specs.declared.state.State.{State}
+use Rattle.trace_book.specs.KeptHists.{TableStandsFor, is_used}
 use Rattle.trace_book.proofs.EachInstance.{names-same}
+use Rattle.trace_book.proofs.KeptLists.{AllOfEach}
+use Rattle.trace_book.proofs.TableStands.{table-alike}
 
 sides-same : (i j : InstanceSeen) → IsAlike i j → j.sides ≡ i.sides
 sides-same i j alike = ap (λ (s : InstanceSeen). s.sides) alike.rest
 
 alike-stands : (g : Config) (name : Option (List ℕ)) (past : List Request) (i j : InstanceSeen) → IsAlike i j → InstanceStandsFor g name past i
     → InstanceStandsFor g name past j
-alike-stands g name past i j alike stands = record {
+alike-stands g name past i j alike stands = let same = ap (λ (s : InstanceSeen). s.hists) alike.rest in record {
   enabled = ap (λ (s : InstanceSeen). s.enabled) alike.rest ∙ stands.enabled;
   filters = ap (λ (s : InstanceSeen). s.filters) alike.rest ∙ stands.filters;
   triggers = ap (λ (s : InstanceSeen). s.triggers) alike.rest ∙ stands.triggers;
-  hists = alike.hists ∙ stands.hists;
+  hists = same ∙ stands.hists;
+  tables = subst (AllOfEach (TableStandsFor name past j.tables)) (sym same)
+      (λ k d inside n a within. table-alike name past i.tables j.tables _ (alike.tables _) (stands.tables k d inside n a within));
+  used = λ number unused. alike.tables number ∙ stands.used number (ap (is_used number) (sym same) ∙ unused);
+  fitting = stands.fitting;
   overwrite = ap (λ (s : InstanceSeen). s.overwrite) alike.rest ∙ stands.overwrite;
   tracing = ap (λ (s : InstanceSeen). s.tracing) alike.rest ∙ stands.tracing;
   sides = subst (λ (s : SidesSeen). snapshot.StandsFor s (side_families g name past)) (sym (sides-same i j alike)) stands.sides;

@@ -1,12 +1,10 @@
 -- What a text that is written to an event's trigger file answers, and that the change made of it is the one that the definitions say.
-use Rattle.std.proofs.Common.{◌≡◌, ℕ, ◌+◌, ◌<◌, ◌≤◌, nat_lt, Bool, true, false, not, ◌||◌, if◌then◌else◌, List, [], ◌∷◌, length, map, is_some, Bor, Option, None, Some, Result, Ok, Err, refl, sym, ap, ◌∙◌, arith, lt-ltb, ltb-true}
+use Rattle.std.proofs.Common.{◌≡◌, ℕ, ◌+◌, ◌<◌, ◌≤◌, nat_lt, Bool, true, false, not, ◌||◌, if◌then◌else◌, List, [], ◌∷◌, length, map, is_some, Option, None, Some, Result, Ok, Err, refl, sym, ap, ◌∙◌, subst, arith, lt-ltb, ltb-true}
 use Rattle.std.specs.List.{list_any, position}
-use Rattle.std.specs.Option.{option_copied}
 use Rattle.std.proofs.lemmas.List.{length-map}
 use Rattle.std.proofs.lemmas.Option.{none-some}
 use Rattle.trace_format.specs.Definitions.{Definition}
 use Rattle.trace_trigger.specs.HistSpecs.{SpecSeen}
-use Rattle.trace_trigger.specs.SameSpecs.{is_same}
 use Rattle.trace_trigger.specs.declared.spec.Action.{Action}
 use Rattle.trace_trigger.specs.declared.spec.Action.TheVariants as action
 use Rattle.trace_trigger.specs.TriggerAnswers.{IsAnswered}
@@ -22,27 +20,26 @@ use Rattle.trace_command.specs.declared.command.Reply.{Reply}
 use Rattle.trace_command.specs.declared.command.Reply.TheVariants.{Done}
 use Rattle.trace_command.specs.declared.refusal.Refusal.{Refusal}
 use Rattle.trace_command.specs.declared.refusal.Refusal.TheVariants as refusal
-use Rattle.trace_history.specs.History.{asked_answer, hist_answer, new_hist_answer, remove_hist_answer, room_answer, said_answer, trigger_answer, trigger_count}
-use Rattle.trace_history.specs.HistTriggers.{HistTrigger, has_same, hists_of}
+use Rattle.trace_history.specs.History.{asked_answer, fitting_answer, hist_answer, new_hist_answer, remove_hist_answer, room_answer, said_answer, trigger_answer, trigger_count}
+use Rattle.trace_history.specs.HistTriggers.{HistTrigger, fits_that, has_same, hist_triggers, hists_of, hists_said, named_by}
 use Rattle.trace_history.specs.Triggers as triggers
 use Rattle.trace_history.specs.Triggers.{trigger_of}
+use Rattle.trace_history.proofs.Members.{IsIn}
 use Rattle.trace_book.specs.private.Attaching.{AreKept, IsAttached, IsChangeOf, kept_count}
 use Rattle.trace_book.specs.Instances as instances
-use Rattle.trace_book.specs.Instances.{kept_trigger}
-use Rattle.trace_book.specs.KeptHists.{KeptHist, kept_as, kept_hists, kept_of, says_same}
+use Rattle.trace_book.specs.Instances.{TablesFit, kept_trigger}
+use Rattle.trace_book.specs.KeptHists.{attached_as, kept_hists, says_same}
 use Rattle.trace_book.specs.declared.attach.EventTriggers.{EventTriggers}
 use Rattle.trace_book.specs.declared.change.TriggerChange.TheVariants.{Keep, Attach, Detach}
 use Rattle.trace_book.specs.declared.trigger.Trigger.{Trigger}
 use Rattle.trace_book.specs.declared.write.WrittenText.{WrittenText}
-use Rattle.trace_book.proofs.Attached.{hists-stay, left_by, snapshot-attached, snapshot-removed, snapshot-stays}
+use Rattle.trace_book.proofs.Attached.{IsNamed, all-are, all_left, hists-stay, own_left, snapshot-attached, snapshot-removed, snapshot-stays, tables-stay, text_request}
+use Rattle.trace_book.proofs.FittingTables.{fit-fewer, fit-tables, left-fit}
+use Rattle.trace_book.proofs.NamedIn.{copied-some}
 use Rattle.trace_book.proofs.OneSays.{IsOnlyOne, found-only, some-position}
 use Rattle.trace_book.proofs.Snapshotting.{none-is, some-mapped, there-is}
 
 -- ---- what the requests say of what is kept
-
-copied-some : {A : Type 0} (o : Option (Bor A)) → is_some (option_copied o) ≡ is_some o
-copied-some None = refl
-copied-some (Some r) = refl
 
 has-snapshot : (name : Option (List ℕ)) (past : List Request) (event : Definition) (kept : EventTriggers) → AreKept name past event kept
     → is_some (trigger_of name event past) ≡ is_some kept.snapshot
@@ -56,16 +53,14 @@ any-map test f (x ∷ xs) = ap (λ (b : Bool). test (f x) || b) (any-map test f 
 pub has-same : (name : Option (List ℕ)) (past : List Request) (event : Definition) (kept : EventTriggers) (spec : SpecSeen) → AreKept name past event kept
     → has_same spec (hists_of name event past) ≡ list_any (says_same spec) kept.hists.now
 has-same name past event kept spec are =
-    sym (any-map (λ (k : KeptHist). is_same spec k.spec) (kept_as name past) (hists_of name event past))
-    ∙ ap (list_any (λ (k : KeptHist). is_same spec k.spec)) (sym are.hists)
-    ∙ any-map (λ (k : KeptHist). is_same spec k.spec) kept_of kept.hists.now
+    sym (any-map (says_same spec) attached_as (hists_of name event past)) ∙ ap (list_any (says_same spec)) (sym are.hists)
 
 -- the index of the one that says the same, of those that `>` or `>>` leaves
 abbrev pub same_left : SpecSeen → EventTriggers → Bool → Option ℕ
 same_left spec kept append = if append then position (says_same spec) kept.hists.now else None
 
 pub has-same_left : (name : Option (List ℕ)) (past : List Request) (event : Definition) (kept : EventTriggers) (spec : SpecSeen) (append : Bool)
-    → AreKept name past event kept → has_same spec (left_by name past event append) ≡ is_some (same_left spec kept append)
+    → AreKept name past event kept → has_same spec (own_left name past event append) ≡ is_some (same_left spec kept append)
 has-same_left name past event kept spec true are = has-same name past event kept spec are ∙ sym (some-position (says_same spec) kept.hists.now)
 has-same_left name past event kept spec false are = refl
 
@@ -76,18 +71,18 @@ only-left name past event kept spec index true are found = found-only name past 
 only-left name past event kept spec index false are found = absurd (none-some index found)
 
 many-left : (name : Option (List ℕ)) (past : List Request) (event : Definition) (kept : EventTriggers) (append : Bool) → AreKept name past event kept
-    → length (left_by name past event append) ≡ (if append then length kept.hists.now else 0)
+    → length (own_left name past event append) ≡ (if append then length kept.hists.now else 0)
 many-left name past event kept true are =
-    sym (length-map (hists_of name event past) (kept_as name past)) ∙ ap length (sym are.hists) ∙ length-map kept.hists.now kept_of
+    sym (length-map (hists_of name event past) attached_as) ∙ ap length (sym are.hists)
 many-left name past event kept false are = refl
 
 pub count-left : (name : Option (List ℕ)) (past : List Request) (event : Definition) (kept : EventTriggers) (append : Bool) → AreKept name past event kept
-    → trigger_count (trigger_of name event past) (left_by name past event append) ≡ kept_count kept append
+    → trigger_count (trigger_of name event past) (own_left name past event append) ≡ kept_count kept append
 count-left name past event kept append are =
     by (trigger_of name event past) ∙ (λ i. many-left name past event kept append are i + (if has-snapshot name past event kept are i then 1 else 0))
   where
-    by : (o : Option triggers.Trigger) → trigger_count o (left_by name past event append)
-        ≡ length (left_by name past event append) + (if is_some o then 1 else 0)
+    by : (o : Option triggers.Trigger) → trigger_count o (own_left name past event append)
+        ≡ length (own_left name past event append) + (if is_some o then 1 else 0)
     by None = omega arith
     by (Some t) = refl
 
@@ -95,10 +90,11 @@ count-left name past event kept append are =
 
 pub answered : (name : Option (List ℕ)) (past : List Request) (event : Definition) (append : Bool) (text : List ℕ) (r : Result TriggerText TriggerFault)
     → said_of event text ≡ r
-    → trigger_answer name past append text event ≡ said_answer append (trigger_of name event past) (left_by name past event append) r
+    → trigger_answer name past append text event
+    ≡ said_answer append (trigger_of name event past) (own_left name past event append) (all_left name past event append) r
 unfolding trigger_answer
 answered name past event append text r is =
-    ap (said_answer append (trigger_of name event past) (left_by name past event append)) is
+    ap (said_answer append (trigger_of name event past) (own_left name past event append) (all_left name past event append)) is
 
 pub refused : (refusal : Refusal) (answer : Result Reply Refusal) → answer ≡ Err refusal → IsRefusal refusal answer
 refused refusal answer is = (λ other. is, λ early. is)
@@ -129,18 +125,25 @@ late-asked action.Pause early = absurd early
 late-asked action.Continue early = absurd early
 late-asked action.Clear early = absurd early
 
-late-new : (attached : Option triggers.Trigger) (hists : List HistTrigger) (asked : Action) → IsFoundEarly (new_hist_answer attached hists asked) → ⊥
-late-new attached hists action.Attach early = late-room attached hists early
-late-new attached hists action.Pause early = late-room attached hists early
-late-new attached hists action.Continue early = absurd (cc)
-late-new attached hists action.Clear early = absurd (cc)
+late-fitting : (fits : Bool) (answer : Result Reply Refusal) → (IsFoundEarly answer → ⊥) → IsFoundEarly (fitting_answer fits answer) → ⊥
+late-fitting true (Ok reply) late early = absurd early
+late-fitting false (Ok reply) late early = absurd (cc)
+late-fitting fits (Err refusal) late early = late early
 
-late-hist : (attached : Option triggers.Trigger) (hists : List HistTrigger) (spec : SpecSeen) → IsFoundEarly (hist_answer attached hists spec) → ⊥
-late-hist attached hists spec = by (has_same spec hists)
+late-new : (attached : Option triggers.Trigger) (hists : List HistTrigger) (fits : Bool) (asked : Action)
+    → IsFoundEarly (new_hist_answer attached hists fits asked) → ⊥
+late-new attached hists fits action.Attach early = late-fitting fits (room_answer attached hists) (late-room attached hists) early
+late-new attached hists fits action.Pause early = late-fitting fits (room_answer attached hists) (late-room attached hists) early
+late-new attached hists fits action.Continue early = absurd (cc)
+late-new attached hists fits action.Clear early = absurd (cc)
+
+late-hist : (attached : Option triggers.Trigger) (hists all : List HistTrigger) (spec : SpecSeen) → IsFoundEarly (hist_answer attached hists all spec) → ⊥
+late-hist attached hists all spec = by (has_same spec hists)
   where
-    by : (same : Bool) → IsFoundEarly (if same then asked_answer spec.action else new_hist_answer attached hists spec.action) → ⊥
+    by : (same : Bool)
+        → IsFoundEarly (if same then asked_answer spec.action else new_hist_answer attached hists (fits_that spec (named_by spec all)) spec.action) → ⊥
     by true early = late-asked spec.action early
-    by false early = late-new attached hists spec.action early
+    by false early = late-new attached hists (fits_that spec (named_by spec all)) spec.action early
 
 late-remove : (append : Bool) (hists : List HistTrigger) (spec : SpecSeen) → IsFoundEarly (remove_hist_answer append hists spec) → ⊥
 late-remove append hists spec = by (not append || has_same spec hists)
@@ -150,38 +153,38 @@ late-remove append hists spec = by (not append || has_same spec hists)
     by false early = absurd (cc)
 
 -- nothing but a text that is written wrong is found early
-said-late : (append : Bool) (attached : Option triggers.Trigger) (hists : List HistTrigger) (r : Result TriggerText TriggerFault)
-    → (r ≡ Err fault.BadText → ⊥) → IsFoundEarly (said_answer append attached hists r) → ⊥
-said-late append attached hists (Err fault.BadText) other early = other refl
-said-late append attached hists (Err fault.TooMany) other early = absurd (cc)
-said-late append attached hists (Err (fault.FilterSyntax at)) other early = absurd (cc)
-said-late append attached hists (Err (fault.NoSuchField at)) other early = absurd (cc)
-said-late append attached hists (Err (fault.WrongOperator at)) other early = absurd (cc)
-said-late append attached hists (Err (fault.HistSyntax at)) other early = absurd (cc)
-said-late append attached hists (Err fault.BadSize) other early = absurd (cc)
-said-late append attached hists (Err fault.Memory) other early = absurd (cc)
-said-late append attached hists (Ok said.Nothing) other early = absurd early
-said-late append None hists (Ok (said.Attach spec)) other early = late-room None hists early
-said-late append (Some t) hists (Ok (said.Attach spec)) other early = absurd (cc)
-said-late append None hists (Ok said.Remove) other early = absurd (cc)
-said-late append (Some t) hists (Ok said.Remove) other early = absurd early
-said-late append attached hists (Ok (said.Hist spec)) other early = late-hist attached hists spec early
-said-late append attached hists (Ok (said.RemoveHist spec)) other early = late-remove append hists spec early
+said-late : (append : Bool) (attached : Option triggers.Trigger) (hists all : List HistTrigger) (r : Result TriggerText TriggerFault)
+    → (r ≡ Err fault.BadText → ⊥) → IsFoundEarly (said_answer append attached hists all r) → ⊥
+said-late append attached hists all (Err fault.BadText) other early = other refl
+said-late append attached hists all (Err fault.TooMany) other early = absurd (cc)
+said-late append attached hists all (Err (fault.FilterSyntax at)) other early = absurd (cc)
+said-late append attached hists all (Err (fault.NoSuchField at)) other early = absurd (cc)
+said-late append attached hists all (Err (fault.WrongOperator at)) other early = absurd (cc)
+said-late append attached hists all (Err (fault.HistSyntax at)) other early = absurd (cc)
+said-late append attached hists all (Err fault.BadSize) other early = absurd (cc)
+said-late append attached hists all (Err fault.Memory) other early = absurd (cc)
+said-late append attached hists all (Ok said.Nothing) other early = absurd early
+said-late append None hists all (Ok (said.Attach spec)) other early = late-room None hists early
+said-late append (Some t) hists all (Ok (said.Attach spec)) other early = absurd (cc)
+said-late append None hists all (Ok said.Remove) other early = absurd (cc)
+said-late append (Some t) hists all (Ok said.Remove) other early = absurd early
+said-late append attached hists all (Ok (said.Hist spec)) other early = late-hist attached hists all spec early
+said-late append attached hists all (Ok (said.RemoveHist spec)) other early = late-remove append hists spec early
 
 -- a refusal of a text
-said-refused : (append : Bool) (attached : Option triggers.Trigger) (hists : List HistTrigger) (r : Result TriggerText TriggerFault) (faulty : TriggerFault)
+said-refused : (append : Bool) (attached : Option triggers.Trigger) (hists all : List HistTrigger) (r : Result TriggerText TriggerFault) (faulty : TriggerFault)
     → (let a : Result TriggerText TriggerFault = Err faulty in IsAnswered a r)
-    → (r ≡ Err fault.BadText → faulty ≡ fault.BadText) → IsRefusal (refusal_of_trigger faulty) (said_answer append attached hists r)
-said-refused append attached hists r fault.BadText is told = let a = ap (said_answer append attached hists) is in (λ other. a, λ early. a)
-said-refused append attached hists r fault.TooMany is told = let a = ap (said_answer append attached hists) is in (λ other. a, λ early. a)
-said-refused append attached hists r (fault.FilterSyntax at) is told = let a = ap (said_answer append attached hists) is in (λ other. a, λ early. a)
-said-refused append attached hists r (fault.NoSuchField at) is told = let a = ap (said_answer append attached hists) is in (λ other. a, λ early. a)
-said-refused append attached hists r (fault.WrongOperator at) is told = let a = ap (said_answer append attached hists) is in (λ other. a, λ early. a)
-said-refused append attached hists r (fault.HistSyntax at) is told = let a = ap (said_answer append attached hists) is in (λ other. a, λ early. a)
-said-refused append attached hists r fault.BadSize is told = let a = ap (said_answer append attached hists) is in (λ other. a, λ early. a)
-said-refused append attached hists r fault.Memory is told = (
+    → (r ≡ Err fault.BadText → faulty ≡ fault.BadText) → IsRefusal (refusal_of_trigger faulty) (said_answer append attached hists all r)
+said-refused append attached hists all r fault.BadText is told = let a = ap (said_answer append attached hists all) is in (λ other. a, λ early. a)
+said-refused append attached hists all r fault.TooMany is told = let a = ap (said_answer append attached hists all) is in (λ other. a, λ early. a)
+said-refused append attached hists all r (fault.FilterSyntax at) is told = let a = ap (said_answer append attached hists all) is in (λ other. a, λ early. a)
+said-refused append attached hists all r (fault.NoSuchField at) is told = let a = ap (said_answer append attached hists all) is in (λ other. a, λ early. a)
+said-refused append attached hists all r (fault.WrongOperator at) is told = let a = ap (said_answer append attached hists all) is in (λ other. a, λ early. a)
+said-refused append attached hists all r (fault.HistSyntax at) is told = let a = ap (said_answer append attached hists all) is in (λ other. a, λ early. a)
+said-refused append attached hists all r fault.BadSize is told = let a = ap (said_answer append attached hists all) is in (λ other. a, λ early. a)
+said-refused append attached hists all r fault.Memory is told = (
   λ other. absurd (other refl),
-  λ early. absurd (said-late append attached hists r (λ bad. absurd (let h : fault.Memory ≡ fault.BadText = told bad in cc)) early),
+  λ early. absurd (said-late append attached hists all r (λ bad. absurd (let h : fault.Memory ≡ fault.BadText = told bad in cc)) early),
 )
 
 pub text-refused : (event : Definition) (kept : EventTriggers) (written : WrittenText) (faulty : TriggerFault)
@@ -190,9 +193,20 @@ pub text-refused : (event : Definition) (kept : EventTriggers) (written : Writte
     → IsChangeOf event kept written (Err (refusal_of_trigger faulty))
 unfolding trigger_answer
 text-refused event kept written faulty is told = λ name past number are.
-    said-refused written.append (trigger_of name event past) (left_by name past event written.append) (said_of event written.text.now) faulty is told
+    said-refused written.append (trigger_of name event past) (own_left name past event written.append) (all_left name past event written.append)
+    (said_of event written.text.now) faulty is told
 
 -- ---- nothing
+
+-- triggers that fit, where a text attaches none
+pub fit-stays : (name : Option (List ℕ)) (past : List Request) (event : Definition) (id : ℕ) (append : Bool) (text : List ℕ) (r : Result TriggerText TriggerFault)
+    → IsNamed past event id → said_of event text ≡ r → hists_said (length past) event (all_left name past event append) r ≡ all_left name past event append
+    → TablesFit name past → TablesFit name (text_request name event append text ∷ past)
+fit-stays name past event id append text r named is stays fit =
+    let request = text_request name event append text in
+    fit-tables name (request ∷ past)
+    (fit-fewer (hist_triggers name (request ∷ past)) (all_left name past event append)
+    (λ t there. subst (IsIn t) (all-are name past event id append text r named is ∙ stays) there) (left-fit name past event append fit))
 
 pub text-nothing : (event : Definition) (kept : EventTriggers) (written : WrittenText) → said_of event written.text.now ≡ Ok said.Nothing
     → IsChangeOf event kept written (Ok Keep)
@@ -200,8 +214,11 @@ text-nothing event kept written is = λ name past number are. (
   answered name past event written.append written.text.now (Ok said.Nothing) is,
   record {
     snapshot = snapshot-stays name past event written.append written.text.now (Ok said.Nothing) is refl;
-    hists = hists-stay name past event are.id written.append written.text.now (Ok said.Nothing) are.named is (λ t. refl) refl;
+    hists = hists-stay name past event are.id written.append written.text.now (Ok said.Nothing) are.named is refl;
     possible = tt;
+    tables = λ table. tables-stay name past event are.id written.append written.text.now (Ok said.Nothing) table are.named is refl;
+    joined = tt;
+    fitting = fit-stays name past event are.id written.append written.text.now (Ok said.Nothing) are.named is refl;
     spare = rw is refl;
   },
 )
@@ -222,39 +239,42 @@ attach-exists trigger kept written some = λ event name past number are is.
     let there = some-snapshot name past event kept are some in
     refused refusal.TriggerExists (trigger_answer name past written.append written.text.now event)
     (answered name past event written.append written.text.now (Ok (said.Attach trigger)) is
-    ∙ ap (λ (o : Option triggers.Trigger). said_answer written.append o (left_by name past event written.append) (Ok (said.Attach trigger))) there.1)
+    ∙ ap (λ (o : Option triggers.Trigger). said_answer written.append o (own_left name past event written.append) (all_left name past event written.append) (Ok (said.Attach trigger))) there.1)
 
 attach-answer : (trigger : SnapshotTrigger) (kept : EventTriggers) (written : WrittenText) (event : Definition) (name : Option (List ℕ)) (past : List Request)
     → AreKept name past event kept → is_some kept.snapshot ≡ false → said_of event written.text.now ≡ Ok (said.Attach trigger)
-    → trigger_answer name past written.append written.text.now event ≡ room_answer (trigger_of name event past) (left_by name past event written.append)
+    → trigger_answer name past written.append written.text.now event ≡ room_answer (trigger_of name event past) (own_left name past event written.append)
 attach-answer trigger kept written event name past are none is =
     let gone = no-snapshot name past event kept are none in
     answered name past event written.append written.text.now (Ok (said.Attach trigger)) is
-    ∙ ap (λ (o : Option triggers.Trigger). said_answer written.append o (left_by name past event written.append) (Ok (said.Attach trigger))) gone
-    ∙ ap (λ (o : Option triggers.Trigger). room_answer o (left_by name past event written.append)) (sym gone)
+    ∙ ap (λ (o : Option triggers.Trigger). said_answer written.append o (own_left name past event written.append) (all_left name past event written.append) (Ok (said.Attach trigger))) gone
+    ∙ ap (λ (o : Option triggers.Trigger). room_answer o (own_left name past event written.append)) (sym gone)
 
 pub attach-full : (trigger : SnapshotTrigger) (kept : EventTriggers) (written : WrittenText) → is_some kept.snapshot ≡ false
     → 4 ≤ kept_count kept written.append → IsAttached trigger kept written (Err refusal.TooMany)
 attach-full trigger kept written none many = λ event name past number are is.
-    let full : 4 ≤ trigger_count (trigger_of name event past) (left_by name past event written.append) =
+    let full : 4 ≤ trigger_count (trigger_of name event past) (own_left name past event written.append) =
     omega (arith, many, count-left name past event kept written.append are) in
     refused refusal.TooMany (trigger_answer name past written.append written.text.now event)
     (attach-answer trigger kept written event name past are none is
-    ∙ room-full (trigger_of name event past) (left_by name past event written.append) full)
+    ∙ room-full (trigger_of name event past) (own_left name past event written.append) full)
 
 pub attach-done : (trigger : SnapshotTrigger) (kept : EventTriggers) (written : WrittenText) → is_some kept.snapshot ≡ false
     → kept_count kept written.append < 4
     → IsAttached trigger kept written (Ok (Attach (record { number = written.number; left = trigger.count; filter = trigger.filter })))
 attach-done trigger kept written none few = λ event name past number are is.
-    let room : trigger_count (trigger_of name event past) (left_by name past event written.append) < 4 =
+    let room : trigger_count (trigger_of name event past) (own_left name past event written.append) < 4 =
     omega (arith, few, count-left name past event kept written.append are) in (
       attach-answer trigger kept written event name past are none is
-          ∙ room-had (trigger_of name event past) (left_by name past event written.append) room,
+          ∙ room-had (trigger_of name event past) (own_left name past event written.append) room,
       record {
         snapshot = snapshot-attached name past event written.append written.text.now trigger is
             ∙ ap (λ (n : ℕ). (let t : Option Trigger = Some (record { number = n; left = trigger.count; filter = trigger.filter }) in t)) number;
-        hists = hists-stay name past event are.id written.append written.text.now (Ok (said.Attach trigger)) are.named is (λ t. refl) refl;
+        hists = hists-stay name past event are.id written.append written.text.now (Ok (said.Attach trigger)) are.named is refl;
         possible = tt;
+        tables = λ table. tables-stay name past event are.id written.append written.text.now (Ok (said.Attach trigger)) table are.named is refl;
+        joined = tt;
+        fitting = fit-stays name past event are.id written.append written.text.now (Ok (said.Attach trigger)) are.named is refl;
         spare = rw is refl;
       },
     )
@@ -264,11 +284,14 @@ pub text-detaches : (event : Definition) (kept : EventTriggers) (written : Writt
 text-detaches event kept written is some = λ name past number are.
     let there = some-snapshot name past event kept are some in (
       answered name past event written.append written.text.now (Ok said.Remove) is
-          ∙ ap (λ (o : Option triggers.Trigger). said_answer written.append o (left_by name past event written.append) (Ok said.Remove)) there.1,
+          ∙ ap (λ (o : Option triggers.Trigger). said_answer written.append o (own_left name past event written.append) (all_left name past event written.append) (Ok said.Remove)) there.1,
       record {
         snapshot = snapshot-removed name past event written.append written.text.now is;
-        hists = hists-stay name past event are.id written.append written.text.now (Ok said.Remove) are.named is (λ t. refl) refl;
+        hists = hists-stay name past event are.id written.append written.text.now (Ok said.Remove) are.named is refl;
         possible = tt;
+        tables = λ table. tables-stay name past event are.id written.append written.text.now (Ok said.Remove) table are.named is refl;
+        joined = tt;
+        fitting = fit-stays name past event are.id written.append written.text.now (Ok said.Remove) are.named is refl;
         spare = rw is refl;
       },
     )
@@ -278,5 +301,5 @@ pub text-lacks : (event : Definition) (kept : EventTriggers) (written : WrittenT
 text-lacks event kept written is none = λ name past number are.
     refused refusal.NoSuchTrigger (trigger_answer name past written.append written.text.now event)
     (answered name past event written.append written.text.now (Ok said.Remove) is
-    ∙ ap (λ (o : Option triggers.Trigger). said_answer written.append o (left_by name past event written.append) (Ok said.Remove))
+    ∙ ap (λ (o : Option triggers.Trigger). said_answer written.append o (own_left name past event written.append) (all_left name past event written.append) (Ok said.Remove))
     (no-snapshot name past event kept are none))

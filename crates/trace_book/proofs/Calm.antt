@@ -1,6 +1,6 @@
 -- Requests that leave an instance's triggers and its spare side as they are: reads, removals, the making of another instance, and writes to
 -- all files but those of snapshots and triggers.
-use Rattle.std.proofs.Common.{◌≡◌, ℕ, suc, ◌<◌, Bool, true, false, if◌then◌else◌, unwrap_or, List, [], ◌∷◌, length, map, get_or, is_some, Option, Some, None, refl, sym, ap, ◌∙◌, arith}
+use Rattle.std.proofs.Common.{◌≡◌, ℕ, suc, ◌<◌, Bool, true, false, if◌then◌else◌, unwrap_or, List, [], ◌∷◌, length, map, get_or, is_some, Option, Some, None, refl, sym, ap, ◌∙◌, subst, arith}
 use Rattle.std.specs.List.{list_any}
 use Rattle.std.specs.Option.{option_map}
 use Rattle.page_ring.specs.Events.{Event}
@@ -13,7 +13,8 @@ use Rattle.trace_command.specs.declared.file_name.EventFile.TheVariants as per_e
 use Rattle.trace_command.specs.declared.file_name.TopFile.TheVariants as top
 use Rattle.trace_snapshot.specs.Sides.{SideFamilies}
 use Rattle.trace_history.specs.Emissions.{emitted}
-use Rattle.trace_history.proofs.OwnFiles.{own_written}
+use Rattle.trace_trigger.specs.declared.spec.Action.{Action}
+use Rattle.trace_history.specs.HistTriggers.{written_to}
 use Rattle.trace_history.specs.Rings.{other_rings, rings, rings_after, rings_after_write, spare_after, spare_rings}
 use Rattle.trace_history.specs.Settings.{declared_events, is_enabled, is_same, is_tracing, kept_filter, makes, overwrites, set_by, sets_filter, sets_overwrite, sets_tracing, switches}
 use Rattle.trace_history.specs.Snapshots.{exchanges, has_spare, sets_spare}
@@ -22,13 +23,14 @@ use Rattle.trace_history.specs.Triggers.{sets_trigger, times_left, trigger_of}
 use Rattle.trace_history.proofs.EventLists.{map-agrees}
 use Rattle.trace_history.proofs.Sides.{rings-stay}
 use Rattle.trace_history.proofs.Triggered.{number-before, times_left-same}
-use Rattle.trace_book.specs.Changes.{IsEffect, filters_after, flags_after, hists_after, overwrite_after, rings_changed, sides_changed, tracing_after, triggers_after}
+use Rattle.trace_book.specs.Changes.{IsAsked, IsEffect, IsJoined, asks, filters_after, flags_after, hists_after, overwrite_after, rings_changed, sides_changed, tracing_after, triggers_after}
 use Rattle.trace_book.specs.Instances.{IsSpared, kept_as, kept_trigger, side_families}
-use Rattle.trace_book.specs.KeptHists.{KeptHist, kept_hists}
+use Rattle.trace_book.specs.KeptHists.{kept_hists}
+use Rattle.trace_book.specs.declared.hists.AttachedHist.{AttachedHist}
 use Rattle.trace_book.specs.declared.change.InstanceChange.{InstanceChange}
 use Rattle.trace_book.specs.declared.change.InstanceChange.TheVariants.{Keep}
 use Rattle.trace_book.specs.declared.trigger.Trigger.{Trigger}
-use Rattle.trace_book.proofs.HistSteps.{kept-hists-calm}
+use Rattle.trace_book.proofs.HistSteps.{KeepsHists, all-hists-calm, fitting-calm, unasked}
 
 -- an event for places outside of a list
 pub no_event : Definition
@@ -102,7 +104,7 @@ pub record IsCalm (name : Option (List ℕ)) (past : List Request) (request : Re
   pub stays : exchanges name past request ≡ false
   pub sets : set_by name (sets_spare past) request ≡ None
   pub untouched : (g : Config) (family : List (List Event)) → spare_after g name request family ≡ family
-  pub unwritten : (event : Definition) → own_written name event request ≡ None
+  pub unwritten : written_to name past request ≡ None
   pub quiet : emitted past request ≡ None
 
 pub calm-triggers : (name : Option (List ℕ)) (past : List Request) (request : Request) → IsCalm name past request
@@ -112,12 +114,8 @@ calm-triggers name past request calm =
     (λ j inside. kept-stays name past request (get_or (declared_events past) j no_event) (calm.triggers j inside))
 
 -- hist triggers that stay
-pub calm-hists : (name : Option (List ℕ)) (past : List Request) (request : Request) → IsCalm name past request
-    → map (kept_hists name (request ∷ past)) (declared_events past) ≡ map (kept_hists name past) (declared_events past)
-calm-hists name past request calm =
-    map-agrees (kept_hists name (request ∷ past)) (kept_hists name past) (declared_events past) no_event
-    (λ j inside. let event = get_or (declared_events past) j no_event in
-    kept-hists-calm name past request event (record { alive = calm.alive; unwritten = calm.unwritten event }) calm.quiet)
+pub calm-keeps : (name : Option (List ℕ)) (past : List Request) (request : Request) → IsCalm name past request → KeepsHists name past request
+calm-keeps name past request calm = record { alive = calm.alive; unwritten = calm.unwritten }
 
 pub calm-spare : (name : Option (List ℕ)) (past : List Request) (request : Request) → IsCalm name past request
     → has_spare name (request ∷ past) ≡ has_spare name past
@@ -146,12 +144,14 @@ calm-spared g name past request calm =
 -- such a change
 pub record IsQuiet (change : InstanceChange) : Type 0 where
   pub triggers : (old : List (Option Trigger)) → triggers_after change old ≡ old
-  pub hists : (old : List (List KeptHist)) → hists_after change old ≡ old
+  pub hists : (old : List (List AttachedHist)) → hists_after change old ≡ old
+  pub asks : (table : ℕ) → asks change table ≡ None
+  pub joined : (name : Option (List ℕ)) (past : List Request) → IsJoined name past change
   pub sides : (cpus pages page_bytes : ℕ) (f : SideFamilies)
       → sides_changed cpus pages page_bytes change f ≡ record { live = rings_changed pages page_bytes change f.live; spare = f.spare }
 
 pub quiet-keep : IsQuiet Keep
-quiet-keep = record { triggers = λ old. refl; hists = λ old. refl; sides = λ cpus pages page_bytes f. refl }
+quiet-keep = record { triggers = λ old. refl; hists = λ old. refl; asks = λ table. refl; joined = λ name past. tt; sides = λ cpus pages page_bytes f. refl }
 
 -- what else it says of an instance
 pub record IsCalmEffect (g : Config) (name : Option (List ℕ)) (past : List Request) (request : Request) (change : InstanceChange) : Type 0 where
@@ -169,7 +169,12 @@ calm-effect g name past request change calm quiet is = record {
   enabled = is.enabled;
   filters = is.filters;
   triggers = calm-triggers name past request calm ∙ sym (quiet.triggers (map (kept_trigger name past) (declared_events past)));
-  hists = calm-hists name past request calm ∙ sym (quiet.hists (map (kept_hists name past) (declared_events past)));
+  hists = all-hists-calm name past request (declared_events past) (calm-keeps name past request calm)
+      ∙ sym (quiet.hists (map (kept_hists name past) (declared_events past)));
+  tables = λ table. subst (λ (asked : Option Action). IsAsked name past request asked table) (sym (quiet.asks table))
+      (unasked name past request table (calm-keeps name past request calm) calm.quiet);
+  joined = quiet.joined name past;
+  fitting = fitting-calm name past request (calm-keeps name past request calm);
   overwrite = is.overwrite;
   tracing = is.tracing;
   sides = λ spared. calm-sides g name past request calm
@@ -233,9 +238,9 @@ calm-write name other past file append text quiet = record {
     untouched (paths.OfInstance top.Snapshot) is g family = absurd is
     untouched _ is g family = refl
 
-    unwritten : (f : paths.File) → IsQuietFile f → (event : Definition) → own_written other event (WriteFile name (Some f) append text) ≡ None
-    unwritten (paths.OfEvent e per_event.Trigger) is event = absurd is
-    unwritten _ is event = refl
+    unwritten : (f : paths.File) → IsQuietFile f → written_to other past (WriteFile name (Some f) append text) ≡ None
+    unwritten (paths.OfEvent e per_event.Trigger) is = absurd is
+    unwritten _ is = refl
 
 -- and so is one to a file of another instance
 pub calm-other_write : (name other : Option (List ℕ)) (past : List Request) (file : paths.File) (append : Bool) (text : List ℕ)
@@ -246,7 +251,7 @@ calm-other_write name other past file append text is = record {
   stays = stays file;
   sets = rw is refl;
   untouched = untouched file;
-  unwritten = λ event. unwritten file event;
+  unwritten = unwritten file;
   quiet = refl;
 }
   where
@@ -258,9 +263,9 @@ calm-other_write name other past file append text is = record {
     untouched (paths.OfInstance top.Snapshot) g family = rw is refl
     untouched _ g family = refl
 
-    unwritten : (f : paths.File) (event : Definition) → own_written other event (WriteFile name (Some f) append text) ≡ None
-    unwritten (paths.OfEvent e per_event.Trigger) event = rw is refl
-    unwritten _ event = refl
+    unwritten : (f : paths.File) → written_to other past (WriteFile name (Some f) append text) ≡ None
+    unwritten (paths.OfEvent e per_event.Trigger) = rw is refl
+    unwritten _ = refl
 
 -- ---- all else
 
@@ -272,7 +277,7 @@ calm-read name other past file limit = record {
   stays = refl;
   sets = refl;
   untouched = λ g family. refl;
-  unwritten = λ event. refl;
+  unwritten = refl;
   quiet = refl;
 }
 
@@ -283,7 +288,7 @@ calm-remove name other past = record {
   stays = refl;
   sets = refl;
   untouched = λ g family. untouched name g family;
-  unwritten = λ event. refl;
+  unwritten = refl;
   quiet = refl;
 }
   where
@@ -301,6 +306,6 @@ calm-make name other past is = record {
   stays = refl;
   sets = refl;
   untouched = λ g family. rw is refl;
-  unwritten = λ event. refl;
+  unwritten = refl;
   quiet = refl;
 }

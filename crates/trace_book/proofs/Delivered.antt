@@ -27,9 +27,14 @@ use Rattle.trace_history.proofs.Sides.{rings-exchanged, rings-stay}
 use Rattle.trace_history.proofs.Triggered.{number-before, times_left-less, times_left-same}
 use Rattle.trace_format.specs.Operands.{Emission as Row}
 use Rattle.trace_history.specs.HistTriggers.{counted_row}
-use Rattle.trace_book.specs.Instances.{InstanceSeen, InstanceStandsFor, IsSpared, WereOffered, hists_kept, kept_as, kept_trigger, side_families}
-use Rattle.trace_book.specs.States.{CanFire, IsDelivered, WereOfferedRow, counted_down, recorded_in, row_of}
-use Rattle.trace_book.proofs.HistEmitting.{hists-after}
+use Rattle.trace_book.specs.Instances.{InstanceSeen, InstanceStandsFor, IsSpared, WereOffered, kept_as, kept_trigger, side_families}
+use Rattle.trace_hist.specs.Hits.{Hit}
+use Rattle.trace_book.specs.KeptHists.{AreHit, IsHitIf, KeptTable, TableStandsFor, is_used, kept_at, kept_hists}
+use Rattle.trace_book.specs.States.{CanFire, IsDelivered, counted_down, recorded_in, row_of}
+use Rattle.trace_book.proofs.HistSteps.{KeepsHists, fitting-calm}
+use Rattle.trace_book.proofs.KeptLists.{AllOfEach}
+use Rattle.trace_book.proofs.TableStands.{table-hit}
+use Rattle.trace_book.specs.declared.hists.AttachedHist.{AttachedHist}
 use Rattle.trace_book.specs.declared.change.Delivery.{Delivery}
 use Rattle.trace_book.specs.declared.change.Pending.{Pending}
 use Rattle.trace_book.specs.declared.change.Reach.{Reach}
@@ -248,6 +253,33 @@ spared-after g name past ename cpu pid pairs e fires is by_trigger spare spared 
         (rings-stay g name past (Emission ename cpu pid pairs) refl (ap (is_exchanged_by name past) is ∙ stays)).spare ∙ spared.unused none
     by true flips there none = absurd (false≢true (sym none ∙ there refl))
 
+-- ---- hist triggers
+
+-- those of an event at an index
+pub hists-at : (name : Option (List ℕ)) (past : List Request) (hists : List (List AttachedHist)) (ename : List ℕ) (index : ℕ) (event : Definition)
+    → hists ≡ map (kept_hists name past) (declared_events past) → IsIndexOf (declared_events past) ename index event
+    → get_or hists index [] ≡ kept_hists name past event
+hists-at name past hists ename index event are indexed =
+    rw are (get_or-map (kept_hists name past) (declared_events past) index event [] indexed.inside
+    ∙ ap (kept_hists name past) (sym indexed.there))
+
+-- their tables after an emission
+tables-after : (name : Option (List ℕ)) (past : List Request) (request : Request) (e : Emitted) (index : ℕ) (old new : InstanceSeen)
+    → KeepsHists name past request → emitted past request ≡ Some e → IsIndexOf (declared_events past) e.k.event.name index e.k.event
+    → old.hists ≡ map (kept_hists name past) (declared_events past) → AllOfEach (TableStandsFor name past old.tables) old.hists
+    → new.hists ≡ old.hists → AreHit (counted_row e) (get_or old.hists index []) old.tables new.tables
+    → AllOfEach (TableStandsFor name (request ∷ past) new.tables) new.hists
+tables-after name past request e index old new keeps is indexed are stood same hit =
+    subst (AllOfEach (TableStandsFor name (request ∷ past) new.tables)) (sym same) (λ k d inside j a within.
+    table-hit name past request e (get_or old.hists index []) old.tables new.tables (get_or (get_or old.hists k d) j a) keeps is
+    (hists-at name past old.hists e.k.event.name index e.k.event are indexed) hit (stood k d inside j a within))
+
+-- an emission makes no table
+none-hit : (rows : Bool → List Hit) (old new : Option KeptTable) → old ≡ None → IsHitIf rows old new → new ≡ None
+none-hit rows None None none hit = refl
+none-hit rows None (Some new) none hit = absurd hit
+none-hit rows (Some old) new none hit = absurd (cc)
+
 -- ---- the instance
 
 -- an emission that reached an instance leaves it as the requests say
@@ -263,14 +295,18 @@ delivered-stands g name past (Emission ename cpu pid pairs) e d reach old new is
     let written = written-rings name past e reach.records old.overwrite d.record (rings g name past) records stands.overwrite bytes none in
     let families = sides-after g name past ename cpu pid pairs e (recorded_in reach.records old.overwrite d.record (rings g name past)) reach.fires is written
     (sym fires) spare in
+    let keeps : KeepsHists name past request = record { alive = refl; unwritten = refl } in
     let one : length past + 1 ≡ suc (length past) = omega arith in record {
       enabled = rw append-nil (came.enabled ∙ stands.enabled);
       filters = rw append-nil (came.filters ∙ stands.filters);
       triggers = rw append-nil (came.triggers ∙ triggers-after name past ename cpu pid pairs e d.event old.triggers reach.fires is are indexed stands.triggers
           (sym fires));
-      hists = rw append-nil (hists-after name past ename cpu pid pairs e d.event (hists_kept old.hists) (hists_kept new.hists) is indexed
-          (λ j inside apart. differs-at (declared_events past) d.event j e.k.event e.k.event are indexed.inside indexed.there inside apart) stands.hists
-          (subst (λ (r : Row). WereOfferedRow r d.event (hists_kept old.hists) (hists_kept new.hists)) row came.hists));
+      hists = rw append-nil (came.hists ∙ stands.hists);
+      tables = tables-after name past request e d.event old new keeps is indexed stands.hists stands.tables came.hists
+          (subst (λ (r : Row). AreHit r (get_or old.hists d.event []) old.tables new.tables) row came.tables);
+      used = λ number unused. none-hit _ (kept_at number old.tables) (kept_at number new.tables)
+          (stands.used number (ap (is_used number) (sym came.hists) ∙ unused)) (came.tables number);
+      fitting = fitting-calm name past request keeps stands.fitting;
       overwrite = came.overwrite ∙ stands.overwrite;
       tracing = came.tracing ∙ stands.tracing;
       sides = subst (λ (f : SideFamilies). snapshot.StandsFor new.sides f) families (came.sides (side_families g name past) stands.sides);

@@ -56,6 +56,7 @@ readable g source (file.OfEvent event named) usable there = record {
   filters = omega (arith, there, usable.filters);
   triggers = omega (arith, there, usable.triggers);
   hists = omega (arith, there, usable.hists);
+  tables = usable.tables event [] (omega (arith, there, usable.hists));
 }
 
 -- ---- what an address answers

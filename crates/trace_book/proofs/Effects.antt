@@ -119,11 +119,11 @@ own_read g name past named limit Keep reading is =
     (record { enabled = refl; filters = refl; overwrite = refl; tracing = refl; rings = rw (same_instance name) is })
 own_read g name past named limit (Take most) reading is =
     calm-effect g name past (ReadFile name (Some named) limit) (Take most) (calm-read name name past (Some named) limit)
-    (record { triggers = λ old. refl; hists = λ old. refl; sides = λ cpus pages page_bytes f. refl })
+    (record { triggers = λ old. refl; hists = λ old. refl; asks = λ table. refl; joined = λ name past. tt; sides = λ cpus pages page_bytes f. refl })
     (record { enabled = refl; filters = refl; overwrite = refl; tracing = refl; rings = rw (same_instance name) is })
 own_read g name past named limit (TakeCpu cpu most) reading is =
     calm-effect g name past (ReadFile name (Some named) limit) (TakeCpu cpu most) (calm-read name name past (Some named) limit)
-    (record { triggers = λ old. refl; hists = λ old. refl; sides = λ cpus pages page_bytes f. refl })
+    (record { triggers = λ old. refl; hists = λ old. refl; asks = λ table. refl; joined = λ name past. tt; sides = λ cpus pages page_bytes f. refl })
     (record { enabled = refl; filters = refl; overwrite = refl; tracing = refl; rings = rw (same_instance name) is })
 own_read g name past named limit (Switch event flag) reading is = absurd reading
 own_read g name past named limit (SwitchAll flag) reading is = absurd reading

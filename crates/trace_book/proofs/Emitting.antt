@@ -23,8 +23,9 @@ use Rattle.trace_history.specs.Triggers as triggers
 use Rattle.trace_history.specs.Triggers.{acts, is_left, passes, times_left, trigger_of}
 use Rattle.trace_book.specs.Instances.{InstanceSeen, InstanceStandsFor, kept_as}
 use Rattle.trace_book.specs.private.Rows.{fires, kept_acts, kept_holds, records}
-use Rattle.trace_book.specs.KeptHists.{KeptHist, passed}
-use Rattle.trace_book.specs.States.{AllReached, ArePassed, CanBeWritten, CanCountRow, CanEmit, IsEmission, StandsFor, reach_at}
+use Rattle.trace_book.specs.KeptHists.{passed}
+use Rattle.trace_book.specs.declared.hists.AttachedHist.{AttachedHist}
+use Rattle.trace_book.specs.States.{ArePassed, CanBeWritten, CanCountRow, CanEmit, IsEmission, StandsFor, reach_at}
 use Rattle.trace_book.specs.private.Emissions.{AreReached, IsAhead, IsStateAlike}
 use Rattle.trace_book.specs.private.Found.{numbered}
 use Rattle.trace_book.specs.declared.change.Pending.{Pending}
@@ -197,9 +198,9 @@ passed-still : (old new : State) (event : ℕ) (row : Cells) (cpu : ℕ) (pid : 
     → ArePassed (record { values = row.values; cpu = cpu; pid = pid }) event reaches new.instances.items
 passed-still old new event row cpu pid reaches alike are k d inside =
     let within : k < length old.instances.items = omega (arith, inside, alike.instances.many) in
-    let same = (alike.instances.came k d within).hists in
+    let same = ap (λ (i : InstanceSeen). i.hists) (alike.instances.came k d within).rest in
     ap (λ (r : Reach). r.passed) (are.each k d within)
-    ∙ ap (λ (hists : List (List KeptHist)). passed (record { values = row.values; cpu = cpu; pid = pid }) (get_or hists event [])) (sym same)
+    ∙ ap (λ (hists : List (List AttachedHist)). passed (record { values = row.values; cpu = cpu; pid = pid }) (get_or hists event [])) (sym same)
 
 -- and so all is there for the emission
 pub ready-emission : (g : Config) (old new : State) (past : List Request) (request : Request) (event : ℕ) (row : Cells) (cpu : ℕ) (pid : ℤ)

@@ -10,13 +10,14 @@ use Rattle.trace_buffer.specs.Families.{with_events, all_cleared}
 use Rattle.trace_command.specs.declared.command.Config.{Config}
 use Rattle.trace_snapshot.specs.Sides.{SideFamilies, SidesSeen, StandsFor, HasShapeOf, IsSpareOf, IsSpareCleared, exchanged, spare_cleared, with_spare}
 use Rattle.trace_book.specs.Changes.{IsApplied}
-use Rattle.trace_book.specs.Instances.{HasShape, InstanceSeen, IsShaped, WasOffered, WereOffered, hists_kept}
-use Rattle.trace_book.specs.States.{IsDelivered, IsExchanged, IsOffered, IsWritten, WereOfferedRow, counted_down, recorded_in, row_of}
+use Rattle.trace_book.specs.Instances.{HasShape, InstanceSeen, IsShaped, WasOffered, WereOffered}
+use Rattle.trace_book.specs.States.{IsDelivered, IsExchanged, IsOffered, IsWritten, counted_down, recorded_in, row_of}
 use Rattle.trace_book.specs.declared.change.Delivery.{Delivery}
 use Rattle.trace_book.specs.declared.change.InstanceChange.TheVariants.{Clear, ClearSpare, TakeSnapshot}
 use Rattle.trace_book.specs.declared.change.Pending.{Pending}
 use Rattle.trace_book.specs.declared.change.Reach.{Reach}
-use Rattle.trace_book.specs.declared.hists.AttachedHist.{AttachedHist}
+use Rattle.trace_book.specs.KeptHists.{AreHit}
+use Rattle.trace_book.specs.declared.tables.Table.{Table}
 use Rattle.trace_book.proofs.EachInstance.{recursion_at}
 
 -- ---- counts
@@ -235,6 +236,8 @@ cleared value old lent new view lends stands cpus pages page_bytes offers =
       filters = refl;
       triggers = refl;
       hists = refl;
+      tables = λ n used. refl;
+      unused = λ n off. refl;
       overwrite = refl;
       tracing = refl;
       sides = λ f s. live-stands old.sides new f (all_cleared f.live) s
@@ -256,6 +259,8 @@ taken value old new view live spare stands shape =
       filters = refl;
       triggers = refl;
       hists = refl;
+      tables = λ n used. refl;
+      unused = λ n off. refl;
       overwrite = refl;
       tracing = refl;
       sides = stands;
@@ -272,6 +277,8 @@ emptied value old new view live spare stands shape =
       filters = refl;
       triggers = refl;
       hists = refl;
+      tables = λ n used. refl;
+      unused = λ n off. refl;
       overwrite = refl;
       tracing = refl;
       sides = stands;
@@ -308,8 +315,8 @@ accepted_some pending p reach old new some w = record {
 
 -- and then the row was offered to the hist triggers of the event
 pub record IsTakenIn (d : Delivery) (reach : Reach) (old new : InstanceSeen) : Type 0 where
-  pub rest : new ≡ record old { hists = new.hists; sides = new.sides }
-  pub hists : WereOfferedRow (row_of d) d.event (hists_kept old.hists) (hists_kept new.hists)
+  pub rest : new ≡ record old { tables = new.tables; sides = new.sides }
+  pub tables : AreHit (row_of d) (get_or old.hists d.event []) old.tables new.tables
   pub sides : (f : SideFamilies) → StandsFor old.sides f
       → StandsFor new.sides (record { live = recorded_in reach.records old.overwrite d.record f.live; spare = f.spare })
   pub shaped : (g : Config) → IsShaped g old.sides → IsShaped g new.sides
@@ -318,10 +325,9 @@ pub record IsTakenIn (d : Delivery) (reach : Reach) (old new : InstanceSeen) : T
 pub taken_in : (d : Delivery) (reach : Reach) (old between new : InstanceSeen) → IsAccepted d.record reach old between → IsOffered d between new
     → IsTakenIn d reach old new
 taken_in d reach old between new a o = record {
-  rest = o.rest ∙ ap (λ (i : InstanceSeen). record i { hists = new.hists }) a.rest
-      ∙ ap (λ (s : SidesSeen). record old { hists = new.hists; sides = s }) (sym same);
-  hists = subst (λ (h : List (List AttachedHist)). WereOfferedRow (row_of d) d.event (hists_kept h) (hists_kept new.hists))
-      (ap (λ (i : InstanceSeen). i.hists) a.rest) o.hists;
+  rest = o.rest ∙ ap (λ (i : InstanceSeen). record i { tables = new.tables }) a.rest
+      ∙ ap (λ (s : SidesSeen). record old { tables = new.tables; sides = s }) (sym same);
+  tables = subst (λ (i : InstanceSeen). AreHit (row_of d) (get_or i.hists d.event []) i.tables new.tables) a.rest o.tables;
   sides = λ f s. subst (λ (n : SidesSeen). StandsFor n (record { live = recorded_in reach.records old.overwrite d.record f.live; spare = f.spare }))
       (sym same) (a.sides f s);
   shaped = λ g s. subst (IsShaped g) (sym same) (a.shaped g s);
@@ -338,7 +344,8 @@ delivered_still d reach old new a off = record {
   enabled = ap (λ (i : InstanceSeen). i.enabled) a.rest;
   filters = ap (λ (i : InstanceSeen). i.filters) a.rest;
   triggers = rw off (ap (λ (i : InstanceSeen). i.triggers) a.rest);
-  hists = a.hists;
+  hists = ap (λ (i : InstanceSeen). i.hists) a.rest;
+  tables = a.tables;
   overwrite = ap (λ (i : InstanceSeen). i.overwrite) a.rest;
   tracing = ap (λ (i : InstanceSeen). i.tracing) a.rest;
   sides = λ f s. rw off (a.sides f s);
@@ -354,8 +361,8 @@ delivered_exchanged d reach old between new a on x = record {
   filters = ap (λ (i : InstanceSeen). i.filters) x.rest ∙ ap (λ (i : InstanceSeen). i.filters) a.rest;
   triggers = rw on (ap (λ (i : InstanceSeen). i.triggers) x.rest
       ∙ ap (λ (i : InstanceSeen). set i.triggers d.event (counted_down (get_or i.triggers d.event None))) a.rest);
-  hists = subst (λ (h : List (List AttachedHist)). WereOfferedRow (row_of d) d.event (hists_kept old.hists) (hists_kept h))
-      (sym (ap (λ (i : InstanceSeen). i.hists) x.rest)) a.hists;
+  hists = ap (λ (i : InstanceSeen). i.hists) x.rest ∙ ap (λ (i : InstanceSeen). i.hists) a.rest;
+  tables = subst (λ (t : List Table). AreHit (row_of d) (get_or old.hists d.event []) old.tables t) (sym (ap (λ (i : InstanceSeen). i.tables) x.rest)) a.tables;
   overwrite = ap (λ (i : InstanceSeen). i.overwrite) x.rest ∙ ap (λ (i : InstanceSeen). i.overwrite) a.rest;
   tracing = ap (λ (i : InstanceSeen). i.tracing) x.rest ∙ ap (λ (i : InstanceSeen). i.tracing) a.rest;
   sides = λ f s. rw on (x.sides (record { live = recorded_in reach.records old.overwrite d.record f.live; spare = f.spare }) (a.sides f s));

@@ -1,6 +1,7 @@
 -- An instance as it is made stands for no request, and for the request that makes it.
-use Rattle.std.proofs.Common.{◌≡◌, ℕ, zero, suc, ◌≤◌, Bool, true, false, if◌then◌else◌, List, [], ◌∷◌, length, replicate, is_some, Option, Some, None, IfSome, refl, sym, ◌∙◌, subst, append-nil, ap}
-use Rattle.std.specs.List.{AllByRecursion, list_any}
+use Rattle.std.proofs.Common.{◌≡◌, ℕ, suc, ◌≤◌, Bool, true, false, if◌then◌else◌, List, [], ◌∷◌, length, replicate, All, is_some, Option, Some, None, IfSome, refl, sym, ap, ◌∙◌, subst, append-nil, arith}
+use Rattle.std.specs.List.{AllByRecursion, Contains, list_any}
+use Rattle.std.proofs.lemmas.List.Elements.{All-nil, All-replicate}
 use Rattle.std.specs.Str.{bytes_eq}
 use Rattle.std.proofs.lemmas.Bool.{false≢true}
 use Rattle.std.proofs.lemmas.Slice.Eq.{bytes_eq-Decides}
@@ -9,6 +10,7 @@ use Rattle.trace_buffer.specs.Buffers as buffers
 use Rattle.trace_format.specs.Definitions.{Definition}
 use Rattle.trace_command.specs.Requests.{Request, MakeInstance}
 use Rattle.trace_command.specs.declared.command.Config.{Config}
+use Rattle.trace_history.specs.HistTriggers.{HistTrigger, hist_triggers}
 use Rattle.trace_history.specs.Rings.{other_rings, spare_rings}
 use Rattle.trace_history.specs.Settings.{declared_events, is_enabled, kept_filter}
 use Rattle.trace_history.specs.Snapshots.{has_spare}
@@ -16,8 +18,10 @@ use Rattle.trace_history.specs.Triggers.{trigger_of}
 use Rattle.trace_history.proofs.EventLists.{map-constant}
 use Rattle.trace_history.proofs.Sides.{AreMade, rings-made}
 use Rattle.trace_snapshot.specs.Sides.{IsNewSide, SpareStandsFor}
-use Rattle.trace_book.specs.Instances.{HasShape, InstanceSeen, InstanceStandsFor, IsShaped, WasOffered, WereOffered, hists_kept, kept_trigger}
-use Rattle.trace_book.specs.KeptHists.{KeptHist, kept_hists}
+use Rattle.trace_book.specs.Instances.{HasShape, InstanceSeen, InstanceStandsFor, IsShaped, TablesFit, WasOffered, WereOffered, kept_trigger}
+use Rattle.trace_book.specs.KeptHists.{TableStandsFor, kept_at, kept_hists}
+use Rattle.trace_book.specs.declared.hists.AttachedHist.{AttachedHist}
+use Rattle.trace_book.proofs.KeptLists.{AllOfEach}
 use Rattle.trace_book.proofs.LiveSide.{all-none}
 
 -- an instance as it is made, where so many events are declared
@@ -26,6 +30,7 @@ pub record IsNew (g : Config) (events : ℕ) (i : InstanceSeen) : Type 0 where
   pub filters : i.filters ≡ replicate events None
   pub triggers : i.triggers ≡ replicate events None
   pub hists : i.hists ≡ replicate events []
+  pub tables : i.tables ≡ []
   pub overwrite : i.overwrite ≡ true
   pub tracing : i.tracing ≡ true
   pub live : IsNewSide g.cpus g.pages g.page_bytes i.sides.live
@@ -54,6 +59,18 @@ spareless i families none unspared =
     let empty : SpareStandsFor i.sides.spare None = subst (λ (o : Option buffers.Seen). SpareStandsFor o None) (sym none) tt in
     subst (SpareStandsFor i.sides.spare) (sym unspared) empty
 
+-- no trigger is attached, so none shares a table
+no_tables : (name : Option (List ℕ)) (past : List Request) (events : ℕ) (i : InstanceSeen) → i.hists ≡ replicate events []
+    → AllOfEach (TableStandsFor name past i.tables) i.hists
+no_tables name past events i none =
+    let P : List AttachedHist → Type 0 = λ attached. All (TableStandsFor name past i.tables) attached in
+    subst (λ (hists : List (List AttachedHist)). All P hists) (sym none) (All-replicate P events [] (All-nil (TableStandsFor name past i.tables)))
+
+none_share : (name : Option (List ℕ)) (past : List Request) → hist_triggers name past ≡ [] → TablesFit name past
+none_share name past none t u first second same =
+    let there = subst (λ (hists : List HistTrigger). Contains hists t) none first in
+    absurd (omega (arith, there.1))
+
 -- ---- the top instance, where nothing was done
 
 pub top_instance_stands : (g : Config) (i : InstanceSeen) → IsNew g 0 i → InstanceStandsFor g None [] i
@@ -61,7 +78,10 @@ top_instance_stands g i new = record {
   enabled = new.enabled;
   filters = new.filters;
   triggers = new.triggers;
-  hists = ap hists_kept new.hists;
+  hists = new.hists;
+  tables = no_tables None [] 0 i new.hists;
+  used = λ number unused. ap (kept_at number) new.tables;
+  fitting = none_share None [] refl;
   overwrite = new.overwrite;
   tracing = new.tracing;
   sides = record { live = new.live.stands; spare = spareless i None new.spare refl };
@@ -81,10 +101,6 @@ no_spare : (has : Bool) (family : List (List Event)) → has ≡ false → (if h
 no_spare false family is = refl
 no_spare true family is = absurd (false≢true (sym is))
 
-none_kept : (events : ℕ) → hists_kept (replicate events []) ≡ replicate events []
-none_kept zero = refl
-none_kept (suc events) = ap (λ (l : List (List KeptHist)). [] ∷ l) (none_kept events)
-
 no_event : Definition
 no_event = record { name = []; fields = [] }
 
@@ -96,8 +112,10 @@ made-stands g past name i new = record {
       ∙ sym (map-constant (λ (e : Definition). is_enabled (Some name) e.name now) false events no_event (λ j inside. rw itself refl)));
   filters = rw append-nil (new.filters ∙ sym (map-constant (kept_filter (Some name) now) None events no_event (λ j inside. rw itself refl)));
   triggers = rw append-nil (new.triggers ∙ sym (map-constant (kept_trigger (Some name) now) None events no_event (λ j inside. rw itself refl)));
-  hists = rw append-nil (ap hists_kept new.hists ∙ none_kept (length events)
-      ∙ sym (map-constant (kept_hists (Some name) now) [] events no_event (λ j inside. rw itself refl)));
+  hists = rw append-nil (new.hists ∙ sym (map-constant (kept_hists (Some name) now) [] events no_event (λ j inside. rw itself refl)));
+  tables = no_tables (Some name) now (length events) i new.hists;
+  used = λ number unused. ap (kept_at number) new.tables;
+  fitting = none_share (Some name) now (rw itself refl);
   overwrite = rw itself new.overwrite;
   tracing = rw itself new.tracing;
   sides = record {

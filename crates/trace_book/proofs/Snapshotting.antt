@@ -29,12 +29,11 @@ use Rattle.trace_history.proofs.Sides.{rings-exchanged, rings-stay, side-has_all
 use Rattle.trace_book.specs.Changes.{IsEffect}
 use Rattle.trace_book.specs.private.Commands.{IsWriteChange}
 use Rattle.trace_book.specs.Instances.{InstanceSeen, InstanceStandsFor, IsSpared, kept_as, kept_trigger}
-use Rattle.trace_book.specs.KeptHists.{kept_hists}
 use Rattle.trace_book.specs.declared.change.InstanceChange.TheVariants.{ClearSpare, FreeSpare, TakeSnapshot}
 use Rattle.trace_book.specs.declared.trigger.Trigger.{Trigger}
 use Rattle.trace_book.proofs.Calm.{KeepsTrigger, any-passes, kept-stays, no_event, same_families, trigger-stays}
 use Rattle.trace_book.proofs.Effects.{same_instance}
-use Rattle.trace_book.proofs.HistSteps.{kept-hists-calm}
+use Rattle.trace_book.proofs.HistSteps.{KeepsHists, all-hists-calm, fitting-calm, unasked}
 
 -- ---- options
 
@@ -155,12 +154,9 @@ snapshot-triggers name past append text =
     (λ j inside. kept-stays name past (snapshot_request name append text) (get_or (declared_events past) j no_event)
     (snapshot-quiet name past append text (get_or (declared_events past) j no_event)))
 
-snapshot-hists : (name : Option (List ℕ)) (past : List Request) (append : Bool) (text : List ℕ)
-    → map (kept_hists name (snapshot_request name append text ∷ past)) (declared_events past) ≡ map (kept_hists name past) (declared_events past)
-snapshot-hists name past append text =
-    map-agrees (kept_hists name (snapshot_request name append text ∷ past)) (kept_hists name past) (declared_events past) no_event
-    (λ j inside. kept-hists-calm name past (snapshot_request name append text) (get_or (declared_events past) j no_event)
-    (record { alive = refl; unwritten = refl }) refl)
+snapshot-keeps_hists : (name : Option (List ℕ)) (past : List Request) (append : Bool) (text : List ℕ)
+    → KeepsHists name past (snapshot_request name append text)
+snapshot-keeps_hists name past append text = record { alive = refl; unwritten = refl }
 
 -- an event has a trigger after it only where it had one
 snapshot-has_trigger : (name : Option (List ℕ)) (past : List Request) (append : Bool) (text : List ℕ)
@@ -198,7 +194,10 @@ takes-effect g name past append text takes =
       enabled = settings.enabled;
       filters = settings.filters;
       triggers = snapshot-triggers name past append text;
-      hists = snapshot-hists name past append text;
+      hists = all-hists-calm name past request (declared_events past) (snapshot-keeps_hists name past append text);
+      tables = λ table. unasked name past request table (snapshot-keeps_hists name past append text) refl;
+      joined = tt;
+      fitting = fitting-calm name past request (snapshot-keeps_hists name past append text);
       overwrite = settings.overwrite;
       tracing = settings.tracing;
       sides = λ spared. families
@@ -224,7 +223,10 @@ frees-effect g name past append text frees unarmed =
       enabled = settings.enabled;
       filters = settings.filters;
       triggers = snapshot-triggers name past append text;
-      hists = snapshot-hists name past append text;
+      hists = all-hists-calm name past request (declared_events past) (snapshot-keeps_hists name past append text);
+      tables = λ table. unasked name past request table (snapshot-keeps_hists name past append text) refl;
+      joined = tt;
+      fitting = fitting-calm name past request (snapshot-keeps_hists name past append text);
       overwrite = settings.overwrite;
       tracing = settings.tracing;
       sides = λ spared. families;
@@ -252,7 +254,10 @@ empties-effect g name past append text empties =
       enabled = settings.enabled;
       filters = settings.filters;
       triggers = snapshot-triggers name past append text;
-      hists = snapshot-hists name past append text;
+      hists = all-hists-calm name past request (declared_events past) (snapshot-keeps_hists name past append text);
+      tables = λ table. unasked name past request table (snapshot-keeps_hists name past append text) refl;
+      joined = tt;
+      fitting = fitting-calm name past request (snapshot-keeps_hists name past append text);
       overwrite = settings.overwrite;
       tracing = settings.tracing;
       sides = λ spared. families

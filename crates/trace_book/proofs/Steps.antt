@@ -1,7 +1,8 @@
 -- What one request more leaves of settings, and of an instance.
-use Rattle.std.proofs.Common.{◌≡◌, ℕ, suc, ◌+◌, Bool, true, false, ◌||◌, ◌&&◌, cond, List, [], ◌∷◌, ◌++◌, length, map, is_some, Option, Some, None, unwrap_or, Result, Ok, Err, refl, sym, ap, ◌∙◌, subst, arith, append-nil}
+use Rattle.std.proofs.Common.{◌≡◌, ℕ, suc, ◌+◌, ◌<◌, ◌==◌, Bool, true, false, ◌||◌, ◌&&◌, cond, if◌then◌else◌, List, [], ◌∷◌, ◌++◌, length, map, get_or, All, is_some, Option, Some, None, unwrap_or, Result, Ok, Err, refl, sym, ap, ◌∙◌, subst, arith, append-nil, eq-eqb, eqb-true}
 use Rattle.std.proofs.lemmas.Bool.{false≢true}
 use Rattle.std.proofs.lemmas.List.{map-append}
+use Rattle.std.proofs.lemmas.List.Elements.{All-nil, All-push}
 use Rattle.std.proofs.lemmas.List.Folds.{list_any-append}
 use Rattle.std.proofs.lemmas.Slice.Eq.{bytes_eq-Decides}
 use Rattle.std.specs.List.{list_any}
@@ -24,18 +25,25 @@ use Rattle.trace_history.specs.Settings.{declares, declared_events, event_named,
 use Rattle.trace_history.specs.Triggers as triggers
 use Rattle.trace_history.specs.Triggers.{sets_trigger, trigger_of}
 use Rattle.trace_history.proofs.Events.{named_in-fewer}
-use Rattle.trace_history.specs.HistTriggers.{HistTrigger, Written, hists_of}
-use Rattle.trace_history.proofs.EventHists.{hists_of-after, hists_of-made, own_after}
+use Rattle.trace_trigger.specs.declared.spec.Action.{Action}
+use Rattle.trace_history.specs.HistTriggers.{HistTrigger, Written, hist_triggers, hists_of}
+use Rattle.trace_history.proofs.EventHists.{hists_of-after, hists_of-made, own_after, tables-made_before}
+use Rattle.trace_history.proofs.Members.{contains-in, each-in}
+use Rattle.trace_history.proofs.Tables.{IsBefore}
 use Rattle.trace_history.proofs.OwnFiles.{own-none, own_written}
-use Rattle.trace_book.specs.KeptHists.{KeptHist, kept_as as kept_hist, kept_hists, kept_of}
+use Rattle.trace_book.specs.KeptHists.{KeptTable, TableStandsFor, asked_if, attached_as, is_used, kept_at, kept_hists, kept_table, uses_table}
+use Rattle.trace_book.specs.declared.tables.Table.{Table}
 use Rattle.trace_book.specs.declared.hists.AttachedHist.{AttachedHist}
-use Rattle.trace_book.specs.Changes.{IsApplied, IsEffect, flags_after, filters_after, hists_after, triggers_after, overwrite_after, tracing_after}
-use Rattle.trace_book.specs.Instances.{InstanceSeen, InstanceStandsFor, IsSpared, WereOffered, kept_as, kept_trigger, side_families}
+use Rattle.trace_book.specs.Changes.{IsApplied, IsAsked, IsEffect, IsJoined, asks, flags_after, filters_after, hists_after, table_after, triggers_after, overwrite_after, tracing_after}
+use Rattle.trace_book.specs.Instances.{InstanceSeen, InstanceStandsFor, IsSpared, TablesAreUsed, WereOffered, kept_as, kept_trigger, side_families}
 use Rattle.trace_book.specs.States.{with_event}
 use Rattle.trace_book.specs.declared.change.InstanceChange.{InstanceChange}
-use Rattle.trace_book.specs.declared.change.InstanceChange.TheVariants.{Keep}
+use Rattle.trace_book.specs.declared.change.InstanceChange.TheVariants.{Keep, Triggers}
+use Rattle.trace_book.specs.declared.change.TriggerChange.TheVariants.{AttachHist, MakeHist}
 use Rattle.trace_book.specs.declared.trigger.Trigger.{Trigger}
+use Rattle.trace_book.proofs.KeptLists.{AllOfEach, OfNew, after-all, kept-all, kept-one, used-all}
 use Rattle.trace_book.proofs.LiveSide.{offered_more}
+use Rattle.trace_book.proofs.TableStands.{none-asked, table-asked, table-joined, table-made}
 
 -- ---- events that were not declared
 
@@ -170,7 +178,7 @@ unwatched_after g past request reply name event given none is =
     by true made = hists_of-made name event past request made
     by false alive =
         hists_of-after name event past request alive
-        ∙ ap (λ (o : Option Written). own_after (length past) o (hists_of name event past))
+        ∙ ap (λ (o : Option Written). own_after (length past) (hist_triggers name past) o (hists_of name event past))
         (own-none name event past request (not_written g past request reply name event given none))
         ∙ is
 
@@ -189,6 +197,78 @@ spared-same g name past request nothing spared =
     let same : declared_events past ≡ declared_events (request ∷ past) = rw (nothing, append-nil) refl in
     subst (λ (events : List Definition). IsSpared g name events (request ∷ past)) same spared
 
+-- ---- the tables of an instance
+
+-- each table was made by a request that was done
+early-all : (name : Option (List ℕ)) (past : List Request) (hists : List (List AttachedHist)) → hists ≡ map (kept_hists name past) (declared_events past)
+    → AllOfEach (λ a. a.table < length past) hists
+early-all name past hists are =
+    subst (AllOfEach (λ a. a.table < length past)) (sym are)
+    (kept-all (λ a. a.table < length past) name past (declared_events past) (λ t there.
+    (each-in (IsBefore (length past)) t (hist_triggers name past) (tables-made_before name past) there).table))
+
+-- so a change only asks something of the table of a trigger that was there before
+old-changed : (name : Option (List ℕ)) (past : List Request) (change : InstanceChange) (number : ℕ) (found : Option KeptTable) → IsJoined name past change
+    → number < length past → table_after change number found ≡ option_map (asked_if (asks change number)) found
+old-changed name past (Triggers index append (MakeHist attached hist)) number found made early =
+    by (attached.table == number) refl
+  where
+    by : (same : Bool) → (attached.table == number) ≡ same
+        → (if same then Some (kept_table hist) else found) ≡ option_map (asked_if (if same then Some attached.spec.action else None)) found
+    by true is =
+        let new = made.table in
+        absurd (omega (arith, eqb-true attached.table number is, new, early))
+    by false is = sym (none-asked found)
+old-changed name past (Triggers index append change) number found joined early = refl
+old-changed name past change number found joined early = sym (none-asked found)
+
+-- a trigger that is attached has the table of another one, or a new one
+new-stands : (name : Option (List ℕ)) (past : List Request) (request : Request) (change : InstanceChange) (hists : List (List AttachedHist)) (old new : List Table)
+    → ((number : ℕ) → is_used number (hists_after change hists) ≡ true → kept_at number new ≡ table_after change number (kept_at number old))
+    → ((number : ℕ) → IsAsked name past request (asks change number) number) → IsJoined name past change
+    → hists ≡ map (kept_hists name past) (declared_events past) → AllOfEach (TableStandsFor name past old) hists
+    → OfNew (λ a. is_used a.table (hists_after change hists) ≡ true → TableStandsFor name (request ∷ past) new a) change
+new-stands name past request (Triggers index append (AttachHist a)) hists old new came asked joins are all = λ used.
+    let there = contains-in joins.t (hist_triggers name past) joins.there in
+    let own = kept-one (TableStandsFor name past old) name past hists are all joins.t there in
+    table-asked name past request old new a (asks (Triggers index append (AttachHist a)) a.table) (asked a.table) (came a.table used)
+    (table-joined name past old a joins.t joins.table joins.alike own)
+new-stands name past request (Triggers index append (MakeHist a hist)) hists old new came asked made are all = λ used.
+    let itself : (a.table == a.table) ≡ true = eq-eqb a.table a.table refl in
+    table-made name past request new a hist made
+    (subst (λ (told : Option Action). IsAsked name past request told a.table)
+    (ap (λ (same : Bool). (let told : Option Action = if same then Some a.spec.action else None in told)) itself) (asked a.table))
+    (came a.table used ∙ ap (λ (same : Bool). if same then Some (kept_table hist) else kept_at a.table old) itself)
+new-stands name past request (Triggers index append change) hists old new came asked joined are all = tt
+new-stands name past request change hists old new came asked joined are all = tt
+
+-- each of the triggers that a change leaves
+changed-stands : (name : Option (List ℕ)) (past : List Request) (request : Request) (change : InstanceChange) (hists : List (List AttachedHist)) (old new : List Table)
+    → ((number : ℕ) → is_used number (hists_after change hists) ≡ true → kept_at number new ≡ table_after change number (kept_at number old))
+    → ((number : ℕ) → IsAsked name past request (asks change number) number) → IsJoined name past change
+    → hists ≡ map (kept_hists name past) (declared_events past) → AllOfEach (TableStandsFor name past old) hists
+    → AllOfEach (TableStandsFor name (request ∷ past) new) (hists_after change hists)
+changed-stands name past request change hists old new came asked joined are all = λ k d inside j e within.
+    after-all P change hists before (new-stands name past request change hists old new came asked joined are all) k d inside j e within
+    (used-all (hists_after change hists) k d inside j e within)
+  where
+    P : AttachedHist → Type 0
+    P a = is_used a.table (hists_after change hists) ≡ true → TableStandsFor name (request ∷ past) new a
+
+    before : AllOfEach P hists
+    before k d inside j e within used =
+        let a = get_or (get_or hists k d) j e in
+        table-asked name past request old new a (asks change a.table) (asked a.table)
+        (came a.table used ∙ old-changed name past change a.table (kept_at a.table old) joined (early-all name past hists are k d inside j e within))
+        (all k d inside j e within)
+
+-- each table is that of some trigger still
+used-after : (change : InstanceChange) (old new : InstanceSeen) → IsApplied change old new → TablesAreUsed old → TablesAreUsed new
+used-after (Triggers index append change) old new applied used = λ number off. applied.unused number off
+used-after change old new applied used = λ number off. applied.unused number off ∙ used number (ap (is_used number) (sym applied.hists) ∙ off)
+
+-- ---- after a request
+
 -- after a request that declares nothing, where the change is its effect
 pub effect-stands : (g : Config) (name : Option (List ℕ)) (past : List Request) (request : Request) (change : InstanceChange) (old new : InstanceSeen)
     → declares request ≡ None → IsEffect g name past request change → InstanceStandsFor g name past old → IsApplied change old new
@@ -198,6 +278,11 @@ effect-stands g name past request change old new nothing effect stands applied =
   filters = rw (nothing, append-nil) (applied.filters ∙ ap (filters_after change) stands.filters ∙ sym effect.filters);
   triggers = rw (nothing, append-nil) (applied.triggers ∙ ap (triggers_after change) stands.triggers ∙ sym effect.triggers);
   hists = rw (nothing, append-nil) (applied.hists ∙ ap (hists_after change) stands.hists ∙ sym effect.hists);
+  tables = subst (AllOfEach (TableStandsFor name (request ∷ past) new.tables)) (sym applied.hists)
+      (changed-stands name past request change old.hists old.tables new.tables
+      (λ number used. applied.tables number (ap (is_used number) applied.hists ∙ used)) effect.tables effect.joined stands.hists stands.tables);
+  used = used-after change old new applied stands.used;
+  fitting = effect.fitting stands.fitting;
   overwrite = applied.overwrite ∙ ap (overwrite_after change) stands.overwrite ∙ sym effect.overwrite;
   tracing = applied.tracing ∙ ap (tracing_after change) stands.tracing ∙ sym effect.tracing;
   sides = subst (λ (f : SideFamilies). snapshot.StandsFor new.sides f) (sym (effect.sides stands.spared))
@@ -213,6 +298,8 @@ keeps i = record {
   filters = refl;
   triggers = refl;
   hists = refl;
+  tables = λ number used. refl;
+  unused = λ number off. refl;
   overwrite = refl;
   tracing = refl;
   sides = λ families stands. stands;
@@ -246,6 +333,10 @@ spared-more g name past events event none spared = record {
     without : list_any test (events ++ event ∷ []) ≡ list_any test events
     without = list_any-append test events (event ∷ []) ∙ ap (λ (b : Bool). list_any test events || b) last ∙ or-false (list_any test events)
 
+-- one more event without a hist trigger
+used-more : (number : ℕ) (hists : List (List AttachedHist)) → is_used number (hists ++ [] ∷ []) ≡ is_used number hists
+used-more number hists = list_any-append (uses_table number) hists ([] ∷ []) ∙ or-false (is_used number hists)
+
 -- one more event is declared
 pub declared-stands : (g : Config) (name : Option (List ℕ)) (past : List Request) (request : Request) (event : Definition) (i : InstanceSeen)
     → declares request ≡ Some event → IsEffect g name past request Keep → is_enabled name event.name (request ∷ past) ≡ false
@@ -262,10 +353,14 @@ declared-stands g name past request event i declared effect off none idle unwatc
       (ap (λ (kept : List (Option Trigger)). kept ++ None ∷ []) (stands.triggers ∙ sym effect.triggers)
       ∙ ap (λ (t : Option triggers.Trigger). map (kept_trigger name (request ∷ past)) (declared_events past) ++ option_map (kept_as (request ∷ past) event) t ∷ [])
       (sym idle));
-  hists = rw declared (map-append (λ (attached : List AttachedHist). map kept_of attached) i.hists ([] ∷ [])
-      ∙ ap (λ (kept : List (List KeptHist)). kept ++ [] ∷ []) (stands.hists ∙ sym effect.hists)
-      ∙ ap (λ (hists : List HistTrigger). map (kept_hists name (request ∷ past)) (declared_events past) ++ map (kept_hist name (request ∷ past)) hists ∷ [])
-      (sym unwatched) ∙ sym (map-append (kept_hists name (request ∷ past)) (declared_events past) (event ∷ [])));
+  hists = rw declared (ap (λ (hists : List (List AttachedHist)). hists ++ [] ∷ []) (stands.hists ∙ sym effect.hists)
+      ∙ ap (λ (hists : List HistTrigger). map (kept_hists name (request ∷ past)) (declared_events past) ++ map attached_as hists ∷ []) (sym unwatched)
+      ∙ sym (map-append (kept_hists name (request ∷ past)) (declared_events past) (event ∷ [])));
+  tables = All-push (λ (attached : List AttachedHist). All (TableStandsFor name (request ∷ past) i.tables) attached) i.hists []
+      (λ k d inside j e within. table-asked name past request i.tables i.tables _ None (effect.tables _) (sym (none-asked _))
+      (stands.tables k d inside j e within)) (All-nil (TableStandsFor name (request ∷ past) i.tables));
+  used = λ number unused. stands.used number (sym (used-more number i.hists) ∙ unused);
+  fitting = effect.fitting stands.fitting;
   overwrite = stands.overwrite ∙ sym effect.overwrite;
   tracing = stands.tracing ∙ sym effect.tracing;
   sides = subst (λ (f : SideFamilies). snapshot.StandsFor i.sides f) (sym (effect.sides stands.spared)) stands.sides;

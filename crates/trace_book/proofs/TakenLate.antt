@@ -1,5 +1,5 @@
 -- Memory that is taken late: for which trigger texts none is taken, and what a request is answered that takes none before.
-use Rattle.std.proofs.Common.{◌≡◌, ◌≢◌, ◌<◌, ◌≤◌, ℕ, Bool, true, false, codes, if◌then◌else◌, List, length, Option, Some, None, Result, Ok, Err, IfErr, refl}
+use Rattle.std.proofs.Common.{◌≡◌, ◌≢◌, ◌<◌, ◌≤◌, ℕ, Bool, true, false, codes, if◌then◌else◌, List, length, Option, Some, None, Result, Ok, Err, IfErr, refl, ap}
 use Rattle.std.specs.List.{list_all}
 use Rattle.trace_lex.specs.Blanks.{is_blank}
 use Rattle.trace_format.specs.Definitions.{Definition}
@@ -36,7 +36,7 @@ other-fault fault.BadSize other is = cc
 other-fault fault.Memory other is = other refl
 
 -- what is said of a snapshot trigger is nothing of a hist trigger
-snapshot-no_hist : (definition : Definition) (text : List ℕ) (spec : SpecSeen) → snapshot_said definition text ≡ Ok (said.Hist spec) → ⊥
+pub snapshot-no_hist : (definition : Definition) (text : List ℕ) (spec : SpecSeen) → snapshot_said definition text ≡ Ok (said.Hist spec) → ⊥
 unfolding snapshot_said
 snapshot-no_hist definition text spec e = by (after (codes "!") text) e
   where
@@ -66,6 +66,29 @@ hist-begins definition text spec e =
     blank false true is two also h = rw is refl
     blank false false is true also h = rw (is, also) refl
     blank false false is false also h = absurd (snapshot-no_hist definition text spec h)
+
+-- and what it says of it is what is read from it
+pub hist-spec : (definition : Definition) (text : List ℕ) (spec : SpecSeen) → said_of definition text ≡ Ok (said.Hist spec) → spec_of definition text ≡ Ok spec
+unfolding said_of
+hist-spec definition text spec e =
+    blank (list_all is_blank text) (begins (codes "hist:") text) (begins (codes "!hist:") text) e
+  where
+    reads : (read : Result SpecSeen TriggerFault) → (read >>= λ s. Ok (said.Hist s)) ≡ Ok (said.Hist spec) → read ≡ Ok spec
+    reads (Ok s) h = let same : s ≡ spec = cc in ap Ok same
+    reads (Err faulty) h = absurd (cc)
+
+    removes : (read : Result SpecSeen TriggerFault) → (read >>= λ s. Ok (said.RemoveHist s)) ≡ Ok (said.Hist spec) → ⊥
+    removes (Ok s) h = cc
+    removes (Err faulty) h = cc
+
+    blank : (nothing one two : Bool)
+        → (if nothing then Ok said.Nothing
+        else if one then (spec_of definition text >>= λ s. Ok (said.Hist s)) else if two then (spec_of definition text >>= λ s. Ok (said.RemoveHist s)) else snapshot_said definition text) ≡ Ok (said.Hist spec)
+        → spec_of definition text ≡ Ok spec
+    blank true one two h = absurd (cc)
+    blank false true two h = reads (spec_of definition text) h
+    blank false false true h = absurd (removes (spec_of definition text) h)
+    blank false false false h = absurd (snapshot-no_hist definition text spec h)
 
 -- ---- answers
 

@@ -2,7 +2,8 @@
 use Rattle.std.proofs.Common.{◌≡◌, ℕ, suc, ◌<◌, ◌==◌, Bool, true, false, if◌then◌else◌, unwrap_or, List, [], ◌∷◌, length, map, get_or, set, is_some, Option, Some, None, Result, Ok, Err, refl, sym, ap, ◌∙◌, subst, eq-eqb, eqb-true}
 use Rattle.std.specs.Option.{option_copied}
 use Rattle.std.proofs.lemmas.Bool.{false≢true}
-use Rattle.std.proofs.lemmas.List.{get_or-map, length-map, set-get_or}
+use Rattle.std.proofs.lemmas.List.{get_or-map, set-get_or}
+use Rattle.std.proofs.lemmas.Slice.Eq.{bytes_eq-Decides}
 use Rattle.page_ring.specs.Events.{Event}
 use Rattle.trace_format.specs.Catalogs.{AreEvents}
 use Rattle.trace_format.specs.Definitions.{Definition}
@@ -15,29 +16,32 @@ use Rattle.trace_command.specs.declared.command.Reply.{Reply}
 use Rattle.trace_command.specs.declared.file_name.EventFile.TheVariants as per_event
 use Rattle.trace_command.specs.declared.refusal.Refusal.{Refusal}
 use Rattle.trace_snapshot.specs.Sides.{SideFamilies}
+use Rattle.trace_history.specs.Declarations.{IsIndexOf}
 use Rattle.trace_history.specs.History.{named_trigger_answer, trigger_answer}
+use Rattle.trace_history.specs.HistTriggers.{Written, hist_triggers, hists_of}
 use Rattle.trace_history.specs.Rings.{other_rings, rings, rings_after, rings_after_write}
 use Rattle.trace_history.specs.Settings.{NumberedEvent, declared_events, event_named, set_by}
 use Rattle.trace_history.specs.Snapshots.{has_spare, sets_spare, spare_armed}
 use Rattle.trace_history.specs.Triggers.{trigger_of}
+use Rattle.trace_history.proofs.EventHists.{hists_of-after, own_after}
 use Rattle.trace_history.proofs.EventLists.{map-set, named_at}
+use Rattle.trace_history.proofs.OwnFiles.{own-none, own_written}
 use Rattle.trace_history.proofs.Sides.{AreStaying, rings-stay}
 use Rattle.trace_book.specs.private.Attaching.{AreKept, IsTriggerChange, IsTriggerEffect, arms, write_of}
-use Rattle.trace_book.specs.Changes.{IsEffect, IsPossible, hists_changed, sides_changed, trigger_changed, triggers_after}
+use Rattle.trace_book.specs.Changes.{IsAsked, IsEffect, IsPossible, asks_triggers, hists_changed, sides_changed, trigger_changed, triggers_after}
 use Rattle.trace_book.specs.private.Commands.{IsWriteChange}
 use Rattle.trace_book.specs.private.Files.{name_at}
-use Rattle.trace_book.specs.Instances.{InstanceSeen, InstanceStandsFor, IsSpared, kept_as, kept_trigger, side_families}
-use Rattle.trace_book.specs.KeptHists.{KeptHist, kept_hists, kept_of}
+use Rattle.trace_book.specs.Instances.{InstanceSeen, InstanceStandsFor, IsSpared, TablesFit, kept_as, kept_trigger, side_families}
+use Rattle.trace_book.specs.KeptHists.{attached_as, kept_hists}
 use Rattle.trace_book.specs.declared.attach.EventTriggers.{EventTriggers}
 use Rattle.trace_book.specs.declared.change.InstanceChange.TheVariants.{Triggers}
 use Rattle.trace_book.specs.declared.change.TriggerChange.{TriggerChange}
-use Rattle.trace_book.specs.declared.change.TriggerChange.TheVariants.{Keep, Attach, Detach, AttachHist, DetachHist, AskHist}
+use Rattle.trace_book.specs.declared.change.TriggerChange.TheVariants.{Keep, Attach, Detach, AttachHist, MakeHist, DetachHist, AskTable}
 use Rattle.trace_book.specs.declared.hists.AttachedHist.{AttachedHist}
 use Rattle.trace_book.specs.declared.trigger.Trigger.{Trigger}
 use Rattle.trace_book.specs.declared.write.WrittenText.{WrittenText}
 use Rattle.trace_book.proofs.Calm.{KeepsTrigger, kept-stays, no_event, same_families, spared-stays, trigger-stays}
 use Rattle.trace_book.proofs.Effects.{same_instance}
-use Rattle.trace_book.proofs.HistSteps.{KeepsHists, kept-hists-calm}
 use Rattle.trace_book.proofs.Resolving.{name_at-is}
 use Rattle.trace_book.proofs.Snapshotting.{KeepsSettings, same-at, some-mapped, spare-or-new, spared-new, trigger-keeps}
 use Rattle.trace_book.proofs.Usable.{usable-stands}
@@ -78,10 +82,15 @@ others-stay name past index append text distinct inside j within other =
 -- nor are its hist triggers
 others-keep : (name : Option (List ℕ)) (past : List Request) (index : ℕ) (append : Bool) (text : List ℕ) → AreEvents [] (declared_events past)
     → index < length (declared_events past) → (j : ℕ) → j < length (declared_events past) → (j ≡ index → ⊥)
-    → KeepsHists name (trigger_request name past index append text) (event_at past j)
+    → kept_hists name (trigger_request name past index append text ∷ past) (event_at past j) ≡ kept_hists name past (event_at past j)
 others-keep name past index append text distinct inside j within other =
+    let request : Request = trigger_request name past index append text in
+    let event : Definition = event_at past j in
     let differ = other-name (declared_events past) j index no_event distinct within inside other in
-    record { alive = refl; unwritten = rw (same_instance name, differ) refl }
+    let unwritten : own_written name event request ≡ None = rw (same_instance name, differ) refl in
+    ap (map attached_as)
+    (hists_of-after name event past request refl
+    ∙ ap (λ (o : Option Written). own_after (length past) (hist_triggers name past) o (hists_of name event past)) (own-none name event past request unwritten))
 
 trigger-stay : (append : Bool) (event : List ℕ) (family : List (List Event)) → rings_after_write append (Some (paths.OfEvent event per_event.Trigger)) family ≡ family
 trigger-stay true event family = refl
@@ -100,8 +109,9 @@ set-changed index append Keep olds old is = ap (set olds index) (sym is) ∙ set
 set-changed index append (Attach trigger) olds old is = refl
 set-changed index append Detach olds old is = refl
 set-changed index append (AttachHist attached) olds old is = ap (set olds index) (sym is) ∙ set-get_or olds index None
+set-changed index append (MakeHist attached hist) olds old is = ap (set olds index) (sym is) ∙ set-get_or olds index None
 set-changed index append (DetachHist at) olds old is = ap (set olds index) (sym is) ∙ set-get_or olds index None
-set-changed index append (AskHist at action) olds old is = ap (set olds index) (sym is) ∙ set-get_or olds index None
+set-changed index append (AskTable table asked) olds old is = ap (set olds index) (sym is) ∙ set-get_or olds index None
 
 -- a trigger for snapshots that is there after a change that attaches none was there before it
 some-before : (change : TriggerChange) (old : Option Trigger) → arms change ≡ None → is_some (trigger_changed change old) ≡ true → is_some old ≡ true
@@ -109,8 +119,9 @@ some-before Keep old none some = some
 some-before (Attach trigger) old none some = absurd (cc)
 some-before Detach old none some = absurd (cc)
 some-before (AttachHist attached) old none some = some
+some-before (MakeHist attached hist) old none some = some
 some-before (DetachHist at) old none some = some
-some-before (AskHist at action) old none some = some
+some-before (AskTable table asked) old none some = some
 
 pub trigger-effect : (g : Config) (name : Option (List ℕ)) (past : List Request) (index : ℕ) (written : WrittenText) (change : TriggerChange)
     → AreEvents [] (declared_events past) → index < length (declared_events past)
@@ -126,9 +137,12 @@ trigger-effect g name past index written change distinct inside is = record {
       (get_or-map (kept_trigger name past) (declared_events past) index no_event None inside);
   hists = map-set (kept_hists name past) (kept_hists name (request ∷ past)) (hists_changed change (if append then kept_hists name past here else []))
       (declared_events past) index no_event inside hists
-      (λ j within other. kept-hists-calm name past request (event_at past j) (others-keep name past index append text distinct inside j within other) refl)
-      ∙ ap (λ (old : List KeptHist). set (map (kept_hists name past) (declared_events past)) index (hists_changed change (if append then old else [])))
+      (others-keep name past index append text distinct inside)
+      ∙ ap (λ (old : List AttachedHist). set (map (kept_hists name past) (declared_events past)) index (hists_changed change (if append then old else [])))
       (sym (get_or-map (kept_hists name past) (declared_events past) index no_event [] inside));
+  tables = λ number. subst (λ (r : Request). IsAsked name past r (asks_triggers change number) number) same_request (is.tables number);
+  joined = is.joined;
+  fitting = λ fit. subst (λ (r : Request). TablesFit name (r ∷ past)) same_request (is.fitting fit);
   overwrite = settings.overwrite;
   tracing = settings.tracing;
   sides = sides change spare;
@@ -196,8 +210,9 @@ trigger-effect g name past index written change distinct inside is = record {
         ∙ ap (λ (l : List (List Event)). (let f : SideFamilies = record { live = rings g name past; spare = Some l } in f)) (sym (spare-or-new g name past spared))
     sides Detach sets spared = same_sides sets
     sides (AttachHist attached) sets spared = same_sides sets
+    sides (MakeHist attached hist) sets spared = same_sides sets
     sides (DetachHist at) sets spared = same_sides sets
-    sides (AskHist at action) sets spared = same_sides sets
+    sides (AskTable table asked) sets spared = same_sides sets
 
     -- this event has a trigger after it only where it had one
     was_there : (c : TriggerChange) → arms c ≡ None → kept_trigger name (request ∷ past) here ≡ trigger_changed c (kept_trigger name past here)
@@ -230,8 +245,9 @@ trigger-effect g name past index written change distinct inside is = record {
     spared (Attach trigger) sets snapshot = λ before. spared-new g name past request (there sets)
     spared Detach sets snapshot = unarmed Detach refl sets snapshot
     spared (AttachHist attached) sets snapshot = unarmed (AttachHist attached) refl sets snapshot
+    spared (MakeHist attached hist) sets snapshot = unarmed (MakeHist attached hist) refl sets snapshot
     spared (DetachHist at) sets snapshot = unarmed (DetachHist at) refl sets snapshot
-    spared (AskHist at action) sets snapshot = unarmed (AskHist at action) refl sets snapshot
+    spared (AskTable table asked) sets snapshot = unarmed (AskTable table asked) refl sets snapshot
 
 -- ---- what it answers
 
@@ -248,22 +264,21 @@ answer-is name past index append text distinct inside = ap (named_trigger_answer
 
 -- the hist triggers at an index are what is kept of the event's
 kept-there : (g : Config) (name : Option (List ℕ)) (past : List Request) (i : InstanceSeen) (index : ℕ) → InstanceStandsFor g name past i
-    → index < length (declared_events past) → index < length i.hists
-    → map kept_of (get_or i.hists index []) ≡ kept_hists name past (event_at past index)
-kept-there g name past i index stands inside within =
-    sym (get_or-map (λ (attached : List AttachedHist). map kept_of attached) i.hists index [] [] within)
-    ∙ ap (λ (hs : List (List KeptHist)). get_or hs index []) stands.hists
+    → index < length (declared_events past)
+    → get_or i.hists index [] ≡ kept_hists name past (event_at past index)
+kept-there g name past i index stands inside =
+    ap (λ (hs : List (List AttachedHist)). get_or hs index []) stands.hists
     ∙ get_or-map (kept_hists name past) (declared_events past) index no_event [] inside
 
 -- so one of those is one of these
 possible-stands : (g : Config) (name : Option (List ℕ)) (past : List Request) (i : InstanceSeen) (index : ℕ) (append : Bool) (change : TriggerChange)
-    → InstanceStandsFor g name past i → index < length (declared_events past) → index < length i.hists
+    → InstanceStandsFor g name past i → index < length (declared_events past)
     → IsPossible change (length (if append then kept_hists name past (event_at past index) else []))
     → IsPossible change (length (if append then get_or i.hists index [] else []))
-possible-stands g name past i index append change stands inside within one = subst (IsPossible change) (many append) one
+possible-stands g name past i index append change stands inside one = subst (IsPossible change) (many append) one
   where
     many : (a : Bool) → length (if a then kept_hists name past (event_at past index) else []) ≡ length (if a then get_or i.hists index [] else [])
-    many true = ap length (sym (kept-there g name past i index stands inside within)) ∙ length-map (get_or i.hists index []) kept_of
+    many true = ap length (sym (kept-there g name past i index stands inside))
     many false = refl
 
 pub trigger-written : (g : Config) (name : Option (List ℕ)) (past : List Request) (index : ℕ) (event : Definition) (written : WrittenText) (change : TriggerChange)
@@ -279,7 +294,7 @@ trigger-written g name past index event written change distinct inside at is =
       λ i stands. let usable = usable-stands g name past i stands in (
         rw usable.triggers inside,
         rw usable.hists inside,
-        possible-stands g name past i index written.append change stands inside (rw usable.hists inside) here.1.possible,
+        possible-stands g name past i index written.append change stands inside here.1.possible,
       ),
     )
 
@@ -295,11 +310,11 @@ trigger-refused g name past index event written refused distinct inside at is =
 
 -- what is kept at an index agrees with the requests
 pub kept-at : (g : Config) (name : Option (List ℕ)) (past : List Request) (i : InstanceSeen) (index : ℕ) (event : Definition) (triggers : EventTriggers)
-    → InstanceStandsFor g name past i → AreEvents [] (declared_events past) → index < length (declared_events past) → index < length i.hists
+    → InstanceStandsFor g name past i → AreEvents [] (declared_events past) → index < length (declared_events past)
     → event ≡ get_or (declared_events past) index event
     → option_copied triggers.snapshot ≡ get_or i.triggers index None → triggers.hists.now ≡ get_or i.hists index []
-    → AreKept name past event triggers
-kept-at g name past i index event triggers stands distinct inside within at snapshot hists = record {
+    → triggers.all.now ≡ i.hists → triggers.event ≡ index → AreKept name past event triggers
+kept-at g name past i index event triggers stands distinct inside at snapshot hists all place = record {
   id = suc index;
   named =
       let here : event ≡ event_at past index = at-index past index event inside at in
@@ -310,7 +325,10 @@ kept-at g name past i index event triggers stands distinct inside within at snap
   snapshot = snapshot ∙ ap (λ (ts : List (Option Trigger)). get_or ts index None) stands.triggers
       ∙ get_or-map (kept_trigger name past) (declared_events past) index no_event None inside
       ∙ ap (kept_trigger name past) (sym (at-index past index event inside at));
-  hists = ap (λ (hs : List AttachedHist). map kept_of hs) hists
-      ∙ kept-there g name past i index stands inside within
-      ∙ ap (kept_hists name past) (sym (at-index past index event inside at));
+  hists = hists ∙ kept-there g name past i index stands inside ∙ ap (kept_hists name past) (sym (at-index past index event inside at));
+  all = all ∙ stands.hists;
+  index = subst (λ (k : ℕ). IsIndexOf (declared_events past) event.name k event) (sym place)
+      (record { inside = inside; there = at; named = (bytes_eq-Decides event.name event.name).1 refl });
+  distinct = distinct;
+  fitting = stands.fitting;
 }

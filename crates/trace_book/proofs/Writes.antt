@@ -45,7 +45,7 @@ clears-trace g instance past text true = (
 )
 clears-trace g instance past text false = (
   refl,
-  own_write g instance past (paths.OfInstance top.Trace) false text Clear tt (record { triggers = λ old. refl; hists = λ old. refl; sides = λ cpus pages page_bytes f. refl })
+  own_write g instance past (paths.OfInstance top.Trace) false text Clear tt (record { triggers = λ old. refl; hists = λ old. refl; asks = λ table. refl; joined = λ name past. tt; sides = λ cpus pages page_bytes f. refl })
       (record { enabled = λ old. refl; filters = λ old. refl; overwrite = λ old. refl; tracing = λ old. refl; rings = λ old. refl }),
   λ i stands. tt,
 )
@@ -60,7 +60,7 @@ clears-cpu g instance past text cpu there true = (
 )
 clears-cpu g instance past text cpu there false = (
   refl,
-  own_write g instance past (paths.OfCpu cpu per_cpu.Trace) false text (ClearCpu cpu) tt (record { triggers = λ old. refl; hists = λ old. refl; sides = λ cpus pages page_bytes f. refl })
+  own_write g instance past (paths.OfCpu cpu per_cpu.Trace) false text (ClearCpu cpu) tt (record { triggers = λ old. refl; hists = λ old. refl; asks = λ table. refl; joined = λ name past. tt; sides = λ cpus pages page_bytes f. refl })
       (record { enabled = λ old. refl; filters = λ old. refl; overwrite = λ old. refl; tracing = λ old. refl; rings = λ old. refl }),
   λ i stands. rw stands.shaped.live.cpus there,
 )
@@ -103,7 +103,7 @@ unfolding switch_answer
 sets-overwrite g instance past append text flag needed =
     let is = needed-some (written_flag text) flag needed in (
       rw is refl,
-      own_write g instance past (paths.OfInstance top.Overwrite) append text (SetOverwrite flag) tt (record { triggers = λ old. refl; hists = λ old. refl; sides = λ cpus pages page_bytes f. refl })
+      own_write g instance past (paths.OfInstance top.Overwrite) append text (SetOverwrite flag) tt (record { triggers = λ old. refl; hists = λ old. refl; asks = λ table. refl; joined = λ name past. tt; sides = λ cpus pages page_bytes f. refl })
           (record { enabled = λ old. refl; filters = λ old. refl; overwrite = λ old. rw is refl; tracing = λ old. refl; rings = λ old. same-rings append (paths.OfInstance top.Overwrite) old refl }),
       λ i stands. tt,
     )
@@ -114,7 +114,7 @@ unfolding option_answer
 sets-option g instance past append text flag needed =
     let is = needed-some (written_option text) flag needed in (
       rw is refl,
-      own_write g instance past (paths.OfInstance top.TraceOptions) append text (SetOverwrite flag) tt (record { triggers = λ old. refl; hists = λ old. refl; sides = λ cpus pages page_bytes f. refl })
+      own_write g instance past (paths.OfInstance top.TraceOptions) append text (SetOverwrite flag) tt (record { triggers = λ old. refl; hists = λ old. refl; asks = λ table. refl; joined = λ name past. tt; sides = λ cpus pages page_bytes f. refl })
           (record { enabled = λ old. refl; filters = λ old. refl; overwrite = λ old. rw is refl; tracing = λ old. refl; rings = λ old. same-rings append (paths.OfInstance top.TraceOptions) old refl }),
       λ i stands. tt,
     )
@@ -125,7 +125,7 @@ unfolding tracing_answer
 sets-tracing g instance past append text flag needed =
     let is = needed-some (written_tracing text) flag needed in (
       rw is refl,
-      own_write g instance past (paths.OfInstance top.TracingOn) append text (SetTracing flag) tt (record { triggers = λ old. refl; hists = λ old. refl; sides = λ cpus pages page_bytes f. refl })
+      own_write g instance past (paths.OfInstance top.TracingOn) append text (SetTracing flag) tt (record { triggers = λ old. refl; hists = λ old. refl; asks = λ table. refl; joined = λ name past. tt; sides = λ cpus pages page_bytes f. refl })
           (record { enabled = λ old. refl; filters = λ old. refl; overwrite = λ old. refl; tracing = λ old. rw is refl; rings = λ old. same-rings append (paths.OfInstance top.TracingOn) old refl }),
       λ i stands. tt,
     )
@@ -159,7 +159,7 @@ switches-all g instance past append text flag distinct needed =
     (λ j inside. rw (named_at events j no_event distinct inside, is) refl)
     ∙ ap (λ (n : ℕ). replicate n flag) (sym (length-map events (λ (event : Definition). old event.name))) in (
       rw is refl,
-      own_write g instance past (paths.OfInstance top.EventsEnable) append text (SwitchAll flag) tt (record { triggers = λ old. refl; hists = λ old. refl; sides = λ cpus pages page_bytes f. refl })
+      own_write g instance past (paths.OfInstance top.EventsEnable) append text (SwitchAll flag) tt (record { triggers = λ old. refl; hists = λ old. refl; asks = λ table. refl; joined = λ name past. tt; sides = λ cpus pages page_bytes f. refl })
           (record { enabled = enabled; filters = λ old. refl; overwrite = λ old. refl; tracing = λ old. refl; rings = λ old. same-rings append (paths.OfInstance top.EventsEnable) old refl }),
       λ i stands. tt,
     )
@@ -170,7 +170,7 @@ pub switches-one : (g : Config) (instance : Option (List ℕ)) (past : List Requ
 unfolding switch_answer
 switches-one g instance past append text index flag distinct inside needed = (
   rw is refl,
-  own_write g instance past (paths.OfEvent name per_event.Enable) append text (Switch index flag) tt (record { triggers = λ old. refl; hists = λ old. refl; sides = λ cpus pages page_bytes f. refl })
+  own_write g instance past (paths.OfEvent name per_event.Enable) append text (Switch index flag) tt (record { triggers = λ old. refl; hists = λ old. refl; asks = λ table. refl; joined = λ name past. tt; sides = λ cpus pages page_bytes f. refl })
       (record {
         enabled = λ old. map-set (λ (event : Definition). old event.name) (switched old) flag events index no_event inside (here old) (others old);
         filters = λ old. refl;
@@ -209,7 +209,7 @@ pub sets-one : (g : Config) (instance : Option (List ℕ)) (past : List Request)
     → IsWriteChange g instance past append text (paths.OfEvent (name_at (declared_events past) index) per_event.Filter) (Ok (SetFilter index kept))
 sets-one g instance past append text index event kept distinct inside at written = (
   done,
-  own_write g instance past (paths.OfEvent name per_event.Filter) append text (SetFilter index kept) tt (record { triggers = λ old. refl; hists = λ old. refl; sides = λ cpus pages page_bytes f. refl })
+  own_write g instance past (paths.OfEvent name per_event.Filter) append text (SetFilter index kept) tt (record { triggers = λ old. refl; hists = λ old. refl; asks = λ table. refl; joined = λ name past. tt; sides = λ cpus pages page_bytes f. refl })
       (record {
         enabled = λ old. refl;
         filters = λ old. map-set (λ (e : Definition). option_map (parsed_of e) (old e.name)) (filtered old) kept events index event inside (here old) (others old);
@@ -280,7 +280,7 @@ clears-all g instance past append text distinct inside off =
     none events no_event (λ j within. rw (named_at events j no_event distinct within, off) refl)
     ∙ ap (λ (n : ℕ). replicate n none) (sym (length-map events (λ (event : Definition). option_map (parsed_of event) (old event.name)))) in (
       cleared-all text events inside off,
-      own_write g instance past (paths.OfInstance top.EventsFilter) append text ClearFilters tt (record { triggers = λ old. refl; hists = λ old. refl; sides = λ cpus pages page_bytes f. refl })
+      own_write g instance past (paths.OfInstance top.EventsFilter) append text ClearFilters tt (record { triggers = λ old. refl; hists = λ old. refl; asks = λ table. refl; joined = λ name past. tt; sides = λ cpus pages page_bytes f. refl })
           (record { enabled = λ old. refl; filters = filters; overwrite = λ old. refl; tracing = λ old. refl; rings = λ old. same-rings append (paths.OfInstance top.EventsFilter) old refl }),
       λ i stands. tt,
     )
@@ -290,7 +290,7 @@ pub sets-all : (g : Config) (instance : Option (List ℕ)) (past : List Request)
     → IsWriteChange g instance past append text (paths.OfInstance top.EventsFilter) (Ok (SetFilters changes))
 sets-all g instance past append text changes distinct on are done = (
   done,
-  own_write g instance past (paths.OfInstance top.EventsFilter) append text (SetFilters changes) tt (record { triggers = λ old. refl; hists = λ old. refl; sides = λ cpus pages page_bytes f. refl })
+  own_write g instance past (paths.OfInstance top.EventsFilter) append text (SetFilters changes) tt (record { triggers = λ old. refl; hists = λ old. refl; asks = λ table. refl; joined = λ name past. tt; sides = λ cpus pages page_bytes f. refl })
       (record {
         enabled = λ old. refl;
         filters = filters;

@@ -1,6 +1,6 @@
 -- What a request that is done changes: of one instance, and of the whole.
-use Rattle.std.specs.Prelude.{◌≡◌, ℕ, ◌<◌, min, slice_index_or, slice_set, replicate, Bool, true, false, List, [], ◌∷◌, ◌++◌, length, map, Option, Some, None, if◌then◌else◌, ⊤}
-use Rattle.std.specs.List.{remove}
+use Rattle.std.specs.Prelude.{◌≡◌, ℕ, ◌<◌, min, slice_index_or, slice_set, replicate, Bool, true, false, List, [], ◌∷◌, ◌++◌, length, map, Option, Some, None, option_map, if◌then◌else◌, ◌==◌, ⊤}
+use Rattle.std.specs.List.{Contains, remove}
 use Rattle.page_ring.specs.Events.{Event}
 use Rattle.trace_buffer.specs.Buffers as buffers
 use Rattle.trace_buffer.specs.Families.{with_cleared, all_cleared, cpu_readings, kept_count}
@@ -9,16 +9,21 @@ use Rattle.trace_filter.specs.Filters.{Parsed, parsed_of}
 use Rattle.trace_format.specs.Definitions.{Definition}
 use Rattle.trace_command.specs.Requests.{Request}
 use Rattle.trace_command.specs.declared.command.Config.{Config}
+use Rattle.trace_trigger.specs.FittingLaws.{CountsAlike}
+use Rattle.trace_trigger.specs.declared.spec.Action.{Action}
+use Rattle.trace_hist.specs.Hists.{Seen, StandsFor}
+use Rattle.trace_history.specs.HistTriggers.{HistTrigger, empties, hist_triggers, hits_of, is_pause, is_paused, paused_after}
 use Rattle.trace_snapshot.specs.Sides as snapshot
 use Rattle.trace_snapshot.specs.Sides.{SideFamilies, exchanged, spare_cleared, with_spare, without_spare}
 use Rattle.trace_history.specs.Settings.{can_take, declared_events, is_enabled, is_tracing, kept_filter, overwrites}
-use Rattle.trace_book.specs.Instances.{InstanceSeen, IsShaped, IsSpared, WereOffered, hists_kept, kept_trigger, side_families}
-use Rattle.trace_book.specs.KeptHists.{KeptHist, asked_at, kept_hists, kept_of}
+use Rattle.trace_book.specs.Instances.{InstanceSeen, IsShaped, IsSpared, TablesFit, WereOffered, kept_trigger, side_families}
+use Rattle.trace_book.specs.KeptHists.{KeptTable, asked_if, is_used, kept_at, kept_hists, kept_table}
+use Rattle.trace_book.specs.declared.hists.AttachedHist.{AttachedHist}
 use Rattle.trace_book.specs.declared.trigger.Trigger.{Trigger}
 use Rattle.trace_book.specs.declared.change.InstanceChange.{InstanceChange}
 use Rattle.trace_book.specs.declared.change.InstanceChange.TheVariants.{Switch, SwitchAll, SetFilter, SetFilters, ClearFilters, Triggers, SetOverwrite, SetTracing, Clear, ClearCpu, Take, TakeCpu, TakeSnapshot, FreeSpare, ClearSpare}
 use Rattle.trace_book.specs.declared.change.TriggerChange.{TriggerChange}
-use Rattle.trace_book.specs.declared.change.TriggerChange.TheVariants.{Attach, Detach, AttachHist, DetachHist, AskHist}
+use Rattle.trace_book.specs.declared.change.TriggerChange.TheVariants.{Attach, Detach, AttachHist, MakeHist, DetachHist, AskTable}
 use Rattle.trace_book.specs.declared.change.FilterChange.{FilterChange}
 use Rattle.trace_book.specs.declared.change.FilterChange.TheVariants as filter
 
@@ -66,17 +71,42 @@ triggers_after (Triggers index append Detach) triggers = slice_set triggers inde
 triggers_after change triggers = triggers
 
 -- the hist triggers of an event after a change, of those that `>` or `>>` left
-abbrev pub hists_changed : TriggerChange → List KeptHist → List KeptHist
-hists_changed (AttachHist attached) hists = hists ++ kept_of attached ∷ []
+abbrev pub hists_changed : TriggerChange → List AttachedHist → List AttachedHist
+hists_changed (AttachHist attached) hists = hists ++ attached ∷ []
+hists_changed (MakeHist attached hist) hists = hists ++ attached ∷ []
 hists_changed (DetachHist index) hists = remove hists index
-hists_changed (AskHist index action) hists = asked_at index action hists
 hists_changed change hists = hists
 
 -- those of each event
-abbrev pub hists_after : InstanceChange → List (List KeptHist) → List (List KeptHist)
+abbrev pub hists_after : InstanceChange → List (List AttachedHist) → List (List AttachedHist)
 hists_after (Triggers index append change) hists =
     slice_set hists index (hists_changed change (if append then slice_index_or hists index [] else []))
 hists_after change hists = hists
+
+-- what is asked of the table of a number
+abbrev pub asks_triggers : TriggerChange → ℕ → Option Action
+asks_triggers (AttachHist attached) number = if attached.table == number then Some attached.spec.action else None
+asks_triggers (MakeHist attached hist) number = if attached.table == number then Some attached.spec.action else None
+asks_triggers (AskTable table action) number = if table == number then Some action else None
+asks_triggers change number = None
+
+abbrev pub asks : InstanceChange → ℕ → Option Action
+asks (Triggers index append change) number = asks_triggers change number
+asks change number = None
+
+-- the table of a number after a change: one that is made, or the one before, of which something may be asked
+abbrev pub table_changed : TriggerChange → ℕ → Option KeptTable → Option KeptTable
+table_changed (MakeHist attached hist) number found = if attached.table == number then Some (kept_table hist) else found
+table_changed change number found = option_map (asked_if (asks_triggers change number)) found
+
+abbrev pub table_after : InstanceChange → ℕ → Option KeptTable → Option KeptTable
+table_after (Triggers index append change) number found = table_changed change number found
+table_after change number found = found
+
+-- the same of a number in whose table no trigger counts after it: a change of triggers lets that table go
+abbrev pub unused_after : InstanceChange → Option KeptTable → Option KeptTable
+unused_after (Triggers index append change) found = None
+unused_after change found = found
 
 abbrev pub overwrite_after : InstanceChange → Bool → Bool
 overwrite_after (SetOverwrite flag) overwrite = flag
@@ -105,8 +135,8 @@ sides_changed cpus pages page_bytes change f = record { live = rings_changed pag
 -- a change of an event's triggers can be made where so many hist triggers are left: the one that it names is one of them, or there is room for one more
 abbrev pub IsPossible : TriggerChange → ℕ → Type 0
 IsPossible (AttachHist attached) many = many < 4
+IsPossible (MakeHist attached hist) many = many < 4
 IsPossible (DetachHist index) many = index < many
-IsPossible (AskHist index action) many = index < many
 IsPossible change many = ⊤
 
 -- a change can be made: what it names is there
@@ -125,7 +155,9 @@ pub record IsApplied (change : InstanceChange) (old new : InstanceSeen) : Type 0
   pub enabled : new.enabled ≡ flags_after change old.enabled
   pub filters : new.filters ≡ filters_after change old.filters
   pub triggers : new.triggers ≡ triggers_after change old.triggers
-  pub hists : hists_kept new.hists ≡ hists_after change (hists_kept old.hists)
+  pub hists : new.hists ≡ hists_after change old.hists
+  pub tables : (number : ℕ) → is_used number new.hists ≡ true → kept_at number new.tables ≡ table_after change number (kept_at number old.tables)
+  pub unused : (number : ℕ) → is_used number new.hists ≡ false → kept_at number new.tables ≡ unused_after change (kept_at number old.tables)
   pub overwrite : new.overwrite ≡ overwrite_after change old.overwrite
   pub tracing : new.tracing ≡ tracing_after change old.tracing
   pub sides : (families : SideFamilies) → snapshot.StandsFor old.sides families
@@ -135,6 +167,35 @@ pub record IsApplied (change : InstanceChange) (old new : InstanceSeen) : Type 0
 
 -- ---- when a change is what a request says of an instance
 
+-- a request asks this of the table of a number, and nothing is counted there
+pub record IsAsked (name : Option (List ℕ)) (past : List Request) (request : Request) (asked : Option Action) (number : ℕ) : Type 0 where
+  pub paused : is_paused name number (request ∷ past) ≡ paused_after asked (is_paused name number past)
+  pub hits : hits_of name number (request ∷ past) ≡ (if empties asked then [] else hits_of name number past)
+
+-- a trigger of the instance counts in the table of another one, and counts alike
+pub record Joins (name : Option (List ℕ)) (past : List Request) (attached : AttachedHist) : Type 0 where
+  pub t : HistTrigger
+  pub there : Contains (hist_triggers name past) t
+  pub table : t.table ≡ attached.table
+  pub alike : CountsAlike attached.spec t.spec
+
+-- a table is made with a trigger: it is empty, and paused if that asks for it
+pub record IsMadeFor (past : List Request) (attached : AttachedHist) (hist : Seen) : Type 0 where
+  pub table : attached.table ≡ length past
+  pub spec : hist.spec ≡ attached.spec
+  pub empty : StandsFor hist []
+  pub paused : hist.paused ≡ is_pause attached.spec.action
+
+-- a hist trigger that is attached counts in a table that is there, or in one that is made with it
+abbrev pub IsJoinedBy : Option (List ℕ) → List Request → TriggerChange → Type 0
+IsJoinedBy name past (AttachHist attached) = Joins name past attached
+IsJoinedBy name past (MakeHist attached hist) = IsMadeFor past attached hist
+IsJoinedBy name past change = ⊤
+
+abbrev pub IsJoined : Option (List ℕ) → List Request → InstanceChange → Type 0
+IsJoined name past (Triggers index append change) = IsJoinedBy name past change
+IsJoined name past change = ⊤
+
 -- a change says of an instance what the definitions say of a request after this past
 pub record IsEffect (g : Config) (name : Option (List ℕ)) (past : List Request) (request : Request) (change : InstanceChange) : Type 0 where
   pub enabled : map (λ event. is_enabled name event.name (request ∷ past)) (declared_events past)
@@ -142,6 +203,9 @@ pub record IsEffect (g : Config) (name : Option (List ℕ)) (past : List Request
   pub filters : map (kept_filter name (request ∷ past)) (declared_events past) ≡ filters_after change (map (kept_filter name past) (declared_events past))
   pub triggers : map (kept_trigger name (request ∷ past)) (declared_events past) ≡ triggers_after change (map (kept_trigger name past) (declared_events past))
   pub hists : map (kept_hists name (request ∷ past)) (declared_events past) ≡ hists_after change (map (kept_hists name past) (declared_events past))
+  pub tables : (number : ℕ) → IsAsked name past request (asks change number) number
+  pub joined : IsJoined name past change
+  pub fitting : TablesFit name past → TablesFit name (request ∷ past)
   pub overwrite : overwrites name (request ∷ past) ≡ overwrite_after change (overwrites name past)
   pub tracing : is_tracing name (request ∷ past) ≡ tracing_after change (is_tracing name past)
   pub sides : IsSpared g name (declared_events past) past

@@ -1,6 +1,6 @@
 -- What contracts see of an instance, and when it agrees with the requests that were done.
-use Rattle.std.specs.Prelude.{◌≡◌, ℕ, ◌≤◌, Bool, true, false, List, [], length, map, slice_index_or, replicate, Option, is_some, IfSome}
-use Rattle.std.specs.List.{AllByRecursion, list_any}
+use Rattle.std.specs.Prelude.{◌≡◌, ℕ, ◌≤◌, Bool, true, false, List, [], length, map, slice_index_or, replicate, All, Option, None, is_some, IfSome}
+use Rattle.std.specs.List.{AllByRecursion, Contains, list_any}
 use Rattle.std.specs.Option.{option_map}
 use Rattle.trace_buffer.specs.Buffers as buffers
 use Rattle.trace_filter.specs.Filters.{Parsed}
@@ -12,20 +12,24 @@ use Rattle.trace_command.specs.declared.command.Config.{Config}
 use Rattle.trace_history.specs.Settings.{declared_events, is_enabled, kept_filter, overwrites, is_tracing}
 use Rattle.trace_history.specs.Rings.{rings, other_rings, spare_rings}
 use Rattle.trace_history.specs.Snapshots.{has_spare}
+use Rattle.trace_history.specs.HistTriggers.{HistTrigger, hist_triggers}
 use Rattle.trace_history.specs.Triggers as triggers
+use Rattle.trace_trigger.specs.FittingSpecs.{is_fitting}
 use Rattle.trace_history.specs.Triggers.{times_left, trigger_of}
 use Rattle.trace_book.specs.declared.hists.AttachedHist.{AttachedHist}
 use Rattle.trace_book.specs.declared.trigger.Trigger.{Trigger}
 use Rattle.trace_format.specs.Operands.{Emission}
-use Rattle.trace_book.specs.KeptHists.{KeptHist, kept_hists, kept_of, passed}
+use Rattle.trace_book.specs.KeptHists.{TableStandsFor, is_used, kept_at, kept_hists, passed}
+use Rattle.trace_book.specs.declared.tables.Table.{Table}
 
--- which events are enabled, their filters, their triggers for snapshots and their hist triggers, in order of declaration; whether records may overwrite
--- older ones, and whether it records at all; and its rings
+-- which events are enabled, their filters, their triggers for snapshots and their hist triggers, in order of declaration; the tables of hist triggers;
+-- whether records may overwrite older ones, and whether it records at all; and its rings
 pub record InstanceSeen : Type 0 where
   pub enabled : List Bool
   pub filters : List (Option Parsed)
   pub triggers : List (Option Trigger)
   pub hists : List (List AttachedHist)
+  pub tables : List Table
   pub overwrite : Bool
   pub tracing : Bool
   pub sides : SidesSeen
@@ -60,13 +64,9 @@ kept_as past event t = record { number = t.number; left = times_left event t pas
 abbrev pub kept_trigger : Option (List ℕ) → List Request → Definition → Option Trigger
 kept_trigger name past event = option_map (kept_as past event) (trigger_of name event past)
 
--- the hist triggers of each event
-abbrev pub hists_kept : List (List AttachedHist) → List (List KeptHist)
-hists_kept hists = map (λ attached. map kept_of attached) hists
-
 -- the filters of which hist triggers of the event at an index an emission passes
 abbrev pub passed_in : Emission → ℕ → InstanceSeen → List Bool
-passed_in emission event i = passed emission (slice_index_or (hists_kept i.hists) event [])
+passed_in emission event i = passed emission (slice_index_or i.hists event [])
 
 -- what happened to the rings of each side
 abbrev pub side_families : Config → Option (List ℕ) → List Request → SideFamilies
@@ -77,12 +77,24 @@ pub record IsSpared (g : Config) (name : Option (List ℕ)) (events : List Defin
   pub unused : has_spare name past ≡ false → other_rings g name past ≡ replicate g.cpus []
   pub armed : list_any (λ event. is_some (trigger_of name event past)) events ≡ true → has_spare name past ≡ true
 
+-- the hist triggers of an instance that share a table fit each other
+abbrev pub TablesFit : Option (List ℕ) → List Request → Type 0
+TablesFit name past =
+    (t u : HistTrigger) → Contains (hist_triggers name past) t → Contains (hist_triggers name past) u → t.table ≡ u.table → is_fitting t.spec u.spec ≡ true
+
+-- a table goes with its last trigger: a number in whose table no trigger counts has none
+abbrev pub TablesAreUsed : InstanceSeen → Type 0
+TablesAreUsed i = (number : ℕ) → is_used number i.hists ≡ false → kept_at number i.tables ≡ None
+
 -- each part of the instance of this name (none is the top one) is what the requests say of it
 pub record InstanceStandsFor (g : Config) (name : Option (List ℕ)) (past : List Request) (i : InstanceSeen) : Type 0 where
   pub enabled : i.enabled ≡ map (λ event. is_enabled name event.name past) (declared_events past)
   pub filters : i.filters ≡ map (kept_filter name past) (declared_events past)
   pub triggers : i.triggers ≡ map (kept_trigger name past) (declared_events past)
-  pub hists : hists_kept i.hists ≡ map (kept_hists name past) (declared_events past)
+  pub hists : i.hists ≡ map (kept_hists name past) (declared_events past)
+  pub tables : All (λ (attached : List AttachedHist). All (TableStandsFor name past i.tables) attached) i.hists
+  pub used : TablesAreUsed i
+  pub fitting : TablesFit name past
   pub overwrite : i.overwrite ≡ overwrites name past
   pub tracing : i.tracing ≡ is_tracing name past
   pub sides : snapshot.StandsFor i.sides (side_families g name past)
@@ -92,5 +104,5 @@ pub record InstanceStandsFor (g : Config) (name : Option (List ℕ)) (past : Lis
 
 -- two instances agree in all but memory for rows
 pub record IsAlike (old new : InstanceSeen) : Type 0 where
-  pub rest : new ≡ record old { hists = new.hists }
-  pub hists : hists_kept new.hists ≡ hists_kept old.hists
+  pub rest : new ≡ record old { tables = new.tables }
+  pub tables : (number : ℕ) → kept_at number new.tables ≡ kept_at number old.tables

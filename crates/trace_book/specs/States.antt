@@ -24,8 +24,9 @@ use Rattle.trace_history.specs.Snapshots.{is_exchanged_by}
 use Rattle.trace_history.specs.Triggers.{trigger_of}
 use Rattle.trace_history.specs.HistTriggers.{hists_of}
 use Rattle.trace_format.specs.Operands.{Emission}
-use Rattle.trace_book.specs.KeptHists.{KeptHist, AreHit, CanCount, HasRoomToCount}
-use Rattle.trace_book.specs.Instances.{InstanceSeen, InstanceStandsFor, IsShaped, WereOffered, hists_kept, passed_in}
+use Rattle.trace_book.specs.KeptHists.{AreHit, CanCount, HasRoomToCount, KeysAgree, table_numbered}
+use Rattle.trace_book.specs.declared.hists.AttachedHist.{AttachedHist}
+use Rattle.trace_book.specs.Instances.{InstanceSeen, InstanceStandsFor, IsShaped, WereOffered, passed_in}
 use Rattle.trace_book.specs.Changes.{IsEffect, IsApplied, IsLawful}
 use Rattle.trace_book.specs.declared.change.Change.{Change}
 use Rattle.trace_book.specs.declared.change.Change.TheVariants.{Declare, Make, Remove, Instance}
@@ -66,6 +67,8 @@ pub record IsUsableInstance (g : Config) (events : ℕ) (i : InstanceSeen) : Typ
   pub filters : length i.filters ≡ events
   pub triggers : length i.triggers ≡ events
   pub hists : length i.hists ≡ events
+  pub tables : All (λ (attached : List AttachedHist). All (λ (a : AttachedHist). is_some (table_numbered a.table i.tables) ≡ true) attached) i.hists
+  pub agree : All KeysAgree i.hists
   pub shaped : IsShaped g i.sides
 
 -- what every state of a book has, so that a command can be prepared without its past
@@ -145,16 +148,10 @@ delivered_to i d reach f =
 abbrev pub row_of : Delivery → Emission
 row_of d = record { values = d.row.values; cpu = d.cpu; pid = d.pid }
 
--- the hist triggers of the event at an index were offered an emission, and the others are as they were
-pub record WereOfferedRow (emission : Emission) (event : ℕ) (old new : List (List KeptHist)) : Type 0 where
-  pub many : length new ≡ length old
-  pub there : AreHit emission (slice_index_or old event []) (slice_index_or new event [])
-  pub others : (k : ℕ) → k < length old → (k ≡ event → ⊥) → slice_index_or new k [] ≡ slice_index_or old k []
-
--- the row of an emission was offered to the hist triggers of its event
+-- the row of an emission was offered to the hist triggers of its event, which counted it in their tables
 pub record IsOffered (d : Delivery) (old new : InstanceSeen) : Type 0 where
-  pub rest : new ≡ record old { hists = new.hists }
-  pub hists : WereOfferedRow (row_of d) d.event (hists_kept old.hists) (hists_kept new.hists)
+  pub rest : new ≡ record old { tables = new.tables }
+  pub tables : AreHit (row_of d) (slice_index_or old.hists d.event []) old.tables new.tables
 
 -- an emission reached an instance, where it does this: its record is written, or not; then the event's hist triggers are offered its row; and then
 -- the event's trigger for snapshots acts, or not
@@ -163,7 +160,8 @@ pub record IsDelivered (d : Delivery) (reach : Reach) (old new : InstanceSeen) :
   pub filters : new.filters ≡ old.filters
   pub triggers : new.triggers
       ≡ (if reach.fires then slice_set old.triggers d.event (counted_down (slice_index_or old.triggers d.event None)) else old.triggers)
-  pub hists : WereOfferedRow (row_of d) d.event (hists_kept old.hists) (hists_kept new.hists)
+  pub hists : new.hists ≡ old.hists
+  pub tables : AreHit (row_of d) (slice_index_or old.hists d.event []) old.tables new.tables
   pub overwrite : new.overwrite ≡ old.overwrite
   pub tracing : new.tracing ≡ old.tracing
   pub sides : (families : SideFamilies) → snapshot.StandsFor old.sides families → snapshot.StandsFor new.sides (delivered_to old d reach families)
@@ -314,11 +312,11 @@ ArePassed emission event reaches instances = AllReached (λ reach i. reach.passe
 
 -- the hist triggers of the event at an index have the memory to count an emission
 abbrev pub CanCountRow : Emission → ℕ → InstanceSeen → Type 0
-CanCountRow emission event i = All (CanCount emission) (slice_index_or i.hists event [])
+CanCountRow emission event i = All (CanCount emission i.tables) (slice_index_or i.hists event [])
 
 -- each histogram counted few rows
 abbrev pub HasFewRows : InstanceSeen → Type 0
-HasFewRows i = All (λ hists. All HasRoomToCount hists) i.hists
+HasFewRows i = All (λ (attached : List AttachedHist). All (HasRoomToCount i.tables) attached) i.hists
 
 -- an instance whose sides are to be exchanged has a spare
 abbrev pub CanFire : Reach → InstanceSeen → Type 0

@@ -5,3 +5,4 @@ pub mod Emissions
 pub mod Files
 pub mod Found
 pub mod Rows
+pub mod Tables

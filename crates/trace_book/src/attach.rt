@@ -1,9 +1,11 @@
 //! Trigger texts: what is changed by one that is written for an event (events.rst, "Event triggers"; histogram.rst, "hist triggers").
 
-ghost use Rattle.std.specs.Prelude.{◌≡◌, ◌≢◌, ◌<◌, ◌≤◌, false, if◌then◌else◌, [], length, position, slice_index_or, None, option_copied, OnOk, IfErr};
+ghost use Rattle.std.specs.Prelude.{◌≡◌, ◌≢◌, ◌<◌, ◌≤◌, false, if◌then◌else◌, [], length, position, slice_index_or, None, Ok, option_copied, OnOk, IfErr};
 ghost use Rattle.trace_trigger.specs.TriggerTexts.{HasFilter, is_hist_text};
 ghost use Rattle.trace_book.specs.private.Attaching as attaching;
 ghost use Rattle.trace_book.specs.KeptHists.{says_same};
+ghost use Rattle.trace_trigger.specs.TriggerTexts.{said_of};
+ghost use Rattle.trace_trigger.specs.declared.trigger.TriggerText.TheVariants as said;
 
 use crate::change::TriggerChange;
 use crate::hists::{AttachedHist, EventHists, MOST_TRIGGERS};
@@ -16,24 +18,31 @@ use trace_format::EventDef;
 use trace_hist::{Action, Hist, HistSpec};
 use trace_trigger::{SnapshotTrigger, TriggerText};
 
-/// The triggers that an event has in an instance.
+/// The triggers that an event has in an instance, and the hist triggers of all events there, whose tables a text may name.
 #[derive(Clone, Copy)]
 pub(crate) struct EventTriggers<'a> {
     snapshot: Option<&'a Trigger>,
     hists: &'a EventHists,
+    all: &'a [EventHists],
+    // The index of the event.
+    event: usize,
 }
 
-impl EventTriggers<'_> {
+impl<'a> EventTriggers<'a> {
     /// Those of the event at this index.
-    pub(crate) fn of(instance: &Instance, event: usize) -> EventTriggers<'_>
+    pub(crate) fn of(instance: &'a Instance, event: usize) -> EventTriggers<'a>
         requires triggers { event < length instance.now.triggers }
         requires hists { event < length instance.now.hists }
         ensures snapshot { option_copied result.snapshot ≡ slice_index_or instance.now.triggers event None }
         ensures hists { result.hists.now ≡ slice_index_or instance.now.hists event [] }
+        ensures all { result.all.now ≡ instance.now.hists }
+        ensures event { result.event ≡ event }
     {
         EventTriggers {
             snapshot: instance.trigger(event),
             hists: instance.hists(event),
+            all: instance.all_hists(),
+            event,
         }
     }
 
@@ -53,7 +62,7 @@ impl EventTriggers<'_> {
             TriggerText::Attach(trigger) => self.attached(written, trigger),
             TriggerText::Remove if self.snapshot.is_some() => Ok(TriggerChange::Detach),
             TriggerText::Remove => Err(Refusal::NoSuchTrigger),
-            TriggerText::Hist(spec) => self.asked(alloc, written, spec),
+            TriggerText::Hist(spec) => self.asked(alloc, event, written, spec),
             TriggerText::RemoveHist(spec) => self.removed(written, &spec),
         }
     }
@@ -74,27 +83,43 @@ impl EventTriggers<'_> {
         Ok(TriggerChange::Attach(Trigger::new(written.number, trigger)))
     }
 
-    // A hist trigger: the same one that is attached does what is asked for, or a new one is attached.
+    // A hist trigger: the table of the same one that is attached is asked, or a new one is attached.
     fn asked(
         self,
         alloc: Global,
+        event: &EventDef,
         written: WrittenText<'_>,
         spec: HistSpec,
     ) -> Result<TriggerChange, Refusal>
-        ensures { attaching.IsAsked spec self.entry written.entry result }
+        requires said { said_of event.now written.text.now ≡ Ok (said.Hist spec) }
+        ensures { attaching.IsAsked spec event.now self.entry written.entry result }
     {
         if let Some(index) = self.position(written.append, &spec) {
-            return asked_again(index, spec.action());
+            return asked_again(self.hists.as_slice()[index].table, spec.action());
         }
         if !attaches(spec.action()) {
             return Err(Refusal::NoSuchTrigger);
         }
         self.check_room(written.append)?;
-        let hist = Hist::new(alloc, spec)?;
-        Ok(TriggerChange::AttachHist(AttachedHist {
-            number: written.number,
-            hist,
-        }))
+        match self.named_by(written.append, &spec) {
+            Some(other) => joined(written, spec, other),
+            None => made(alloc, event, written, spec),
+        }
+    }
+
+    // The first of the hist triggers of all events that are left whose table a text names.
+    fn named_by(self, append: bool, spec: &HistSpec) -> Option<&'a AttachedHist>
+        ensures { option_copied result ≡ attaching.named_in spec.now (attaching.left_of self.entry append) }
+    {
+        for i in 0..self.all.len() {
+            if append || i != self.event {
+                let named = self.all[i].named_by(spec);
+                if named.is_some() {
+                    return named;
+                }
+            }
+        }
+        None
     }
 
     // A hist trigger that is removed: the same one, but by `>`, which takes all of them away, nothing more.
@@ -141,16 +166,56 @@ impl EventTriggers<'_> {
     }
 }
 
-// What is asked of a hist trigger that is attached.
-fn asked_again(index: usize, action: Action) -> Result<TriggerChange, Refusal>
-    ensures { result ≡ attaching.asked_change index action }
+// What is asked of the table of a hist trigger that is attached.
+fn asked_again(table: u64, action: Action) -> Result<TriggerChange, Refusal>
+    ensures { result ≡ attaching.asked_change table action }
 {
     match action {
         Action::Attach => Err(Refusal::TriggerExists),
         Action::Pause | Action::Continue | Action::Clear => {
-            Ok(TriggerChange::AskHist(index, action))
+            Ok(TriggerChange::AskTable(table, action))
         }
     }
+}
+
+// A hist trigger that counts in the table of another one, which it names, if it fits.
+fn joined(
+    written: WrittenText<'_>,
+    spec: HistSpec,
+    other: &AttachedHist,
+) -> Result<TriggerChange, Refusal>
+    ensures { result ≡ attaching.joined_change written.entry.number spec other.now }
+{
+    if !spec.fits(&other.spec) {
+        return Err(Refusal::TriggerExists);
+    }
+    Ok(TriggerChange::AttachHist(AttachedHist {
+        number: written.number,
+        table: other.table,
+        spec,
+    }))
+}
+
+// A hist trigger with a table of its own, which keeps what the string says too, and so reads it once more.
+fn made(
+    alloc: Global,
+    event: &EventDef,
+    written: WrittenText<'_>,
+    spec: HistSpec,
+) -> Result<TriggerChange, Refusal>
+    requires said { said_of event.now written.text.now ≡ Ok (said.Hist spec) }
+    ensures { attaching.IsMadeChange written.entry.number spec result }
+{
+    let TriggerText::Hist(again) = TriggerText::parse(alloc, written.text, event)? else {
+        unreachable!();
+    };
+    let hist = Hist::new(alloc, again)?;
+    let attached = AttachedHist {
+        number: written.number,
+        table: written.number,
+        spec,
+    };
+    Ok(TriggerChange::MakeHist(attached, hist))
 }
 
 // Whether a text attaches a hist trigger where none says the same.

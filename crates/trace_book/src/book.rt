@@ -11,8 +11,8 @@
 //!             records    one entry more                 one entry more
 //! ```
 //!
-//! `commit` can be refused memory for a spare side, a hist trigger, an event or an instance alone: each such command has one growth, and it comes
-//! before all that the command changes. Nothing is undone anywhere. What the two phases hand on is data (`Change`, `Delivery`), so `commit` never looks at
+//! `commit` can be refused memory for a spare side, a hist trigger and its table, an event or an instance alone: all growth of such a command comes
+//! before what the command changes. Nothing is undone anywhere. What the two phases hand on is data (`Change`, `Delivery`), so `commit` never looks at
 //! the command again: it makes a step of the state, and `prepare` has shown that this is the step that the definitions give the command.
 
 ghost use Rattle.std.specs.Prelude.{◌≡◌, ℕ, ◌+◌, ◌^◌, ◌≤◌, ◌<◌, [], ◌∷◌, ◌++◌, All, map, is_none, is_some, IfOk, IfErr, IfSome, OnOk, OnErr, ◌≢◌, true, false};

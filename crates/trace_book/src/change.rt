@@ -9,7 +9,7 @@ use crate::state::Named;
 use crate::trigger::Trigger;
 use trace_filter::Filter;
 use trace_format::{EventDef, Row};
-use trace_hist::Action;
+use trace_hist::{Action, Hist};
 
 /// What a command changes that is no emission.
 #[derive(Drop)]
@@ -68,12 +68,14 @@ pub(crate) enum TriggerChange {
     Attach(Trigger),
     /// The event's trigger for snapshots is removed.
     Detach,
-    /// The event gets one more hist trigger.
+    /// The event gets one more hist trigger, which counts in a table that is there.
     AttachHist(AttachedHist),
+    /// The event gets one more hist trigger, and the instance this table, in which it counts.
+    MakeHist(AttachedHist, Hist),
     /// The hist trigger at this index, which says the same, is removed. The text is appended, since `>` leaves none.
     DetachHist(usize),
-    /// What a text asks for is done to the hist trigger at this index, likewise.
-    AskHist(usize, Action),
+    /// What a text asks for is done to the table of this number, that of the hist trigger that says the same.
+    AskTable(u64, Action),
 }
 
 /// What becomes of an event's filter.

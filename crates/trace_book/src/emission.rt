@@ -1,6 +1,6 @@
 //! Emissions: a row is built once, each filter is asked once, and each hist trigger that it reaches has memory, before any instance is written to.
 
-ghost use Rattle.std.specs.Prelude.{◌≡◌, ℕ, ◌+◌, ◌<◌, ◌≤◌, ◌^◌, true, List, length, All, slice_index_or, Some, IfOk, OnOk};
+ghost use Rattle.std.specs.Prelude.{◌≡◌, ℕ, ◌+◌, ◌<◌, ◌≤◌, ◌^◌, true, List, [], length, All, slice_index_or, Some, IfOk, OnOk};
 ghost use Rattle.trace_buffer.specs.Buffers as buffers;
 ghost use Rattle.trace_command.specs.Configs.{IsInRange};
 ghost use Rattle.trace_command.specs.Requests as requests;
@@ -10,6 +10,7 @@ ghost use Rattle.trace_format.specs.Cells.{size_of_all};
 ghost use Rattle.trace_record.specs.Record.{record_size};
 ghost use Rattle.trace_book.specs.private.Emissions as emissions;
 ghost use Rattle.trace_book.specs.Instances.{IsAlike};
+ghost use Rattle.trace_book.specs.KeptHists.{KeysAgree};
 ghost use Rattle.trace_book.specs.declared.change.Pending.{Pending as PendingHere};
 ghost use Rattle.trace_book.specs.States.{StandsFor, IsPreparedEmission, IsUsable, EachCame, CanCountRow, ArePassed};
 
@@ -17,7 +18,7 @@ use crate::change::{Delivery, Pending, Reach, Reaches};
 use crate::hists::MOST_TRIGGERS;
 use crate::make::INSTANCES;
 use crate::memory::EmissionMemory;
-use crate::resolve::find;
+use crate::resolve::find_likely;
 use crate::row::record;
 use crate::state::{Named, State};
 use std::alloc::AllocError;
@@ -47,7 +48,7 @@ impl State {
         if cpu >= config.cpus {
             return Err(Refusal::NoSuchCpu);
         }
-        let Some(found) = find(&self.catalog, name) else {
+        let Some(found) = find_likely(&self.catalog, memory.event(), name) else {
             return Err(Refusal::NoSuchEvent);
         };
         let index = found.index;
@@ -77,6 +78,7 @@ impl State {
     ) -> Result<(), AllocError>
         requires few { length self.old.instances.items ≤ 8 }
         requires index { All (λ n. index < length n.instance.hists) self.old.instances.items }
+        requires agree { All (λ n. KeysAgree (slice_index_or n.instance.hists index [])) self.old.instances.items }
         requires passed { ArePassed (record { values = row.now.values; cpu = cpu; pid = pid }) index reaches.now self.old.instances.items }
         ensures alike { emissions.IsStateAlike self.old self.new }
         ensures counted { OnOk result (All (λ n. CanCountRow (record { values = row.now.values; cpu = cpu; pid = pid }) index n.instance)
@@ -146,6 +148,7 @@ fn reserve_each(
 ) -> Result<(), AllocError>
     requires few { length instances.old ≤ 8 }
     requires event { All (λ n. event < length n.instance.hists) instances.old }
+    requires agree { All (λ n. KeysAgree (slice_index_or n.instance.hists event [])) instances.old }
     requires passed { ArePassed (record { values = row.now.values; cpu = cpu; pid = pid }) event reaches.now instances.old }
     ensures alike { EachCame IsAlike instances.old instances.new }
     ensures counted { OnOk result (All (λ n. CanCountRow (record { values = row.now.values; cpu = cpu; pid = pid }) event n.instance) instances.new) }

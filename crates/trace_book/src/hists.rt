@@ -1,16 +1,19 @@
 //! The hist triggers of an event, as an instance keeps them (histogram.rst, "hist triggers").
 
-ghost use Rattle.std.specs.Prelude.{◌≡◌, ℕ, ◌<◌, ◌≤◌, true, if◌then◌else◌, [], ◌∷◌, ◌++◌, length, map, position, All, OnOk, OnErr};
-ghost use Rattle.std.specs.List.{remove};
-ghost use Rattle.trace_book.specs.private.Commands.{shown_kept_hist};
+ghost use Rattle.std.specs.Prelude.{◌≡◌, ℕ, ◌+◌, ◌<◌, ◌≤◌, ◌^◌, true, if◌then◌else◌, [], ◌∷◌, ◌++◌, length, position, All, IfSome, OnOk, OnErr, option_copied, is_some};
+ghost use Rattle.std.specs.List.{find, remove};
+ghost use Rattle.trace_book.specs.private.Commands.{shown_attached};
 ghost use Rattle.trace_book.specs.KeptHists as kept;
+ghost use Rattle.trace_book.specs.KeptHists.{kept_at, table_numbered};
 ghost use Rattle.trace_text.specs.ShownTriggers.{shown_trigger};
 ghost use Rattle.trace_trigger.specs.SameSpecs.{is_passed};
 
+use crate::tables;
+use crate::tables::Table;
 use std::alloc::{AllocError, Global};
 use std::marker::Model;
 use trace_format::Row;
-use trace_hist::{Action, Hist, HistSpec};
+use trace_hist::HistSpec;
 use trace_text::Shown;
 
 /// How many triggers an event may have in an instance, of all kinds.
@@ -21,64 +24,37 @@ pub(crate) const MOST_TRIGGERS: usize = 4;
 pub(crate) struct AttachedHist {
     /// How many requests had been done before the one that attached it.
     pub number: u64,
-    pub hist: Hist,
+    /// The number of the table in which it counts.
+    pub table: u64,
+    pub spec: HistSpec,
 }
 
 impl AttachedHist {
-    /// Whether it says the same as another trigger of its event.
-    pub(crate) fn says_same(&self, spec: &HistSpec) -> bool
+    /// The trigger with its table, as its files show it.
+    pub(crate) fn shown<'a>(&'a self, tables: &'a [Table]) -> Shown<'a>
+        requires { is_some (table_numbered self.now.table tables.now) ≡ true }
+        ensures { shown_trigger result ≡ shown_attached tables.now self.now }
+    {
+        match tables::hist_of(tables, self.table) {
+            Some(hist) => Shown::Hist(&self.spec, hist),
+            None => unreachable!(),
+        }
+    }
+
+    // Whether it says the same as another trigger of its event.
+    fn says_same(&self, spec: &HistSpec) -> bool
         ensures { result ≡ kept.says_same spec.now self.now }
     {
-        spec.same(self.hist.spec())
+        spec.same(&self.spec)
     }
 
-    /// The trigger as its files show it.
-    pub(crate) fn shown(&self) -> Shown<'_>
-        ensures { shown_trigger result ≡ shown_kept_hist (kept.kept_of self.now) }
+    // Whether a text names its table.
+    fn is_named_by(&self, spec: &HistSpec) -> bool
+        ensures { result ≡ kept.names_table_of spec.now self.now }
     {
-        Shown::Hist(self.hist.spec(), &self.hist)
-    }
-
-    // Does what a text asks for that says the same.
-    fn ask(&mut self, action: Action)
-        ensures { kept.kept_of self.new ≡ kept.asked action (kept.kept_of self.old) }
-    {
-        match action {
-            Action::Attach => {}
-            Action::Pause => self.hist.pause(),
-            Action::Continue => self.hist.resume(),
-            Action::Clear => self.hist.clear(),
-        }
-    }
-
-    // Whether a row passes its filter.
-    fn passes(&self, row: &Row, cpu: u32, pid: i32) -> bool
-        ensures { result ≡ is_passed self.now.hist.spec.filter (record { values = row.now.values; cpu = cpu; pid = pid }) }
-    {
-        self.hist.spec().passes(row, cpu, pid)
-    }
-
-    // Takes the memory that it needs to count a row, if that passes its filter.
-    fn reserve(&mut self, passed: bool, row: &Row, cpu: u32, pid: i32) -> Result<(), AllocError>
-        requires { passed ≡ is_passed self.old.hist.spec.filter (record { values = row.now.values; cpu = cpu; pid = pid }) }
-        ensures alike { kept.kept_of self.new ≡ kept.kept_of self.old }
-        ensures ready { OnOk result (kept.CanCount (record { values = row.now.values; cpu = cpu; pid = pid }) self.new) }
-    {
-        if passed {
-            self.hist.reserve_hit(row, cpu, pid)?;
-        }
-        Ok(())
-    }
-
-    // Counts a row, if that passes its filter and it is not paused.
-    fn hit(&mut self, passed: bool, row: &Row, cpu: u32, pid: i32)
-        requires passed { passed ≡ is_passed self.old.hist.spec.filter (record { values = row.now.values; cpu = cpu; pid = pid }) }
-        requires ready { kept.CanCount (record { values = row.now.values; cpu = cpu; pid = pid }) self.old }
-        requires few { kept.HasRoomToCount self.old }
-        ensures { kept.IsHit (record { values = row.now.values; cpu = cpu; pid = pid }) (kept.kept_of self.old) (kept.kept_of self.new) }
-    {
-        if passed {
-            self.hist.hit(row, cpu, pid);
+        match (spec.name(), self.spec.name()) {
+            (Some(name), Some(other)) => name == other,
+            _ => false,
         }
     }
 }
@@ -127,6 +103,22 @@ impl EventHists {
             .position(|attached| attached.says_same(spec))
     }
 
+    /// The first whose table a text names.
+    pub(crate) fn named_by(&self, spec: &HistSpec) -> Option<&AttachedHist>
+        ensures { option_copied result ≡ find (kept.names_table_of spec.now) self.now }
+    {
+        self.hists
+            .iter()
+            .find(|attached| attached.is_named_by(spec))
+    }
+
+    /// Whether one of them counts in the table of a number.
+    pub(crate) fn uses(&self, table: u64) -> bool
+        ensures { result ≡ kept.uses_table table self.now }
+    {
+        self.hists.iter().any(|attached| attached.table == table)
+    }
+
     /// Takes them all away, but not where a text is appended.
     pub(crate) fn keep(&mut self, append: bool)
         ensures { self.new ≡ (if append then self.old else []) }
@@ -158,17 +150,9 @@ impl EventHists {
         let _removed = self.hists.remove(index);
     }
 
-    /// Does what a text asks for, to the one at an index.
-    pub(crate) fn ask(&mut self, index: usize, action: Action)
-        requires { index < length self.old }
-        ensures { map kept.kept_of self.new ≡ kept.asked_at index action (map kept.kept_of self.old) }
-    {
-        self.hists[index].ask(action);
-    }
-
     /// Of each, by its index, whether a row passes its filter; `false` where there is none.
     pub(crate) fn passed(&self, row: &Row, cpu: u32, pid: i32) -> [bool; MOST_TRIGGERS]
-        ensures { result ≡ kept.passed (record { values = row.now.values; cpu = cpu; pid = pid }) (map kept.kept_of self.now) }
+        ensures { result ≡ kept.passed (record { values = row.now.values; cpu = cpu; pid = pid }) self.now }
     {
         if self.hists.is_empty() {
             return [false; MOST_TRIGGERS];
@@ -183,74 +167,57 @@ impl EventHists {
 
     // Whether there is one at an index and a row passes its filter.
     fn is_passed(&self, index: usize, row: &Row, cpu: u32, pid: i32) -> bool
-        ensures { result ≡ kept.is_passed_at (record { values = row.now.values; cpu = cpu; pid = pid }) (map kept.kept_of self.now) index }
+        ensures { result ≡ kept.is_passed_at (record { values = row.now.values; cpu = cpu; pid = pid }) self.now index }
     {
         if index >= self.hists.len() {
             return false;
         }
-        self.hists[index].passes(row, cpu, pid)
+        self.hists[index].spec.passes(row, cpu, pid)
     }
 
-    /// Takes the memory that is needed to count a row. It is known which of the filters that passes.
+    /// Takes the memory that their tables need to count a row. It is known which of the filters that passes.
     pub(crate) fn reserve(
-        &mut self,
+        &self,
+        tables: &mut [Table],
         passed: [bool; MOST_TRIGGERS],
         row: &Row,
         cpu: u32,
         pid: i32,
     ) -> Result<(), AllocError>
-        requires { passed ≡ kept.passed (record { values = row.now.values; cpu = cpu; pid = pid }) (map kept.kept_of self.old) }
-        ensures alike { map kept.kept_of self.new ≡ map kept.kept_of self.old }
-        ensures ready { OnOk result (All (kept.CanCount (record { values = row.now.values; cpu = cpu; pid = pid })) self.new) }
+        requires agree { kept.KeysAgree self.now }
+        requires passed { passed ≡ kept.passed (record { values = row.now.values; cpu = cpu; pid = pid }) self.now }
+        ensures alike { (number : ℕ) → kept_at number tables.new ≡ kept_at number tables.old }
+        ensures ready { OnOk result (All (kept.CanCount (record { values = row.now.values; cpu = cpu; pid = pid }) tables.new) self.now) }
     {
-        reserve_each(&mut self.hists, passed, row, cpu, pid)
+        for i in 0..self.hists.len() {
+            if passed[i] {
+                let attached = &self.hists[i];
+                tables::reserve(tables, attached.table, &attached.spec, row, cpu, pid)?;
+            }
+        }
+        Ok(())
     }
 
-    /// Counts a row in each whose filter it passes, unless that is paused.
-    pub(crate) fn hit(&mut self, passed: [bool; MOST_TRIGGERS], row: &Row, cpu: u32, pid: i32)
-        requires passed { passed ≡ kept.passed (record { values = row.now.values; cpu = cpu; pid = pid }) (map kept.kept_of self.old) }
-        requires ready { All (kept.CanCount (record { values = row.now.values; cpu = cpu; pid = pid })) self.old }
-        requires few { All kept.HasRoomToCount self.old }
-        ensures { kept.AreHit (record { values = row.now.values; cpu = cpu; pid = pid }) (map kept.kept_of self.old) (map kept.kept_of self.new) }
+    /// Counts a row in the table of each whose filter it passes, unless that is paused.
+    pub(crate) fn hit(
+        &self,
+        tables: &mut [Table],
+        passed: [bool; MOST_TRIGGERS],
+        row: &Row,
+        cpu: u32,
+        pid: i32,
+    )
+        requires agree { kept.KeysAgree self.now }
+        requires passed { passed ≡ kept.passed (record { values = row.now.values; cpu = cpu; pid = pid }) self.now }
+        requires ready { All (kept.CanCount (record { values = row.now.values; cpu = cpu; pid = pid }) tables.old) self.now }
+        requires few { All (kept.HasRoomToCount tables.old) self.now }
+        ensures { kept.AreHit (record { values = row.now.values; cpu = cpu; pid = pid }) self.now tables.old tables.new }
     {
-        hit_each(&mut self.hists, passed, row, cpu, pid);
-    }
-}
-
-// Takes the memory that each needs to count a row, if that passes its filter.
-fn reserve_each(
-    hists: &mut [AttachedHist],
-    passed: [bool; MOST_TRIGGERS],
-    row: &Row,
-    cpu: u32,
-    pid: i32,
-) -> Result<(), AllocError>
-    requires few { length hists.old ≤ 4 }
-    requires passed { passed ≡ kept.passed (record { values = row.now.values; cpu = cpu; pid = pid }) (map kept.kept_of hists.old) }
-    ensures alike { map kept.kept_of hists.new ≡ map kept.kept_of hists.old }
-    ensures ready { OnOk result (All (kept.CanCount (record { values = row.now.values; cpu = cpu; pid = pid })) hists.new) }
-{
-    for i in 0..hists.len() {
-        hists[i].reserve(passed[i], row, cpu, pid)?;
-    }
-    Ok(())
-}
-
-// Counts a row in each whose filter it passes.
-fn hit_each(
-    hists: &mut [AttachedHist],
-    passed: [bool; MOST_TRIGGERS],
-    row: &Row,
-    cpu: u32,
-    pid: i32,
-)
-    requires few_hists { length hists.old ≤ 4 }
-    requires passed { passed ≡ kept.passed (record { values = row.now.values; cpu = cpu; pid = pid }) (map kept.kept_of hists.old) }
-    requires ready { All (kept.CanCount (record { values = row.now.values; cpu = cpu; pid = pid })) hists.old }
-    requires few { All kept.HasRoomToCount hists.old }
-    ensures { kept.AreHit (record { values = row.now.values; cpu = cpu; pid = pid }) (map kept.kept_of hists.old) (map kept.kept_of hists.new) }
-{
-    for i in 0..hists.len() {
-        hists[i].hit(passed[i], row, cpu, pid);
+        for i in 0..self.hists.len() {
+            if passed[i] {
+                let attached = &self.hists[i];
+                tables::hit(tables, attached.table, &attached.spec, row, cpu, pid);
+            }
+        }
     }
 }

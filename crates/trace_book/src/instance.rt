@@ -12,15 +12,20 @@ ghost use Rattle.trace_book.specs.Changes as changes;
 ghost use Rattle.trace_book.specs.Changes.{changed_filters};
 ghost use Rattle.trace_book.specs.declared.change.InstanceChange.TheVariants as changed;
 ghost use Rattle.trace_book.specs.States.{with_event};
+ghost use Rattle.trace_book.specs.private.Tables.{AreSet};
+ghost use Rattle.trace_book.specs.declared.change.TriggerChange.TheVariants as attaching;
 
 use crate::change::{FilterChange, InstanceChange, TriggerChange};
-use crate::hists::EventHists;
+use crate::hists::{AttachedHist, EventHists};
+use crate::tables;
+use crate::tables::Table;
 use crate::trigger::Trigger;
 use page_ring::RingStats;
 use std::alloc::{AllocError, Global};
 use std::marker::Model;
 use trace_buffer::Buffer;
 use trace_filter::Filter;
+use trace_hist::Hist;
 use trace_snapshot::Sides;
 
 /// How many events there may ever be.
@@ -34,6 +39,8 @@ pub struct Instance {
     filters: Vec<Option<Filter>>,
     triggers: Vec<Option<Trigger>>,
     hists: Vec<EventHists>,
+    // The tables of hist triggers, the newest first. Each is that of some trigger.
+    tables: Vec<Table>,
     overwrite: bool,
     tracing: bool,
     sides: Sides,
@@ -45,7 +52,7 @@ impl Model for Instance {
 
     ghost Value = { InstanceSeen };
 
-    ghost view = { λ i. record { enabled = i.enabled.items; filters = i.filters.items; triggers = i.triggers.items; hists = i.hists.items; overwrite = i.overwrite; tracing = i.tracing; sides = i.sides } };
+    ghost view = { λ i. record { enabled = i.enabled.items; filters = i.filters.items; triggers = i.triggers.items; hists = i.hists.items; tables = i.tables.items; overwrite = i.overwrite; tracing = i.tracing; sides = i.sides } };
 
     ghost invariant = { λ i. (vec_len i.enabled ≤ 64) × (64 ≤ vec_capacity i.enabled)
         × (vec_len i.filters ≤ 64) × (64 ≤ vec_capacity i.filters)
@@ -70,6 +77,7 @@ impl Instance {
         ensures filters { IfOk result (λ instance. instance.filters ≡ replicate events None) }
         ensures triggers { IfOk result (λ instance. instance.triggers ≡ replicate events None) }
         ensures hists { IfOk result (λ instance. instance.hists ≡ replicate events []) }
+        ensures tables { IfOk result (λ instance. instance.tables ≡ []) }
         ensures overwrite { IfOk result (λ instance. instance.overwrite ≡ true) }
         ensures tracing { IfOk result (λ instance. instance.tracing ≡ true) }
         ensures live { IfOk result (λ instance. IsNewSide cpus pages page_bytes instance.sides.live) }
@@ -84,6 +92,7 @@ impl Instance {
             filters: Vec::with_capacity(alloc, EVENTS)?,
             triggers: Vec::with_capacity(alloc, EVENTS)?,
             hists: Vec::with_capacity(alloc, EVENTS)?,
+            tables: Vec::new(alloc),
             overwrite: true,
             tracing: true,
             sides: Sides::new(alloc, cpus, pages, page_bytes)?,
@@ -130,6 +139,20 @@ impl Instance {
         ensures { option_copied result ≡ slice_index_or self.now.triggers event None }
     {
         self.triggers[event].as_ref()
+    }
+
+    /// The hist triggers of each event.
+    pub(crate) fn all_hists(&self) -> &[EventHists]
+        ensures { result.now ≡ self.now.hists }
+    {
+        &self.hists
+    }
+
+    /// The tables of hist triggers.
+    pub(crate) fn tables(&self) -> &[Table]
+        ensures { result.now ≡ self.now.tables }
+    {
+        &self.tables
     }
 
     /// The hist triggers of the event at this index.
@@ -231,7 +254,8 @@ impl Instance {
         Ok(())
     }
 
-    // Changes the triggers of the event at this index. Its hist triggers are taken away first, but not where the text is appended.
+    // Changes the triggers of the event at this index. Its hist triggers are taken away first, but not where the text is appended. Tables in which no
+    // trigger counts any more go.
     fn change_triggers(
         &mut self,
         event: usize,
@@ -242,6 +266,24 @@ impl Instance {
         requires hists { event < length self.old.hists }
         requires possible { changes.IsPossible change (length (if append then slice_index_or self.old.hists event [] else [])) }
         ensures applied { OnOk result (changes.IsApplied (changed.Triggers event append change) self.old self.new) }
+        ensures refused { OnErr result (self.new ≡ self.old) }
+    {
+        self.set_triggers(event, append, change)?;
+        tables::keep_used(&mut self.tables, &self.hists);
+        Ok(())
+    }
+
+    // The same, and no table goes.
+    fn set_triggers(
+        &mut self,
+        event: usize,
+        append: bool,
+        change: TriggerChange,
+    ) -> Result<(), AllocError>
+        requires triggers { event < length self.old.triggers }
+        requires hists { event < length self.old.hists }
+        requires possible { changes.IsPossible change (length (if append then slice_index_or self.old.hists event [] else [])) }
+        ensures applied { OnOk result (AreSet event append change self.old self.new) }
         ensures refused { OnErr result (self.new ≡ self.old) }
     {
         match change {
@@ -255,10 +297,48 @@ impl Instance {
                 self.hists[event].keep(append);
                 self.triggers[event] = None;
             }
-            TriggerChange::AttachHist(attached) => self.hists[event].attach(append, attached)?,
+            TriggerChange::AttachHist(attached) => self.join(event, append, attached)?,
+            TriggerChange::MakeHist(attached, hist) => self.make(event, append, attached, hist)?,
             TriggerChange::DetachHist(index) => self.hists[event].remove(index),
-            TriggerChange::AskHist(index, action) => self.hists[event].ask(index, action),
+            TriggerChange::AskTable(table, action) => {
+                self.hists[event].keep(append);
+                tables::ask(&mut self.tables, table, action);
+            }
         }
+        Ok(())
+    }
+
+    // Attaches a hist trigger that counts in a table that is there, and asks of that what the trigger's text asks for.
+    fn join(&mut self, event: usize, append: bool, attached: AttachedHist) -> Result<(), AllocError>
+        requires hists { event < length self.old.hists }
+        requires few { length (if append then slice_index_or self.old.hists event [] else []) < 4 }
+        ensures joined { OnOk result (AreSet event append (attaching.AttachHist attached) self.old self.new) }
+        ensures refused { OnErr result (self.new ≡ self.old) }
+    {
+        let table = attached.table;
+        let action = attached.spec.action();
+        self.hists[event].attach(append, attached)?;
+        tables::ask(&mut self.tables, table, action);
+        Ok(())
+    }
+
+    // Attaches a hist trigger, with a table for it.
+    fn make(
+        &mut self,
+        event: usize,
+        append: bool,
+        attached: AttachedHist,
+        hist: Hist,
+    ) -> Result<(), AllocError>
+        requires hists { event < length self.old.hists }
+        requires few { length (if append then slice_index_or self.old.hists event [] else []) < 4 }
+        ensures made { OnOk result (AreSet event append (attaching.MakeHist attached hist) self.old self.new) }
+        ensures refused { OnErr result (self.new ≡ self.old) }
+    {
+        self.tables.reserve(1)?;
+        let number = attached.table;
+        self.hists[event].attach(append, attached)?;
+        self.tables.insert(0, Table { number, hist }).unwrap();
         Ok(())
     }
 }

@@ -16,6 +16,7 @@ mod resolve;
 mod row;
 mod shown;
 mod state;
+mod tables;
 mod text;
 mod trigger;
 mod write;

@@ -17,6 +17,8 @@ pub(crate) struct EmissionMemory {
     alloc: Global,
     row: RowMemory,
     record: Vec<u8>,
+    // The number of the event that was emitted last: the next emission is often of the same one.
+    event: u16,
 }
 
 impl Model for EmissionMemory {
@@ -32,7 +34,13 @@ impl EmissionMemory {
             alloc,
             row: RowMemory::new(alloc),
             record: Vec::new(alloc),
+            event: 0,
         }
+    }
+
+    /// The number of the event that was emitted last.
+    pub(crate) fn event(&self) -> u16 {
+        self.event
     }
 
     /// The row that pairs give to an event.
@@ -55,7 +63,13 @@ impl EmissionMemory {
 
     /// Takes the row and the record of an emission that is done, for the next one.
     pub(crate) fn keep(&mut self, delivery: Delivery) {
-        let Delivery { row, record, .. } = delivery;
+        let Delivery {
+            event,
+            row,
+            record,
+            ..
+        } = delivery;
+        self.event = u16::try_from(event).unwrap_or(0).saturating_add(1);
         self.row = RowMemory::from(row);
         if let Some(Pending { bytes, .. }) = record {
             self.record = bytes;

@@ -14,12 +14,10 @@ ghost use Rattle.std.specs.Option.{option_to_list};
 ghost use Rattle.trace_text.specs.FormatText as texts;
 ghost use Rattle.trace_text.specs.TriggerText.{trigger_text as trigger_text_of};
 ghost use Rattle.trace_text.specs.HistText.{hist_text as hist_text_of};
-ghost use Rattle.trace_book.specs.KeptHists.{kept_of};
-ghost use Rattle.trace_book.specs.private.Commands.{HasAll, IsRead, IsReadable, IsSource, kept_in_order, shown_kept_hist};
+ghost use Rattle.trace_book.specs.private.Commands.{AreThere, HasAll, IsRead, IsReadable, IsSource, kept_in_order, shown_attached};
 ghost use Rattle.trace_book.specs.private.Files.{IsThere, file_at, name_at};
 
 use crate::change::InstanceChange;
-use crate::hists::EventHists;
 use crate::instance::Instance;
 use crate::resolve::{File, event_at};
 use crate::shown::{shown_hists, shown_in_order};
@@ -139,7 +137,7 @@ fn text_of_event(
         EventFile::Enable => flag_text(alloc, instance.is_enabled(event)),
         EventFile::Filter => filter_text(alloc, instance.filter(event)),
         EventFile::Trigger => triggers(alloc, instance, event),
-        EventFile::Hist => histograms(alloc, instance.hists(event)),
+        EventFile::Hist => histograms(alloc, instance, event),
         EventFile::Format => format(alloc, source.catalog, event),
     }
 }
@@ -202,12 +200,14 @@ fn snapshot(alloc: Global, source: FileSource<'_>) -> Result<Text, AllocError>
 fn triggers(alloc: Global, instance: &Instance, event: usize) -> Result<Text, AllocError>
     requires triggers { event < length instance.now.triggers }
     requires hists { event < length instance.now.hists }
-    ensures { IfOk result (λ text. text ≡ trigger_text_of (kept_in_order (slice_index_or instance.now.triggers event None)
-        (map kept_of (slice_index_or instance.now.hists event [])))) }
+    requires tables { AreThere instance.now.tables (slice_index_or instance.now.hists event []) }
+    ensures { IfOk result (λ text. text ≡ trigger_text_of (kept_in_order instance.now.tables
+        (slice_index_or instance.now.triggers event None) (slice_index_or instance.now.hists event []))) }
 {
     let shown = shown_in_order(
         alloc,
         instance.trigger(event),
+        instance.tables(),
         instance.hists(event).as_slice(),
     )?;
     let mut out = Vec::new(alloc);
@@ -216,10 +216,13 @@ fn triggers(alloc: Global, instance: &Instance, event: usize) -> Result<Text, Al
 }
 
 // The hist triggers of an event with their entries and totals.
-fn histograms(alloc: Global, hists: &EventHists) -> Result<Text, AllocError>
-    ensures { IfOk result (λ text. text ≡ hist_text_of (map shown_kept_hist (map kept_of hists.now))) }
+fn histograms(alloc: Global, instance: &Instance, event: usize) -> Result<Text, AllocError>
+    requires hists { event < length instance.now.hists }
+    requires tables { AreThere instance.now.tables (slice_index_or instance.now.hists event []) }
+    ensures { IfOk result (λ text. text
+        ≡ hist_text_of (map (shown_attached instance.now.tables) (slice_index_or instance.now.hists event []))) }
 {
-    let shown = shown_hists(alloc, hists.as_slice())?;
+    let shown = shown_hists(alloc, instance.tables(), instance.hists(event).as_slice())?;
     let mut out = Vec::new(alloc);
     hist_text(alloc, &shown, &mut out)?;
     Ok(Text::from(out))

@@ -52,11 +52,23 @@ pub(crate) fn find<'a>(catalog: &'a Catalog, name: &[u8]) -> Option<Found<'a>>
     numbered(catalog, id)
 }
 
+/// The same, where it is likely the event of this number, which is looked at first.
+pub(crate) fn find_likely<'a>(catalog: &'a Catalog, id: u16, name: &[u8]) -> Option<Found<'a>>
+    ensures named { option_map numbered result ≡ event_named_in catalog.now name.now }
+    ensures index { IfSome result (λ found. IsIndexOf catalog.now name.now found.index found.event.now) }
+{
+    match numbered(catalog, id) {
+        Some(found) if found.event.name() == name => Some(found),
+        _ => find(catalog, name),
+    }
+}
+
 // The event of a number.
 fn numbered(catalog: &Catalog, id: u16) -> Option<Found<'_>>
     ensures numbered { option_map numbered result ≡ numbered_event catalog.now id }
     ensures index { (name : List ℕ) → id_of catalog.now name ≡ Some id
         → IfSome result (λ found. IsIndexOf catalog.now name found.index found.event.now) }
+    ensures named { IfSome result (λ found. id_of catalog.now found.event.now.name ≡ Some id) }
 {
     let event = catalog.def(id)?;
     Some(Found {

@@ -6,6 +6,7 @@ ghost use Rattle.trace_command.specs.declared.refusal.Refusal.TheVariants as ref
 ghost use Rattle.trace_book.specs.States as states;
 ghost use Rattle.trace_book.specs.declared.state.Named.{Named};
 ghost use Rattle.trace_book.specs.Changes.{IsApplied, IsLawful};
+ghost use Rattle.trace_book.specs.KeptHists.{KeysAgree};
 
 use crate::change::{Change, Delivery, InstanceChange};
 use crate::instance::Instance;
@@ -105,6 +106,7 @@ fn deliver_each(instances: &mut [Named], delivery: &Delivery)
     requires event { All (λ n. delivery.now.event < length n.instance.triggers) instances.old }
     requires record { All (λ n. states.IsWritable delivery.now.record n.instance) instances.old }
     requires hists { All (λ n. delivery.now.event < length n.instance.hists) instances.old }
+    requires agree { All (λ n. KeysAgree (slice_index_or n.instance.hists delivery.now.event [])) instances.old }
     requires passed { states.ArePassed (states.row_of delivery.now) delivery.now.event delivery.now.reaches instances.old }
     requires counted { All (λ n. states.CanCountRow (states.row_of delivery.now) delivery.now.event n.instance) instances.old }
     requires few_rows { All (λ n. states.HasFewRows n.instance) instances.old }

@@ -96,7 +96,9 @@ pub(crate) fn refusal_words(subject: Subject, refusal: &Refusal) -> &'static str
         Refusal::BadSize => {
             "a size is from 128 to 131,072, once it is rounded up to a power of two"
         }
-        Refusal::TriggerExists => "the event has such a trigger already",
+        Refusal::TriggerExists => {
+            "the event has such a trigger already, or the one that is written doesn't fit the table that it names"
+        }
         Refusal::NoSuchTrigger => "the event has no such trigger",
         Refusal::TooMany => most_words(subject),
         Refusal::InstanceExists => "an instance of this name is there already",

@@ -1,23 +1,24 @@
 -- A row more in the table of entries is a row more in the grouping.
-use Rattle.std.proofs.Common.{◌≡◌, ℕ, zero, suc, ◌+◌, ◌≤◌, ◌<◌, Bool, true, false, ltb, ◌||◌, inl, inr, ℤ, List, [], ◌∷◌, ◌++◌, length, map, take, drop, slice_get, Some, unwrap_or, refl, sym, ap, ◌∙◌, subst, arith}
+use Rattle.std.proofs.Common.{◌≡◌, ◌≢◌, ℕ, zero, suc, ◌+◌, ◌≤◌, ◌<◌, Bool, true, false, ltb, ◌||◌, inl, inr, ℤ, List, [], ◌∷◌, ◌++◌, length, map, take, drop, slice_get, Some, unwrap_or, refl, sym, ap, ◌∙◌, subst, arith}
 use Rattle.std.specs.List.{AllByRecursion, IsDistinct}
 use Rattle.std.proofs.lemmas.Bool.{cond-true, cond-false, cases_Bool, lt-ltb, le-ltb, ltb-true, ltb-false}
 use Rattle.std.proofs.lemmas.List.{length-take-le, length-map}
 use Rattle.std.specs.Global.{Vec}
-use Rattle.trace_format.specs.Operands.{Emission}
 use Rattle.trace_hist.specs.declared.key_cell.KeyCell.{KeyCell}
 use Rattle.trace_hist.specs.declared.tally.Tally.{Tally}
 use Rattle.trace_hist.specs.declared.next.Next.{Next}
 use Rattle.trace_hist.specs.declared.next.Next.TheVariants as nexts
-use Rattle.trace_hist.specs.declared.hist.Hist.TheInside.{Inside}
+use Rattle.trace_hist.specs.declared.counts.Counts.TheInside.{Inside}
 use Rattle.trace_format.specs.Cells.{Datum}
-use Rattle.trace_hist.specs.Hits.{Hit, hit_of}
+use Rattle.trace_trigger.specs.HistSpecs.{SpecSeen}
+use Rattle.trace_hist.specs.Hits.{Hit}
 use Rattle.trace_hist.specs.Groups.{Entry, Table, same_key, is_among, group, grouped}
-use Rattle.trace_hist.specs.Hists.{Seen, StandsFor, Unknown, entry_keys, IsPlaceOf, IsReserved, counted}
-use Rattle.trace_hist.specs.Stored.{entry_in, entries_in, empty_entry, place_at, place_in, seen, IsEnd, IsSound}
+use Rattle.trace_hist.specs.Hists.{Place, Unknown, In, Nowhere, entry_keys, IsPlaceOf}
+use Rattle.trace_hist.specs.Stored.{entry_in, entries_in, empty_entry, place_at, place_in, seen, IsEnd, IsSound, Kept}
 use Rattle.trace_hist.specs.private.Steps.{counted_once, counted_at, bumped, first_entry, stepped, after_row, after_hit}
 use Rattle.trace_hist.proofs.Keys.{key-refl, not_same}
 use Rattle.trace_hist.proofs.GroupLaws.{group-push}
+use Rattle.trace_hist.proofs.Reserving.{among-take}
 
 some_is : {X : Type 0} {x y : X} → Some x ≡ Some y → x ≡ y
 some_is {X} {x} {y} e = ap (λ o. unwrap_or o x) e
@@ -74,6 +75,16 @@ among-at (suc n) (e ∷ entries) (suc i) key at lt =
     or-true true = refl
     or-true false = refl
 
+-- none is reserved for a key of no entry
+pub unreserved-new : (entries : List Entry) (next : Next) (key : List Datum) → is_among (entry_keys entries) key ≡ false → place_in entries next ≢ In key
+unreserved-new entries nexts.Unknown key new = λ e. cc
+unreserved-new entries nexts.Dropped key new = λ e. cc
+unreserved-new entries (nexts.At i) key new = λ e.
+    let place : IsPlaceOf (place_at (slice_get entries i)) 0 [] key = subst (λ (p : Place). IsPlaceOf p 0 [] key) (sym e) refl in
+    let known = known-at entries i 0 [] key place in
+    let clash = sym (among-take (suc i) entries key new) ∙ among-at (suc i) entries i key known.1 (omega arith) in
+    cc
+
 -- the key of the reserved entry is that of none that is shown
 pub new-at : (n : ℕ) (entries : List Entry) (key : List Datum) → IsDistinct same_key (entry_keys entries) → slice_get (entry_keys entries) n ≡ Some key
     → is_among (entry_keys (take n entries)) key ≡ false
@@ -112,6 +123,18 @@ pub length-counted : (numbers : List ℤ) (i : ℕ) (entries : List Entry) → l
 length-counted numbers i [] = refl
 length-counted numbers zero (e ∷ entries) = refl
 length-counted numbers (suc i) (e ∷ entries) = ap suc (length-counted numbers i entries)
+
+place-counted : (numbers : List ℤ) (i : ℕ) (entries : List Entry) (next : Next) → place_in (counted_at numbers i entries) next ≡ place_in entries next
+place-counted numbers i entries nexts.Unknown = refl
+place-counted numbers i entries nexts.Dropped = refl
+place-counted numbers i entries (nexts.At j) = at i entries j
+  where
+    at : (i : ℕ) (entries : List Entry) (j : ℕ) → place_at (slice_get (counted_at numbers i entries) j) ≡ place_at (slice_get entries j)
+    at i [] j = refl
+    at zero (e ∷ entries) zero = refl
+    at zero (e ∷ entries) (suc j) = refl
+    at (suc i) (e ∷ entries) zero = refl
+    at (suc i) (e ∷ entries) (suc j) = at i entries j
 
 drop-counted : (numbers : List ℤ) (n i : ℕ) (entries : List Entry) → i < n → drop n (counted_at numbers i entries) ≡ drop n entries
 drop-counted numbers n i [] lt = refl
@@ -190,12 +213,12 @@ pub table-empty : (size width : ℕ) → (let table : Table = record { entries =
 table-empty zero width = refl
 table-empty (suc size) width = refl
 
-pub stands-after_hit : (hist : Seen) (hits : List Hit) (hit : Hit) → StandsFor hist hits → StandsFor (after_hit hist hit) (hits ++ hit ∷ [])
-unfolding StandsFor grouped
-stands-after_hit hist hits hit stands =
-    let size = hist.spec.size in
-    let width = length hist.spec.value_sources in
-    ap (λ t. after_row size width t hit) stands ∙ sym (group-push size width hits hit)
+pub stands-after_row : (spec : SpecSeen) (size width : ℕ) (table : Table) (hits : List Hit) (hit : Hit) → size ≡ spec.size
+    → width ≡ length spec.value_sources → table ≡ grouped spec hits → after_row size width table hit ≡ grouped spec (hits ++ hit ∷ [])
+unfolding grouped
+stands-after_row spec size width table hits hit d e stands =
+    ap (λ n. after_row n width table hit) d ∙ ap (λ n. after_row spec.size n table hit) e
+    ∙ ap (λ t. after_row spec.size (length spec.value_sources) t hit) stands ∙ sym (group-push spec.size (length spec.value_sources) hits hit)
 
 counted-stepped : (known room : Bool) (width : ℕ) (table : Table) (hit : Hit)
     → (stepped known room width table hit).hits + (stepped known room width table hit).dropped ≡ table.hits + table.dropped + 1
@@ -203,41 +226,43 @@ counted-stepped true room width table hit = omega arith
 counted-stepped false true width table hit = omega arith
 counted-stepped false false width table hit = omega arith
 
-pub counted-after_hit : (hist : Seen) (hit : Hit) → counted (after_hit hist hit) ≡ counted hist + 1
-counted-after_hit hist hit = counted-stepped _ _ _ hist.table hit
+pub counted-after_row : (size width : ℕ) (table : Table) (hit : Hit)
+    → (after_row size width table hit).hits + (after_row size width table hit).dropped ≡ table.hits + table.dropped + 1
+counted-after_row size width table hit = counted-stepped _ _ _ table hit
 
--- ---- the histogram's fields
+-- a place stays that of its key
+pub still-place : (place : Place) (size width : ℕ) (table : Table) (hit : Hit) → IsPlaceOf place size table.entries hit.key
+    → IsPlaceOf place size (after_row size width table hit).entries hit.key
+still-place Unknown size width table hit h = h
+still-place (In other) size width table hit h = h
+still-place Nowhere size width table hit (new, full) =
+    subst (λ (t : Table). IsPlaceOf Nowhere size t.entries hit.key) (table-full size width table hit new full) (new, full)
 
-module _ (h : Inside) (now : Seen) (emission : Emission) (view : seen h ≡ now) (reserved : IsReserved now emission) (active : now.paused ≡ false) where
+-- ---- the fields
+
+module _ (h : Inside) (now : Kept) (hit : Hit) (view : seen h ≡ now) (reserved : IsPlaceOf now.next now.size now.table.entries hit.key) where
   entries : List Entry
   entries = entries_in h.entries.entries
 
   -- what was reserved is where the row is counted
-  pub reserved-place : IsPlaceOf (place_in (entries_in h.entries.entries) h.next) h.spec.size (take h.shown (entries_in h.entries.entries))
-      (hit_of h.spec emission).key
-  unfolding IsReserved
-  reserved-place = subst (λ s. IsReserved s emission) (sym view) reserved (ap (λ (s : Seen). s.paused) view ∙ active)
+  pub reserved-place : IsPlaceOf (place_in (entries_in h.entries.entries) h.next) h.size (take h.shown (entries_in h.entries.entries))
+      hit.key
+  reserved-place = subst (λ (k : Kept). IsPlaceOf k.next k.size k.table.entries hit.key) (sym view) reserved
 
   pub reserved-at : (i : ℕ) → h.next ≡ nexts.At i
-      → (i < length h.entries.entries) × (slice_get (entry_keys (entries_in h.entries.entries)) i ≡ Some (hit_of h.spec emission).key)
+      → (i < length h.entries.entries) × (slice_get (entry_keys (entries_in h.entries.entries)) i ≡ Some hit.key)
   unfolding entries
   reserved-at i is =
-      let place : IsPlaceOf (place_at (slice_get entries i)) h.spec.size (take h.shown entries) (hit_of h.spec emission).key =
-      subst (λ (n : Next). IsPlaceOf (place_in entries n) h.spec.size (take h.shown entries) (hit_of h.spec emission).key) is reserved-place in
-      let known = known-at entries i h.spec.size (take h.shown entries) (hit_of h.spec emission).key place in
+      let place : IsPlaceOf (place_at (slice_get entries i)) h.size (take h.shown entries) hit.key =
+      subst (λ (n : Next). IsPlaceOf (place_in entries n) h.size (take h.shown entries) hit.key) is reserved-place in
+      let known = known-at entries i h.size (take h.shown entries) hit.key place in
       let count = length-map h.entries.entries entry_in in
       (omega (arith, known.0, count), known.1)
 
   -- it is counted in an entry
   module _ (sound : IsSound h) (i more : ℕ) (is : h.next ≡ nexts.At i) (distinct : IsDistinct same_key (entry_keys (entries_in h.entries.entries)))
       (below : i < h.shown → more ≡ h.shown) (above : h.shown ≤ i → more ≡ length h.entries.entries)
-      (left : List (Vec KeyCell × Tally)) (e : entries_in left ≡ counted_at (hit_of h.spec emission).numbers i (entries_in h.entries.entries)) where
-    hit : Hit
-    hit = hit_of h.spec emission
-
-    width : ℕ
-    width = length h.spec.value_sources
-
+      (left : List (Vec KeyCell × Tally)) (e : entries_in left ≡ counted_at hit.numbers i (entries_in h.entries.entries)) where
     count : length entries ≡ length h.entries.entries
     unfolding entries
     count = length-map h.entries.entries entry_in
@@ -251,64 +276,70 @@ module _ (h : Inside) (now : Seen) (emission : Emission) (view : seen h ≡ now)
     shown : h.shown ≤ length entries
     shown = omega (arith, sound.shown, count)
 
-    fits : length entries ≤ h.spec.size
+    fits : length entries ≤ h.size
     fits = omega (arith, sound.size, count)
 
     all : h.shown ≤ i → more ≡ length entries
     all le = above le ∙ sym count
 
-    pub seen-at : (let after : Seen = record {
-      spec = h.spec;
-      paused = h.paused;
+    pub seen-at : (let after : Kept = record {
+      size = h.size;
+      width = h.width;
       table = record { entries = take more (entries_in left); hits = h.hits + 1; dropped = h.dropped };
-      next = Unknown;
+      next = place_in (entries_in left) h.next;
     } in after)
-        ≡ after_hit now (hit_of now.spec emission)
-    unfolding entries hit width
+        ≡ after_hit now hit
+    unfolding entries
     seen-at =
-        ap (λ (l : List Entry). let s : Seen = record {
-          spec = h.spec;
-          paused = h.paused;
+        ap (λ (l : List Entry). let s : Kept = record {
+          size = h.size;
+          width = h.width;
           table = record { entries = take more l; hits = h.hits + 1; dropped = h.dropped };
-          next = Unknown;
+          next = place_in l h.next;
         } in s) e
-        ∙ ap (λ (t : Table). let s : Seen = record { spec = h.spec; paused = h.paused; table = t; next = Unknown } in s)
-        (table-at h.spec.size width entries h.shown i more h.hits h.dropped hit distinct (reserved-at i is).1 inside shown fits sound.end below all)
-        ∙ ap (λ (s : Seen). after_hit s (hit_of s.spec emission)) view
+        ∙ ap (λ (p : Place). let s : Kept = record {
+          size = h.size;
+          width = h.width;
+          table = record { entries = take more (counted_at hit.numbers i entries); hits = h.hits + 1; dropped = h.dropped };
+          next = p;
+        } in s) (place-counted hit.numbers i entries h.next)
+        ∙ ap (λ (t : Table). let s : Kept = record { size = h.size; width = h.width; table = t; next = place_in entries h.next } in s)
+        (table-at h.size h.width entries h.shown i more h.hits h.dropped hit distinct (reserved-at i is).1 inside shown fits sound.end below all)
+        ∙ ap (λ (s : Kept). after_hit s hit) view
 
     pub left-shown : more ≤ length left
-    unfolding entries hit width
+    unfolding entries
     left-shown =
-        let le = shown-at h.spec.size width entries h.shown i more h.hits h.dropped hit distinct (reserved-at i is).1 inside shown fits sound.end below all in
+        let le = shown-at h.size h.width entries h.shown i more h.hits h.dropped hit distinct (reserved-at i is).1 inside shown fits sound.end below all in
         omega (arith, le, ap (λ (l : List Entry). length l) e, count-left)
 
-    pub left-size : length left ≤ h.spec.size
-    unfolding entries hit width
+    pub left-size : length left ≤ h.size
+    unfolding entries
     left-size = omega (arith, fits, ap (λ (l : List Entry). length l) e, count-left, length-counted hit.numbers i entries)
 
-    pub left-end : IsEnd (length h.spec.value_sources) (drop more (entries_in left))
-    unfolding entries hit width
+    pub left-end : IsEnd h.width (drop more (entries_in left))
+    unfolding entries
     left-end =
-        subst (λ (l : List Entry). IsEnd width (drop more l)) (sym e)
-        (end-at h.spec.size width entries h.shown i more h.hits h.dropped hit distinct (reserved-at i is).1 inside shown fits sound.end below all)
+        subst (λ (l : List Entry). IsEnd h.width (drop more l)) (sym e)
+        (end-at h.size h.width entries h.shown i more h.hits h.dropped hit distinct (reserved-at i is).1 inside shown fits sound.end below all)
 
   -- it is counted in none
   pub seen-dropped : h.next ≡ nexts.Dropped
-      → (let after : Seen = record {
-        spec = h.spec;
-        paused = h.paused;
+      → (let after : Kept = record {
+        size = h.size;
+        width = h.width;
         table = record { entries = take h.shown (entries_in h.entries.entries); hits = h.hits; dropped = h.dropped + 1 };
-        next = Unknown;
+        next = place_in (entries_in h.entries.entries) h.next;
       } in after)
-      ≡ after_hit now (hit_of now.spec emission)
+      ≡ after_hit now hit
+  unfolding entries
   seen-dropped is =
-      let place = subst (λ (n : Next). IsPlaceOf (place_in (entries_in h.entries.entries) n) h.spec.size (take h.shown (entries_in h.entries.entries))
-      (hit_of h.spec emission).key) is reserved-place in
-      ap (λ (t : Table). let s : Seen = record { spec = h.spec; paused = h.paused; table = t; next = Unknown } in s)
-      (table-full h.spec.size (length h.spec.value_sources) (seen h).table (hit_of h.spec emission) place.0 place.1)
-      ∙ ap (λ (s : Seen). after_hit s (hit_of s.spec emission)) view
+      let place = subst (λ (n : Next). IsPlaceOf (place_in entries n) h.size (take h.shown entries) hit.key) is reserved-place in
+      ap (λ (t : Table). let s : Kept = record { size = h.size; width = h.width; table = t; next = place_in entries h.next } in s)
+      (table-full h.size h.width (seen h).table hit place.0 place.1)
+      ∙ ap (λ (s : Kept). after_hit s hit) view
 
   pub not-unknown : h.next ≡ nexts.Unknown → ⊥
   not-unknown is =
-      subst (λ (n : Next). IsPlaceOf (place_in (entries_in h.entries.entries) n) h.spec.size (take h.shown (entries_in h.entries.entries))
-      (hit_of h.spec emission).key) is reserved-place
+      subst (λ (n : Next). IsPlaceOf (place_in (entries_in h.entries.entries) n) h.size (take h.shown (entries_in h.entries.entries))
+      hit.key) is reserved-place

@@ -2,6 +2,7 @@ pub mod BucketLaws
 pub mod BucketLemmas
 pub mod Counting
 pub mod GroupLaws
+pub mod Histograms
 pub mod Keys
 pub mod Numbers
 pub mod PrintLaws

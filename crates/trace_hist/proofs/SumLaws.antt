@@ -1,10 +1,11 @@
 -- Sums stay in range, and numbers that are added index by index are added.
-use Rattle.std.proofs.Common.{◌≡◌, ℕ, zero, suc, ◌+◌, ◌^◌, ◌≤◌, ◌<◌, min, ℤ, pos, ◌+ℤ◌, List, [], ◌∷◌, ◌++◌, length, map, take, replicate, set, get_or, FitsSigned, to_z, of_z, refl, sym, ap, ◌∙◌, subst, arith}
+use Rattle.std.proofs.Common.{◌≡◌, ℕ, zero, suc, ◌+◌, ◌≤◌, ◌<◌, min, ℤ, pos, ◌+ℤ◌, List, [], ◌∷◌, ◌++◌, length, map, take, replicate, set, get_or, FitsSigned, to_z, of_z, refl, sym, ap, ◌∙◌, subst, arith}
 use Rattle.std.specs.Int.{w128}
 use Rattle.std.specs.List.{AllByRecursion}
 use Rattle.std.proofs.lemmas.Int.{ints, to_z-of_z}
 use Rattle.std.proofs.lemmas.List.{map_more, length-map, length-take-le}
 use Rattle.trace_hist.specs.Groups.{added}
+use Rattle.trace_hist.specs.Hists.{most_rows}
 use Rattle.trace_hist.specs.Numbers.{IsFieldNumber, IsWithin, AreWithin}
 
 -- ---- ranges
@@ -31,7 +32,7 @@ within-zeros rows zero = tt
 within-zeros rows (suc width) = ((omega (arith, ints), omega (arith, ints)), within-zeros rows width)
 
 -- a number is added to a sum in 128 bits
-module _ (sum number : ℤ) (h : IsWithin (2 ^ 32 + 1) sum) (few : IsFieldNumber number) where
+module _ (sum number : ℤ) (h : IsWithin (most_rows + 1) sum) (few : IsFieldNumber number) where
   sum-is : to_z w128 (of_z w128 sum) ≡ sum
   sum-is = to_z-of_z w128 sum (omega (arith, ints, h.0, h.1))
 

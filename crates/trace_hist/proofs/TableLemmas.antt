@@ -24,6 +24,9 @@ use Rattle.trace_hist.specs.private.Steps.{counted_at}
 use Rattle.trace_hist.proofs.Keys.{key_decided}
 use Rattle.trace_hist.proofs.SumLaws.{within-more}
 
+some_same : {X : Type 0} {x y : X} → Some x ≡ Some y → x ≡ y
+some_same {X} {x} {y} e = ap (λ o. unwrap_or o x) e
+
 -- ---- keys in the table, and keys as they are read
 
 pub cell-is : (a b : KeyCell) → key_cell_eq.it a b ≡ same_cell (datum_in a) (datum_in b)
@@ -84,10 +87,15 @@ position-new cells pairs (Some i) e = tt
 position-new cells pairs None e =
     sym (among-is cells pairs) ∙ none-at (λ (k : Vec KeyCell). pointwise key_cell_eq.it cells k.items) (keys_of pairs) (sym e)
 
--- ---- a row more
+pub key-at : (pairs : List (Vec KeyCell × Tally)) (i : ℕ) (pair : Vec KeyCell × Tally) (key : List Datum) → Some pair ≡ slice_get pairs i
+    → same_key (cells_in pair.0) key ≡ true → slice_get (entry_keys (entries_in pairs)) i ≡ Some key
+key-at [] i pair key at same = cc
+key-at (p ∷ pairs) zero pair key at same =
+    let e : p ≡ pair = sym (some_same at) in
+    ap Some (ap (λ (q : Vec KeyCell × Tally). cells_in q.0) e ∙ (key_decided (cells_in pair.0) key).0 same)
+key-at (p ∷ pairs) (suc i) pair key at same = key-at pairs i pair key at same
 
-some_same : {X : Type 0} {x y : X} → Some x ≡ Some y → x ≡ y
-some_same {X} {x} {y} e = ap (λ o. unwrap_or o x) e
+-- ---- a row more
 
 -- what is kept of an entry's rows is in range
 pub tally-counted : (rows : ℕ) (pairs : List (Vec KeyCell × Tally)) (i : ℕ) (tally : Tally) → Some tally ≡ slice_get (values_of pairs) i

@@ -1,5 +1,5 @@
 -- What a caller sees of a histogram, and when that agrees with a list of rows.
-use Rattle.std.specs.Prelude.{◌≡◌, ℕ, ◌+◌, ◌^◌, ◌<◌, ◌≤◌, Bool, false, List, length, map}
+use Rattle.std.specs.Prelude.{◌≡◌, ℕ, ◌+◌, ◌^◌, ◌<◌, ◌≤◌, ◌≢◌, Bool, false, List, length, map}
 use Rattle.trace_format.specs.Cells.{Datum}
 use Rattle.trace_format.specs.Operands.{Emission}
 use Rattle.trace_trigger.specs.HistSpecs.{SpecSeen}
@@ -33,20 +33,37 @@ IsPlaceOf Unknown size entries key = ⊥
 IsPlaceOf (In other) size entries key = other ≡ key
 IsPlaceOf Nowhere size entries key = (is_among (entry_keys entries) key ≡ false) × (size ≤ length entries)
 
--- the next row may be counted: all that it needs was reserved. A paused histogram needs nothing
-unfoldable pub IsReserved : Seen → Emission → Type 0
-IsReserved hist emission = hist.paused ≡ false → IsPlaceOf hist.next hist.spec.size hist.table.entries (hit_of hist.spec emission).key
+-- the next row may be counted, as a trigger reads it: all that it needs was reserved. A paused histogram needs nothing
+unfoldable pub IsReservedAs : Seen → SpecSeen → Emission → Type 0
+IsReservedAs hist by emission = hist.paused ≡ false → IsPlaceOf hist.next hist.spec.size hist.table.entries (hit_of by emission).key
 
--- the row's key needs a new entry: the histogram is not paused, it is not full, and the key has no entry
-pub record NeedsEntry (hist : Seen) (emission : Emission) : Type 0 where
+-- as the histogram's own trigger reads it
+abbrev pub IsReserved : Seen → Emission → Type 0
+IsReserved hist emission = IsReservedAs hist hist.spec emission
+
+-- whichever trigger reads this key of a row
+abbrev pub IsReservedForKey : Seen → List Datum → Type 0
+IsReservedForKey hist key = (other : SpecSeen) (emission : Emission) → (hit_of other emission).key ≡ key → IsReservedAs hist other emission
+
+-- a row needs a new entry for the key that a trigger reads of it: the histogram is not paused, it is not full, and the key has no entry, nor is one
+-- reserved for it
+pub record NeedsEntryAs (hist : Seen) (by : SpecSeen) (emission : Emission) : Type 0 where
   pub active : hist.paused ≡ false
   pub room : length hist.table.entries < hist.spec.size
-  pub new : is_among (entry_keys hist.table.entries) (hit_of hist.spec emission).key ≡ false
+  pub new : is_among (entry_keys hist.table.entries) (hit_of by emission).key ≡ false
+  pub unreserved : hist.next ≢ In (hit_of by emission).key
+
+abbrev pub NeedsEntry : Seen → Emission → Type 0
+NeedsEntry hist emission = NeedsEntryAs hist hist.spec emission
 
 -- how many rows were counted since it was new or cleared
 abbrev pub counted : Seen → ℕ
 counted hist = hist.table.hits + hist.table.dropped
 
--- one row more may be counted. It counts 2^32 at most, so 128 bits hold each sum of their numbers, which have 64
+-- how many rows it counts at most: 128 bits hold each sum of so many numbers, which have 64
+abbrev pub most_rows : ℕ
+most_rows = 2 ^ 34
+
+-- one row more may be counted
 abbrev pub HasRoom : Seen → Type 0
-HasRoom hist = counted hist < 2 ^ 32
+HasRoom hist = counted hist < most_rows

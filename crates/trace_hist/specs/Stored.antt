@@ -1,24 +1,39 @@
--- How the histogram of this crate keeps what callers see: a table of entries, of which the first are shown, and two counts.
-use Rattle.std.specs.Prelude.{◌≡◌, ℕ, ◌≤◌, pos, List, [], ◌∷◌, length, map, take, drop, replicate, Option, None, Some, slice_get}
+-- How this crate keeps what a histogram has counted: a table of entries, of which the first are shown, and two counts.
+use Rattle.std.specs.Prelude.{◌≡◌, ℕ, Bool, ◌≤◌, pos, List, [], ◌∷◌, length, map, take, drop, replicate, Option, None, Some, slice_get}
 use Rattle.std.specs.List.{AllByRecursion}
 use Rattle.std.specs.Cow.{cow_slice_items}
 use Rattle.std.specs.Global.{Vec}
 use Rattle.trace_format.specs.Cells.{Datum, Whole, Bytes}
+use Rattle.trace_trigger.specs.HistSpecs.{SpecSeen}
 use Rattle.trace_hist.specs.declared.key_cell.KeyCell.{KeyCell}
 use Rattle.trace_hist.specs.declared.key_cell.KeyCell.TheVariants as cells
+use Rattle.trace_hist.specs.declared.key_cell.RowCell.{RowCell}
+use Rattle.trace_hist.specs.declared.key_cell.RowCell.TheVariants as read
 use Rattle.trace_hist.specs.declared.tally.Tally.{Tally}
 use Rattle.trace_hist.specs.declared.next.Next.{Next}
 use Rattle.trace_hist.specs.declared.next.Next.TheVariants as nexts
-use Rattle.trace_hist.specs.declared.hist.Hist.TheInside.{Inside}
-use Rattle.trace_hist.specs.Groups.{Entry}
+use Rattle.trace_hist.specs.declared.counts.Counts.TheInside.{Inside}
+use Rattle.trace_hist.specs.Groups.{Entry, Table}
 use Rattle.trace_hist.specs.Hists.{Place, Unknown, In, Nowhere, Seen}
 use Rattle.trace_hist.specs.Numbers.{AreWithin}
+
+-- what a histogram has counted, with room for so many entries of so many sums
+pub record Kept : Type 0 where
+  pub size : ℕ
+  pub width : ℕ
+  pub table : Table
+  pub next : Place
 
 -- ---- entries
 
 abbrev pub datum_in : KeyCell → Datum
 datum_in (cells.Num n) = Whole n
 datum_in (cells.Text bytes) = Bytes (cow_slice_items bytes)
+
+-- and of one that is read
+abbrev pub datum_read : RowCell → Datum
+datum_read (read.Num n) = Whole n
+datum_read (read.Text bytes) = Bytes bytes.now
 
 abbrev pub cells_in : Vec KeyCell → List Datum
 cells_in key = map datum_in key.items
@@ -33,7 +48,7 @@ entries_in pairs = map entry_in pairs
 abbrev pub empty_entry : ℕ → List Datum → Entry
 empty_entry width key = record { key = key; hitcount = 0; sums = replicate width (pos 0) }
 
--- ---- the histogram
+-- ---- the counts
 
 abbrev pub place_at : Option Entry → Place
 place_at None = Unknown
@@ -44,12 +59,12 @@ place_in entries nexts.Unknown = Unknown
 place_in entries (nexts.At index) = place_at (slice_get entries index)
 place_in entries nexts.Dropped = Nowhere
 
-abbrev pub seen : Inside → Seen
-seen h = record {
-  spec = h.spec;
-  paused = h.paused;
-  table = record { entries = take h.shown (entries_in h.entries.entries); hits = h.hits; dropped = h.dropped };
-  next = place_in (entries_in h.entries.entries) h.next;
+abbrev pub seen : Inside → Kept
+seen c = record {
+  size = c.size;
+  width = c.width;
+  table = record { entries = take c.shown (entries_in c.entries.entries); hits = c.hits; dropped = c.dropped };
+  next = place_in (entries_in c.entries.entries) c.next;
 }
 
 -- no entry, or one of no rows: what follows the entries that are shown
@@ -62,9 +77,13 @@ IsEnd width (entry ∷ other ∷ entries) = ⊥
 abbrev pub AreCounted : ℕ → List Entry → Type 0
 AreCounted rows entries = AllByRecursion (λ (entry : Entry). (entry.hitcount ≤ rows) × AreWithin rows entry.sums) entries
 
-pub record IsSound (h : Inside) : Type 0 where
-  pub keys : length h.spec.keys ≤ 3
-  pub shown : h.shown ≤ length h.entries.entries
-  pub size : length h.entries.entries ≤ h.spec.size
-  pub end : IsEnd (length h.spec.value_sources) (drop h.shown (entries_in h.entries.entries))
-  pub rows : AreCounted h.hits (entries_in h.entries.entries)
+pub record IsSound (c : Inside) : Type 0 where
+  pub shown : c.shown ≤ length c.entries.entries
+  pub size : length c.entries.entries ≤ c.size
+  pub end : IsEnd c.width (drop c.shown (entries_in c.entries.entries))
+  pub rows : AreCounted c.hits (entries_in c.entries.entries)
+
+-- ---- the histogram
+
+abbrev pub seen_of : SpecSeen → Bool → Kept → Seen
+seen_of spec paused counts = record { spec = spec; paused = paused; table = counts.table; next = counts.next }

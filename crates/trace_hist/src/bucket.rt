@@ -8,6 +8,7 @@ use crate::number::Number;
 use trace_trigger::Modifier;
 
 /// The number of a value's bucket, by which entries are grouped and sorted: k of 2^k, the least value of a bucket of N, or else the value itself.
+#[inline(never)]
 pub(crate) fn bucket_of(modifier: Modifier, number: &Number) -> i128
     ensures { result ≡ buckets.bucket_of modifier number.now }
 {

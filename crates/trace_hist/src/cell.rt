@@ -3,21 +3,21 @@
 ghost use Rattle.std.specs.Prelude.{◌≡◌, map};
 ghost use Rattle.trace_format.specs.Cells.{datum_of};
 ghost use Rattle.trace_hist.specs.Hits as hits;
-ghost use Rattle.trace_hist.specs.Stored.{datum_in};
+ghost use Rattle.trace_hist.specs.Stored.{datum_read};
 
 use crate::bucket::bucket_of;
-use crate::key_cell::KeyCell;
+use crate::key_cell::RowCell;
 use crate::number::Number;
 use trace_format::{Emission, Operand, Row, Value};
 use trace_trigger::{Key, Modifier};
 
 /// The value of a field, or 0 where no field has the index.
-fn field_cell<'a>(emission: &'a Emission, index: usize) -> KeyCell<'a>
-    ensures { datum_in result ≡ hits.field_cell emission.now.values index }
+fn field_cell<'a>(emission: &'a Emission, index: usize) -> RowCell<'a>
+    ensures { datum_read result ≡ hits.field_cell emission.now.values index }
 {
     match emission.field(index) {
-        Some(value) => KeyCell::of(value),
-        None => KeyCell::Num(0),
+        Some(value) => RowCell::of(value),
+        None => RowCell::Num(0),
     }
 }
 
@@ -40,26 +40,26 @@ fn row_number(row: &Row, index: usize) -> Number
 }
 
 /// The value of an operand in an emission.
-fn cell_of<'a>(operand: Operand, emission: &'a Emission) -> KeyCell<'a>
-    ensures { datum_in result ≡ hits.cell_of emission.now operand }
+fn cell_of<'a>(operand: Operand, emission: &'a Emission) -> RowCell<'a>
+    ensures { datum_read result ≡ hits.cell_of emission.now operand }
 {
     match operand {
-        Operand::Pid => KeyCell::Num(i128::from(emission.pid)),
-        Operand::Cpu => KeyCell::Num(i128::from(emission.cpu)),
+        Operand::Pid => RowCell::Num(i128::from(emission.pid)),
+        Operand::Cpu => RowCell::Num(i128::from(emission.cpu)),
         Operand::Field { index, .. } => field_cell(emission, index),
     }
 }
 
 /// The cell that a key tells entries apart by: the bucket of its value. A string is in one of its own, and is not copied.
-pub(crate) fn key_cell<'a>(key: &Key, emission: &'a Emission) -> KeyCell<'a>
-    ensures { datum_in result ≡ hits.key_cell emission.now key.now }
+pub(crate) fn key_cell<'a>(key: &Key, emission: &'a Emission) -> RowCell<'a>
+    ensures { datum_read result ≡ hits.key_cell emission.now key.now }
 {
     match cell_of(key.operand, emission) {
-        KeyCell::Num(number) => KeyCell::Num(match key.modifier {
+        RowCell::Num(number) => RowCell::Num(match key.modifier {
             Modifier::Plain | Modifier::Hex => number,
             modifier => bucket_of(modifier, &number_of(key.operand, emission)),
         }),
-        KeyCell::Text(bytes) => KeyCell::Text(bytes),
+        RowCell::Text(bytes) => RowCell::Text(bytes),
     }
 }
 

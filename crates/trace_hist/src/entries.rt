@@ -1,25 +1,25 @@
 //! The table of entries: from keys, in first-seen order, to what is kept of their rows.
 
-ghost use Rattle.std.specs.Prelude.{◌≡◌, ℕ, ◌+◌, ◌<◌, ◌≤◌, ◌^◌, ◌++◌, ◌∷◌, [], map, length, take, slice_get, Some, false, IfOk, IfSome, IfNone, OnOk, OnErr};
+ghost use Rattle.std.specs.Prelude.{◌≡◌, ℕ, ◌+◌, ◌<◌, ◌≤◌, ◌++◌, ◌∷◌, [], map, length, take, slice_get, Some, false, IsTrue, IfOk, IfSome, IfNone, OnOk, OnErr};
 ghost use Rattle.std.specs.List.{IsDistinct};
 ghost use Rattle.indexmap.specs.IndexMap.{spare};
 ghost use Rattle.trace_format.specs.Cells.{datum_of};
 ghost use Rattle.trace_hist.specs.Groups as groups;
-ghost use Rattle.trace_hist.specs.Hits.{number_at};
-ghost use Rattle.trace_hist.specs.Hists.{entry_keys};
+ghost use Rattle.trace_hist.specs.Hits.{number_at, key_cell as key_cell_of};
+ghost use Rattle.trace_hist.specs.Hists.{entry_keys, most_rows};
 ghost use Rattle.trace_hist.specs.PrintOrder as order;
 ghost use Rattle.trace_hist.specs.Stored.{datum_in, cells_in, entry_in, entries_in, empty_entry, AreCounted};
 ghost use Rattle.trace_hist.specs.private.Steps.{key_of, counted_at};
 
 use crate::cell::key_cell;
 use crate::entry::HistRow;
-use crate::key_cell::{KeyCell, keep, value_of};
+use crate::key_cell::{KeyCell, RowCell, borrowed, keep, value_of};
 use crate::sort::sort_entries;
 use crate::tally::Tally;
 use indexmap::IndexMap;
 use std::alloc::{AllocError, Global};
 use trace_format::{Emission, Operand, Value};
-use trace_trigger::{HistSpec, Key};
+use trace_trigger::{Key, SortRule};
 
 /// A key has the cells of the trigger's keys, in the order in which it names them.
 pub(crate) type Entries = IndexMap<Vec<KeyCell<'static>>, Tally>;
@@ -35,6 +35,43 @@ fn index_of_cells<'a>(
     entries.get_index_of(cells)
 }
 
+/// The index of the entry of a key of two cells. It is out of line, since a function fills the room of all its cells with zeros first.
+#[inline(never)]
+fn index_of_two(entries: &Entries, first: &Key, second: &Key, emission: &Emission) -> Option<usize>
+    ensures known { IfSome result (λ index. slice_get (entry_keys (entries_in entries.now.entries)) index
+        ≡ Some (key_of (first.now ∷ second.now ∷ []) emission.now)) }
+    ensures new { IfNone result (groups.is_among (entry_keys (entries_in entries.now.entries))
+        (key_of (first.now ∷ second.now ∷ []) emission.now) ≡ false) }
+{
+    let cells = [
+        borrowed(key_cell(first, emission)),
+        borrowed(key_cell(second, emission)),
+    ];
+    index_of_cells(entries, &cells)
+}
+
+/// The same of a key of three cells.
+#[inline(never)]
+fn index_of_three(
+    entries: &Entries,
+    first: &Key,
+    second: &Key,
+    third: &Key,
+    emission: &Emission,
+) -> Option<usize>
+    ensures known { IfSome result (λ index. slice_get (entry_keys (entries_in entries.now.entries)) index
+        ≡ Some (key_of (first.now ∷ second.now ∷ third.now ∷ []) emission.now)) }
+    ensures new { IfNone result (groups.is_among (entry_keys (entries_in entries.now.entries))
+        (key_of (first.now ∷ second.now ∷ third.now ∷ []) emission.now) ≡ false) }
+{
+    let cells = [
+        borrowed(key_cell(first, emission)),
+        borrowed(key_cell(second, emission)),
+        borrowed(key_cell(third, emission)),
+    ];
+    index_of_cells(entries, &cells)
+}
+
 /// The index of the entry of an emission's key, which is looked up where it lies in the row.
 pub(crate) fn index_of(entries: &Entries, keys: &[Key], emission: &Emission) -> Option<usize>
     requires { length keys.now ≤ 3 }
@@ -44,22 +81,45 @@ pub(crate) fn index_of(entries: &Entries, keys: &[Key], emission: &Emission) -> 
     match keys {
         [] => index_of_cells(entries, &[]),
         [key] => {
-            let cells = [key_cell(key, emission)];
+            let cells = [borrowed(key_cell(key, emission))];
             index_of_cells(entries, &cells)
         }
-        [first, second] => {
-            let cells = [key_cell(first, emission), key_cell(second, emission)];
-            index_of_cells(entries, &cells)
+        [first, second] => index_of_two(entries, first, second, emission),
+        [first, second, third, ..] => index_of_three(entries, first, second, third, emission),
+    }
+}
+
+/// Whether a kept cell is the one that a key has in an emission.
+fn is_cell_of(cell: &KeyCell<'static>, key: &Key, emission: &Emission) -> bool
+    ensures { result ≡ groups.same_cell (datum_in cell.now) (key_cell_of emission.now key.now) }
+{
+    match (cell, key_cell(key, emission)) {
+        (KeyCell::Num(left), RowCell::Num(right)) => *left == right,
+        (KeyCell::Text(left), RowCell::Text(right)) => left.as_slice() == right,
+        _ => false,
+    }
+}
+
+/// Whether kept cells are those that keys have in an emission.
+fn is_key_of(cells: &[KeyCell<'static>], keys: &[Key], emission: &Emission) -> bool
+    ensures { result ≡ groups.same_key (map datum_in cells.now) (key_of keys.now emission.now) }
+{
+    match (cells, keys) {
+        ([], []) => true,
+        ([cell, cells @ ..], [key, keys @ ..]) => {
+            is_cell_of(cell, key, emission) && is_key_of(cells, keys, emission)
         }
-        [first, second, third] => {
-            let cells = [
-                key_cell(first, emission),
-                key_cell(second, emission),
-                key_cell(third, emission),
-            ];
-            index_of_cells(entries, &cells)
-        }
-        _ => unreachable!(),
+        _ => false,
+    }
+}
+
+/// Whether the entry at an index is that of an emission's key.
+pub(crate) fn has_key_at(entries: &Entries, index: usize, keys: &[Key], emission: &Emission) -> bool
+    ensures { IsTrue result → slice_get (entry_keys (entries_in entries.now.entries)) index ≡ Some (key_of keys.now emission.now) }
+{
+    match entries.get_index(index) {
+        Some((cells, _)) => is_key_of(cells, keys, emission),
+        None => false,
     }
 }
 
@@ -73,7 +133,7 @@ fn kept_key(
 {
     let mut cells = Vec::with_capacity(alloc, keys.len())?;
     for key in keys {
-        cells.push(keep(alloc, &key_cell(key, emission))?)?;
+        cells.push(keep(alloc, key_cell(key, emission))?)?;
     }
     Ok(cells)
 }
@@ -99,21 +159,23 @@ fn put_last(entries: &mut Entries, key: Vec<KeyCell<'static>>, tally: Tally)
 }
 
 /// Puts an entry of no rows in, for an emission's key, after the first so many entries and in place of those that follow them. Memory is taken
-/// before anything changes.
+/// before anything changes. It is out of line, since a row of a key that is known comes by the call.
+#[inline(never)]
 pub(crate) fn reserve_entry(
     entries: &mut Entries,
     alloc: Global,
     kept: usize,
-    spec: &HistSpec,
+    width: usize,
+    keys: &[Key],
     emission: &Emission,
 ) -> Result<(), AllocError>
-    requires new { groups.is_among (entry_keys (entries_in entries.old.entries)) (key_of spec.now.keys emission.now) ≡ false }
+    requires new { groups.is_among (entry_keys (entries_in entries.old.entries)) (key_of keys.now emission.now) ≡ false }
     ensures ok { OnOk result (entries_in entries.new.entries ≡ take kept (entries_in entries.old.entries)
-        ++ empty_entry (length spec.now.value_sources) (key_of spec.now.keys emission.now) ∷ []) }
+        ++ empty_entry width (key_of keys.now emission.now) ∷ []) }
     ensures err { OnErr result (entries.new.entries ≡ entries.old.entries) }
 {
-    let key = kept_key(alloc, spec.keys(), emission)?;
-    let tally = Tally::new(alloc, spec.value_sources().len())?;
+    let key = kept_key(alloc, keys, emission)?;
+    let tally = Tally::new(alloc, width)?;
     entries.reserve(1)?;
     entries.truncate(kept);
     put_last(entries, key, tally);
@@ -136,7 +198,7 @@ pub(crate) fn count_row(
     emission: &Emission,
 )
     requires index { index < length entries.old.entries }
-    requires counted { AreCounted (2 ^ 32) (entries_in entries.old.entries) }
+    requires counted { AreCounted most_rows (entries_in entries.old.entries) }
     ensures entries { entries_in entries.new.entries
         ≡ counted_at (map (number_at emission.now) operands.now) index (entries_in entries.old.entries) }
     ensures counted { (rows : ℕ) → AreCounted rows (entries_in entries.old.entries)
@@ -189,15 +251,15 @@ fn rows_of(alloc: Global, entries: &Entries, count: usize) -> Result<Vec<HistRow
 /// The first so many entries, in print order.
 pub(crate) fn entries_in_order(
     alloc: Global,
-    spec: &HistSpec,
+    rules: &[SortRule],
     entries: &Entries,
     count: usize,
 ) -> Result<Vec<HistRow>, AllocError>
     requires { count ≤ length entries.now.entries }
-    ensures { IfOk result (λ shown. map order.row_in shown.items ≡ order.printed spec.now.sort_sources
+    ensures { IfOk result (λ shown. map order.row_in shown.items ≡ order.printed rules.now
         (take count (entries_in entries.now.entries))) }
 {
     let mut rows = rows_of(alloc, entries, count)?;
-    sort_entries(&mut rows, spec.sort_sources())?;
+    sort_entries(&mut rows, rules)?;
     Ok(rows)
 }

@@ -20,42 +20,30 @@
 //!   hit           adds the row to the entry at that index. If that is the reserved one, it is shown from then on
 //! ```
 //!
-//! If a row is not counted after all (the emission was refused), the reserved entry is left at the end and not shown. The next `reserve_hit` of another
-//! key takes it out, unless it is refused or the histogram is paused, and so does `clear`. A paused histogram reserves nothing.
+//! `next` stays after a hit, so that it counts another row with the same key without a look-up of its own, and so a `reserve_hit` of the same key again
+//! finds its entry there. If a row is not counted after all (the emission was refused), the reserved entry is left at the end and not shown. The next
+//! `reserve_hit` of another key takes it out, unless it is refused or the histogram is paused, and so does `clear`. A paused histogram reserves nothing.
 //!
-//! Sums have 128 bits. A row's number is from -2^63 to 2^64 - 1 and a histogram counts at most 2^32 rows, so no sum overflows.
+//! Several triggers may count in one table, also triggers of several events: each call has a form that says which trigger reads the row
+//! (`reserve_hit_as`, `hit_as`). Two of one event, with the same keys, read the same key of a row, so it is reserved once and counted twice.
+//!
+//! Sums have 128 bits. A row's number is from -2^63 to 2^64 - 1, and a histogram counts so few rows (`HasRoom`) that no sum overflows.
 
-ghost use Rattle.std.specs.Prelude.{◌≡◌, ◌+◌, ◌++◌, List, [], ◌∷◌, IfOk, OnOk, OnErr, length, map};
-ghost use Rattle.std.specs.Prelude.{IsTrue, ◌↔◌, ◌<◌, false, true};
+ghost use Rattle.std.specs.Prelude.{◌≡◌, ◌+◌, ◌++◌, List, [], ◌∷◌, IsOk, IfOk, OnOk, OnErr, length, map};
+ghost use Rattle.std.specs.Prelude.{IsTrue, ◌↔◌, false, true};
 ghost use Rattle.trace_trigger.specs.declared.spec.Action.TheVariants as actions;
 ghost use Rattle.trace_hist.specs.Groups.{grouped};
 ghost use Rattle.trace_hist.specs.Hits.{Hit, hit_of};
 ghost use Rattle.trace_hist.specs.PrintOrder.{row_in, printed};
-ghost use Rattle.trace_hist.specs.private.Steps.{after_hit};
-ghost use Rattle.trace_hist.specs.Hists.{StandsFor, IsReserved, NeedsEntry, counted, HasRoom};
+ghost use Rattle.trace_hist.specs.Hists.{StandsFor, IsReserved, IsReservedAs, IsReservedForKey, NeedsEntry, NeedsEntryAs, counted, HasRoom};
 
-use crate::entries::{Entries, count_row, entries_in_order, shown_with};
+use crate::counts::Counts;
 use crate::entry::HistRow;
-use crate::next::{Next, reserve};
-use indexmap::IndexMap;
+use crate::totals::Totals;
 use std::alloc::{AllocError, Global};
 use std::marker::Model;
 use trace_format::{Emission, Row};
 use trace_trigger::{Action, HistSpec};
-
-/// What a histogram comes to.
-#[derive(Clone, Copy, PartialEq, Eq)]
-pub struct Totals {
-    /// How many rows were counted into entries.
-    pub hits: u64,
-    /// How many entries there are.
-    pub entries: u64,
-    /// How many rows came while there was no room for another entry.
-    pub dropped: u64,
-}
-
-/// How many keys a trigger has at most.
-const MAX_KEYS: usize = 3;
 
 /// The histogram of a trigger: an entry for each key, with a count and sums.
 #[derive(Drop)]
@@ -63,13 +51,7 @@ pub struct Hist {
     alloc: Global,
     spec: HistSpec,
     paused: bool,
-    // The entries in first-seen order. Those from `shown` on, at most one, are reserved.
-    entries: Entries,
-    shown: usize,
-    // How many rows were counted into entries, and how many had none.
-    hits: u64,
-    dropped: u64,
-    next: Next,
+    counts: Counts,
 }
 
 impl Model for Hist {
@@ -77,37 +59,30 @@ impl Model for Hist {
 
     ghost Value = { Seen };
 
-    ghost use Rattle.trace_hist.specs.Stored.{seen, IsSound};
+    ghost use Rattle.trace_hist.specs.private.Steps.{AreOf};
+    ghost use Rattle.trace_hist.specs.Stored.{seen_of};
 
-    ghost view = { seen };
+    ghost view = { λ h. seen_of h.spec h.paused h.counts };
 
-    ghost invariant = { IsSound };
+    ghost invariant = { λ h. AreOf h.spec h.counts };
 }
 
 impl Hist {
-    /// The histogram of a trigger, with nothing counted. It is paused where the trigger asks for it. A trigger with more than three keys, which
-    /// none has, is refused as out of memory.
+    /// The histogram of a trigger, with nothing counted. It is paused where the trigger asks for it. It takes no memory, and never fails.
     pub fn new(alloc: Global, spec: HistSpec) -> Result<Hist, AllocError>
+        ensures ok { IsOk result }
         ensures stands { IfOk result (λ hist. StandsFor hist []) }
         ensures spec { IfOk result (λ hist. hist.spec ≡ spec) }
         ensures paused { IfOk result (λ hist. IsTrue hist.paused ↔ (spec.action ≡ actions.Pause)) }
         ensures counted { IfOk result (λ hist. counted hist ≡ 0) }
-        // It takes no memory.
-        ensures few { OnErr result (3 < length spec.keys) }
     {
-        if spec.keys().len() > MAX_KEYS {
-            return Err(AllocError);
-        }
         let paused = matches!(spec.action(), Action::Pause);
+        let counts = Counts::new(alloc, spec.size() as usize, spec.value_sources().len());
         Ok(Hist {
             alloc,
             spec,
             paused,
-            entries: IndexMap::new(alloc),
-            shown: 0,
-            hits: 0,
-            dropped: 0,
-            next: Next::Unknown,
+            counts,
         })
     }
 
@@ -129,19 +104,42 @@ impl Hist {
         if self.paused {
             return Ok(());
         }
-        let emission = Emission { row, cpu, pid };
-        self.next = reserve(
-            &mut self.entries,
-            self.alloc,
-            self.shown,
-            &self.spec,
-            &emission,
-        )?;
+        self.counts
+            .reserve(self.alloc, &self.spec, &Emission { row, cpu, pid })?;
+        Ok(())
+    }
+
+    /// The same for a row that another trigger of this table reads: an entry for the key that the row has by that trigger.
+    pub fn reserve_hit_as(
+        &mut self,
+        by: &HistSpec,
+        row: &Row,
+        cpu: u32,
+        pid: i32,
+    ) -> Result<(), AllocError>
+        ensures stands { (rows : List Hit) → StandsFor self.old rows → StandsFor self.new rows }
+        ensures spec { self.new.spec ≡ self.old.spec }
+        ensures paused { self.new.paused ≡ self.old.paused }
+        ensures table { self.new.table ≡ self.old.table }
+        ensures counted { counted self.new ≡ counted self.old }
+        ensures reserved { OnOk result (IsReservedAs self.new by.now
+            (record { values = row.now.values; cpu = cpu; pid = pid })) }
+        ensures err { OnErr result (self.new ≡ self.old) }
+        // Memory is taken, and may be refused, only for a new entry.
+        ensures memory { OnErr result (NeedsEntryAs self.old by.now
+            (record { values = row.now.values; cpu = cpu; pid = pid })) }
+    {
+        if self.paused {
+            return Ok(());
+        }
+        self.counts
+            .reserve(self.alloc, by, &Emission { row, cpu, pid })?;
         Ok(())
     }
 
     /// Counts a row of the trigger's event, which was emitted on a CPU by a process, unless the trigger is paused. It doesn't look at the
-    /// filter: ask `passes` first. The last call that changes it was a `reserve_hit` of this row. It takes no memory.
+    /// filter: ask `passes` first. The last call that changes it was a `reserve_hit` of this row, or hits after it of rows with the same key. It
+    /// takes no memory.
     pub fn hit(&mut self, row: &Row, cpu: u32, pid: i32)
         requires reserved { IsReserved self.old
             (record { values = row.now.values; cpu = cpu; pid = pid }) }
@@ -152,35 +150,32 @@ impl Hist {
         ensures state { self.new.paused ≡ self.old.paused }
         ensures spec { self.new.spec ≡ self.old.spec }
         ensures counted { self.old.paused ≡ false → counted self.new ≡ counted self.old + 1 }
+        // What was reserved for the row's key stays reserved.
+        ensures still { IsReservedForKey self.new (hit_of self.old.spec (record { values = row.now.values; cpu = cpu; pid = pid })).key }
     {
         if !self.paused {
-            self.count(&Emission { row, cpu, pid });
+            self.counts.count(&self.spec, &Emission { row, cpu, pid });
         }
     }
 
-    // Counts the row that was reserved.
-    fn count(&mut self, emission: &Emission)
-        requires active { self.old.paused ≡ false }
-        requires reserved { IsReserved self.old emission.now }
+    /// The same for a row that another trigger of this table reads: its key and numbers are those that the row has by that trigger.
+    pub fn hit_as(&mut self, by: &HistSpec, row: &Row, cpu: u32, pid: i32)
+        requires reserved { IsReservedAs self.old by.now
+            (record { values = row.now.values; cpu = cpu; pid = pid }) }
         requires few { HasRoom self.old }
-        ensures { self.new ≡ after_hit self.old (hit_of self.old.spec emission.now) }
+        ensures stands { (rows : List Hit) → StandsFor self.old rows → self.old.paused ≡ false
+            → StandsFor self.new (rows ++ hit_of by.now (record { values = row.now.values; cpu = cpu; pid = pid }) ∷ []) }
+        ensures paused { self.old.paused ≡ true → self.new ≡ self.old }
+        ensures state { self.new.paused ≡ self.old.paused }
+        ensures spec { self.new.spec ≡ self.old.spec }
+        ensures counted { self.old.paused ≡ false → counted self.new ≡ counted self.old + 1 }
+        // What was reserved for the row's key stays reserved.
+        ensures still { IsReservedForKey self.new (hit_of by.now (record { values = row.now.values; cpu = cpu; pid = pid })).key }
     {
-        let next = self.next;
-        self.next = Next::Unknown;
-        match next {
-            Next::At(index) => {
-                self.shown = shown_with(&self.entries, self.shown, index);
-                count_row(
-                    &mut self.entries,
-                    index,
-                    self.spec.value_sources(),
-                    emission,
-                );
-                self.hits += 1;
-            }
-            Next::Dropped => self.dropped += 1,
-            Next::Unknown => unreachable!(),
+        if self.paused {
+            return;
         }
+        self.counts.count(by, &Emission { row, cpu, pid });
     }
 
     /// Stops counting: rows that come are passed over.
@@ -212,11 +207,7 @@ impl Hist {
         ensures paused { self.new.paused ≡ self.old.paused }
         ensures counted { counted self.new ≡ 0 }
     {
-        self.entries.clear();
-        self.shown = 0;
-        self.hits = 0;
-        self.dropped = 0;
-        self.next = Next::Unknown;
+        self.counts.clear();
     }
 
     /// Whether it is paused.
@@ -244,11 +235,7 @@ impl Hist {
         ensures table { (result.hits ≡ self.now.table.hits) × (result.entries ≡ length self.now.table.entries)
             × (result.dropped ≡ self.now.table.dropped) }
     {
-        Totals {
-            hits: self.hits,
-            entries: self.shown as u64,
-            dropped: self.dropped,
-        }
+        self.counts.totals()
     }
 
     /// The entries in print order: by the sort keys in turn, those that tie in order of first occurrence.
@@ -257,6 +244,6 @@ impl Hist {
             ≡ printed self.now.spec.sort_sources (grouped self.now.spec rows).entries) }
         ensures table { IfOk result (λ shown. map row_in shown.items ≡ printed self.now.spec.sort_sources self.now.table.entries) }
     {
-        entries_in_order(self.alloc, &self.spec, &self.entries, self.shown)
+        self.counts.rows(self.alloc, self.spec.sort_sources())
     }
 }

@@ -2,7 +2,7 @@
 
 ghost use Rattle.std.specs.Prelude.{◌≡◌, IfOk};
 ghost use Rattle.trace_format.specs.Cells.{datum_of};
-ghost use Rattle.trace_hist.specs.Stored.{datum_in};
+ghost use Rattle.trace_hist.specs.Stored.{datum_in, datum_read};
 
 use std::alloc::{AllocError, Global};
 use std::borrow::CowSlice;
@@ -15,26 +15,43 @@ pub(crate) enum KeyCell<'a> {
     Text(CowSlice<'a, u8>),
 }
 
-impl<'a> KeyCell<'a> {
+/// A cell of a row's key, which is looked at where it lies in the row.
+#[derive(Clone, Copy)]
+pub(crate) enum RowCell<'a> {
+    Num(i128),
+    Text(&'a [u8]),
+}
+
+impl<'a> RowCell<'a> {
     /// The cell that has a value, which it borrows.
-    pub(crate) fn of(value: &'a Value) -> KeyCell<'a>
-        ensures { datum_in result ≡ datum_of value.now }
+    pub(crate) fn of(value: &'a Value) -> RowCell<'a>
+        ensures { datum_read result ≡ datum_of value.now }
     {
         match value {
-            Value::Num(number) => KeyCell::Num(*number),
-            Value::Text(bytes) => KeyCell::Text(CowSlice::Borrowed(bytes.as_slice())),
+            Value::Num(number) => RowCell::Num(*number),
+            Value::Text(bytes) => RowCell::Text(bytes.as_slice()),
         }
     }
 }
 
-/// A copy that borrows nothing.
-pub(crate) fn keep<'a>(alloc: Global, cell: &KeyCell<'a>) -> Result<KeyCell<'static>, AllocError>
-    ensures { IfOk result (λ kept. datum_in kept ≡ datum_in cell.now) }
+/// A row's cell, to look up.
+pub(crate) fn borrowed<'a>(cell: RowCell<'a>) -> KeyCell<'a>
+    ensures { datum_in result ≡ datum_read cell.entry }
 {
     match cell {
-        KeyCell::Num(number) => Ok(KeyCell::Num(*number)),
-        KeyCell::Text(bytes) => {
-            let kept = Vec::from_slice(alloc, bytes.as_slice())?;
+        RowCell::Num(number) => KeyCell::Num(number),
+        RowCell::Text(bytes) => KeyCell::Text(CowSlice::Borrowed(bytes)),
+    }
+}
+
+/// A row's cell, to keep.
+pub(crate) fn keep<'a>(alloc: Global, cell: RowCell<'a>) -> Result<KeyCell<'static>, AllocError>
+    ensures { IfOk result (λ kept. datum_in kept ≡ datum_read cell.entry) }
+{
+    match cell {
+        RowCell::Num(number) => Ok(KeyCell::Num(number)),
+        RowCell::Text(bytes) => {
+            let kept = Vec::from_slice(alloc, bytes)?;
             Ok(KeyCell::Text(CowSlice::Owned(kept)))
         }
     }

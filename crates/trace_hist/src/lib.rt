@@ -6,6 +6,7 @@
 
 mod bucket;
 mod cell;
+mod counts;
 mod entries;
 mod entry;
 mod hist;
@@ -15,8 +16,10 @@ mod next;
 mod number;
 mod sort;
 mod tally;
+mod totals;
 
 pub use entry::HistRow;
-pub use hist::{Hist, Totals};
+pub use hist::Hist;
+pub use totals::Totals;
 pub use trace_format::Text;
 pub use trace_trigger::{Action, HistSpec, Key, Modifier, SortKey, TriggerFault};

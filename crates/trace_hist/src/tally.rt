@@ -1,7 +1,8 @@
 //! What is kept of the rows of a key: how many they are, and what their numbers sum up to.
 
-ghost use Rattle.std.specs.Prelude.{◌≡◌, ℕ, ◌+◌, ◌^◌, ◌≤◌, pos, map, replicate, IfOk};
+ghost use Rattle.std.specs.Prelude.{◌≡◌, ℕ, ◌+◌, ◌≤◌, pos, map, replicate, IfOk};
 ghost use Rattle.trace_hist.specs.Groups.{added};
+ghost use Rattle.trace_hist.specs.Hists.{most_rows};
 ghost use Rattle.trace_hist.specs.Hits.{number_at};
 ghost use Rattle.trace_hist.specs.Numbers.{AreWithin};
 
@@ -30,8 +31,8 @@ impl Tally {
 
     /// Counts a row of an emission, with the numbers of the operands.
     pub(crate) fn count(&mut self, operands: &[Operand], emission: &Emission)
-        requires hitcount { self.old.hitcount ≤ 2 ^ 32 }
-        requires sums { AreWithin (2 ^ 32) self.old.sums.items }
+        requires hitcount { self.old.hitcount ≤ most_rows }
+        requires sums { AreWithin most_rows self.old.sums.items }
         ensures hitcount { self.new.hitcount ≡ self.old.hitcount + 1 }
         ensures sums { self.new.sums.items ≡ added self.old.sums.items (map (number_at emission.now) operands.now) }
         ensures within { (rows : ℕ) → AreWithin rows self.old.sums.items
@@ -44,7 +45,7 @@ impl Tally {
 
 /// Adds the numbers of operands to sums, one by one.
 fn add_numbers(sums: &mut [i128], operands: &[Operand], emission: &Emission)
-    requires { AreWithin (2 ^ 32) sums.old }
+    requires { AreWithin most_rows sums.old }
     ensures sums { sums.new ≡ added sums.old (map (number_at emission.now) operands.now) }
     ensures within { (rows : ℕ) → AreWithin rows sums.old
         → AreWithin (rows + 1) (added sums.old (map (number_at emission.now) operands.now)) }

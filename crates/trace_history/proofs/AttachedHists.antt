@@ -1,7 +1,5 @@
 -- The hist triggers that are there are just those that were attached and not taken away since.
-use Rattle.std.proofs.Common.{◌≡◌, ◌⊎◌, inl, inr, ℕ, zero, suc, Bool, true, false, not, ◌&&◌, ◌||◌, if◌then◌else◌, List, [], ◌∷◌, ◌++◌, length, Option, None, Some, Result, Ok, Err, refl, sym, ap, ◌∙◌, subst, arith}
-use Rattle.std.specs.List.{Contains, filter}
-use Rattle.std.proofs.lemmas.Bool.{false≢true}
+use Rattle.std.proofs.Common.{◌≡◌, ◌⊎◌, inl, inr, ℕ, Bool, true, false, not, ◌&&◌, ◌||◌, if◌then◌else◌, List, [], ◌∷◌, ◌++◌, length, Option, None, Some, Result, Ok, Err, refl, sym, ap, ◌∙◌, subst, arith}
 use Rattle.trace_format.specs.Definitions.{Definition}
 use Rattle.trace_trigger.specs.HistSpecs.{SpecSeen}
 use Rattle.trace_trigger.specs.TriggerTexts.{said_of}
@@ -12,98 +10,11 @@ use Rattle.trace_command.specs.Requests.{Request}
 use Rattle.trace_history.specs.HistTriggers.{HistTrigger, Written, has_same, hist_triggers, hists_after, hists_said, is_of, left_by, new_hist, says_same, those_of, written_to}
 use Rattle.trace_history.specs.Laws.{HistTriggersAreThoseAttached, IsAttached, IsAttachedBy, removes, some_later, takes, takes_away}
 use Rattle.trace_history.specs.Settings.{makes}
-use Rattle.trace_history.proofs.EventHists.{own-left}
-
--- ---- members
-
-abbrev IsIn : HistTrigger → List HistTrigger → Type 0
-IsIn t [] = ⊥
-IsIn t (u ∷ hists) = (u ≡ t) ⊎ IsIn t hists
-
-in-contains : (t : HistTrigger) (hists : List HistTrigger) → IsIn t hists → Contains hists t
-in-contains t [] there = absurd there
-in-contains t (u ∷ hists) (inl is) = (0, omega arith, is)
-in-contains t (u ∷ hists) (inr there) = let rest = in-contains t hists there in (suc rest.0, omega (arith, rest.1), rest.2)
-
-contains-in : (t : HistTrigger) (hists : List HistTrigger) → Contains hists t → IsIn t hists
-contains-in t [] (k, within, is) = absurd (omega (arith, within))
-contains-in t (u ∷ hists) (zero, within, is) = inl is
-contains-in t (u ∷ hists) (suc k, within, is) = inr (contains-in t hists (k, omega (arith, within), is))
-
-in-filter : (t : HistTrigger) (test : HistTrigger → Bool) (hists : List HistTrigger) → IsIn t (filter test hists) → IsIn t hists × (test t ≡ true)
-in-filter t test [] there = absurd there
-in-filter t test (u ∷ hists) there = by (test u) refl (in-filter t test hists) there
-  where
-    by : (keeps : Bool) → test u ≡ keeps → (IsIn t (filter test hists) → IsIn t hists × (test t ≡ true))
-        → IsIn t (if keeps then u ∷ filter test hists else filter test hists) → IsIn t (u ∷ hists) × (test t ≡ true)
-    by true is rest (inl same) = (inl same, ap test (sym same) ∙ is)
-    by true is rest (inr more) = let older = rest more in (inr older.0, older.1)
-    by false is rest more = let older = rest more in (inr older.0, older.1)
-
-filter-in : (t : HistTrigger) (test : HistTrigger → Bool) (hists : List HistTrigger) → IsIn t hists → test t ≡ true → IsIn t (filter test hists)
-filter-in t test [] there passes = there
-filter-in t test (u ∷ hists) (inl same) passes = by (test u) (ap test same ∙ passes)
-  where
-    by : (keeps : Bool) → keeps ≡ true → IsIn t (if keeps then u ∷ filter test hists else filter test hists)
-    by true is = inl same
-    by false is = absurd (false≢true is)
-filter-in t test (u ∷ hists) (inr there) passes = by (test u) (filter-in t test hists there passes)
-  where
-    by : (keeps : Bool) → IsIn t (filter test hists) → IsIn t (if keeps then u ∷ filter test hists else filter test hists)
-    by true rest = inr rest
-    by false rest = rest
-
-in-push : (t new : HistTrigger) (hists : List HistTrigger) → IsIn t (hists ++ new ∷ []) → IsIn t hists ⊎ (new ≡ t)
-in-push t new [] (inl same) = inr same
-in-push t new [] (inr none) = absurd none
-in-push t new (u ∷ hists) (inl same) = inl (inl same)
-in-push t new (u ∷ hists) (inr there) = elim (in-push t new hists there) [ inl older ↦ inl (inr older) | inr same ↦ inr same ]
-
-push-old : (t new : HistTrigger) (hists : List HistTrigger) → IsIn t hists → IsIn t (hists ++ new ∷ [])
-push-old t new [] there = absurd there
-push-old t new (u ∷ hists) (inl same) = inl same
-push-old t new (u ∷ hists) (inr there) = inr (push-old t new hists there)
-
-push-new : (new : HistTrigger) (hists : List HistTrigger) → IsIn new (hists ++ new ∷ [])
-push-new new [] = inl refl
-push-new new (u ∷ hists) = inr (push-new new hists)
-
--- ---- tests
-
-not-true : (b : Bool) → not b ≡ true → b ≡ false
-not-true true is = absurd (false≢true is)
-not-true false is = refl
-
-not-false : (b : Bool) → b ≡ false → not b ≡ true
-not-false b is = ap not is
-
-and-nothing : (b : Bool) → (b && false) ≡ false
-and-nothing true = refl
-and-nothing false = refl
-
-both-false : (x y : Bool) → (x || y) ≡ false → (x ≡ false) × (y ≡ false)
-both-false true y is = absurd (false≢true (sym is))
-both-false false y is = (refl, is)
+use Rattle.trace_history.proofs.EventHists.{own-left, tables-made_before}
+use Rattle.trace_history.proofs.Members.{IsIn, and-nothing, each-in, both-false, contains-in, filter-in, in-contains, in-filter, in-left, in-push, left-in, not-false, not-true, push-new, push-old}
+use Rattle.trace_history.proofs.Tables.{IsBefore}
 
 -- ---- one request later
-
--- one that a text left
-left-in : (t : HistTrigger) (event : Definition) (append : Bool) (hists : List HistTrigger) → IsIn t (left_by event append hists)
-    → IsIn t hists × ((is_of event t && not append) ≡ false)
-left-in t event true hists there = (there, and-nothing (is_of event t))
-left-in t event false hists there =
-    let older = in-filter t (λ u. not (is_of event u)) hists there in
-    let other : is_of event t ≡ false = not-true (is_of event t) older.1 in
-    (older.0, ap (λ (b : Bool). b && true) other)
-
-in-left : (t : HistTrigger) (event : Definition) (append : Bool) (hists : List HistTrigger) → IsIn t hists → (is_of event t && not append) ≡ false
-    → IsIn t (left_by event append hists)
-in-left t event true hists there stays = there
-in-left t event false hists there stays = filter-in t (λ u. not (is_of event u)) hists there (not-false (is_of event t) (by (is_of event t) stays))
-  where
-    by : (b : Bool) → (b && true) ≡ false → b ≡ false
-    by true is = absurd (false≢true (sym is))
-    by false is = refl
 
 -- what a text that is for its event or not does to one
 stays-by : (own gone removed : Bool) → (own && gone) ≡ false → (own && removed) ≡ false → (own && (gone || removed)) ≡ false
@@ -115,21 +26,21 @@ by-stays true gone removed is = both-false gone removed is
 by-stays false gone removed is = (refl, refl)
 
 -- one that a text leaves was there, or the text attached it
-record IsNew (number : ℕ) (event : Definition) (hists : List HistTrigger) (said : Result TriggerText TriggerFault) (t : HistTrigger) : Type 0 where
-  spec : SpecSeen
-  says : said ≡ Ok (Hist spec)
-  none : has_same spec (those_of event hists) ≡ false
-  is : new_hist number event spec ≡ t
+pub record IsNew (number : ℕ) (event : Definition) (hists : List HistTrigger) (said : Result TriggerText TriggerFault) (t : HistTrigger) : Type 0 where
+  pub spec : SpecSeen
+  pub says : said ≡ Ok (Hist spec)
+  pub none : has_same spec (those_of event hists) ≡ false
+  pub is : new_hist number event hists spec ≡ t
 
 said-in : (number : ℕ) (event : Definition) (hists : List HistTrigger) (said : Result TriggerText TriggerFault) (t : HistTrigger)
     → IsIn t (hists_said number event hists said)
     → (IsIn t hists × ((is_of event t && removes t said) ≡ false)) ⊎ IsNew number event hists said t
 said-in number event hists (Ok (Hist spec)) t there = by (has_same spec (those_of event hists)) refl there
   where
-    by : (same : Bool) → has_same spec (those_of event hists) ≡ same → IsIn t (if same then hists else hists ++ new_hist number event spec ∷ [])
+    by : (same : Bool) → has_same spec (those_of event hists) ≡ same → IsIn t (if same then hists else hists ++ new_hist number event hists spec ∷ [])
         → (IsIn t hists × ((is_of event t && false) ≡ false)) ⊎ IsNew number event hists (Ok (Hist spec)) t
     by true is older = inl (older, and-nothing (is_of event t))
-    by false is pushed = elim (in-push t (new_hist number event spec) hists pushed) [
+    by false is pushed = elim (in-push t (new_hist number event hists spec) hists pushed) [
       | inl older ↦ inl (older, and-nothing (is_of event t))
       | inr same ↦ inr (record { spec = spec; says = refl; none = is; is = same })
     ]
@@ -145,9 +56,9 @@ in-said : (number : ℕ) (event : Definition) (hists : List HistTrigger) (said :
     → (is_of event t && removes t said) ≡ false → IsIn t (hists_said number event hists said)
 in-said number event hists (Ok (Hist spec)) t there stays = by (has_same spec (those_of event hists))
   where
-    by : (same : Bool) → IsIn t (if same then hists else hists ++ new_hist number event spec ∷ [])
+    by : (same : Bool) → IsIn t (if same then hists else hists ++ new_hist number event hists spec ∷ [])
     by true = there
-    by false = push-old t (new_hist number event spec) hists there
+    by false = push-old t (new_hist number event hists spec) hists there
 in-said number event hists (Ok (RemoveHist spec)) t there stays =
     filter-in t (λ u. not (is_of event u && says_same spec u)) hists there (not-false (is_of event t && says_same spec t) stays)
 in-said number event hists (Ok (Attach spec)) t there stays = there
@@ -156,12 +67,12 @@ in-said number event hists (Ok Nothing) t there stays = there
 in-said number event hists (Err fault) t there stays = there
 
 -- what was written attached it
-record IsMade (number : ℕ) (written : Option Written) (hists : List HistTrigger) (t : HistTrigger) : Type 0 where
-  w : Written
-  is : written ≡ Some w
-  new : IsNew number w.event (left_by w.event w.append hists) (said_of w.event w.text) t
+pub record IsMade (number : ℕ) (written : Option Written) (hists : List HistTrigger) (t : HistTrigger) : Type 0 where
+  pub w : Written
+  pub is : written ≡ Some w
+  pub new : IsNew number w.event (left_by w.event w.append hists) (said_of w.event w.text) t
 
-after-in : (number : ℕ) (written : Option Written) (hists : List HistTrigger) (t : HistTrigger) → IsIn t (hists_after number written hists)
+pub after-in : (number : ℕ) (written : Option Written) (hists : List HistTrigger) (t : HistTrigger) → IsIn t (hists_after number written hists)
     → (IsIn t hists × (takes t written ≡ false)) ⊎ IsMade number written hists t
 after-in number None hists t there = inl (there, refl)
 after-in number (Some w) hists t there = elim (said-in number w.event (left_by w.event w.append hists) (said_of w.event w.text) t there) [
@@ -191,6 +102,21 @@ attached-now instance past request t alive made =
       new = ap (has_same made.new.spec) (sym (own-left made.w.event made.w.append (hist_triggers instance past))) ∙ made.new.none;
       is = refl;
     })
+
+-- one whose table is made then is attached then
+pub attached-then : (instance : Option (List ℕ)) (past : List Request) (request : Request) (t : HistTrigger)
+    → IsIn t (hist_triggers instance (request ∷ past)) → t.table ≡ length past → IsAttachedBy instance t past request
+attached-then instance past request t there is = by (makes instance request) refl there
+  where
+    by : (new : Bool) → makes instance request ≡ new
+        → IsIn t (if new then [] else hists_after (length past) (written_to instance past request) (hist_triggers instance past))
+        → IsAttachedBy instance t past request
+    by true made none = absurd none
+    by false alive there = elim (after-in (length past) (written_to instance past request) (hist_triggers instance past) t there) [
+      | inl (older, stays) ↦ let before = (each-in (IsBefore (length past)) t (hist_triggers instance past) (tables-made_before instance past) older).table in
+          absurd (omega (arith, before, is))
+      | inr made ↦ attached-now instance past request t alive made
+    ]
 
 was-attached : (instance : Option (List ℕ)) (t : HistTrigger) (past : List Request) → IsIn t (hist_triggers instance past) → IsAttached instance t past
 was-attached instance t [] there = absurd there
@@ -224,7 +150,7 @@ was-attached instance t (request ∷ past) there = by (makes instance request) r
 
 -- ---- what was attached is there
 
-is-there : (instance : Option (List ℕ)) (t : HistTrigger) (past : List Request) (request : Request) → IsAttachedBy instance t past request
+pub is-there : (instance : Option (List ℕ)) (t : HistTrigger) (past : List Request) (request : Request) → IsAttachedBy instance t past request
     → IsIn t (hist_triggers instance (request ∷ past))
 is-there instance t past request by = subst (IsIn t) (sym after) (subst (λ (u : HistTrigger). IsIn u (left ++ new ∷ [])) (sym by.is) (push-new new left))
   where
@@ -232,7 +158,7 @@ is-there instance t past request by = subst (IsIn t) (sym after) (subst (λ (u :
     left = left_by t.event by.append (hist_triggers instance past)
 
     new : HistTrigger
-    new = new_hist (length past) t.event t.spec
+    new = new_hist (length past) t.event left t.spec
 
     none : has_same t.spec (those_of t.event left) ≡ false
     none = ap (has_same t.spec) (own-left t.event by.append (hist_triggers instance past)) ∙ by.new

@@ -1,6 +1,6 @@
 -- The hist triggers of one event, one request later: only what is written to the event's own trigger file changes which there are.
-use Rattle.std.proofs.Common.{◌≡◌, ℕ, suc, Bool, true, false, not, ◌&&◌, if◌then◌else◌, List, [], ◌∷◌, ◌++◌, length, bytes_eq, Option, None, Some, Result, Ok, Err, refl, sym, ap, ◌∙◌, arith, append-nil}
-use Rattle.std.specs.List.{AllByRecursion, filter}
+use Rattle.std.proofs.Common.{◌≡◌, ℕ, suc, Bool, true, false, not, ◌&&◌, if◌then◌else◌, List, [], ◌∷◌, ◌++◌, length, bytes_eq, Option, None, Some, Result, Ok, Err, refl, sym, ap, ◌∙◌, append-nil}
+use Rattle.std.specs.List.{filter}
 use Rattle.std.proofs.lemmas.Bool.{false≢true}
 use Rattle.std.proofs.lemmas.List.Elements.{filter-append}
 use Rattle.std.proofs.lemmas.Slice.Eq.{bytes_eq-Decides}
@@ -13,20 +13,21 @@ use Rattle.trace_command.specs.Requests.{Request}
 use Rattle.trace_history.specs.HistTriggers.{HistTrigger, Written, has_same, hist_triggers, hists_after, hists_of, hists_said, is_of, kept_by, left_by, new_hist, says_same, those_of, written_for, written_to}
 use Rattle.trace_history.specs.Settings.{makes}
 use Rattle.trace_history.proofs.OwnFiles.{bytes-differ}
-use Rattle.trace_history.proofs.Tables.{AreMadeBefore, HaveOwnTables, IsOneOf, each-one, made-filter, made-later, made-push, own-filter, own-push}
+use Rattle.trace_history.proofs.Members.{in-each}
+use Rattle.trace_history.proofs.Tables.{AreApart, AreMadeBefore, IsApart, IsBefore, all-filter, all-push, apart-filter, apart-push, made-later, new-apart, new-before}
 
 -- ---- what becomes of an event's own hist triggers
 
--- after a text that is written for the event
-abbrev pub own_said : ℕ → Definition → List HistTrigger → Result TriggerText TriggerFault → List HistTrigger
-own_said number event hists (Ok (Hist spec)) = if has_same spec hists then hists else hists ++ new_hist number event spec ∷ []
-own_said number event hists (Ok (RemoveHist spec)) = filter (λ t. not (says_same spec t)) hists
-own_said number event hists said = hists
+-- after a text that is written for the event, where these are left of all and of its own
+abbrev pub own_said : ℕ → Definition → List HistTrigger → List HistTrigger → Result TriggerText TriggerFault → List HistTrigger
+own_said number event all hists (Ok (Hist spec)) = if has_same spec hists then hists else hists ++ new_hist number event all spec ∷ []
+own_said number event all hists (Ok (RemoveHist spec)) = filter (λ t. not (says_same spec t)) hists
+own_said number event all hists said = hists
 
--- after the request of this number, which writes this for the event, if anything
-abbrev pub own_after : ℕ → Option Written → List HistTrigger → List HistTrigger
-own_after number None hists = hists
-own_after number (Some w) hists = own_said number w.event (kept_by w.append hists) (said_of w.event w.text)
+-- after the request of this number, which writes this for the event, if anything, where these were there of all and of its own
+abbrev pub own_after : ℕ → List HistTrigger → Option Written → List HistTrigger → List HistTrigger
+own_after number all None hists = hists
+own_after number all (Some w) hists = own_said number w.event (left_by w.event w.append all) (kept_by w.append hists) (said_of w.event w.text)
 
 -- ---- lists
 
@@ -101,11 +102,11 @@ and-of : (b c : Bool) → b ≡ true → not (b && c) ≡ not c
 and-of b c is = ap (λ (a : Bool). not (a && c)) is
 
 said-own : (number : ℕ) (event : Definition) (hists : List HistTrigger) (said : Result TriggerText TriggerFault)
-    → those_of event (hists_said number event hists said) ≡ own_said number event (those_of event hists) said
+    → those_of event (hists_said number event hists said) ≡ own_said number event hists (those_of event hists) said
 said-own number event hists (Ok (Hist spec)) = by (has_same spec (those_of event hists))
   where
     new : HistTrigger
-    new = new_hist number event spec
+    new = new_hist number event hists spec
 
     pushed : those_of event (hists ++ new ∷ []) ≡ those_of event hists ++ new ∷ []
     pushed =
@@ -136,7 +137,7 @@ said-other : (number : ℕ) (other event : Definition) (hists : List HistTrigger
 said-other number other event hists (Ok (Hist spec)) differ = by (has_same spec (those_of other hists))
   where
     new : HistTrigger
-    new = new_hist number other spec
+    new = new_hist number other hists spec
 
     pushed : those_of event (hists ++ new ∷ []) ≡ those_of event hists
     pushed =
@@ -158,7 +159,7 @@ said-other number other event hists (Err fault) differ = refl
 -- ---- one request later
 
 after-of_event : (event : Definition) (number : ℕ) (written : Option Written) (hists : List HistTrigger)
-    → those_of event (hists_after number written hists) ≡ own_after number (written_for event written) (those_of event hists)
+    → those_of event (hists_after number written hists) ≡ own_after number hists (written_for event written) (those_of event hists)
 after-of_event event number None hists = refl
 after-of_event event number (Some w) hists = by (bytes_eq w.event.name event.name) refl
   where
@@ -166,20 +167,20 @@ after-of_event event number (Some w) hists = by (bytes_eq w.event.name event.nam
     left = left_by w.event w.append hists
 
     by : (same : Bool) → bytes_eq w.event.name event.name ≡ same
-        → those_of event (hists_said number w.event left (said_of w.event w.text)) ≡ own_after number (if same then Some w else None) (those_of event hists)
+        → those_of event (hists_said number w.event left (said_of w.event w.text)) ≡ own_after number hists (if same then Some w else None) (those_of event hists)
     by true is =
         let names : w.event.name ≡ event.name = (bytes_eq-Decides w.event.name event.name).0 is in
         let of_event : (l : List HistTrigger) → those_of event l ≡ those_of w.event l =
         λ l i. filter (λ (t : HistTrigger). bytes_eq (sym names i) t.event.name) l in
         of_event (hists_said number w.event left (said_of w.event w.text))
         ∙ said-own number w.event left (said_of w.event w.text)
-        ∙ ap (λ (l : List HistTrigger). own_said number w.event l (said_of w.event w.text))
+        ∙ ap (λ (l : List HistTrigger). own_said number w.event left l (said_of w.event w.text))
         (own-left w.event w.append hists ∙ ap (kept_by w.append) (sym (of_event hists)))
     by false differ = said-other number w.event event left (said_of w.event w.text) differ ∙ left-other w.event event w.append hists differ
 
 pub hists_of-after : (instance : Option (List ℕ)) (event : Definition) (past : List Request) (request : Request) → makes instance request ≡ false
     → hists_of instance event (request ∷ past)
-    ≡ own_after (length past) (written_for event (written_to instance past request)) (hists_of instance event past)
+    ≡ own_after (length past) (hist_triggers instance past) (written_for event (written_to instance past request)) (hists_of instance event past)
 hists_of-after instance event past request alive =
     let later : hist_triggers instance (request ∷ past) ≡ hists_after (length past) (written_to instance past request) (hist_triggers instance past) = rw alive refl in
     ap (those_of event) later ∙ after-of_event event (length past) (written_to instance past request) (hist_triggers instance past)
@@ -192,32 +193,36 @@ hists_of-made instance event past request made = rw made refl
 
 record HaveTables (number : ℕ) (hists : List HistTrigger) : Type 0 where
   made : AreMadeBefore number hists
-  own : HaveOwnTables hists
+  apart : AreApart hists
+
+tables-filter : (number : ℕ) (test : HistTrigger → Bool) (hists : List HistTrigger) → HaveTables number hists → HaveTables number (filter test hists)
+tables-filter number test hists have = record {
+  made = all-filter (IsBefore number) test hists have.made;
+  apart = apart-filter test hists have.apart;
+}
 
 tables-left : (number : ℕ) (event : Definition) (append : Bool) (hists : List HistTrigger) → HaveTables number hists → HaveTables number (left_by event append hists)
 tables-left number event true hists have = have
-tables-left number event false hists have = record {
-  made = made-filter number (λ t. not (is_of event t)) hists have.made;
-  own = own-filter (λ t. not (is_of event t)) hists have.own;
-}
+tables-left number event false hists have = tables-filter number (λ t. not (is_of event t)) hists have
 
 tables-later : (number : ℕ) (hists : List HistTrigger) → HaveTables number hists → HaveTables (suc number) hists
-tables-later number hists have = record { made = made-later number hists have.made; own = have.own }
+tables-later number hists have = record { made = made-later number hists have.made; apart = have.apart }
 
 tables-said : (number : ℕ) (event : Definition) (hists : List HistTrigger) (said : Result TriggerText TriggerFault) → HaveTables number hists
     → HaveTables (suc number) (hists_said number event hists said)
 tables-said number event hists (Ok (Hist spec)) have = by (has_same spec (those_of event hists))
   where
-    by : (same : Bool) → HaveTables (suc number) (if same then hists else hists ++ new_hist number event spec ∷ [])
+    new : HistTrigger
+    new = new_hist number event hists spec
+
+    by : (same : Bool) → HaveTables (suc number) (if same then hists else hists ++ new ∷ [])
     by true = tables-later number hists have
     by false = record {
-      made = made-push (suc number) hists (new_hist number event spec) (made-later number hists have.made) (omega arith);
-      own = own-push number hists (new_hist number event spec) have.own have.made refl;
+      made = all-push (IsBefore (suc number)) hists new (made-later number hists have.made) (new-before number event hists spec have.made);
+      apart = apart-push hists new have.apart (in-each (λ t. IsApart t new) hists (new-apart number event hists spec have.made have.apart));
     }
-tables-said number event hists (Ok (RemoveHist spec)) have = record {
-  made = made-filter (suc number) (λ t. not (is_of event t && says_same spec t)) hists (made-later number hists have.made);
-  own = own-filter (λ t. not (is_of event t && says_same spec t)) hists have.own;
-}
+tables-said number event hists (Ok (RemoveHist spec)) have =
+    tables-later number (filter (λ t. not (is_of event t && says_same spec t)) hists) (tables-filter number (λ t. not (is_of event t && says_same spec t)) hists have)
 tables-said number event hists (Ok (Attach trigger)) have = tables-later number hists have
 tables-said number event hists (Ok Remove) have = tables-later number hists have
 tables-said number event hists (Ok Nothing) have = tables-later number hists have
@@ -229,20 +234,18 @@ tables-after number (Some w) hists have =
     tables-said number w.event (left_by w.event w.append hists) (said_of w.event w.text) (tables-left number w.event w.append hists have)
 
 have_tables : (instance : Option (List ℕ)) (past : List Request) → HaveTables (length past) (hist_triggers instance past)
-have_tables instance [] = record { made = tt; own = tt }
+have_tables instance [] = record { made = tt; apart = tt }
 have_tables instance (request ∷ past) = by (makes instance request) (have_tables instance past)
   where
     by : (new : Bool) → HaveTables (length past) (hist_triggers instance past)
         → HaveTables (suc (length past)) (if new then [] else hists_after (length past) (written_to instance past request) (hist_triggers instance past))
-    by true before = record { made = tt; own = tt }
+    by true before = record { made = tt; apart = tt }
     by false before = tables-after (length past) (written_to instance past request) (hist_triggers instance past) before
 
+-- each was attached, and its table made, by a request of the past
 pub tables-made_before : (instance : Option (List ℕ)) (past : List Request) → AreMadeBefore (length past) (hist_triggers instance past)
 tables-made_before instance past = (have_tables instance past).made
 
-pub tables-own : (instance : Option (List ℕ)) (past : List Request) → HaveOwnTables (hist_triggers instance past)
-tables-own instance past = (have_tables instance past).own
-
--- each is the one trigger of its table
-pub all-one : (instance : Option (List ℕ)) (past : List Request) → AllByRecursion (λ t. IsOneOf t (hist_triggers instance past)) (hist_triggers instance past)
-all-one instance past = each-one (hist_triggers instance past) (have_tables instance past).own
+-- those of one name share a table, and no others do
+pub tables-apart : (instance : Option (List ℕ)) (past : List Request) → AreApart (hist_triggers instance past)
+tables-apart instance past = (have_tables instance past).apart

@@ -5,10 +5,14 @@ pub mod EmptySpares
 pub mod Examples
 pub mod Exchanges
 pub mod Families
+pub mod FewTriggers
+pub mod AskedTables
 pub mod CountedRows
 pub mod Pauses
 pub mod HistTriggerExamples
+pub mod Members
 pub mod Tables
+pub mod TableUnions
 pub mod EventHists
 pub mod OwnFiles
 pub mod HistTriggers
@@ -16,9 +20,11 @@ pub mod TableSteps
 pub mod AttachedHists
 pub mod KeptEmissions
 pub mod LegalEvents
+pub mod NamedTables
 pub mod OwnAnswers
 pub mod PipeReads
 pub mod SettingExamples
+pub mod SharedTables
 pub mod ShownRecords
 pub mod Sides
 pub mod Spares

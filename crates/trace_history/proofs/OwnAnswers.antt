@@ -36,11 +36,11 @@ use Rattle.trace_command.specs.declared.file_name.TopFile.TheVariants as top
 use Rattle.trace_command.specs.declared.refusal.Refusal.{Refusal}
 use Rattle.trace_command.specs.declared.refusal.Refusal.TheVariants as refusals
 use Rattle.trace_history.specs.FileTexts.{text_of}
-use Rattle.trace_history.specs.History.{row_answer, event_answer, emission_answer, added_answer, read_declaration_answer, declaration_answer, switch_answer, taken_answer, filter_answer, named_filter_answer, filter_of_all_answer, option_answer, tracing_answer, spare_answer, snapshot_answer, most_triggers, trigger_count, room_answer, asked_answer, new_hist_answer, said_answer, trigger_answer, named_trigger_answer, write_answer, whole_text, read_answer, most_instances, named_answer, make_answer, remove_answer, missing_cpu, missing_event, missing, unless_refused, file_answer, instance_answer, answer_with_room, unless_full, answer, past_of, answer_to}
+use Rattle.trace_history.specs.History.{row_answer, event_answer, emission_answer, added_answer, read_declaration_answer, declaration_answer, switch_answer, taken_answer, filter_answer, named_filter_answer, filter_of_all_answer, option_answer, tracing_answer, spare_answer, snapshot_answer, most_triggers, trigger_count, room_answer, asked_answer, fitting_answer, new_hist_answer, said_answer, trigger_answer, named_trigger_answer, write_answer, whole_text, read_answer, most_instances, named_answer, make_answer, remove_answer, missing_cpu, missing_event, missing, unless_refused, file_answer, instance_answer, answer_with_room, unless_full, answer, past_of, answer_to}
 use Rattle.trace_history.specs.Settings.{NumberedEvent, event_named, declared_events, written_flag, written_option, written_tracing, instance_names, is_there, clears_filter, can_take}
 use Rattle.trace_history.specs.Snapshots.{SnapshotWrite, Frees, Takes, Empties, written_snapshot}
 use Rattle.trace_history.specs.Triggers.{Trigger, trigger_of, has_trigger}
-use Rattle.trace_history.specs.HistTriggers.{HistTrigger, has_same, kept_by, hists_of}
+use Rattle.trace_history.specs.HistTriggers.{HistTrigger, fits_that, has_same, hist_triggers, hists_of, kept_by, left_by, named_by}
 use Rattle.trace_history.proofs.TextFaults.{adding_takes_none, filter_takes_none, trigger_text_takes_none}
 
 -- neither Memory nor Worn
@@ -126,29 +126,36 @@ asked actions.Pause = tt
 asked actions.Continue = tt
 asked actions.Clear = tt
 
-new_hist : (attached : Option Trigger) (hists : List HistTrigger) (action : Action) → IsOwn (new_hist_answer attached hists action)
-new_hist attached hists actions.Attach = room attached hists
-new_hist attached hists actions.Pause = room attached hists
-new_hist attached hists actions.Continue = tt
-new_hist attached hists actions.Clear = tt
+fitting : (fits : Bool) (r : Result Reply Refusal) → IsOwn r → IsOwn (fitting_answer fits r)
+fitting true (Ok reply) own = own
+fitting false (Ok reply) own = tt
+fitting fits (Err refusal) own = own
 
-said : (append : Bool) (attached : Option Trigger) (hists : List HistTrigger) (r : Result TriggerText TriggerFault) → (r ≡ Err faults.Memory → ⊥)
-    → IsOwn (said_answer append attached hists r)
-said append attached hists (Err fault) none = triggered fault (λ e. none (ap (λ (f : TriggerFault). Err f) e))
-said append attached hists (Ok texts.Nothing) none = tt
-said append None hists (Ok (texts.Attach spec)) none = room None hists
-said append (Some t) hists (Ok (texts.Attach spec)) none = tt
-said append None hists (Ok texts.Remove) none = tt
-said append (Some t) hists (Ok texts.Remove) none = tt
-said append attached hists (Ok (texts.Hist spec)) none = either (has_same spec hists) _ _ (asked spec.action) (new_hist attached hists spec.action)
-said append attached hists (Ok (texts.RemoveHist spec)) none = either (not append || has_same spec hists) _ _ tt tt
+new_hist : (attached : Option Trigger) (hists : List HistTrigger) (fits : Bool) (action : Action) → IsOwn (new_hist_answer attached hists fits action)
+new_hist attached hists fits actions.Attach = fitting fits (room_answer attached hists) (room attached hists)
+new_hist attached hists fits actions.Pause = fitting fits (room_answer attached hists) (room attached hists)
+new_hist attached hists fits actions.Continue = tt
+new_hist attached hists fits actions.Clear = tt
+
+said : (append : Bool) (attached : Option Trigger) (hists all : List HistTrigger) (r : Result TriggerText TriggerFault) → (r ≡ Err faults.Memory → ⊥)
+    → IsOwn (said_answer append attached hists all r)
+said append attached hists all (Err fault) none = triggered fault (λ e. none (ap (λ (f : TriggerFault). Err f) e))
+said append attached hists all (Ok texts.Nothing) none = tt
+said append None hists all (Ok (texts.Attach spec)) none = room None hists
+said append (Some t) hists all (Ok (texts.Attach spec)) none = tt
+said append None hists all (Ok texts.Remove) none = tt
+said append (Some t) hists all (Ok texts.Remove) none = tt
+said append attached hists all (Ok (texts.Hist spec)) none =
+    either (has_same spec hists) _ _ (asked spec.action) (new_hist attached hists (fits_that spec (named_by spec all)) spec.action)
+said append attached hists all (Ok (texts.RemoveHist spec)) none = either (not append || has_same spec hists) _ _ tt tt
 
 named_trigger : (instance : Option (List ℕ)) (past : List Request) (append : Bool) (text : List ℕ) (k : Option NumberedEvent)
     → IsOwn (named_trigger_answer instance past append text k)
 unfolding trigger_answer
 named_trigger instance past append text None = tt
 named_trigger instance past append text (Some k) =
-    said append (trigger_of instance k.event past) (kept_by append (hists_of instance k.event past)) (said_of k.event text)
+    said append (trigger_of instance k.event past) (kept_by append (hists_of instance k.event past))
+    (left_by k.event append (hist_triggers instance past)) (said_of k.event text)
     (trigger_text_takes_none k.event text)
 
 written : (g : Config) (instance : Option (List ℕ)) (past : List Request) (append : Bool) (text : List ℕ) (file : File)

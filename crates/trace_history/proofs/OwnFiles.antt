@@ -139,13 +139,13 @@ named-push past [] new all is = (is, tt)
 named-push past (t ∷ hists) new (first, all) is = (first, named-push past hists new all is)
 
 named-said : (past : List Request) (number : ℕ) (event : Definition) (hists : List HistTrigger) (said : Result TriggerText TriggerFault)
-    → AllByRecursion (IsNamed past) hists → ((spec : SpecSeen) → IsNamed past (new_hist number event spec))
+    → AllByRecursion (IsNamed past) hists → ((all : List HistTrigger) (spec : SpecSeen) → IsNamed past (new_hist number event all spec))
     → AllByRecursion (IsNamed past) (hists_said number event hists said)
 named-said past number event hists (Ok (Hist spec)) all is = by (has_same spec (those_of event hists))
   where
-    by : (same : Bool) → AllByRecursion (IsNamed past) (if same then hists else hists ++ new_hist number event spec ∷ [])
+    by : (same : Bool) → AllByRecursion (IsNamed past) (if same then hists else hists ++ new_hist number event hists spec ∷ [])
     by true = all
-    by false = named-push past hists (new_hist number event spec) all (is spec)
+    by false = named-push past hists (new_hist number event hists spec) all (is hists spec)
 named-said past number event hists (Ok (RemoveHist spec)) all is = named-filter past (λ t. not (is_of event t && says_same spec t)) hists all
 named-said past number event hists (Ok (Attach spec)) all is = all
 named-said past number event hists (Ok Remove) all is = all
@@ -154,15 +154,15 @@ named-said past number event hists (Err fault) all is = all
 
 -- what is written is for an event that is declared
 written-named : (instance : Option (List ℕ)) (past : List Request) (request : Request) (w : Written) → written_to instance past request ≡ Some w
-    → (number : ℕ) (spec : SpecSeen) → IsNamed past (new_hist number w.event spec)
-written-named instance past (WriteFile other (Some (OfEvent name per_event.Trigger)) append text) w is number spec =
+    → (number : ℕ) (all : List HistTrigger) (spec : SpecSeen) → IsNamed past (new_hist number w.event all spec)
+written-named instance past (WriteFile other (Some (OfEvent name per_event.Trigger)) append text) w is number all spec =
     by (is_same instance other) (event_named name past) refl is
   where
     what : NumberedEvent → Written
     what k = record { event = k.event; append = append; text = text }
 
     by : (same : Bool) (found : Option NumberedEvent) → event_named name past ≡ found → (if same then option_map what found else None) ≡ Some w
-        → IsNamed past (new_hist number w.event spec)
+        → IsNamed past (new_hist number w.event all spec)
     by true None there h = absurd (cc)
     by true (Some k) there h =
         let same : what k ≡ w = cc in
@@ -172,7 +172,7 @@ written-named instance past (WriteFile other (Some (OfEvent name per_event.Trigg
           event = event;
         }
     by false found there h = absurd (cc)
-written-named instance past _ w is number spec = absurd (cc)
+written-named instance past _ w is number all spec = absurd (cc)
 
 pub all-named : (instance : Option (List ℕ)) (past : List Request) → AllByRecursion (IsNamed past) (hist_triggers instance past)
 all-named instance [] = tt

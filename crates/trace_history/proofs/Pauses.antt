@@ -1,12 +1,12 @@
 -- Whether a table is paused: until something is asked of it, it stays as it is.
-use Rattle.std.proofs.Common.{◌≡◌, Bool, true, false, if◌then◌else◌, List, [], ◌∷◌, ◌++◌, ℕ, is_some, Option, None, Some, refl, ap, ◌∙◌, append-nil}
+use Rattle.std.proofs.Common.{◌≡◌, Bool, false, if◌then◌else◌, List, [], ◌∷◌, ◌++◌, is_some, Option, None, Some, refl, ap, ◌∙◌, append-nil}
 use Rattle.trace_hist.specs.Hits.{Hit}
 use Rattle.trace_trigger.specs.declared.spec.Action.{Action}
-use Rattle.trace_command.specs.Requests.{Request}
 use Rattle.trace_history.specs.Emissions.{emitted}
 use Rattle.trace_history.specs.HistTriggers.{asked_by, counted_by, empties, hist_triggers, hits_of, is_paused, paused_after}
-use Rattle.trace_history.specs.Laws.{asks, some_later, OnlyAskingPauses, PausesCountNothing}
-use Rattle.trace_history.proofs.CountedRows.{first-false}
+use Rattle.trace_history.specs.Laws.{some_later}
+use Rattle.trace_history.specs.TableLaws.{OnlyAskingPauses, PausesCountNothing, asks}
+use Rattle.trace_history.proofs.Members.{both-false}
 
 -- what is not asked of a table does not empty it
 unasked-kept : (asked : Option Action) → is_some asked ≡ false → empties asked ≡ false
@@ -20,14 +20,14 @@ unasked-paused (Some asked) paused is = absurd (cc)
 pub only_asking_pauses : OnlyAskingPauses
 only_asking_pauses instance table [] past unasked = refl
 only_asking_pauses instance table (next ∷ later) past unasked =
-    let parts = first-false (asks instance table (later ++ past) next) (some_later (asks instance table) later past) unasked in
+    let parts = both-false (asks instance table (later ++ past) next) (some_later (asks instance table) later past) unasked in
     unasked-paused (asked_by instance table (later ++ past) next) (is_paused instance table (later ++ past)) parts.0
     ∙ only_asking_pauses instance table later past parts.1
 
 pub pauses_count_nothing : PausesCountNothing
 pauses_count_nothing instance table [] past paused unasked = (paused, refl)
 pauses_count_nothing instance table (next ∷ later) past paused unasked =
-    let parts = first-false (asks instance table (later ++ past) next) (some_later (asks instance table) later past) unasked in
+    let parts = both-false (asks instance table (later ++ past) next) (some_later (asks instance table) later past) unasked in
     let older = pauses_count_nothing instance table later past paused parts.1 in
     let asked = asked_by instance table (later ++ past) next in
     let hists = hist_triggers instance (later ++ past) in

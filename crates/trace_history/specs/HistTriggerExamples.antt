@@ -219,3 +219,61 @@ triggers_of_two_events =
     ∷ Emit (codes "tock") 0 (pos 7) (pair (codes "m") (codes "1") ∷ []) gives done
     ∷ cat hist_file gives shows (histogram active_line (codes "{ n:          1 } hitcount:          1" ∷ []) (codes "1") (codes "1"))
     ∷ [])
+
+-- ---- tables with a name
+
+abbrev pub tock_hist_file : List ℕ
+tock_hist_file = codes "events/synthetic/tock/hist"
+
+abbrev pub tock : List ℕ → Command
+tock n = Emit (codes "tock") 0 (pos 7) (pair (codes "n") n ∷ [])
+
+-- the line of `hist:keys=n:name=both`, up to its filter and state
+abbrev pub line_of_both : List ℕ → List ℕ
+line_of_both rest = codes "hist:name=both:keys=n:vals=hitcount:sort=hitcount:size=2048" ++ rest
+
+-- three rows: one of 1, and two of 2
+abbrev pub three_rows : List ℕ → List (List ℕ)
+three_rows line =
+    histogram line (codes "{ n:          1 } hitcount:          1" ∷ codes "{ n:          2 } hitcount:          2" ∷ []) (codes "3") (codes "2")
+
+-- Two triggers of one name share a table, which counts what each of them meets, and is paused through either of them. It is there as long as one of
+-- them is: one that is attached then has to fit, and finds its rows. With the last trigger it goes, and the next begins anew.
+abbrev pub shared_table : List Turn
+shared_table =
+    with_tick (append (codes "tock u64 n") (codes "synthetic_events") gives done
+    ∷ anew (codes "hist:keys=n:name=both") gives done
+    ∷ echo (codes "hist:keys=n:name=both if n > 1") tock_trigger_file gives done
+    ∷ tick 0 (codes "1") gives done
+    ∷ tock (codes "1") gives done
+    ∷ tock (codes "2") gives done
+    ∷ tick 0 (codes "2") gives done
+    ∷ cat hist_file gives shows (three_rows (line_of_both (codes " [active]")))
+    ∷ cat tock_hist_file gives shows (three_rows (line_of_both (codes " if n > 1 [active]")))
+    ∷ append (codes "hist:keys=n:name=both:pause if n > 1") tock_trigger_file gives done
+    ∷ tick 0 (codes "1") gives done
+    ∷ anew (codes "hist:keys=n:name=both") gives done
+    ∷ cat hist_file gives shows (three_rows (line_of_both (codes " [paused]")))
+    ∷ more (codes "!hist:keys=n:name=both") gives done
+    ∷ cat tock_hist_file gives shows (three_rows (line_of_both (codes " if n > 1 [paused]")))
+    ∷ more (codes "hist:keys=n:name=both:size=256") gives Err TriggerExists
+    ∷ append (codes "!hist:keys=n:name=both if n > 1") tock_trigger_file gives done
+    ∷ more (codes "hist:keys=n:name=both:size=256") gives done
+    ∷ cat hist_file gives shows (no_histogram (codes "hist:name=both:keys=n:vals=hitcount:sort=hitcount:size=256 [active]"))
+    ∷ more (codes "hist:keys=n:name=9x") gives Err (HistSyntax 17)
+    ∷ [])
+
+-- An emission that meets two triggers of one table brings two rows. Where `>` takes all triggers of a table away, a new one of that name need not fit.
+abbrev pub table_of_one_event : List Turn
+table_of_one_event =
+    with_tick (more (codes "hist:keys=n:name=t") gives done
+    ∷ more (codes "hist:keys=n:name=t if n > 1") gives done
+    ∷ tick 0 (codes "1") gives done
+    ∷ tick 0 (codes "2") gives done
+    ∷ cat hist_file gives shows (three_rows (codes "hist:name=t:keys=n:vals=hitcount:sort=hitcount:size=2048 [active]")
+    ++ codes ""
+    ∷ three_rows (codes "hist:name=t:keys=n:vals=hitcount:sort=hitcount:size=2048 if n > 1 [active]"))
+    ∷ more (codes "hist:keys=common_pid:name=t") gives Err TriggerExists
+    ∷ anew (codes "hist:keys=common_pid:name=t") gives done
+    ∷ cat hist_file gives shows (no_histogram (codes "hist:name=t:keys=common_pid:vals=hitcount:sort=hitcount:size=2048 [active]"))
+    ∷ [])

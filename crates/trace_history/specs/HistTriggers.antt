@@ -1,7 +1,7 @@
 -- The hist triggers of an instance's events, their tables, and the emissions that these count (histogram.rst, "hist triggers"). The newest request
 -- comes first.
 use Rattle.std.specs.Prelude.{ℕ, ◌==◌, Bool, true, false, not, ◌&&◌, if◌then◌else◌, List, [], ◌∷◌, ◌++◌, length, map, Option, Some, None, Result, Ok}
-use Rattle.std.specs.List.{filter, flat_map, list_any}
+use Rattle.std.specs.List.{filter, find, flat_map, list_any}
 use Rattle.std.specs.Option.{option_map}
 use Rattle.std.specs.Str.{bytes_eq}
 use Rattle.trace_format.specs.Operands.{Emission}
@@ -10,6 +10,7 @@ use Rattle.trace_hist.specs.Groups.{Table, grouped}
 use Rattle.trace_trigger.specs.HistSpecs.{SpecSeen}
 use Rattle.trace_hist.specs.Hits.{Hit, hit_of}
 use Rattle.trace_trigger.specs.SameSpecs.{is_same as is_same_spec}
+use Rattle.trace_trigger.specs.FittingSpecs.{is_fitting}
 use Rattle.trace_trigger.specs.declared.spec.Action.{Action}
 use Rattle.trace_trigger.specs.declared.spec.Action.TheVariants.{Pause, Continue, Clear}
 use Rattle.trace_trigger.specs.TriggerTexts.{said_of}
@@ -26,7 +27,7 @@ use Rattle.trace_history.specs.Triggers.{met_by}
 -- ---- triggers that are attached
 
 -- a hist trigger of an event is known by how many requests were done before the one that attached it; with it comes what that one says of it, and
--- which table counts its rows. Each has a table of its own, known by the trigger's number.
+-- which table counts its rows. A table is known by the number of the trigger that it was made with; those of one name share it.
 pub record HistTrigger : Type 0 where
   pub event : Definition
   pub number : ℕ
@@ -41,7 +42,7 @@ is_of event t = bytes_eq event.name t.event.name
 abbrev pub those_of : Definition → List HistTrigger → List HistTrigger
 those_of event hists = filter (is_of event) hists
 
--- whether a hist trigger says the same as a text: it has the same keys, values, sort keys and filter
+-- whether a hist trigger says the same as a text: it has the same name, keys, values, sort keys and filter
 abbrev pub says_same : SpecSeen → HistTrigger → Bool
 says_same spec t = is_same_spec spec t.spec
 
@@ -57,14 +58,40 @@ kept_by append hists = if append then hists else []
 abbrev pub left_by : Definition → Bool → List HistTrigger → List HistTrigger
 left_by event append hists = if append then hists else filter (λ t. not (is_of event t)) hists
 
--- the one that a text attaches to an event, as the request of this number
-abbrev pub new_hist : ℕ → Definition → SpecSeen → HistTrigger
-new_hist number event spec = record { event = event; number = number; spec = spec; table = number }
+-- ---- tables with a name
+
+-- whether two names are there and the same
+abbrev pub is_name_of : Option (List ℕ) → Option (List ℕ) → Bool
+is_name_of (Some name) (Some other) = bytes_eq name other
+is_name_of name other = false
+
+-- whether a text names the table of a hist trigger
+abbrev pub names_table_of : SpecSeen → HistTrigger → Bool
+names_table_of spec t = is_name_of spec.name t.spec.name
+
+-- the hist trigger whose table a text names, the first of an instance
+abbrev pub named_by : SpecSeen → List HistTrigger → Option HistTrigger
+named_by spec hists = find (names_table_of spec) hists
+
+-- the table of the trigger that a text attaches as the request of this number: the one that it names, if that is there; else a new one
+abbrev pub table_or : ℕ → Option HistTrigger → ℕ
+table_or number None = number
+table_or number (Some t) = t.table
+
+-- whether a text fits the table that it names, if that is there
+abbrev pub fits_that : SpecSeen → Option HistTrigger → Bool
+fits_that spec None = true
+fits_that spec (Some t) = is_fitting spec t.spec
+
+-- the one that a text attaches to an event, as the request of this number, where the instance has these
+abbrev pub new_hist : ℕ → Definition → List HistTrigger → SpecSeen → HistTrigger
+new_hist number event hists spec = record { event = event; number = number; spec = spec; table = table_or number (named_by spec hists) }
 
 -- the hist triggers after a text that the request of this number writes for an event: one is attached if none of the event says the same, or the same
 -- one is removed. Any other text leaves those that are there.
 abbrev pub hists_said : ℕ → Definition → List HistTrigger → Result TriggerText TriggerFault → List HistTrigger
-hists_said number event hists (Ok (Hist spec)) = if has_same spec (those_of event hists) then hists else hists ++ new_hist number event spec ∷ []
+hists_said number event hists (Ok (Hist spec)) =
+    if has_same spec (those_of event hists) then hists else hists ++ new_hist number event hists spec ∷ []
 hists_said number event hists (Ok (RemoveHist spec)) = filter (λ t. not (is_of event t && says_same spec t)) hists
 hists_said number event hists said = hists
 
@@ -131,7 +158,7 @@ paused_after (Some Pause) paused = true
 paused_after (Some Continue) paused = false
 paused_after asked paused = paused
 
--- whether a table is paused: as it was asked last, by the text too that made it
+-- whether a table is paused: as it was asked last, by the texts too that attached its triggers
 abbrev pub is_paused : Option (List ℕ) → ℕ → List Request → Bool
 is_paused instance table [] = false
 is_paused instance table (request ∷ past) = paused_after (asked_by instance table past request) (is_paused instance table past)

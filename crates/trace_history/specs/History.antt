@@ -28,7 +28,7 @@ use Rattle.trace_history.specs.Settings.{NumberedEvent, event_named, declared_ev
 use Rattle.trace_command.specs.Refusals.{refusal_of_catalog, refusal_of_filter, refusal_of_trigger}
 use Rattle.trace_history.specs.Snapshots.{SnapshotWrite, Frees, Takes, Empties, written_snapshot}
 use Rattle.trace_history.specs.Triggers.{Trigger, trigger_of, has_trigger}
-use Rattle.trace_history.specs.HistTriggers.{HistTrigger, has_same, kept_by, hists_of}
+use Rattle.trace_history.specs.HistTriggers.{HistTrigger, fits_that, has_same, hist_triggers, hists_of, kept_by, left_by, named_by}
 use Rattle.trace_command.specs.declared.command.Command.{Command}
 use Rattle.trace_command.specs.declared.command.Config.{Config}
 use Rattle.trace_command.specs.declared.command.Entry.{Entry}
@@ -132,33 +132,43 @@ abbrev pub asked_answer : Action → Result Reply Refusal
 asked_answer AttachIt = Err TriggerExists
 asked_answer action = Ok Done
 
--- and of one that is not: to go on or to be emptied is asked in vain
-abbrev pub new_hist_answer : Option Trigger → List HistTrigger → Action → Result Reply Refusal
-new_hist_answer attached hists Continue = Err NoSuchTrigger
-new_hist_answer attached hists Clear = Err NoSuchTrigger
-new_hist_answer attached hists action = room_answer attached hists
+-- a table that a text names and doesn't fit is there already
+abbrev pub fitting_answer : Bool → Result Reply Refusal → Result Reply Refusal
+fitting_answer fits (Ok reply) = if fits then Ok reply else Err TriggerExists
+fitting_answer fits (Err refusal) = Err refusal
 
-abbrev pub hist_answer : Option Trigger → List HistTrigger → SpecSeen → Result Reply Refusal
-hist_answer attached hists spec = if has_same spec hists then asked_answer spec.action else new_hist_answer attached hists spec.action
+-- and of one that is not: to go on or to be emptied is asked in vain. A new one needs room, and then it has to fit the table that it names
+abbrev pub new_hist_answer : Option Trigger → List HistTrigger → Bool → Action → Result Reply Refusal
+new_hist_answer attached hists fits Continue = Err NoSuchTrigger
+new_hist_answer attached hists fits Clear = Err NoSuchTrigger
+new_hist_answer attached hists fits action = fitting_answer fits (room_answer attached hists)
+
+-- of an event with these hist triggers, in an instance with those
+abbrev pub hist_answer : Option Trigger → List HistTrigger → List HistTrigger → SpecSeen → Result Reply Refusal
+hist_answer attached hists all spec =
+    if has_same spec hists then asked_answer spec.action
+    else new_hist_answer attached hists (fits_that spec (named_by spec all)) spec.action
 
 -- a hist trigger is removed: by `>`, which takes all of them away, whether there is the same one or not
 abbrev pub remove_hist_answer : Bool → List HistTrigger → SpecSeen → Result Reply Refusal
 remove_hist_answer append hists spec = if not append || has_same spec hists then Ok Done else Err NoSuchTrigger
 
--- a trigger text, for an event with this trigger for snapshots, if it has one, and with the hist triggers that `>` or `>>` leaves
-abbrev pub said_answer : Bool → Option Trigger → List HistTrigger → Result TriggerText TriggerFault → Result Reply Refusal
-said_answer append attached hists (Err fault) = Err (refusal_of_trigger fault)
-said_answer append attached hists (Ok Nothing) = Ok Done
-said_answer append None hists (Ok (Attach spec)) = room_answer None hists
-said_answer append (Some t) hists (Ok (Attach spec)) = Err TriggerExists
-said_answer append None hists (Ok Remove) = Err NoSuchTrigger
-said_answer append (Some t) hists (Ok Remove) = Ok Done
-said_answer append attached hists (Ok (Hist spec)) = hist_answer attached hists spec
-said_answer append attached hists (Ok (RemoveHist spec)) = remove_hist_answer append hists spec
+-- a trigger text, for an event with this trigger for snapshots, if it has one, and with the hist triggers that `>` or `>>` leaves, of the event and
+-- of all events
+abbrev pub said_answer : Bool → Option Trigger → List HistTrigger → List HistTrigger → Result TriggerText TriggerFault → Result Reply Refusal
+said_answer append attached hists all (Err fault) = Err (refusal_of_trigger fault)
+said_answer append attached hists all (Ok Nothing) = Ok Done
+said_answer append None hists all (Ok (Attach spec)) = room_answer None hists
+said_answer append (Some t) hists all (Ok (Attach spec)) = Err TriggerExists
+said_answer append None hists all (Ok Remove) = Err NoSuchTrigger
+said_answer append (Some t) hists all (Ok Remove) = Ok Done
+said_answer append attached hists all (Ok (Hist spec)) = hist_answer attached hists all spec
+said_answer append attached hists all (Ok (RemoveHist spec)) = remove_hist_answer append hists spec
 
 unfoldable pub trigger_answer : Option (List ℕ) → List Request → Bool → List ℕ → Definition → Result Reply Refusal
 trigger_answer instance past append text event =
-    said_answer append (trigger_of instance event past) (kept_by append (hists_of instance event past)) (said_of event text)
+    said_answer append (trigger_of instance event past) (kept_by append (hists_of instance event past))
+    (left_by event append (hist_triggers instance past)) (said_of event text)
 
 -- the event's name is one that was declared
 abbrev pub named_trigger_answer : Option (List ℕ) → List Request → Bool → List ℕ → Option NumberedEvent → Result Reply Refusal

@@ -1,6 +1,6 @@
 -- What the words of the answers mean in legal histories, and after any requests what pipe reads consume and which records snapshots move. The newest
 -- entry comes first.
-use Rattle.std.specs.Prelude.{◌≡◌, ◌↔◌, ℕ, ◌==◌, ◌<◌, ◌≤◌, ℤ, Bool, IsTrue, true, false, not, ◌&&◌, ◌||◌, is_some, bytes_eq, List, [], ◌∷◌, ◌++◌, length, map, All, Option, Some, None, Result, Ok}
+use Rattle.std.specs.Prelude.{◌≡◌, ◌↔◌, ℕ, ◌==◌, ◌<◌, ◌≤◌, ℤ, Bool, IsTrue, true, false, not, ◌&&◌, ◌||◌, List, [], ◌∷◌, ◌++◌, length, map, All, Option, Some, None, Result, Ok}
 use Rattle.std.specs.List.{AllPairs, Contains, filter, list_any}
 use Rattle.page_ring.specs.Account.{Reading}
 use Rattle.trace_buffer.specs.Families.{CpuReading, on_cpu, cpu_readings}
@@ -8,10 +8,7 @@ use Rattle.trace_lex.specs.Decimals.{written_number}
 use Rattle.trace_filter.specs.Filters.{IsFilter, Passes}
 use Rattle.trace_format.specs.Cells.{Cells, IsRowOf, payload_of}
 use Rattle.trace_format.specs.Definitions.{Definition}
-use Rattle.trace_trigger.specs.HistSpecs.{SpecSeen}
-use Rattle.trace_hist.specs.Hits.{Hit}
 use Rattle.trace_trigger.specs.SameSpecs.{IsSame}
-use Rattle.trace_trigger.specs.declared.spec.Action.TheVariants.{Clear}
 use Rattle.trace_text.specs.RecordText.{record_line, row_line}
 use Rattle.trace_trigger.specs.TriggerTexts.{said_of}
 use Rattle.trace_trigger.specs.declared.fault.TriggerFault.{TriggerFault}
@@ -19,17 +16,16 @@ use Rattle.trace_trigger.specs.declared.trigger.TriggerText.{TriggerText}
 use Rattle.trace_trigger.specs.declared.trigger.TriggerText.TheVariants.{Hist, RemoveHist}
 use Rattle.trace_command.specs.Configs.{IsInRange}
 use Rattle.trace_history.specs.History.{trigger_count, requests_of, IsLegalNewestFirst}
-use Rattle.trace_command.specs.Paths.{OfInstance, OfCpu, OfEvent}
+use Rattle.trace_command.specs.Paths.{OfInstance, OfCpu}
 use Rattle.trace_command.specs.Requests.{Request, WriteFile, ReadFile, request_of}
 use Rattle.trace_command.specs.declared.file_name.CpuFile.TheVariants as per_cpu
-use Rattle.trace_command.specs.declared.file_name.EventFile.TheVariants as per_event
 use Rattle.trace_command.specs.declared.file_name.TopFile.TheVariants as top
 use Rattle.trace_history.specs.Emissions.{Emitted, emitted, emitted_bytes, filter_holds, is_recorded}
 use Rattle.trace_history.specs.Rings.{new_rings, with_emitted, rings, other_rings, pipe_read, cpu_pipe_read}
 use Rattle.trace_history.specs.Settings.{NumberedEvent, event_named, declared_events, filter_of, is_same, makes}
 use Rattle.trace_history.specs.Snapshots.{exchanges, has_spare}
-use Rattle.trace_history.specs.Triggers.{acts, passes, trigger_of, has_trigger}
-use Rattle.trace_history.specs.HistTriggers.{HistTrigger, Written, hist_triggers, hists_of, is_of, says_same, has_same, kept_by, new_hist, written_to, written_for, asked_by, is_pause, is_paused, empties, counted_hit, hits_of}
+use Rattle.trace_history.specs.Triggers.{acts, trigger_of, has_trigger}
+use Rattle.trace_history.specs.HistTriggers.{HistTrigger, Written, hist_triggers, hists_of, is_of, says_same, has_same, kept_by, left_by, new_hist, written_to}
 use Rattle.trace_command.specs.declared.command.Config.{Config}
 use Rattle.trace_command.specs.declared.command.Entry.{Entry}
 
@@ -189,7 +185,8 @@ abbrev pub some_later : (List Request → Request → Bool) → List Request →
 some_later test [] past = false
 some_later test (request ∷ later) past = test (later ++ past) request || some_later test later past
 
--- a request attaches a hist trigger: what it writes for the trigger's event says what the trigger says, and none says the same of those that are left
+-- a request attaches a hist trigger: what it writes for the trigger's event says what the trigger says, and none says the same of those that are left.
+-- Its table is the one of its name, if one of those that are left has that name
 pub record IsAttachedBy (instance : Option (List ℕ)) (t : HistTrigger) (past : List Request) (request : Request) : Type 0 where
   pub alive : makes instance request ≡ false
   pub append : Bool
@@ -197,7 +194,7 @@ pub record IsAttachedBy (instance : Option (List ℕ)) (t : HistTrigger) (past :
   pub written : written_to instance past request ≡ Some (record { event = t.event; append = append; text = text })
   pub said : said_of t.event text ≡ Ok (Hist t.spec)
   pub new : has_same t.spec (kept_by append (hists_of instance t.event past)) ≡ false
-  pub is : t ≡ new_hist (length past) t.event t.spec
+  pub is : t ≡ new_hist (length past) t.event (left_by t.event append (hist_triggers instance past)) t.spec
 
 -- whether a text removes a hist trigger
 abbrev pub removes : HistTrigger → Result TriggerText TriggerFault → Bool
@@ -226,98 +223,3 @@ pub record IsAttached (instance : Option (List ℕ)) (t : HistTrigger) (past : L
 abbrev pub HistTriggersAreThoseAttached : Type 0
 HistTriggersAreThoseAttached =
     (instance : Option (List ℕ)) (t : HistTrigger) (past : List Request) → Contains (hist_triggers instance past) t ↔ IsAttached instance t past
-
--- whether a request asks something of a table, and whether it empties it
-abbrev pub asks : Option (List ℕ) → ℕ → List Request → Request → Bool
-asks instance table past request = is_some (asked_by instance table past request)
-
-abbrev pub clears : Option (List ℕ) → ℕ → List Request → Request → Bool
-clears instance table past request = empties (asked_by instance table past request)
-
--- whether a hist trigger meets an emission: it is one of its event, and its filter holds
-abbrev pub meets : HistTrigger → Emitted → Bool
-meets t e = bytes_eq t.event.name e.k.event.name && passes t.spec.filter e
-
--- a row is that of an emission that a trigger of a table met, which was there then, after the table was last emptied, and while it was not paused
-pub record IsRowOfEmission (instance : Option (List ℕ)) (table : ℕ) (past : List Request) (row : Hit) : Type 0 where
-  pub later : List Request
-  pub request : Request
-  pub before : List Request
-  pub cut : past ≡ later ++ request ∷ before
-  pub kept : some_later (clears instance table) later (request ∷ before) ≡ false
-  pub active : is_paused instance table before ≡ false
-  pub e : Emitted
-  pub emission : emitted before request ≡ Some e
-  pub t : HistTrigger
-  pub there : Contains (hist_triggers instance before) t
-  pub counts : t.table ≡ table
-  pub met : meets t e ≡ true
-  pub shown : row ≡ counted_hit t e
-
--- each row that a table counted is that of such an emission
-abbrev pub CountedRowsAreOfEmissions : Type 0
-CountedRowsAreOfEmissions =
-    (instance : Option (List ℕ)) (table : ℕ) (past : List Request) → All (IsRowOfEmission instance table past) (hits_of instance table past)
-
--- When such an emission comes, its row is counted once, after the rows that were counted before it. Whether the emission was recorded is not asked:
--- its event may be disabled, the event's filter may not hold, recording may be off.
-abbrev pub EmissionsAreCountedOnce : Type 0
-EmissionsAreCountedOnce =
-    (instance : Option (List ℕ)) (past : List Request) (request : Request) (e : Emitted) → emitted past request ≡ Some e
-    → All (λ t. is_paused instance t.table past ≡ false → meets t e ≡ true
-    → hits_of instance t.table (request ∷ past) ≡ hits_of instance t.table past ++ counted_hit t e ∷ []) (hist_triggers instance past)
-
--- and until the table is emptied it stays counted there, whatever else is done
-abbrev pub EmissionsAreCounted : Type 0
-EmissionsAreCounted =
-    (instance : Option (List ℕ)) (later : List Request) (request : Request) (before : List Request) (e : Emitted) → emitted before request ≡ Some e
-    → All (λ t. some_later (clears instance t.table) later (request ∷ before) ≡ false → is_paused instance t.table before ≡ false → meets t e ≡ true
-    → (rest : List Hit) × (hits_of instance t.table (later ++ request ∷ before) ≡ hits_of instance t.table before ++ counted_hit t e ∷ rest))
-    (hist_triggers instance before)
-
--- an emission that a trigger doesn't meet leaves the rows of its table as they are
-abbrev pub UnmetEmissionsAreNotCounted : Type 0
-UnmetEmissionsAreNotCounted =
-    (instance : Option (List ℕ)) (past : List Request) (request : Request) (e : Emitted) → emitted past request ≡ Some e
-    → All (λ t. meets t e ≡ false → hits_of instance t.table (request ∷ past) ≡ hits_of instance t.table past) (hist_triggers instance past)
-
--- until something is asked of a table, it stays paused or not, whatever else is done
-abbrev pub OnlyAskingPauses : Type 0
-OnlyAskingPauses =
-    (instance : Option (List ℕ)) (table : ℕ) (later past : List Request) → some_later (asks instance table) later past ≡ false
-    → is_paused instance table (later ++ past) ≡ is_paused instance table past
-
--- until something is asked of a table that is paused, it stays so and counts nothing, whatever else is done
-abbrev pub PausesCountNothing : Type 0
-PausesCountNothing =
-    (instance : Option (List ℕ)) (table : ℕ) (later past : List Request) → is_paused instance table past ≡ true
-    → some_later (asks instance table) later past ≡ false
-    → (is_paused instance table (later ++ past) ≡ true) × (hits_of instance table (later ++ past) ≡ hits_of instance table past)
-
--- where a trigger is asked to empty its table, no row is left, and the table is paused if it was before
-abbrev pub ClearsLeaveNone : Type 0
-ClearsLeaveNone =
-    (instance : Option (List ℕ)) (past : List Request) (text : List ℕ) (spec : SpecSeen)
-    → All (λ t. said_of t.event text ≡ Ok (Hist spec) → IsSame spec t.spec → spec.action ≡ Clear
-    → (hits_of instance t.table (WriteFile instance (Some (OfEvent t.event.name per_event.Trigger)) true text ∷ past) ≡ [])
-    × (is_paused instance t.table (WriteFile instance (Some (OfEvent t.event.name per_event.Trigger)) true text ∷ past) ≡ is_paused instance t.table past))
-    (hist_triggers instance past)
-
--- A request that does not make the instance and does not write to an event's trigger file in it leaves which hist triggers of the event there are and
--- which of their tables are paused, and what these counted too, unless it is an emission: no switch and no filter of the event and nothing that another
--- instance is asked changes them.
-abbrev pub OtherRequestsLeaveHistTriggers : Type 0
-OtherRequestsLeaveHistTriggers =
-    (instance : Option (List ℕ)) (event : Definition) (past : List Request) (request : Request)
-    → makes instance request ≡ false → written_for event (written_to instance past request) ≡ None
-    → (hists_of instance event (request ∷ past) ≡ hists_of instance event past)
-    × All (λ t. (is_paused instance t.table (request ∷ past) ≡ is_paused instance t.table past)
-    × (emitted past request ≡ None → hits_of instance t.table (request ∷ past) ≡ hits_of instance t.table past)) (hists_of instance event past)
-
--- a table begins with no row counted, and paused if the text that makes it asks for that
-abbrev pub TablesBeginEmpty : Type 0
-TablesBeginEmpty =
-    (instance : Option (List ℕ)) (past : List Request) (request : Request)
-    → All (λ t. t.table ≡ length past
-    → (hits_of instance t.table (request ∷ past) ≡ []) × (is_paused instance t.table (request ∷ past) ≡ is_pause t.spec.action))
-    (hist_triggers instance (request ∷ past))

@@ -9,6 +9,7 @@ pub mod FileTexts
 pub mod History
 pub mod LateMemory
 pub mod Laws
+pub mod TableLaws
 pub mod Trails
 pub mod TrailLaws
 pub mod Blocks

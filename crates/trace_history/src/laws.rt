@@ -3,9 +3,10 @@
 
 ghost use Rattle.trace_history.specs.Examples.{small, IsAnswered, merged_reads, instances, instance_made_again, recording_off, lost_line_after_overrun, precedence_and_kept_filter};
 ghost use Rattle.trace_history.specs.SnapshotExamples.{two_snapshots, counted_trigger, unlimited_trigger, removed_trigger, trigger_of_disabled_event, refused_triggers, sides_of_an_instance};
-ghost use Rattle.trace_history.specs.HistTriggerExamples.{shown_triggers, refused_hist_triggers, paused_and_cleared, counted_unrecorded, histograms_of_an_instance, removed_hist_triggers, hist_triggers_anew, four_triggers, triggers_of_two_events};
+ghost use Rattle.trace_history.specs.HistTriggerExamples.{shown_triggers, refused_hist_triggers, paused_and_cleared, counted_unrecorded, histograms_of_an_instance, removed_hist_triggers, hist_triggers_anew, four_triggers, triggers_of_two_events, shared_table, table_of_one_event};
 ghost use Rattle.trace_history.specs.SettingExamples.{switched, filters_of_all, options_of_an_instance, recorded_by_its_settings, emptied, refused_in_order, eight_instances, short, full_history};
-ghost use Rattle.trace_history.specs.Laws.{FiltersAreOfTheirEvents, FiltersHoldAsTheirTrees, RecordsShowTheirRows, KeptRecordsShowEmissions, KeptSpareRecordsShowEmissions, SnapshotsSwapTheSides, TriggersSwapTheSides, SnapshotsStay, TriggersHaveTheirSpare, SparesBeginEmpty, PipeReadsConsumeWhatTheyShow, WholePipeReadsConsumeWhatTheyShow, AtMostFourTriggers, HistTriggersDiffer, HistTriggersAreInOrder, CountedRowsAreOfEmissions, EmissionsAreCountedOnce, EmissionsAreCounted, UnmetEmissionsAreNotCounted, OnlyAskingPauses, PausesCountNothing, ClearsLeaveNone, OtherRequestsLeaveHistTriggers, TablesBeginEmpty, HistTriggersAreThoseAttached};
+ghost use Rattle.trace_history.specs.Laws.{FiltersAreOfTheirEvents, FiltersHoldAsTheirTrees, RecordsShowTheirRows, KeptRecordsShowEmissions, KeptSpareRecordsShowEmissions, SnapshotsSwapTheSides, TriggersSwapTheSides, SnapshotsStay, TriggersHaveTheirSpare, SparesBeginEmpty, PipeReadsConsumeWhatTheyShow, WholePipeReadsConsumeWhatTheyShow, AtMostFourTriggers, HistTriggersDiffer, HistTriggersAreInOrder, HistTriggersAreThoseAttached};
+ghost use Rattle.trace_history.specs.TableLaws.{CountedRowsAreOfEmissions, EmissionsAreCountedOnce, EmissionsAreCounted, UnmetEmissionsAreNotCounted, NamedTablesAreUnions, OnlyAskingPauses, PausesCountNothing, ClearsLeaveNone, OtherRequestsLeaveHistTriggers, OtherRequestsLeaveTables, TablesBeginEmpty, TablesAreAskedThroughEach, TablesGoWithTheirLast, NamedTablesAreShared, SharedTablesFit, SharedTablesAreShownAlike};
 ghost use Rattle.trace_history.specs.TrailLaws.{TrailsHoldDoneCallsOnce, EachCallIsAnswered, LoneCallersAreAnswered, WornIsNoAnswer, MemoryIsNoAnswer};
 ghost use Rattle.trace_history.specs.TrailExamples.{FirstMakes, SecondMakes, ExactlyOneMakes};
 
@@ -63,23 +64,37 @@ pub fn triggers_are_few_and_differ()
     ensures order { HistTriggersAreInOrder }
 {}
 
-/// A table counts the rows of just the emissions that its trigger meets, those of its event of which its own filter holds, since it was made and last
-/// emptied and while it was not paused, each once, in the order in which they came. Whether they are recorded doesn't matter.
+/// Hist triggers of an instance share a table if they have one name, and only then. In a legal history those that share one fit each other and
+/// show it alike. A table is made with its first trigger, with no row, and goes with its last.
+pub fn named_tables_are_shared()
+    ensures shared { NamedTablesAreShared }
+    ensures fit { SharedTablesFit }
+    ensures alike { SharedTablesAreShownAlike }
+    ensures empty { TablesBeginEmpty }
+    ensures gone { TablesGoWithTheirLast }
+{}
+
+/// A table counts the rows of just the emissions that its triggers meet, those of their events of which their own filters hold, since it was made and
+/// last emptied and while it was not paused, each once for every trigger that meets it, in the order in which they came. Whether they are recorded
+/// doesn't matter. From the whole history, that is the rows of the emissions that any trigger of its name met.
 pub fn emissions_are_counted()
     ensures rows { CountedRowsAreOfEmissions }
     ensures once { EmissionsAreCountedOnce }
     ensures counted { EmissionsAreCounted }
     ensures unmet { UnmetEmissionsAreNotCounted }
+    ensures unions { NamedTablesAreUnions }
 {}
 
-/// A table begins with no row. It stays paused, or not, until it is asked for something; a pause counts nothing; `clear` leaves no row and ends no
-/// pause; and while the instance is there only emissions, and what is written to the event's own trigger file, reach a hist trigger and its table.
-pub fn only_their_own_file_changes_hist_triggers()
-    ensures empty { TablesBeginEmpty }
+/// What is asked of any of its triggers is asked of a table. It stays paused, or not, until it is asked for something; a pause counts nothing; `clear`
+/// leaves no row and ends no pause; and while the instance is there only emissions, and what is written to the trigger files of its triggers' events,
+/// reach a table.
+pub fn only_their_own_files_change_tables()
+    ensures asked { TablesAreAskedThroughEach }
     ensures state { OnlyAskingPauses }
     ensures pause { PausesCountNothing }
     ensures clear { ClearsLeaveNone }
-    ensures others { OtherRequestsLeaveHistTriggers }
+    ensures hists { OtherRequestsLeaveHistTriggers }
+    ensures tables { OtherRequestsLeaveTables }
 {}
 
 /// The definitions can be computed, and they give worked scripts the answers that stand beside them.
@@ -110,6 +125,8 @@ pub fn hist_examples_are_answered()
     ensures anew { IsAnswered (small 1) hist_triggers_anew }
     ensures four { IsAnswered (small 1) four_triggers }
     ensures events { IsAnswered (small 1) triggers_of_two_events }
+    ensures table { IsAnswered (small 1) shared_table }
+    ensures twice { IsAnswered (small 1) table_of_one_event }
 {}
 
 /// Likewise to worked scripts of settings and refusals.

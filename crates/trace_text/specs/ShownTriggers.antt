@@ -6,7 +6,7 @@ use Rattle.trace_text.specs.TriggerText.{ShownHist, Trigger, Snapshot, Hist}
 use Rattle.trace_text.specs.declared.trigger.Shown.{Shown}
 use Rattle.trace_text.specs.declared.trigger.Shown.TheVariants as shown
 
--- a trigger and its histogram, whose own sort keys the entries are printed by
+-- a trigger and its histogram, by whose sort keys the entries are printed. Where triggers of one name share a histogram, their sort keys mean the same
 abbrev pub shown_hist : SpecSeen → Seen → ShownHist
 shown_hist spec hist = record { spec = spec; paused = hist.paused; table = hist.table; rules = hist.spec.sort_sources }
 

@@ -50,10 +50,15 @@ sort_text key = if key.descending then key.name ++ codes ".descending" else key.
 abbrev pub state_text : Bool → List ℕ
 state_text paused = if paused then codes " [paused]" else codes " [active]"
 
--- the lists of a hist trigger, with `hitcount` first among its values
-abbrev pub lists_text : SpecSeen → List ℕ
+-- the name of a hist trigger's table, if it has one
+abbrev pub name_text : Option (List ℕ) → List ℕ
+name_text None = []
+name_text (Some name) = codes "name=" ++ name ++ codes ":"
+
+-- that name, and the lists of a hist trigger, with `hitcount` first among its values
+unfoldable pub lists_text : SpecSeen → List ℕ
 lists_text spec =
-    codes "hist:keys=" ++ keys_text spec.keys ++ codes ":vals=" ++ with_commas (codes "hitcount" ∷ spec.values)
+    codes "hist:" ++ name_text spec.name ++ codes "keys=" ++ keys_text spec.keys ++ codes ":vals=" ++ with_commas (codes "hitcount" ∷ spec.values)
     ++ codes ":sort=" ++ join_by sort_text (codes ",") spec.sort
 
 -- what a hist trigger says, and whether it is paused

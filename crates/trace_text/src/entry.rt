@@ -1,6 +1,6 @@
 //! The line of an entry of a histogram.
 
-ghost use Rattle.std.specs.Prelude.{◌≡◌, ◌++◌, ◌-◌, map, replicate, codes, IfOk, OnOk};
+ghost use Rattle.std.specs.Prelude.{◌≡◌, ◌++◌, ◌-◌, ◌≤◌, map, replicate, codes, IfOk, OnOk};
 ghost use Rattle.std.specs.List.{flat_map, join_by, zip};
 ghost use Rattle.trace_format.specs.Cells.{datum_of};
 ghost use Rattle.trace_hist.specs.Buckets.{pattern_of as spec_pattern_of};
@@ -12,14 +12,14 @@ use std::alloc::{AllocError, Global};
 use trace_format::{Text, Value};
 use trace_hist::{HistRow, HistSpec, Key, Modifier};
 
-/// Appends so many blanks.
+const BLANKS: [u8; 16] = [b' '; 16];
+
+/// Appends so many blanks, 16 at most.
 fn push_blanks(out: &mut Vec<u8>, count: usize) -> Result<(), AllocError>
+    requires { count ≤ 16 }
     ensures { OnOk result (out.new.items ≡ out.old.items ++ replicate count 32) }
 {
-    for _ in 0..count {
-        out.push(b' ')?;
-    }
-    Ok(())
+    out.extend_from_slice(&BLANKS[..count])
 }
 
 /// Appends bytes on the right of 10 columns.

@@ -135,11 +135,26 @@ fn push_state(out: &mut Vec<u8>, is_paused: bool) -> Result<(), AllocError>
     out.extend_from_slice(state)
 }
 
-/// Appends the lists of a hist trigger, with `hitcount` first among its values.
+/// Appends the name of a hist trigger's table, and of one without a name nothing.
+fn push_name(out: &mut Vec<u8>, spec: &HistSpec) -> Result<(), AllocError>
+    ensures { OnOk result (out.new.items ≡ out.old.items ++ texts.name_text spec.now.name) }
+{
+    let Some(name) = spec.name() else {
+        return Ok(());
+    };
+    out.extend_from_slice(b"name=".as_slice())?;
+    out.extend_from_slice(name)?;
+    out.extend_from_slice(b":".as_slice())
+}
+
+/// Appends a hist trigger's name, if it has one, and its lists, with `hitcount` first among its values.
+#[tactic(auto, unfolding(crate::specs::TriggerText::lists_text))]
 fn push_lists(out: &mut Vec<u8>, spec: &HistSpec) -> Result<(), AllocError>
     ensures { OnOk result (out.new.items ≡ out.old.items ++ texts.lists_text spec.now) }
 {
-    out.extend_from_slice(b"hist:keys=".as_slice())?;
+    out.extend_from_slice(b"hist:".as_slice())?;
+    push_name(out, spec)?;
+    out.extend_from_slice(b"keys=".as_slice())?;
     push_keys(out, spec.keys())?;
     out.extend_from_slice(b":vals=".as_slice())?;
     push_values(out, spec.values())?;

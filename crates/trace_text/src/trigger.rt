@@ -84,8 +84,9 @@ fn push_available_triggers(out: &mut Vec<u8>) -> Result<(), AllocError>
 }
 
 /// Appends what an event's `trigger` file shows ("Event triggers" of events.rst): a line for each trigger, in the order of `shown`, which is to be
-/// that in which they were attached; or, if there is none, two lines that name the kinds of triggers. A hist trigger's line has its lists as they
-/// were written, with `hitcount` first among the values, the size as it was rounded up, the filter, and whether it is paused.
+/// that in which they were attached; or, if there is none, two lines that name the kinds of triggers. A hist trigger's line has the name of its table,
+/// if it has one, its lists as they were written, with `hitcount` first among the values, the size as it was rounded up, the filter, and whether it is
+/// paused.
 ///
 /// It is refused only if it runs out of memory, and `out` is then as it was.
 #[tactic(auto, unfolding(crate::specs::TriggerText::trigger_text))]

@@ -10,7 +10,7 @@ use Rattle.trace_trigger.specs.declared.attribute.Attribute.{Attribute}
 use Rattle.trace_trigger.specs.HistAttributes.{head_len, attribute_of}
 use Rattle.trace_trigger.specs.HistPieces.{pieces_of}
 use Rattle.trace_trigger.specs.HistLists.{names_of, items_of}
-use Rattle.trace_trigger.specs.HistGrammar.{IsCut, Setting, Keys, Values, Sort, Size, Asks, OfKeys, OfValues, OfSort, OfSize, IsKey, IsSortItem, AreNamedApart, WritesKeys, WritesValues, WritesSort, Writes}
+use Rattle.trace_trigger.specs.HistGrammar.{IsCut, Setting, Keys, Values, Sort, Size, Name, Asks, OfKeys, OfValues, OfSort, OfSize, OfName, HasValue, IsKey, IsSortItem, AreNamedApart, WritesKeys, WritesValues, WritesSort, Writes}
 use Rattle.trace_trigger.proofs.CutLemmas.{found_is_cut, cut_names}
 use Rattle.trace_trigger.proofs.HeadLemmas.{value_in, value_read, action_read, read_value, read_action, HasTopic}
 
@@ -30,12 +30,17 @@ pub record AreSortKeys (attribute : Attribute) (keys : List SortKey) : Type 0 wh
   pub each : AllZip IsSortItem (names_of (items_of attribute)) keys
   pub apart : AllPairs (λ (one other : SortKey). one.name ≢ other.name) keys
 
+pub record IsNameIn (attribute : Attribute) (name : List ℕ) : Type 0 where
+  pub value : attribute.value ≡ name
+  pub named : IsTrue (is_name name)
+
 -- the topic of a setting's attribute
 abbrev pub topic_of_setting : Setting → Topic
 topic_of_setting (Keys names) = topic.Keys
 topic_of_setting (Values names) = topic.Values
 topic_of_setting (Sort keys) = topic.Sort
 topic_of_setting (Size entries) = topic.Size
+topic_of_setting (Name name) = topic.Name
 topic_of_setting (Asks action) = topic.Asked action
 
 abbrev pub Holds : Attribute → Setting → Type 0
@@ -43,6 +48,7 @@ Holds attribute (Keys keys) = AreKeys attribute keys
 Holds attribute (Values names) = AreNames attribute names
 Holds attribute (Sort keys) = AreSortKeys attribute keys
 Holds attribute (Size entries) = decimal_number attribute.value ≡ Some entries
+Holds attribute (Name name) = IsNameIn attribute name
 Holds attribute (Asks action) = Unit {0}
 
 pub record IsRead (attribute : Attribute) (setting : Setting) : Type 0 where
@@ -81,6 +87,9 @@ module _ (at : ℕ) (written : List ℕ) where
   written_is_read (Size entries) is =
       let read = value_read OfSize written is.head is.digits is.has in
       record { topic = read.topic; holds = ap decimal_number read.found ∙ is.number }
+  written_is_read (Name name) is =
+      let read = value_read OfName written is.head name is.has in
+      record { topic = read.topic; holds = record { value = read.found; named = is.named } }
   written_is_read (Asks action) is = record { topic = action_read action written is; holds = tt }
 
   -- ---- and what is read is written
@@ -111,4 +120,10 @@ module _ (at : ℕ) (written : List ℕ) where
       }
   read_is_written (Size entries) is =
       record { head = take (head_len written) written; digits = value_in written; has = read_value OfSize written is.topic; number = is.holds }
+  read_is_written (Name name) is =
+      record {
+        head = take (head_len written) written;
+        has = subst (HasValue OfName written (take (head_len written) written)) is.holds.value (read_value OfName written is.topic);
+        named = is.holds.named;
+      }
   read_is_written (Asks action) is = read_action action written is.topic

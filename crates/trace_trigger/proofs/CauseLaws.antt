@@ -179,6 +179,7 @@ module _ (definition : Definition) (text : List ℕ) (settings : List Setting) (
 
   abbrev spec_of_lists : List Key → List Operand → ℕ → Option Parsed → SpecSeen
   spec_of_lists keys values size only_if = record {
+    name = lists.name;
     keys = keys;
     values = names_of (summed_items lists.values);
     sort = sort_keys lists.sort;

@@ -1,5 +1,5 @@
 -- A list read element by element, from its front.
-use Rattle.std.proofs.Common.{◌≡◌, ℕ, ◌+◌, ◌<◌, ◌≤◌, List, [], ◌∷◌, ◌++◌, length, drop, get_or, refl, sym, ap, ◌∙◌}
+use Rattle.std.proofs.Common.{◌≡◌, ℕ, ◌+◌, ◌<◌, ◌≤◌, List, [], ◌∷◌, ◌++◌, length, drop, get_or, refl, sym, ap, ◌∙◌, arith}
 use Rattle.std.proofs.lemmas.List.{at_drop_more, drop_all, append_assoc, append-nil}
 use Rattle.std.specs.Prelude.{Result, Ok, Err}
 use Rattle.trace_trigger.specs.declared.fault.TriggerFault.{TriggerFault}
@@ -49,6 +49,21 @@ module _ {A B : Type 0} (read : A → Result B TriggerFault) where
       so_far
       ∙ ap (λ r. each read r >>= λ ys. Ok (found ++ ys)) (drop_all i xs past)
       ∙ ap read_all (append-nil found)
+
+  -- each element comes to one
+  each_len : (xs : List A) (ys : List B) → each read xs ≡ Ok ys → length ys ≡ length xs
+  each_len [] [] e = refl
+  each_len [] (y ∷ ys) e = absurd (cc)
+  each_len (x ∷ xs) ys e = by (read x) (each read xs) (each_len xs) e
+    where
+      by : (first : Result B TriggerFault) (rest : Result (List B) TriggerFault) → ((zs : List B) → rest ≡ Ok zs → length zs ≡ length xs)
+          → (first >>= λ y. rest >>= λ zs. Ok (y ∷ zs)) ≡ Ok ys → length ys ≡ length (x ∷ xs)
+      by (Err fault) rest next f = absurd (cc)
+      by (Ok y) (Err fault) next f = absurd (cc)
+      by (Ok y) (Ok zs) next f = let same : y ∷ zs ≡ ys = cc in omega (arith, ap length same, next zs refl)
+
+  pub each_few : (xs : List A) (ys : List B) (most : ℕ) → each read xs ≡ Ok ys → length xs ≤ most → length ys ≤ most
+  each_few xs ys most e few = omega (arith, each_len xs ys e, few)
 
 -- a fault that the definition gives may be told
 pub told_is : {A : Type 0} (fault : TriggerFault) (answer : Result A TriggerFault) → answer ≡ Err fault → IsTold fault answer

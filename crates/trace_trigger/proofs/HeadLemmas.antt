@@ -12,7 +12,7 @@ use Rattle.trace_trigger.specs.declared.spec.Action.TheVariants.{Attach, Pause, 
 use Rattle.trace_trigger.specs.declared.attribute.Topic.{Topic}
 use Rattle.trace_trigger.specs.declared.attribute.Topic.TheVariants as topic
 use Rattle.trace_trigger.specs.HistAttributes.{head_len, asked_by, is_values, topic_of}
-use Rattle.trace_trigger.specs.HistGrammar.{Subject, OfKeys, OfValues, OfSort, OfSize, OfAction, IsHead, HasValue, IsWordFor}
+use Rattle.trace_trigger.specs.HistGrammar.{Subject, OfKeys, OfValues, OfSort, OfSize, OfName, OfAction, IsHead, HasValue, IsWordFor}
 
 abbrev pub topic_in : List ℕ → Topic
 topic_in attribute = topic_of (take (head_len attribute) attribute)
@@ -33,6 +33,7 @@ topic_for OfKeys = topic.Keys
 topic_for OfValues = topic.Values
 topic_for OfSort = topic.Sort
 topic_for OfSize = topic.Size
+topic_for OfName = topic.Name
 topic_for OfAction = topic.Asked Attach
 
 -- how long each head is
@@ -44,6 +45,7 @@ known_head OfValues head value (inr (inl e)) = ap (λ (h : List ℕ). head_len (
 known_head OfValues head value (inr (inr e)) = ap (λ (h : List ℕ). head_len (h ++ value)) e ∙ head_is (codes "val=" ++ value) 3 refl (omega arith) ∙ ap length (sym e)
 known_head OfSort head value e = ap (λ (h : List ℕ). head_len (h ++ value)) e ∙ head_is (codes "sort=" ++ value) 4 refl (omega arith) ∙ ap length (sym e)
 known_head OfSize head value e = ap (λ (h : List ℕ). head_len (h ++ value)) e ∙ head_is (codes "size=" ++ value) 4 refl (omega arith) ∙ ap length (sym e)
+known_head OfName head value e = ap (λ (h : List ℕ). head_len (h ++ value)) e ∙ head_is (codes "name=" ++ value) 4 refl (omega arith) ∙ ap length (sym e)
 known_head OfAction head value e = absurd e
 
 known_topic : (subject : Subject) (head : List ℕ) → IsHead subject head → topic_of head ≡ topic_for subject
@@ -54,6 +56,7 @@ known_topic OfValues head (inr (inl e)) = ap topic_of e
 known_topic OfValues head (inr (inr e)) = ap topic_of e
 known_topic OfSort head e = ap topic_of e
 known_topic OfSize head e = ap topic_of e
+known_topic OfName head e = ap topic_of e
 known_topic OfAction head e = absurd e
 
 pub record IsValueRead (subject : Subject) (attribute head value : List ℕ) : Type 0 where
@@ -83,6 +86,7 @@ IsHeadFor topic.Keys head = IsHead OfKeys head
 IsHeadFor topic.Values head = IsHead OfValues head
 IsHeadFor topic.Sort head = IsHead OfSort head
 IsHeadFor topic.Size head = IsHead OfSize head
+IsHeadFor topic.Name head = IsHead OfName head
 IsHeadFor (topic.Asked action) head = IsWordFor action head
 IsHeadFor topic.Unknown head = Unit {0}
 
@@ -119,15 +123,16 @@ module _ (head : List ℕ) where
       by false false false e f g = tt
 
   head_for : IsHeadFor (topic_of head) head
-  head_for = by (bytes_eq head (codes "keys=") || bytes_eq head (codes "key=")) (is_values head) (bytes_eq head (codes "sort=")) (bytes_eq head (codes "size=")) refl refl refl refl
+  head_for = by (bytes_eq head (codes "keys=") || bytes_eq head (codes "key=")) (is_values head) (bytes_eq head (codes "sort=")) (bytes_eq head (codes "size=")) (bytes_eq head (codes "name=")) refl refl refl refl refl
     where
-      by : (keys values sort size : Bool) → (bytes_eq head (codes "keys=") || bytes_eq head (codes "key=")) ≡ keys → is_values head ≡ values → bytes_eq head (codes "sort=") ≡ sort → bytes_eq head (codes "size=") ≡ size
-          → IsHeadFor (if keys then topic.Keys else if values then topic.Values else if sort then topic.Sort else if size then topic.Size else asked_by head) head
-      by true values sort size e f g h = one_of (codes "keys=") (codes "key=") e
-      by false true sort size e f g h = one_of_values f
-      by false false true size e f g h = same (codes "sort=") g
-      by false false false true e f g h = same (codes "size=") h
-      by false false false false e f g h = asked_head
+      by : (keys values sort size name : Bool) → (bytes_eq head (codes "keys=") || bytes_eq head (codes "key=")) ≡ keys → is_values head ≡ values → bytes_eq head (codes "sort=") ≡ sort → bytes_eq head (codes "size=") ≡ size → bytes_eq head (codes "name=") ≡ name
+          → IsHeadFor (if keys then topic.Keys else if values then topic.Values else if sort then topic.Sort else if size then topic.Size else if name then topic.Name else asked_by head) head
+      by true values sort size name e f g h k = one_of (codes "keys=") (codes "key=") e
+      by false true sort size name e f g h k = one_of_values f
+      by false false true size name e f g h k = same (codes "sort=") g
+      by false false false true name e f g h k = same (codes "size=") h
+      by false false false false true e f g h k = same (codes "name=") k
+      by false false false false false e f g h k = asked_head
 
   -- of a head that is about this
   pub about : (t : Topic) → topic_of head ≡ t → IsHeadFor t head
@@ -142,6 +147,7 @@ HasTopic OfKeys attribute = topic_in attribute ≡ topic.Keys
 HasTopic OfValues attribute = topic_in attribute ≡ topic.Values
 HasTopic OfSort attribute = topic_in attribute ≡ topic.Sort
 HasTopic OfSize attribute = topic_in attribute ≡ topic.Size
+HasTopic OfName attribute = topic_in attribute ≡ topic.Name
 HasTopic OfAction attribute = ⊥
 
 pub read_value : (subject : Subject) (attribute : List ℕ) → HasTopic subject attribute → HasValue subject attribute (take (head_len attribute) attribute) (value_in attribute)
@@ -149,6 +155,7 @@ read_value OfKeys attribute e = record { begins = about (take (head_len attribut
 read_value OfValues attribute e = record { begins = about (take (head_len attribute) attribute) topic.Values e; cut = attribute_cut attribute }
 read_value OfSort attribute e = record { begins = about (take (head_len attribute) attribute) topic.Sort e; cut = attribute_cut attribute }
 read_value OfSize attribute e = record { begins = about (take (head_len attribute) attribute) topic.Size e; cut = attribute_cut attribute }
+read_value OfName attribute e = record { begins = about (take (head_len attribute) attribute) topic.Name e; cut = attribute_cut attribute }
 read_value OfAction attribute e = absurd e
 
 -- an attribute whose head has no `=` is all head

@@ -21,7 +21,7 @@ module _ (definition : Definition) (text : List ℕ) where
   unfolding spec_of
   of_right none = ap (λ (r : Result Lists TriggerFault). r >>= λ lists. few lists >>= λ lists. spec_from definition text lists) (read_right text none)
 
-  right_of : (spec : SpecSeen) → spec_of definition text ≡ Ok spec → wrong_offsets text ≡ []
+  pub right_of : (spec : SpecSeen) → spec_of definition text ≡ Ok spec → wrong_offsets text ≡ []
   unfolding spec_of
   right_of spec e =
       let read = bound (read_of text) (λ lists. few lists >>= λ lists. spec_from definition text lists) spec e in

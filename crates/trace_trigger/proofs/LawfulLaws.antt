@@ -1,8 +1,8 @@
 -- Attributes of which none is wrong are read as lawful settings.
-use Rattle.std.proofs.Common.{◌≡◌, ◌≢◌, ◌⊎◌, inl, inr, refl, ℕ, Bool, true, false, ◌&&◌, ◌||◌, codes, List, [], ◌∷◌, cond, map, Option, Some, None, unwrap_or, ap, sym, ◌∙◌, subst}
+use Rattle.std.proofs.Common.{◌≡◌, ◌≢◌, ◌⊎◌, inl, inr, refl, ℕ, ◌+◌, Bool, true, false, not, ◌&&◌, ◌||◌, codes, List, [], ◌∷◌, cond, map, Option, Some, None, unwrap_or, ap, sym, ◌∙◌, subst}
 use Rattle.std.specs.List.{All, AllByRecursion, AllZip, Contains}
 use Rattle.std.specs.Option.{is_none}
-use Rattle.std.proofs.lemmas.Bool.{or_cases, and_parts, and_cases}
+use Rattle.std.proofs.lemmas.Bool.{or_cases, and_parts, and_cases, not-false}
 use Rattle.std.proofs.lemmas.List.Elements.{All-from_recursion}
 use Rattle.std.proofs.lemmas.Slice.Eq.{bytes_eq-Decides}
 use Rattle.trace_lex.specs.Decimals.{decimal_number}
@@ -13,14 +13,14 @@ use Rattle.trace_trigger.specs.declared.attribute.Topic.TheVariants as topic
 use Rattle.trace_trigger.specs.declared.attribute.Attribute.{Attribute}
 use Rattle.trace_trigger.specs.declared.piece.ListItem.{ListItem}
 use Rattle.trace_trigger.specs.HistLists.{is_same_topic, first_about, items_of, items_in, lists_of, names_of, is_listed, is_named, is_hitcount, sort_key_of, is_sortable}
-use Rattle.trace_trigger.specs.HistOffsets.{wrong_after, is_unknown, is_repeated, is_bad_size, is_wrong_attribute, attribute_offsets, is_wrong_key, is_wrong_value, key_offsets, value_offsets, is_wrong_sort, sort_offsets, keyless_offsets}
-use Rattle.trace_trigger.specs.HistGrammar.{Setting, Keys, Values, Sort, Size, Asks, subject_of, HasName, IsListed, AreLawful, IsSet}
+use Rattle.trace_trigger.specs.HistOffsets.{wrong_after, is_unknown, is_repeated, is_bad_size, is_wrong_attribute, attribute_offsets, is_bad_name, name_offsets, is_wrong_key, is_wrong_value, key_offsets, value_offsets, is_wrong_sort, sort_offsets, keyless_offsets}
+use Rattle.trace_trigger.specs.HistGrammar.{Setting, Keys, Values, Sort, Size, Name, Asks, subject_of, HasName, IsListed, AreLawful, IsSet}
 use Rattle.trace_trigger.proofs.WrongLemmas.{Apart, pairs_from, each_weaker, NoneWrong, none_from, none_each, none_left, none_right, Unlike, unlike_each_other}
 use Rattle.trace_trigger.proofs.ItemLaws.{names_right, sorts_right, sort_keys_are}
 use Rattle.trace_trigger.proofs.KeyLaws.{keys_right}
 use Rattle.trace_trigger.proofs.NameLaws.{some_named}
 use Rattle.trace_trigger.proofs.SubjectLaws.{some_any}
-use Rattle.trace_trigger.proofs.AttributeLaws.{AreKeys, AreNames, topic_of_setting, IsRead}
+use Rattle.trace_trigger.proofs.AttributeLaws.{AreKeys, AreNames, IsNameIn, topic_of_setting, IsRead}
 use Rattle.trace_trigger.proofs.ListLaws.{Member, member_from, from_member, topics_sym, same_topic, Once, IsFound, IsMissing, found_or_missing}
 use Rattle.trace_trigger.proofs.SettingLaws.{listed_member, given, ListsAre, lists_are}
 use Rattle.trace_trigger.proofs.RightLaws.{AreAllRight, same_topics}
@@ -32,6 +32,7 @@ setting_by topic.Keys attribute = Keys (names_of (items_of attribute))
 setting_by topic.Values attribute = Values (names_of (items_of attribute))
 setting_by topic.Sort attribute = Sort (map sort_key_of (items_of attribute))
 setting_by topic.Size attribute = Size (unwrap_or (decimal_number attribute.value) 0)
+setting_by topic.Name attribute = Name attribute.value
 setting_by (topic.Asked action) attribute = Asks action
 setting_by topic.Unknown attribute = Size 0
 
@@ -45,6 +46,7 @@ known_again topic.Keys e = refl
 known_again topic.Values e = refl
 known_again topic.Sort e = refl
 known_again topic.Size e = refl
+known_again topic.Name e = refl
 known_again (topic.Asked action) e = refl
 known_again topic.Unknown e = absurd (cc)
 
@@ -105,6 +107,13 @@ module _ (attributes : List Attribute) (end : ℕ) (right : AreAllRight attribut
   sizes : AllByRecursion (λ (a : Attribute). is_bad_size a ≡ false) attributes
   sizes = none_each is_bad_size [] attributes (none_right (λ before a. is_unknown a.topic || is_repeated before a) (λ _ a. is_bad_size a) [] attributes none_wrong)
 
+  names : AllByRecursion (λ (a : Attribute). is_bad_name a ≡ false) attributes
+  unfolding name_offsets
+  names =
+      let none : wrong_after (λ _ (a : Attribute). is_bad_name a) [] attributes ≡ [] =
+      map-nil (λ (a : Attribute). a.at + a.skip) (wrong_after (λ _ (a : Attribute). is_bad_name a) [] attributes) right.names in
+      none_each is_bad_name [] attributes (none_from (λ _ (a : Attribute). is_bad_name a) [] attributes none)
+
   keys_items : (a : Attribute) → first_about topic.Keys attributes ≡ Some a → wrong_after is_wrong_key [] (items_of a) ≡ []
   unfolding lists_of key_offsets
   keys_items a first = map-nil (λ (item : ListItem). item.at) (wrong_after is_wrong_key [] (items_of a)) (sym (ap (λ (o : Option Attribute). key_offsets (items_in o)) first) ∙ right.keys)
@@ -136,23 +145,31 @@ module _ (attributes : List Attribute) (end : ℕ) (right : AreAllRight attribut
       by (inl f) = let yes : is_same_topic topic.Size a.topic ≡ true = ap (is_same_topic topic.Size) e in absurd (cc)
       by (inr f) = some_number (decimal_number a.value) f
 
-  read_by : (a : Attribute) (t : Topic) → a.topic ≡ t → is_unknown a.topic ≡ false → is_bad_size a ≡ false → first_about t attributes ≡ Some a → IsRead a (setting_by t a)
-  read_by a topic.Keys e named good first = record { topic = e; holds = keys_held a (keys_items a first) }
-  read_by a topic.Values e named good first = record { topic = e; holds = names_held a (values_items a first) }
-  read_by a topic.Sort e named good first =
+  name_held : (a : Attribute) → a.topic ≡ topic.Name → is_bad_name a ≡ false → IsNameIn a a.value
+  name_held a e good = record { value = refl; named = by (and_cases (is_same_topic topic.Name a.topic) (not (is_name a.value)) good) }
+    where
+      by : (is_same_topic topic.Name a.topic ≡ false) ⊎ (not (is_name a.value) ≡ false) → is_name a.value ≡ true
+      by (inl f) = let yes : is_same_topic topic.Name a.topic ≡ true = ap (is_same_topic topic.Name) e in absurd (cc)
+      by (inr f) = not-false (is_name a.value) f
+
+  read_by : (a : Attribute) (t : Topic) → a.topic ≡ t → is_unknown a.topic ≡ false → is_bad_size a ≡ false → is_bad_name a ≡ false → first_about t attributes ≡ Some a → IsRead a (setting_by t a)
+  read_by a topic.Keys e named good called first = record { topic = e; holds = keys_held a (keys_items a first) }
+  read_by a topic.Values e named good called first = record { topic = e; holds = names_held a (values_items a first) }
+  read_by a topic.Sort e named good called first =
       let are = sorts_right (lists_of attributes) (items_of a) (sort_items a first) in
       record { topic = e; holds = record { each = are.each; apart = are.apart } }
-  read_by a topic.Size e named good first = record { topic = e; holds = number_held a e good }
-  read_by a (topic.Asked action) e named good first = record { topic = e; holds = tt }
-  read_by a topic.Unknown e named good first = let bad : is_unknown a.topic ≡ true = ap is_unknown e in absurd (cc)
+  read_by a topic.Size e named good called first = record { topic = e; holds = number_held a e good }
+  read_by a topic.Name e named good called first = record { topic = e; holds = name_held a e called }
+  read_by a (topic.Asked action) e named good called first = record { topic = e; holds = tt }
+  read_by a topic.Unknown e named good called first = let bad : is_unknown a.topic ≡ true = ap is_unknown e in absurd (cc)
 
   each_read : (rest : List Attribute) → AllByRecursion (λ (a : Attribute). is_unknown a.topic ≡ false) rest → AllByRecursion (λ (a : Attribute). is_bad_size a ≡ false) rest
-      → AllByRecursion (λ (a : Attribute). first_about a.topic attributes ≡ Some a) rest → AllZip IsRead rest (map setting_of rest)
-  each_read [] named good first = tt
-  each_read (a ∷ rest) named good first = (read_by a a.topic refl named.0 good.0 first.0, each_read rest named.1 good.1 first.1)
+      → AllByRecursion (λ (a : Attribute). is_bad_name a ≡ false) rest → AllByRecursion (λ (a : Attribute). first_about a.topic attributes ≡ Some a) rest → AllZip IsRead rest (map setting_of rest)
+  each_read [] named good called first = tt
+  each_read (a ∷ rest) named good called first = (read_by a a.topic refl named.0 good.0 called.0 first.0, each_read rest named.1 good.1 called.1 first.1)
 
   pub all_read : AllZip IsRead attributes (map setting_of attributes)
-  all_read = each_read attributes known sizes (firsts attributes known apart)
+  all_read = each_read attributes known sizes names (firsts attributes known apart)
 
   once : Once (map setting_of attributes)
   once = subjects_apart attributes (map setting_of attributes) all_read apart
@@ -172,6 +189,7 @@ module _ (attributes : List Attribute) (end : ℕ) (right : AreAllRight attribut
           of (Values names) e is = absurd (cc)
           of (Sort keys) e is = absurd (cc)
           of (Size entries) e is = absurd (cc)
+          of (Name name) e is = absurd (cc)
           of (Asks action) e is = absurd (cc)
       by (inr missing) =
           let none : keyless_offsets end (items_in (first_about topic.Keys attributes)) ≡ end ∷ [] = ap (λ (a : Option Attribute). keyless_offsets end (items_in a)) missing.first in

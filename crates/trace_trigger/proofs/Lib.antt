@@ -11,6 +11,7 @@ pub mod EachLemmas
 pub mod Examples
 pub mod FaultLaws
 pub mod FilterLaws
+pub mod FittingLaws
 pub mod FirstFaults
 pub mod HeadLemmas
 pub mod ItemLaws
@@ -40,4 +41,5 @@ pub mod UnblankLemmas
 pub mod WordLemmas
 pub mod WrongLaws
 pub mod WrongLemmas
+pub mod WrongNames
 pub mod WrongOffsets

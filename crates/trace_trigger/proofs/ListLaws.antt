@@ -6,7 +6,7 @@ use Rattle.trace_trigger.specs.declared.attribute.Topic.{Topic}
 use Rattle.trace_trigger.specs.declared.attribute.Topic.TheVariants as topic
 use Rattle.trace_trigger.specs.declared.attribute.Attribute.{Attribute}
 use Rattle.trace_trigger.specs.HistLists.{is_same_topic, first_about}
-use Rattle.trace_trigger.specs.HistGrammar.{Setting, Keys, Values, Sort, Size, Asks, subject_of}
+use Rattle.trace_trigger.specs.HistGrammar.{Setting, Keys, Values, Sort, Size, Name, Asks, subject_of}
 use Rattle.trace_trigger.proofs.AttributeLaws.{topic_of_setting, IsRead}
 use Rattle.trace_trigger.proofs.WrongLemmas.{Apart}
 
@@ -40,36 +40,49 @@ topics_sym topic.Keys topic.Keys = refl
 topics_sym topic.Keys topic.Values = refl
 topics_sym topic.Keys topic.Sort = refl
 topics_sym topic.Keys topic.Size = refl
+topics_sym topic.Keys topic.Name = refl
 topics_sym topic.Keys (topic.Asked other) = refl
 topics_sym topic.Keys topic.Unknown = refl
 topics_sym topic.Values topic.Keys = refl
 topics_sym topic.Values topic.Values = refl
 topics_sym topic.Values topic.Sort = refl
 topics_sym topic.Values topic.Size = refl
+topics_sym topic.Values topic.Name = refl
 topics_sym topic.Values (topic.Asked other) = refl
 topics_sym topic.Values topic.Unknown = refl
 topics_sym topic.Sort topic.Keys = refl
 topics_sym topic.Sort topic.Values = refl
 topics_sym topic.Sort topic.Sort = refl
 topics_sym topic.Sort topic.Size = refl
+topics_sym topic.Sort topic.Name = refl
 topics_sym topic.Sort (topic.Asked other) = refl
 topics_sym topic.Sort topic.Unknown = refl
 topics_sym topic.Size topic.Keys = refl
 topics_sym topic.Size topic.Values = refl
 topics_sym topic.Size topic.Sort = refl
 topics_sym topic.Size topic.Size = refl
+topics_sym topic.Size topic.Name = refl
 topics_sym topic.Size (topic.Asked other) = refl
 topics_sym topic.Size topic.Unknown = refl
+topics_sym topic.Name topic.Keys = refl
+topics_sym topic.Name topic.Values = refl
+topics_sym topic.Name topic.Sort = refl
+topics_sym topic.Name topic.Size = refl
+topics_sym topic.Name topic.Name = refl
+topics_sym topic.Name (topic.Asked other) = refl
+topics_sym topic.Name topic.Unknown = refl
 topics_sym (topic.Asked one) topic.Keys = refl
 topics_sym (topic.Asked one) topic.Values = refl
 topics_sym (topic.Asked one) topic.Sort = refl
 topics_sym (topic.Asked one) topic.Size = refl
+topics_sym (topic.Asked one) topic.Name = refl
 topics_sym (topic.Asked one) (topic.Asked other) = refl
 topics_sym (topic.Asked one) topic.Unknown = refl
 topics_sym topic.Unknown topic.Keys = refl
 topics_sym topic.Unknown topic.Values = refl
 topics_sym topic.Unknown topic.Sort = refl
 topics_sym topic.Unknown topic.Size = refl
+topics_sym topic.Unknown topic.Name = refl
 topics_sym topic.Unknown (topic.Asked other) = refl
 topics_sym topic.Unknown topic.Unknown = refl
 
@@ -78,26 +91,37 @@ same_subject (Keys one) (Keys other) e = refl
 same_subject (Keys one) (Values other) e = absurd (cc)
 same_subject (Keys one) (Sort other) e = absurd (cc)
 same_subject (Keys one) (Size other) e = absurd (cc)
+same_subject (Keys one) (Name other) e = absurd (cc)
 same_subject (Keys one) (Asks other) e = absurd (cc)
 same_subject (Values one) (Keys other) e = absurd (cc)
 same_subject (Values one) (Values other) e = refl
 same_subject (Values one) (Sort other) e = absurd (cc)
 same_subject (Values one) (Size other) e = absurd (cc)
+same_subject (Values one) (Name other) e = absurd (cc)
 same_subject (Values one) (Asks other) e = absurd (cc)
 same_subject (Sort one) (Keys other) e = absurd (cc)
 same_subject (Sort one) (Values other) e = absurd (cc)
 same_subject (Sort one) (Sort other) e = refl
 same_subject (Sort one) (Size other) e = absurd (cc)
+same_subject (Sort one) (Name other) e = absurd (cc)
 same_subject (Sort one) (Asks other) e = absurd (cc)
 same_subject (Size one) (Keys other) e = absurd (cc)
 same_subject (Size one) (Values other) e = absurd (cc)
 same_subject (Size one) (Sort other) e = absurd (cc)
 same_subject (Size one) (Size other) e = refl
+same_subject (Size one) (Name other) e = absurd (cc)
 same_subject (Size one) (Asks other) e = absurd (cc)
+same_subject (Name one) (Keys other) e = absurd (cc)
+same_subject (Name one) (Values other) e = absurd (cc)
+same_subject (Name one) (Sort other) e = absurd (cc)
+same_subject (Name one) (Size other) e = absurd (cc)
+same_subject (Name one) (Name other) e = refl
+same_subject (Name one) (Asks other) e = absurd (cc)
 same_subject (Asks one) (Keys other) e = absurd (cc)
 same_subject (Asks one) (Values other) e = absurd (cc)
 same_subject (Asks one) (Sort other) e = absurd (cc)
 same_subject (Asks one) (Size other) e = absurd (cc)
+same_subject (Asks one) (Name other) e = absurd (cc)
 same_subject (Asks one) (Asks other) e = refl
 
 pub same_topic : (s t : Setting) → subject_of s ≡ subject_of t → is_same_topic (topic_of_setting s) (topic_of_setting t) ≡ true
@@ -105,26 +129,37 @@ same_topic (Keys one) (Keys other) e = refl
 same_topic (Keys one) (Values other) e = absurd (cc)
 same_topic (Keys one) (Sort other) e = absurd (cc)
 same_topic (Keys one) (Size other) e = absurd (cc)
+same_topic (Keys one) (Name other) e = absurd (cc)
 same_topic (Keys one) (Asks other) e = absurd (cc)
 same_topic (Values one) (Keys other) e = absurd (cc)
 same_topic (Values one) (Values other) e = refl
 same_topic (Values one) (Sort other) e = absurd (cc)
 same_topic (Values one) (Size other) e = absurd (cc)
+same_topic (Values one) (Name other) e = absurd (cc)
 same_topic (Values one) (Asks other) e = absurd (cc)
 same_topic (Sort one) (Keys other) e = absurd (cc)
 same_topic (Sort one) (Values other) e = absurd (cc)
 same_topic (Sort one) (Sort other) e = refl
 same_topic (Sort one) (Size other) e = absurd (cc)
+same_topic (Sort one) (Name other) e = absurd (cc)
 same_topic (Sort one) (Asks other) e = absurd (cc)
 same_topic (Size one) (Keys other) e = absurd (cc)
 same_topic (Size one) (Values other) e = absurd (cc)
 same_topic (Size one) (Sort other) e = absurd (cc)
 same_topic (Size one) (Size other) e = refl
+same_topic (Size one) (Name other) e = absurd (cc)
 same_topic (Size one) (Asks other) e = absurd (cc)
+same_topic (Name one) (Keys other) e = absurd (cc)
+same_topic (Name one) (Values other) e = absurd (cc)
+same_topic (Name one) (Sort other) e = absurd (cc)
+same_topic (Name one) (Size other) e = absurd (cc)
+same_topic (Name one) (Name other) e = refl
+same_topic (Name one) (Asks other) e = absurd (cc)
 same_topic (Asks one) (Keys other) e = absurd (cc)
 same_topic (Asks one) (Values other) e = absurd (cc)
 same_topic (Asks one) (Sort other) e = absurd (cc)
 same_topic (Asks one) (Size other) e = absurd (cc)
+same_topic (Asks one) (Name other) e = absurd (cc)
 same_topic (Asks one) (Asks other) e = refl
 
 -- ---- settings of one subject are one

@@ -58,7 +58,7 @@ as_number at operand b = if b then Err (WrongOperator at) else Ok operand
 
 module _ (definition : Definition) where
   -- a key of which this is known is a number, or a key without a modifier
-  abbrev IsTaken : ListItem → Operand → Type 0
+  abbrev pub IsTaken : ListItem → Operand → Type 0
   IsTaken item operand = (item_suffix item.bytes ≡ []) ⊎ (is_text operand ≡ false)
 
   meant : (item : ListItem) (operand : Operand) → IsTaken item operand → key_meant item (Some operand) ≡ Ok (key_as item operand)
@@ -69,7 +69,7 @@ module _ (definition : Definition) where
       ap (λ (b : Bool). if b then Err (WrongOperator item.at) else Ok (key_as item operand)) (and_left (is_text operand) (not (bytes_eq (item_suffix item.bytes) [])) e)
 
   -- what a key is read as
-  key_found : (item : ListItem) (found : Option Operand) (key : Key) → key_meant item found ≡ Ok key → (operand : Operand) × (found ≡ Some operand) × IsTaken item operand × (key_as item operand ≡ key)
+  pub key_found : (item : ListItem) (found : Option Operand) (key : Key) → key_meant item found ≡ Ok key → (operand : Operand) × (found ≡ Some operand) × IsTaken item operand × (key_as item operand ≡ key)
   key_found item None key e = absurd (cc)
   key_found item (Some operand) key e = by (is_text operand) (bytes_eq (item_suffix item.bytes) []) refl refl e
     where

@@ -21,7 +21,7 @@ use Rattle.trace_trigger.specs.HistLists.{names_of}
 use Rattle.trace_trigger.specs.HistParts.{start_of, body_of, word_len, attributes_of, end_of, tail_of, is_condition, condition_of, offset_in}
 use Rattle.trace_trigger.specs.HistOffsets.{tail_offsets}
 use Rattle.trace_trigger.specs.HistTexts.{IsHistText}
-use Rattle.trace_trigger.specs.HistGrammar.{IsCut, Setting, Keys, Values, Sort, Size, Asks, Subject, OfKeys, OfValues, OfSort, OfSize, OfAction, IsHead, HasValue, IsWordFor, IsDirected, IsKey, IsSortItem, WritesKeys, WritesValues, Writes}
+use Rattle.trace_trigger.specs.HistGrammar.{IsCut, Setting, Keys, Values, Sort, Size, Name, Asks, Subject, OfKeys, OfValues, OfSort, OfSize, OfName, OfAction, IsHead, HasValue, IsWordFor, IsDirected, IsKey, IsSortItem, WritesKeys, WritesValues, Writes}
 use Rattle.trace_trigger.proofs.CutLemmas.{located, cut_pieces}
 use Rattle.trace_trigger.proofs.WordLemmas.{run_taken, run_dropped, name_passes}
 use Rattle.trace_trigger.proofs.WrongLemmas.{each_weaker}
@@ -252,6 +252,7 @@ head_unblank OfValues head (inr (inl e)) = ap (list_all is_unblank) e
 head_unblank OfValues head (inr (inr e)) = ap (list_all is_unblank) e
 head_unblank OfSort head e = ap (list_all is_unblank) e
 head_unblank OfSize head e = ap (list_all is_unblank) e
+head_unblank OfName head e = ap (list_all is_unblank) e
 head_unblank OfAction head e = absurd e
 
 value_unblank : (subject : Subject) (attribute head value : List ℕ) → HasValue subject attribute head value → IsUnblank value → IsUnblank attribute
@@ -298,6 +299,7 @@ attribute_unblank attribute (Keys items) is = keys_unblank attribute items is
 attribute_unblank attribute (Values names) is = values_unblank attribute names is
 attribute_unblank attribute (Sort keys) is = value_unblank OfSort attribute is.head is.value is.has (cut_unblank is.value is.items is.cut (items_unblank is.items keys is.each))
 attribute_unblank attribute (Size entries) is = value_unblank OfSize attribute is.head is.digits is.has (number_unblank is.digits entries is.number)
+attribute_unblank attribute (Name name) is = value_unblank OfName attribute is.head name is.has (name_unblank name is.named)
 attribute_unblank attribute (Asks action) is = word_unblank action attribute is
 
 all_unblank : (attributes : List (List ℕ)) (settings : List Setting) → AllZip Writes attributes settings → AllByRecursion IsUnblank attributes

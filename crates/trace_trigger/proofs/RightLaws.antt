@@ -1,5 +1,5 @@
 -- Attributes are right exactly where they are read as lawful settings.
-use Rattle.std.proofs.Common.{◌≡◌, ◌≢◌, ◌⊎◌, inl, inr, refl, ℕ, Bool, true, false, ◌&&◌, ◌||◌, IsTrue, codes, List, [], ◌∷◌, map, Option, ap, sym, ◌∙◌, subst}
+use Rattle.std.proofs.Common.{◌≡◌, ◌≢◌, ◌⊎◌, inl, inr, refl, ℕ, ◌+◌, Bool, true, false, not, ◌&&◌, ◌||◌, IsTrue, codes, List, [], ◌∷◌, map, Option, ap, sym, ◌∙◌, subst}
 use Rattle.std.specs.List.{AllByRecursion, AllZip, Contains}
 use Rattle.std.specs.Option.{is_none}
 use Rattle.std.proofs.lemmas.Bool.{or_left, or_right, and_left, and_right, and_from, false_from_ne_true}
@@ -12,8 +12,8 @@ use Rattle.trace_trigger.specs.declared.attribute.Topic.TheVariants as topic
 use Rattle.trace_trigger.specs.declared.attribute.Attribute.{Attribute}
 use Rattle.trace_trigger.specs.declared.piece.ListItem.{ListItem}
 use Rattle.trace_trigger.specs.HistLists.{is_same_topic, first_about, items_of, items_in, lists_of, is_listed, is_named, is_hitcount, is_sortable}
-use Rattle.trace_trigger.specs.HistOffsets.{wrong_after, is_unknown, is_repeated, is_bad_size, is_wrong_attribute, attribute_offsets, is_wrong_key, is_wrong_value, key_offsets, value_offsets, is_wrong_sort, sort_offsets, keyless_offsets}
-use Rattle.trace_trigger.specs.HistGrammar.{Setting, Keys, Values, Sort, Size, Asks, subject_of, HasName, IsKey, IsListed, AreLawful}
+use Rattle.trace_trigger.specs.HistOffsets.{wrong_after, is_unknown, is_repeated, is_bad_size, is_wrong_attribute, attribute_offsets, is_bad_name, name_offsets, is_wrong_key, is_wrong_value, key_offsets, value_offsets, is_wrong_sort, sort_offsets, keyless_offsets}
+use Rattle.trace_trigger.specs.HistGrammar.{Setting, Keys, Values, Sort, Size, Name, Asks, subject_of, HasName, IsKey, IsListed, AreLawful}
 use Rattle.trace_trigger.proofs.WrongLemmas.{Apart, from_pairs, each_weaker, from_none, each_none, none_or, Unlike, none_alike}
 use Rattle.trace_trigger.proofs.ItemLaws.{AreRight, right_names, right_sorts}
 use Rattle.trace_trigger.proofs.KeyLaws.{AreRightKeys, right_keys, key_named}
@@ -26,6 +26,7 @@ use Rattle.trace_trigger.proofs.SettingLaws.{member_listed, some_items, keyed, g
 -- nothing is wrong with the attributes, whose word ends there
 pub record AreAllRight (found : List Attribute) (end : ℕ) : Type 0 where
   pub attributes : attribute_offsets found ≡ []
+  pub names : name_offsets found ≡ []
   pub keys : key_offsets (lists_of found).keys ≡ []
   pub values : value_offsets (lists_of found).values ≡ []
   pub sort : sort_offsets (lists_of found) ≡ []
@@ -41,6 +42,7 @@ known (Keys names) = refl
 known (Values names) = refl
 known (Sort keys) = refl
 known (Size entries) = refl
+known (Name name) = refl
 known (Asks action) = refl
 
 sized : (attribute : Attribute) (setting : Setting) → IsRead attribute setting → is_bad_size attribute ≡ false
@@ -48,7 +50,16 @@ sized attribute (Keys names) read = and_left (is_same_topic topic.Size attribute
 sized attribute (Values names) read = and_left (is_same_topic topic.Size attribute.topic) (is_none (decimal_number attribute.value)) (ap (is_same_topic topic.Size) read.topic)
 sized attribute (Sort keys) read = and_left (is_same_topic topic.Size attribute.topic) (is_none (decimal_number attribute.value)) (ap (is_same_topic topic.Size) read.topic)
 sized attribute (Size entries) read = and_right (is_same_topic topic.Size attribute.topic) (is_none (decimal_number attribute.value)) (ap is_none read.holds)
+sized attribute (Name name) read = and_left (is_same_topic topic.Size attribute.topic) (is_none (decimal_number attribute.value)) (ap (is_same_topic topic.Size) read.topic)
 sized attribute (Asks action) read = and_left (is_same_topic topic.Size attribute.topic) (is_none (decimal_number attribute.value)) (ap (is_same_topic topic.Size) read.topic)
+
+called : (attribute : Attribute) (setting : Setting) → IsRead attribute setting → is_bad_name attribute ≡ false
+called attribute (Keys names) read = and_left (is_same_topic topic.Name attribute.topic) (not (is_name attribute.value)) (ap (is_same_topic topic.Name) read.topic)
+called attribute (Values names) read = and_left (is_same_topic topic.Name attribute.topic) (not (is_name attribute.value)) (ap (is_same_topic topic.Name) read.topic)
+called attribute (Sort keys) read = and_left (is_same_topic topic.Name attribute.topic) (not (is_name attribute.value)) (ap (is_same_topic topic.Name) read.topic)
+called attribute (Size entries) read = and_left (is_same_topic topic.Name attribute.topic) (not (is_name attribute.value)) (ap (is_same_topic topic.Name) read.topic)
+called attribute (Name name) read = and_right (is_same_topic topic.Name attribute.topic) (not (is_name attribute.value)) (ap (λ (value : List ℕ). not (is_name value)) read.holds.value ∙ ap not read.holds.named)
+called attribute (Asks action) read = and_left (is_same_topic topic.Name attribute.topic) (not (is_name attribute.value)) (ap (is_same_topic topic.Name) read.topic)
 
 each_known : (attributes : List Attribute) (settings : List Setting) → AllZip IsRead attributes settings → AllByRecursion (λ (a : Attribute). is_unknown a.topic ≡ false) attributes
 each_known [] [] zip = tt
@@ -61,6 +72,12 @@ each_sized [] [] zip = tt
 each_sized [] (setting ∷ settings) zip = absurd zip
 each_sized (attribute ∷ attributes) [] zip = absurd zip
 each_sized (attribute ∷ attributes) (setting ∷ settings) zip = (sized attribute setting zip.0, each_sized attributes settings zip.1)
+
+each_called : (attributes : List Attribute) (settings : List Setting) → AllZip IsRead attributes settings → AllByRecursion (λ (a : Attribute). is_bad_name a ≡ false) attributes
+each_called [] [] zip = tt
+each_called [] (setting ∷ settings) zip = absurd zip
+each_called (attribute ∷ attributes) [] zip = absurd zip
+each_called (attribute ∷ attributes) (setting ∷ settings) zip = (called attribute setting zip.0, each_called attributes settings zip.1)
 
 unlike : (one other : Attribute) (s t : Setting) → IsRead one s → IsRead other t → subject_of s ≢ subject_of t → same_topics one other ≡ false
 unlike one other s t read later differ =
@@ -95,6 +112,12 @@ module _ (attributes : List Attribute) (settings : List Setting) (zip : AllZip I
       (each_none is_bad_size [] attributes (each_sized attributes settings zip))) in
       ap (map (λ (a : Attribute). a.at)) none
 
+  names_right : name_offsets attributes ≡ []
+  unfolding name_offsets
+  names_right =
+      ap (map (λ (a : Attribute). a.at + a.skip))
+      (from_none (λ _ (a : Attribute). is_bad_name a) [] attributes (each_none is_bad_name [] attributes (each_called attributes settings zip)))
+
   items_right : (attribute : Attribute) (names : List (List ℕ)) → AreNames attribute names → map (λ (item : ListItem). item.at) (wrong_after is_wrong_value [] (items_of attribute)) ≡ []
   items_right attribute names are =
       let right : AreRight names = record { named = are.named; apart = are.apart } in
@@ -117,6 +140,7 @@ module _ (attributes : List Attribute) (settings : List Setting) (zip : AllZip I
           of (Values names) e read = absurd (cc)
           of (Sort keys) e read = absurd (cc)
           of (Size entries) e read = absurd (cc)
+          of (Name name) e read = absurd (cc)
           of (Asks action) e read = absurd (cc)
       by (inr missing) = ap (λ (a : Option Attribute). key_offsets (items_in a)) missing.first
 
@@ -132,6 +156,7 @@ module _ (attributes : List Attribute) (settings : List Setting) (zip : AllZip I
           of (Values names) e read = ap (λ (a : Option Attribute). value_offsets (items_in a)) found.first ∙ items_right found.attribute names read.holds
           of (Sort keys) e read = absurd (cc)
           of (Size entries) e read = absurd (cc)
+          of (Name name) e read = absurd (cc)
           of (Asks action) e read = absurd (cc)
       by (inr missing) = ap (λ (a : Option Attribute). value_offsets (items_in a)) missing.first
 
@@ -190,6 +215,7 @@ module _ (attributes : List Attribute) (settings : List Setting) (zip : AllZip I
               ap (λ (a : Option Attribute). map (λ (item : ListItem). item.at) (wrong_after (is_wrong_sort (lists_of attributes)) [] (items_in a))) found.first
               ∙ ap (map (λ (item : ListItem). item.at)) (sort_items_right found.attribute keys (from_member (Sort keys) settings is) read.holds)
           of (Size entries) e is read = absurd (cc)
+          of (Name name) e is read = absurd (cc)
           of (Asks action) e is read = absurd (cc)
       by (inr missing) = ap (λ (a : Option Attribute). map (λ (item : ListItem). item.at) (wrong_after (is_wrong_sort (lists_of attributes)) [] (items_in a))) missing.first
 
@@ -200,4 +226,4 @@ module _ (attributes : List Attribute) (settings : List Setting) (zip : AllZip I
       ap (λ (a : Option Attribute). keyless_offsets end (items_in a)) it.first ∙ keyed end (items_of it.attribute) (some_items it.attribute)
 
   pub all_right : (end : ℕ) → AreAllRight attributes end
-  all_right end = record { attributes = attributes_right; keys = keys_right; values = values_right; sort = sort_right; keyed = keyed_right end }
+  all_right end = record { attributes = attributes_right; names = names_right; keys = keys_right; values = values_right; sort = sort_right; keyed = keyed_right end }

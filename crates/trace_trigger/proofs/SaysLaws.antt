@@ -1,5 +1,5 @@
 -- What is read of a text is what its settings say.
-use Rattle.std.proofs.Common.{◌≡◌, ◌≢◌, ◌⊎◌, inl, inr, refl, ℕ, ◌≤◌, Bool, true, false, not, ◌||◌, nat_lt, cond, bytes_eq, codes, List, [], ◌∷◌, length, map, Option, Ok, ap, sym, ◌∙◌, subst, arith, le-ltb}
+use Rattle.std.proofs.Common.{◌≡◌, ◌≢◌, ◌⊎◌, inl, inr, refl, ℕ, ◌≤◌, Bool, true, false, not, ◌||◌, nat_lt, cond, bytes_eq, codes, List, [], ◌∷◌, length, map, Option, Some, None, Ok, ap, sym, ◌∙◌, subst, arith, le-ltb}
 use Rattle.std.specs.List.{AllByRecursion, AllPairs, AllZip, Contains}
 use Rattle.std.proofs.lemmas.Bool.{or_parts, or_from, ltb-false}
 use Rattle.std.proofs.lemmas.List.{length-map}
@@ -18,7 +18,7 @@ use Rattle.trace_trigger.specs.HistMeanings.{is_too_many, few, size_of, told_siz
 use Rattle.trace_trigger.specs.HistSizes.{rounded_size}
 use Rattle.trace_trigger.specs.HistSpecs.{SpecSeen, written_of, key_names}
 use Rattle.trace_trigger.specs.Frames.{filter_of}
-use Rattle.trace_trigger.specs.HistGrammar.{Setting, Keys, Values, Sort, Size, Asks, subject_of, HasName, IsKey, AreNamedApart, IsListed, IsSet, summed_names, AreSettingsOf, IsWithinLimits, IsKeyOf, IsValueOf, IsSortedBy, IsRuleOf, FitsEvent}
+use Rattle.trace_trigger.specs.HistGrammar.{Setting, Keys, Values, Sort, Size, Name, Asks, subject_of, HasName, IsKey, AreNamedApart, IsListed, IsSet, IsNamed, summed_names, AreSettingsOf, IsWithinLimits, IsKeyOf, IsValueOf, IsSortedBy, IsRuleOf, FitsEvent}
 use Rattle.trace_trigger.proofs.WrongLemmas.{Apart, from_pairs, each_weaker, apart_weaker, apart_map}
 use Rattle.trace_trigger.proofs.NameLaws.{name_is}
 use Rattle.trace_trigger.proofs.KeyLaws.{apart_named}
@@ -37,6 +37,15 @@ set_once settings by otherwise once same inject one other (inl is) (inl set) = i
 set_once settings by otherwise once same inject one other (inl is) (inr none) = absurd (none.0 one is)
 set_once settings by otherwise once same inject one other (inr none) (inl set) = absurd (none.0 other set)
 set_once settings by otherwise once same inject one other (inr none) (inr never) = none.1 ∙ sym never.1
+
+pub named_once : (settings : List Setting) → Once settings → (one other : Option (List ℕ)) → IsNamed settings one → IsNamed settings other → one ≡ other
+named_once settings once None None is also = refl
+named_once settings once None (Some name) is also = absurd (is name also)
+named_once settings once (Some name) None is also = absurd (also name is)
+named_once settings once (Some one) (Some other) is also =
+    let same : Name one ≡ Name other = one_setting (Name one) (Name other) settings once (member_from (Name one) settings is) (member_from (Name other) settings also) refl in
+    let names : one ≡ other = cc in
+    ap (λ (name : List ℕ). Some name) names
 
 -- ---- names that are summed
 
@@ -209,6 +218,7 @@ module _ (definition : Definition) (text : List ℕ) (settings : List Setting) (
 
   pub said_settings : (spec : SpecSeen) → IsSaid definition text lists spec → AreSettingsOf settings spec
   said_settings spec is = record {
+    name = subst (IsNamed settings) is.name are.name;
     keys = subst (λ (names : List (List ℕ)). Contains settings (Keys names)) (said_written spec is) are.keys;
     listed = names_of lists.values;
     listed_set = are.values;
@@ -239,6 +249,9 @@ module _ (definition : Definition) (text : List ℕ) (settings : List Setting) (
 
   -- ---- and what they say is said
 
+  name_same : (spec : SpecSeen) → AreSettingsOf settings spec → lists.name ≡ spec.name
+  name_same spec set = named_once settings once lists.name spec.name are.name set.name
+
   keys_same : (spec : SpecSeen) → AreSettingsOf settings spec → names_of lists.keys ≡ written_of spec.keys
   keys_same spec set = keys_are (attributes_of text) settings finds.read once (written_of spec.keys) set.keys
 
@@ -267,6 +280,7 @@ module _ (definition : Definition) (text : List ℕ) (settings : List Setting) (
       let named = keys_named definition lists.keys spec.keys read in
       record {
         few = fewer spec keys values sort limits;
+        name = name_same spec set;
         keys = keys_given definition lists.keys spec.keys read;
         value_sources = values_given definition (summed_items lists.values) spec.value_sources (subst (λ (names : List (List ℕ)). AllZip (IsValueOf definition) names spec.value_sources) (sym values) fits.values);
         size = size_same spec set;

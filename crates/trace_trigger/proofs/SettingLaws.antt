@@ -1,5 +1,5 @@
 -- The lists of a text are those of its settings, and nothing in it is wrong exactly where its settings are lawful.
-use Rattle.std.proofs.Common.{◌≡◌, ◌⊎◌, inl, inr, refl, ℕ, ◌+◌, ◌<◌, true, false, bytes_eq, codes, List, [], ◌∷◌, length, map, Option, Some, option_map, option_and_then, ap, sym, ◌∙◌, subst, arith}
+use Rattle.std.proofs.Common.{◌≡◌, ◌⊎◌, inl, inr, refl, ℕ, ◌+◌, ◌<◌, true, false, bytes_eq, codes, List, [], ◌∷◌, length, map, Option, Some, None, option_map, option_and_then, ap, sym, ◌∙◌, subst, arith}
 use Rattle.std.specs.List.{AllZip, Contains}
 use Rattle.std.proofs.lemmas.Bool.{or_cases, or_left, or_right}
 use Rattle.std.proofs.lemmas.Slice.Eq.{bytes_eq-Decides}
@@ -10,10 +10,10 @@ use Rattle.trace_trigger.specs.declared.attribute.Topic.TheVariants as topic
 use Rattle.trace_trigger.specs.declared.attribute.Attribute.{Attribute}
 use Rattle.trace_trigger.specs.declared.piece.ListItem.{ListItem}
 use Rattle.trace_trigger.specs.HistSizes.{rounded_size}
-use Rattle.trace_trigger.specs.HistLists.{is_same_topic, first_about, items_of, items_in, asked_for, action_in, Lists, lists_of, names_of, is_listed, sort_key_of, sort_keys}
+use Rattle.trace_trigger.specs.HistLists.{is_same_topic, first_about, items_of, items_in, value_of, asked_for, action_in, Lists, lists_of, names_of, is_listed, sort_key_of, sort_keys}
 use Rattle.trace_trigger.specs.HistOffsets.{keyless_offsets}
 use Rattle.trace_trigger.specs.HistMeanings.{size_of, told_size}
-use Rattle.trace_trigger.specs.HistGrammar.{Setting, Keys, Values, Sort, Size, Asks, IsSet}
+use Rattle.trace_trigger.specs.HistGrammar.{Setting, Keys, Values, Sort, Size, Name, Asks, IsSet, IsNamed}
 use Rattle.trace_trigger.proofs.CutLemmas.{found_is_cut}
 use Rattle.trace_trigger.proofs.ItemLaws.{sort_keys_are}
 use Rattle.trace_trigger.proofs.AttributeLaws.{topic_of_setting, IsRead}
@@ -53,6 +53,7 @@ abbrev pub default_sort : List SortKey
 default_sort = record { name = codes "hitcount"; descending = false } ∷ []
 
 pub record ListsAre (settings : List Setting) (lists : Lists) : Type 0 where
+  pub name : IsNamed settings lists.name
   pub keys : Contains settings (Keys (names_of lists.keys))
   pub values : IsSet settings Values [] (names_of lists.values)
   pub sort : IsSet settings Sort default_sort (sort_keys lists.sort)
@@ -108,6 +109,7 @@ module _ (attributes : List Attribute) (settings : List Setting) (zip : AllZip I
               inl (subst (λ (listed : List (List ℕ)). Contains settings (Values listed)) (sym names_are) (from_member (Values names) settings is))
           of (Sort keys) e is read = absurd (cc)
           of (Size entries) e is read = absurd (cc)
+          of (Name name) e is read = absurd (cc)
           of (Asks action) e is read = absurd (cc)
       by (inr missing) =
           inr (
@@ -135,6 +137,7 @@ module _ (attributes : List Attribute) (settings : List Setting) (zip : AllZip I
               let keys_are : sort_keys (items_in (first_about topic.Sort attributes)) ≡ keys = sort_given keys (record { attribute = found.attribute; first = found.first; read = read }) in
               inl (subst (λ (listed : List SortKey). Contains settings (Sort listed)) (sym keys_are) (from_member (Sort keys) settings is))
           of (Size entries) e is read = absurd (cc)
+          of (Name name) e is read = absurd (cc)
           of (Asks action) e is read = absurd (cc)
       by (inr missing) =
           inr (
@@ -165,6 +168,7 @@ module _ (attributes : List Attribute) (settings : List Setting) (zip : AllZip I
                 size = ap (λ (a : Option Attribute). size_of (option_map (λ (attribute : Attribute). attribute.value) a)) found.first
                     ∙ ap (λ (n : Option ℕ). told_size (option_and_then rounded_size n)) read.holds;
               }
+          of (Name name) e is read = absurd (cc)
           of (Asks action) e is read = absurd (cc)
       by (inr missing) =
           record {
@@ -172,6 +176,26 @@ module _ (attributes : List Attribute) (settings : List Setting) (zip : AllZip I
             set = inr (λ other is. let never = missing.other (Size other) (member_from (Size other) settings is) in absurd (cc), refl);
             size = ap (λ (a : Option Attribute). size_of (option_map (λ (attribute : Attribute). attribute.value) a)) missing.first;
           }
+
+  name_set : IsNamed settings (lists_of attributes).name
+  unfolding lists_of
+  name_set = by (found_or_missing topic.Name attributes settings zip)
+    where
+      by : IsFound topic.Name attributes settings ⊎ IsMissing topic.Name attributes settings → IsNamed settings (value_of (first_about topic.Name attributes))
+      by (inl found) = of found.setting found.same found.member found.read
+        where
+          of : (s : Setting) → is_same_topic topic.Name (topic_of_setting s) ≡ true → Member s settings → IsRead found.attribute s → IsNamed settings (value_of (first_about topic.Name attributes))
+          of (Keys names) e is read = absurd (cc)
+          of (Values names) e is read = absurd (cc)
+          of (Sort keys) e is read = absurd (cc)
+          of (Size entries) e is read = absurd (cc)
+          of (Name name) e is read =
+              let name_is : value_of (first_about topic.Name attributes) ≡ Some name = ap value_of found.first ∙ ap (λ (value : List ℕ). Some value) read.holds.value in
+              subst (IsNamed settings) (sym name_is) (from_member (Name name) settings is)
+          of (Asks action) e is read = absurd (cc)
+      by (inr missing) =
+          let none : value_of (first_about topic.Name attributes) ≡ None = ap value_of missing.first in
+          subst (IsNamed settings) (sym none) (λ name is. let never = missing.other (Name name) (member_from (Name name) settings is) in absurd (cc))
 
   action_set : IsSet settings Asks Attach (lists_of attributes).action
   unfolding lists_of
@@ -185,6 +209,7 @@ module _ (attributes : List Attribute) (settings : List Setting) (zip : AllZip I
           of (Values names) e is read = absurd (cc)
           of (Sort keys) e is read = absurd (cc)
           of (Size entries) e is read = absurd (cc)
+          of (Name name) e is read = absurd (cc)
           of (Asks action) e is read =
               let action_is : action_in (first_about (topic.Asked Attach) attributes) ≡ action = ap action_in found.first ∙ ap asked_for read.topic in
               inl (subst (λ (a : Action). Contains settings (Asks a)) (sym action_is) (from_member (Asks action) settings is))
@@ -193,6 +218,7 @@ module _ (attributes : List Attribute) (settings : List Setting) (zip : AllZip I
 
   pub lists_are : (names : List (List ℕ)) → Contains settings (Keys names) → ListsAre settings (lists_of attributes)
   lists_are names is = record {
+    name = name_set;
     keys = subst (λ (listed : List (List ℕ)). Contains settings (Keys listed)) (sym (keys_are names is)) is;
     values = values_set;
     sort = sort_set;

@@ -14,7 +14,7 @@ use Rattle.trace_trigger.specs.HistAttributes.{attributes_at}
 use Rattle.trace_trigger.specs.HistPieces.{pieces_of}
 use Rattle.trace_trigger.specs.HistParts.{attributes_of, end_of, tail_of, condition_of}
 use Rattle.trace_trigger.specs.HistLists.{Lists, lists_of, names_of, summed_items, sort_keys}
-use Rattle.trace_trigger.specs.HistOffsets.{attribute_offsets, key_offsets, value_offsets, sort_offsets, list_offsets, keyless_offsets, tail_offsets, wrong_offsets, earlier, least}
+use Rattle.trace_trigger.specs.HistOffsets.{attribute_offsets, name_offsets, key_offsets, value_offsets, sort_offsets, list_offsets, keyless_offsets, tail_offsets, wrong_offsets, earlier, least}
 use Rattle.trace_trigger.specs.TriggerAnswers.{◌>>=◌}
 use Rattle.trace_trigger.specs.HistMeanings.{is_too_many, few, each, key_in, value_source, size_of, sort_rule}
 use Rattle.trace_trigger.specs.HistSpecs.{SpecSeen, key_names}
@@ -37,7 +37,7 @@ pub record Finds (text : List ℕ) (settings : List Setting) (condition : Option
 
 none_wrong : (text : List ℕ) → AreAllRight (attributes_of text) (end_of text) → tail_offsets text (tail_of text) ≡ [] → wrong_offsets text ≡ []
 unfolding wrong_offsets
-none_wrong text right tail = (λ i. right.attributes i ++ (right.keys i ++ right.values i ++ right.sort i) ++ right.keyed i ++ tail i)
+none_wrong text right tail = (λ i. right.attributes i ++ right.names i ++ (right.keys i ++ right.values i ++ right.sort i) ++ right.keyed i ++ tail i)
 
 pub written_finds : (text : List ℕ) (settings : List Setting) (condition : Option (List ℕ)) → IsWritten text settings condition → Finds text settings condition
 written_finds text settings condition is = subst (λ (t : List ℕ). Finds t settings condition) (sym is.cut) found
@@ -79,12 +79,13 @@ unfolding wrong_offsets
 right_parts text none =
     let lists : Lists = lists_of (attributes_of text) in
     let end : List ℕ = keyless_offsets (end_of text) lists.keys in
-    let first = both_nil (attribute_offsets (attributes_of text) ++ list_offsets lists ++ end) (tail_offsets text (tail_of text)) none in
-    let second = both_nil (attribute_offsets (attributes_of text) ++ list_offsets lists) end first.0 in
-    let third = both_nil (attribute_offsets (attributes_of text)) (list_offsets lists) second.0 in
+    let first = both_nil (attribute_offsets (attributes_of text) ++ name_offsets (attributes_of text) ++ list_offsets lists ++ end) (tail_offsets text (tail_of text)) none in
+    let second = both_nil (attribute_offsets (attributes_of text) ++ name_offsets (attributes_of text) ++ list_offsets lists) end first.0 in
+    let third = both_nil (attribute_offsets (attributes_of text) ++ name_offsets (attributes_of text)) (list_offsets lists) second.0 in
+    let fourth = both_nil (attribute_offsets (attributes_of text)) (name_offsets (attributes_of text)) third.0 in
     let items = both_nil (key_offsets lists.keys ++ value_offsets lists.values) (sort_offsets lists) third.1 in
     let more = both_nil (key_offsets lists.keys) (value_offsets lists.values) items.0 in
-    record { attributes = record { attributes = third.0; keys = more.0; values = more.1; sort = items.1; keyed = second.1 }; tail = first.1 }
+    record { attributes = record { attributes = fourth.0; names = fourth.1; keys = more.0; values = more.1; sort = items.1; keyed = second.1 }; tail = first.1 }
 
 pub record IsSomehowWritten (text : List ℕ) : Type 0 where
   pub settings : List Setting
@@ -145,6 +146,7 @@ read_wrong text lists e = by (wrong_offsets text) refl e
 
 pub record IsSaid (definition : Definition) (text : List ℕ) (lists : Lists) (spec : SpecSeen) : Type 0 where
   pub few : is_too_many lists ≡ false
+  pub name : lists.name ≡ spec.name
   pub keys : each (key_in definition.fields) lists.keys ≡ Ok spec.keys
   pub value_sources : each (value_source definition.fields) (summed_items lists.values) ≡ Ok spec.value_sources
   pub size : size_of lists.size ≡ Ok spec.size
@@ -157,6 +159,7 @@ pub record IsSaid (definition : Definition) (text : List ℕ) (lists : Lists) (s
 module _ (definition : Definition) (text : List ℕ) (lists : Lists) where
   abbrev spec_of_lists : List Key → List Operand → ℕ → Option Parsed → SpecSeen
   spec_of_lists keys values size only_if = record {
+    name = lists.name;
     keys = keys;
     values = names_of (summed_items lists.values);
     sort = sort_keys lists.sort;
@@ -188,6 +191,7 @@ module _ (definition : Definition) (text : List ℕ) (lists : Lists) where
       let it : spec_of_lists keys.found values.found size.found only_if.found ≡ spec = let f = only_if.after in cc in
       subst (IsSaid definition text lists) it (record {
         few = fewer.0;
+        name = refl;
         keys = keys.is;
         value_sources = values.is;
         size = size.is;
@@ -209,6 +213,7 @@ module _ (definition : Definition) (text : List ℕ) (lists : Lists) where
       ∙ ap (λ (r : Result ℕ TriggerFault). r >>= λ size. filter_of definition text (condition_of (tail_of text)) >>= λ only_if. Ok (spec_of_lists spec.keys spec.value_sources size only_if)) is.size
       ∙ ap (λ (r : Result (Option Parsed) TriggerFault). r >>= λ only_if. Ok (spec_of_lists spec.keys spec.value_sources spec.size only_if)) is.filter
       ∙ (λ i. Ok (record {
+        name = is.name i;
         keys = spec.keys;
         values = is.values i;
         sort = is.sort i;

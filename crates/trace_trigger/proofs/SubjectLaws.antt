@@ -12,7 +12,7 @@ use Rattle.trace_trigger.specs.declared.attribute.Attribute.{Attribute}
 use Rattle.trace_trigger.specs.HistAttributes.{head_len, attribute_of}
 use Rattle.trace_trigger.specs.HistLists.{is_same_topic, first_about}
 use Rattle.trace_trigger.specs.HistOffsets.{is_unknown, is_repeated, is_bad_size, is_wrong_attribute}
-use Rattle.trace_trigger.specs.HistGrammar.{Subject, OfKeys, OfValues, OfSort, OfSize, OfAction}
+use Rattle.trace_trigger.specs.HistGrammar.{Subject, OfKeys, OfValues, OfSort, OfSize, OfName, OfAction}
 use Rattle.trace_trigger.specs.HistFaultOffsets.{IsAbout, IsUnknown, IsNoSize, IsRepeated}
 use Rattle.trace_trigger.proofs.CutLemmas.{located}
 use Rattle.trace_trigger.proofs.HeadLemmas.{topic_in, value_in, topic_for, value_read, action_read, read_value, read_action}
@@ -26,6 +26,7 @@ is_keys topic.Keys e = refl
 is_keys topic.Values e = absurd (cc)
 is_keys topic.Sort e = absurd (cc)
 is_keys topic.Size e = absurd (cc)
+is_keys topic.Name e = absurd (cc)
 is_keys (topic.Asked action) e = absurd (cc)
 is_keys topic.Unknown e = absurd (cc)
 
@@ -34,6 +35,7 @@ is_values topic.Keys e = absurd (cc)
 is_values topic.Values e = refl
 is_values topic.Sort e = absurd (cc)
 is_values topic.Size e = absurd (cc)
+is_values topic.Name e = absurd (cc)
 is_values (topic.Asked action) e = absurd (cc)
 is_values topic.Unknown e = absurd (cc)
 
@@ -42,6 +44,7 @@ is_sort topic.Keys e = absurd (cc)
 is_sort topic.Values e = absurd (cc)
 is_sort topic.Sort e = refl
 is_sort topic.Size e = absurd (cc)
+is_sort topic.Name e = absurd (cc)
 is_sort (topic.Asked action) e = absurd (cc)
 is_sort topic.Unknown e = absurd (cc)
 
@@ -50,14 +53,25 @@ is_size topic.Keys e = absurd (cc)
 is_size topic.Values e = absurd (cc)
 is_size topic.Sort e = absurd (cc)
 is_size topic.Size e = refl
+is_size topic.Name e = absurd (cc)
 is_size (topic.Asked action) e = absurd (cc)
 is_size topic.Unknown e = absurd (cc)
+
+pub is_naming : (t : Topic) → is_same_topic topic.Name t ≡ true → t ≡ topic.Name
+is_naming topic.Keys e = absurd (cc)
+is_naming topic.Values e = absurd (cc)
+is_naming topic.Sort e = absurd (cc)
+is_naming topic.Size e = absurd (cc)
+is_naming topic.Name e = refl
+is_naming (topic.Asked action) e = absurd (cc)
+is_naming topic.Unknown e = absurd (cc)
 
 is_asked : (t : Topic) → is_same_topic (topic.Asked Attach) t ≡ true → (action : Action) × (t ≡ topic.Asked action)
 is_asked topic.Keys e = absurd (cc)
 is_asked topic.Values e = absurd (cc)
 is_asked topic.Sort e = absurd (cc)
 is_asked topic.Size e = absurd (cc)
+is_asked topic.Name e = absurd (cc)
 is_asked (topic.Asked action) e = (action, refl)
 is_asked topic.Unknown e = absurd (cc)
 
@@ -67,36 +81,49 @@ both_about topic.Keys topic.Keys e = (OfKeys, refl, refl)
 both_about topic.Keys topic.Values e = absurd (cc)
 both_about topic.Keys topic.Sort e = absurd (cc)
 both_about topic.Keys topic.Size e = absurd (cc)
+both_about topic.Keys topic.Name e = absurd (cc)
 both_about topic.Keys (topic.Asked other) e = absurd (cc)
 both_about topic.Keys topic.Unknown e = absurd (cc)
 both_about topic.Values topic.Keys e = absurd (cc)
 both_about topic.Values topic.Values e = (OfValues, refl, refl)
 both_about topic.Values topic.Sort e = absurd (cc)
 both_about topic.Values topic.Size e = absurd (cc)
+both_about topic.Values topic.Name e = absurd (cc)
 both_about topic.Values (topic.Asked other) e = absurd (cc)
 both_about topic.Values topic.Unknown e = absurd (cc)
 both_about topic.Sort topic.Keys e = absurd (cc)
 both_about topic.Sort topic.Values e = absurd (cc)
 both_about topic.Sort topic.Sort e = (OfSort, refl, refl)
 both_about topic.Sort topic.Size e = absurd (cc)
+both_about topic.Sort topic.Name e = absurd (cc)
 both_about topic.Sort (topic.Asked other) e = absurd (cc)
 both_about topic.Sort topic.Unknown e = absurd (cc)
 both_about topic.Size topic.Keys e = absurd (cc)
 both_about topic.Size topic.Values e = absurd (cc)
 both_about topic.Size topic.Sort e = absurd (cc)
 both_about topic.Size topic.Size e = (OfSize, refl, refl)
+both_about topic.Size topic.Name e = absurd (cc)
 both_about topic.Size (topic.Asked other) e = absurd (cc)
 both_about topic.Size topic.Unknown e = absurd (cc)
+both_about topic.Name topic.Keys e = absurd (cc)
+both_about topic.Name topic.Values e = absurd (cc)
+both_about topic.Name topic.Sort e = absurd (cc)
+both_about topic.Name topic.Size e = absurd (cc)
+both_about topic.Name topic.Name e = (OfName, refl, refl)
+both_about topic.Name (topic.Asked other) e = absurd (cc)
+both_about topic.Name topic.Unknown e = absurd (cc)
 both_about (topic.Asked one) topic.Keys e = absurd (cc)
 both_about (topic.Asked one) topic.Values e = absurd (cc)
 both_about (topic.Asked one) topic.Sort e = absurd (cc)
 both_about (topic.Asked one) topic.Size e = absurd (cc)
+both_about (topic.Asked one) topic.Name e = absurd (cc)
 both_about (topic.Asked one) (topic.Asked other) e = (OfAction, refl, refl)
 both_about (topic.Asked one) topic.Unknown e = absurd (cc)
 both_about topic.Unknown topic.Keys e = absurd (cc)
 both_about topic.Unknown topic.Values e = absurd (cc)
 both_about topic.Unknown topic.Sort e = absurd (cc)
 both_about topic.Unknown topic.Size e = absurd (cc)
+both_about topic.Unknown topic.Name e = absurd (cc)
 both_about topic.Unknown (topic.Asked other) e = absurd (cc)
 both_about topic.Unknown topic.Unknown e = absurd (cc)
 
@@ -105,6 +132,7 @@ about_both OfKeys s t e f = (λ i. is_same_topic (is_keys s e i) (is_keys t f i)
 about_both OfValues s t e f = (λ i. is_same_topic (is_values s e i) (is_values t f i))
 about_both OfSort s t e f = (λ i. is_same_topic (is_sort s e i) (is_sort t f i))
 about_both OfSize s t e f = (λ i. is_same_topic (is_size s e i) (is_size t f i))
+about_both OfName s t e f = (λ i. is_same_topic (is_naming s e i) (is_naming t f i))
 about_both OfAction s t e f = (λ i. is_same_topic ((is_asked s e).1 i) ((is_asked t f).1 i))
 
 unknown_other : (subject : Subject) (t : Topic) → is_unknown t ≡ true → is_same_topic (topic_for subject) t ≡ false
@@ -113,30 +141,42 @@ unknown_other OfKeys topic.Keys e = absurd (cc)
 unknown_other OfKeys topic.Values e = absurd (cc)
 unknown_other OfKeys topic.Sort e = absurd (cc)
 unknown_other OfKeys topic.Size e = absurd (cc)
+unknown_other OfKeys topic.Name e = absurd (cc)
 unknown_other OfKeys (topic.Asked action) e = absurd (cc)
 unknown_other OfValues topic.Unknown e = refl
 unknown_other OfValues topic.Keys e = absurd (cc)
 unknown_other OfValues topic.Values e = absurd (cc)
 unknown_other OfValues topic.Sort e = absurd (cc)
 unknown_other OfValues topic.Size e = absurd (cc)
+unknown_other OfValues topic.Name e = absurd (cc)
 unknown_other OfValues (topic.Asked action) e = absurd (cc)
 unknown_other OfSort topic.Unknown e = refl
 unknown_other OfSort topic.Keys e = absurd (cc)
 unknown_other OfSort topic.Values e = absurd (cc)
 unknown_other OfSort topic.Sort e = absurd (cc)
 unknown_other OfSort topic.Size e = absurd (cc)
+unknown_other OfSort topic.Name e = absurd (cc)
 unknown_other OfSort (topic.Asked action) e = absurd (cc)
 unknown_other OfSize topic.Unknown e = refl
 unknown_other OfSize topic.Keys e = absurd (cc)
 unknown_other OfSize topic.Values e = absurd (cc)
 unknown_other OfSize topic.Sort e = absurd (cc)
 unknown_other OfSize topic.Size e = absurd (cc)
+unknown_other OfSize topic.Name e = absurd (cc)
 unknown_other OfSize (topic.Asked action) e = absurd (cc)
+unknown_other OfName topic.Unknown e = refl
+unknown_other OfName topic.Keys e = absurd (cc)
+unknown_other OfName topic.Values e = absurd (cc)
+unknown_other OfName topic.Sort e = absurd (cc)
+unknown_other OfName topic.Size e = absurd (cc)
+unknown_other OfName topic.Name e = absurd (cc)
+unknown_other OfName (topic.Asked action) e = absurd (cc)
 unknown_other OfAction topic.Unknown e = refl
 unknown_other OfAction topic.Keys e = absurd (cc)
 unknown_other OfAction topic.Values e = absurd (cc)
 unknown_other OfAction topic.Sort e = absurd (cc)
 unknown_other OfAction topic.Size e = absurd (cc)
+unknown_other OfAction topic.Name e = absurd (cc)
 unknown_other OfAction (topic.Asked action) e = absurd (cc)
 
 some_subject : (t : Topic) → is_unknown t ≡ false → (subject : Subject) × (is_same_topic (topic_for subject) t ≡ true)
@@ -144,6 +184,7 @@ some_subject topic.Keys e = (OfKeys, refl)
 some_subject topic.Values e = (OfValues, refl)
 some_subject topic.Sort e = (OfSort, refl)
 some_subject topic.Size e = (OfSize, refl)
+some_subject topic.Name e = (OfName, refl)
 some_subject (topic.Asked action) e = (OfAction, refl)
 some_subject topic.Unknown e = absurd (cc)
 
@@ -154,6 +195,7 @@ about_topic OfKeys attribute is = ap (is_same_topic topic.Keys) (value_read OfKe
 about_topic OfValues attribute is = ap (is_same_topic topic.Values) (value_read OfValues attribute is.0 is.1 is.2).topic
 about_topic OfSort attribute is = ap (is_same_topic topic.Sort) (value_read OfSort attribute is.0 is.1 is.2).topic
 about_topic OfSize attribute is = ap (is_same_topic topic.Size) (value_read OfSize attribute is.0 is.1 is.2).topic
+about_topic OfName attribute is = ap (is_same_topic topic.Name) (value_read OfName attribute is.0 is.1 is.2).topic
 about_topic OfAction attribute is = ap (is_same_topic (topic.Asked Attach)) (action_read is.0 attribute is.1)
 
 pub topic_about : (subject : Subject) (attribute : List ℕ) → is_same_topic (topic_for subject) (topic_in attribute) ≡ true → IsAbout subject attribute
@@ -161,6 +203,7 @@ topic_about OfKeys attribute e = (take (head_len attribute) attribute, value_in 
 topic_about OfValues attribute e = (take (head_len attribute) attribute, value_in attribute, read_value OfValues attribute (is_values (topic_in attribute) e))
 topic_about OfSort attribute e = (take (head_len attribute) attribute, value_in attribute, read_value OfSort attribute (is_sort (topic_in attribute) e))
 topic_about OfSize attribute e = (take (head_len attribute) attribute, value_in attribute, read_value OfSize attribute (is_size (topic_in attribute) e))
+topic_about OfName attribute e = (take (head_len attribute) attribute, value_in attribute, read_value OfName attribute (is_naming (topic_in attribute) e))
 topic_about OfAction attribute e = let asked = is_asked (topic_in attribute) e in (asked.0, read_action asked.0 attribute asked.1)
 
 -- ---- some element

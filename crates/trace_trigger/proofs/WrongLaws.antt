@@ -13,9 +13,9 @@ use Rattle.trace_trigger.specs.declared.piece.ListItem.{ListItem}
 use Rattle.trace_trigger.specs.HistAttributes.{attribute_of}
 use Rattle.trace_trigger.specs.HistParts.{attributes_of, end_of, tail_of, is_condition, condition_of, offset_in}
 use Rattle.trace_trigger.specs.HistLists.{first_about, items_in, Lists, lists_of}
-use Rattle.trace_trigger.specs.HistOffsets.{wrong_after, attribute_offsets, is_wrong_key, is_wrong_value, key_offsets, value_offsets, is_wrong_sort, sort_offsets, list_offsets, keyless_offsets, tail_offsets, wrong_offsets}
-use Rattle.trace_trigger.specs.HistGrammar.{Subject, OfKeys, OfValues, OfSort, OfSize, OfAction}
-use Rattle.trace_trigger.specs.HistFaultOffsets.{Cut, BeginsBlank, IsAt, IsAbout, IsList, IsWrongItem, WrongItem, WrongTail, IsWrongAt}
+use Rattle.trace_trigger.specs.HistOffsets.{wrong_after, attribute_offsets, name_offsets, is_wrong_key, is_wrong_value, key_offsets, value_offsets, is_wrong_sort, sort_offsets, list_offsets, keyless_offsets, tail_offsets, wrong_offsets}
+use Rattle.trace_trigger.specs.HistGrammar.{Subject, OfKeys, OfValues, OfSort, OfSize, OfName, OfAction}
+use Rattle.trace_trigger.specs.HistFaultOffsets.{Cut, BeginsBlank, IsAt, IsAbout, IsList, IsWrongItem, WrongName, WrongItem, WrongTail, IsWrongAt}
 use Rattle.trace_trigger.proofs.CutLemmas.{located, cut_pieces}
 use Rattle.trace_trigger.proofs.WordLemmas.{run_dropped}
 use Rattle.trace_trigger.proofs.HeadLemmas.{topic_for}
@@ -23,6 +23,7 @@ use Rattle.trace_trigger.proofs.ListLaws.{Member}
 use Rattle.trace_trigger.proofs.PartLaws.{start_for, attributes_are, tail_is, end_is, run_passes, run_stops, begins_unblank, begins_not, tail_found, tail_written}
 use Rattle.trace_trigger.proofs.OffsetLemmas.{size, offsets, member_left, member_right, member_cases}
 use Rattle.trace_trigger.proofs.SubjectLaws.{located_attributes}
+use Rattle.trace_trigger.proofs.WrongNames.{WrongNameAt, names_sound, names_complete}
 use Rattle.trace_trigger.proofs.FaultLaws.{attributes_sound, attributes_complete, FoundList, NoList, items_are, keys_list, values_list, sort_list, items_sound, items_complete, key_wrong, wrong_key, value_wrong, wrong_value, sort_wrong, wrong_sort}
 
 -- ---- attributes and their items
@@ -156,6 +157,7 @@ module _ (begin : ℕ) (parts : List (List ℕ)) where
       by OfSort list wrong =
           member_right offset (key_offsets lists.keys ++ value_offsets lists.values) (sort_offsets lists) (sort_complete offset is.attributes_before is.items is.before is.attribute is.head is.item list is.is_at wrong)
       by OfSize list wrong = absurd wrong
+      by OfName list wrong = absurd wrong
       by OfAction list wrong = absurd wrong
 
   -- ---- keys
@@ -221,12 +223,12 @@ module _ (text : List ℕ) (cut : Cut text) where
   end_there = ap end_of cut.cut ∙ end_is cut.removes cut.word cut.tail passes stops
 
   abbrev all_offsets : List ℕ
-  all_offsets = attribute_offsets there ++ list_offsets (lists_of there) ++ keyless_offsets (start + length cut.word) (lists_of there).keys ++ tail_offsets text (after_blanks cut.tail)
+  all_offsets = attribute_offsets there ++ name_offsets there ++ list_offsets (lists_of there) ++ keyless_offsets (start + length cut.word) (lists_of there).keys ++ tail_offsets text (after_blanks cut.tail)
 
   offsets_are : wrong_offsets text ≡ all_offsets
   unfolding wrong_offsets
   offsets_are =
-      (λ i. attribute_offsets (attributes_there i) ++ list_offsets (lists_of (attributes_there i)) ++ keyless_offsets (end_there i) (lists_of (attributes_there i)).keys ++ tail_offsets text (tail_there i))
+      (λ i. attribute_offsets (attributes_there i) ++ name_offsets (attributes_there i) ++ list_offsets (lists_of (attributes_there i)) ++ keyless_offsets (end_there i) (lists_of (attributes_there i)).keys ++ tail_offsets text (tail_there i))
 
   -- ---- what follows the word
 
@@ -303,39 +305,73 @@ module _ (text : List ℕ) (cut : Cut text) where
     wrong = is.wrong;
   }
 
-  pub wrong_sound : (offset : ℕ) → Member offset (wrong_offsets text) → IsWrongAt cut offset
-  wrong_sound offset is = last (member_cases offset (attribute_offsets there ++ list_offsets (lists_of there) ++ keyless_offsets (start + length cut.word) (lists_of there).keys) (tail_offsets text (after_blanks cut.tail)) (subst (Member offset) offsets_are is))
-    where
-      first : Member offset (attribute_offsets there) ⊎ Member offset (list_offsets (lists_of there)) → IsWrongAt cut offset
-      first (inl is) = let it = attributes_sound start cut.attributes offset is in inl (record { before = it.before; attribute = it.attribute; is_at = it.is_at; wrong = it.wrong })
-      first (inr is) = inr (inl (item_at offset (lists_sound start cut.attributes offset is)))
+  name_at : (offset : ℕ) → WrongNameAt start cut.attributes offset → WrongName cut offset
+  name_at offset is = record {
+    before = is.before;
+    attribute = is.attribute;
+    attribute_offset = is.attribute_offset;
+    is_at = is.is_at;
+    head = is.head;
+    value = is.value;
+    has = is.has;
+    none = is.none;
+    is_there = is.is_there;
+  }
 
-      second : Member offset (attribute_offsets there ++ list_offsets (lists_of there)) ⊎ Member offset (keyless_offsets (start + length cut.word) (lists_of there).keys) → IsWrongAt cut offset
-      second (inl is) = first (member_cases offset (attribute_offsets there) (list_offsets (lists_of there)) is)
+  at_name : (offset : ℕ) → WrongName cut offset → WrongNameAt start cut.attributes offset
+  at_name offset is = record {
+    before = is.before;
+    attribute = is.attribute;
+    attribute_offset = is.attribute_offset;
+    is_at = is.is_at;
+    head = is.head;
+    value = is.value;
+    has = is.has;
+    none = is.none;
+    is_there = is.is_there;
+  }
+
+  pub wrong_sound : (offset : ℕ) → Member offset (wrong_offsets text) → IsWrongAt cut offset
+  wrong_sound offset is = last (member_cases offset (attribute_offsets there ++ name_offsets there ++ list_offsets (lists_of there) ++ keyless_offsets (start + length cut.word) (lists_of there).keys) (tail_offsets text (after_blanks cut.tail)) (subst (Member offset) offsets_are is))
+    where
+      early : Member offset (attribute_offsets there) ⊎ Member offset (name_offsets there) → IsWrongAt cut offset
+      early (inl is) = let it = attributes_sound start cut.attributes offset is in inl (record { before = it.before; attribute = it.attribute; is_at = it.is_at; wrong = it.wrong })
+      early (inr is) = inr (inl (name_at offset (names_sound start cut.attributes offset is)))
+
+      first : Member offset (attribute_offsets there ++ name_offsets there) ⊎ Member offset (list_offsets (lists_of there)) → IsWrongAt cut offset
+      first (inl is) = early (member_cases offset (attribute_offsets there) (name_offsets there) is)
+      first (inr is) = inr (inr (inl (item_at offset (lists_sound start cut.attributes offset is))))
+
+      second : Member offset (attribute_offsets there ++ name_offsets there ++ list_offsets (lists_of there)) ⊎ Member offset (keyless_offsets (start + length cut.word) (lists_of there).keys) → IsWrongAt cut offset
+      second (inl is) = first (member_cases offset (attribute_offsets there ++ name_offsets there) (list_offsets (lists_of there)) is)
       second (inr is) =
           let it = keyless_sound start cut.attributes (start + length cut.word) offset is in
-          inr (inr (inl (record { none = All-from_recursion (λ attribute. IsAbout OfKeys attribute → ⊥) cut.attributes it.0; is_at = it.1 })))
+          inr (inr (inr (inl (record { none = All-from_recursion (λ attribute. IsAbout OfKeys attribute → ⊥) cut.attributes it.0; is_at = it.1 }))))
 
-      last : Member offset (attribute_offsets there ++ list_offsets (lists_of there) ++ keyless_offsets (start + length cut.word) (lists_of there).keys) ⊎ Member offset (tail_offsets text (after_blanks cut.tail)) → IsWrongAt cut offset
-      last (inl is) = second (member_cases offset (attribute_offsets there ++ list_offsets (lists_of there)) (keyless_offsets (start + length cut.word) (lists_of there).keys) is)
-      last (inr is) = inr (inr (inr (tail_sound offset is)))
+      last : Member offset (attribute_offsets there ++ name_offsets there ++ list_offsets (lists_of there) ++ keyless_offsets (start + length cut.word) (lists_of there).keys) ⊎ Member offset (tail_offsets text (after_blanks cut.tail)) → IsWrongAt cut offset
+      last (inl is) = second (member_cases offset (attribute_offsets there ++ name_offsets there ++ list_offsets (lists_of there)) (keyless_offsets (start + length cut.word) (lists_of there).keys) is)
+      last (inr is) = inr (inr (inr (inr (tail_sound offset is))))
 
   pub wrong_complete : (offset : ℕ) → IsWrongAt cut offset → Member offset (wrong_offsets text)
   wrong_complete offset is = subst (Member offset) (sym offsets_are) (by is)
     where
-      before_tail : Member offset (attribute_offsets there ++ list_offsets (lists_of there) ++ keyless_offsets (start + length cut.word) (lists_of there).keys) → Member offset all_offsets
-      before_tail member = member_left offset (attribute_offsets there ++ list_offsets (lists_of there) ++ keyless_offsets (start + length cut.word) (lists_of there).keys) (tail_offsets text (after_blanks cut.tail)) member
+      before_tail : Member offset (attribute_offsets there ++ name_offsets there ++ list_offsets (lists_of there) ++ keyless_offsets (start + length cut.word) (lists_of there).keys) → Member offset all_offsets
+      before_tail member = member_left offset (attribute_offsets there ++ name_offsets there ++ list_offsets (lists_of there) ++ keyless_offsets (start + length cut.word) (lists_of there).keys) (tail_offsets text (after_blanks cut.tail)) member
 
-      before_keys : Member offset (attribute_offsets there ++ list_offsets (lists_of there)) → Member offset all_offsets
-      before_keys member = before_tail (member_left offset (attribute_offsets there ++ list_offsets (lists_of there)) (keyless_offsets (start + length cut.word) (lists_of there).keys) member)
+      before_keys : Member offset (attribute_offsets there ++ name_offsets there ++ list_offsets (lists_of there)) → Member offset all_offsets
+      before_keys member = before_tail (member_left offset (attribute_offsets there ++ name_offsets there ++ list_offsets (lists_of there)) (keyless_offsets (start + length cut.word) (lists_of there).keys) member)
+
+      before_lists : Member offset (attribute_offsets there ++ name_offsets there) → Member offset all_offsets
+      before_lists member = before_keys (member_left offset (attribute_offsets there ++ name_offsets there) (list_offsets (lists_of there)) member)
 
       by : IsWrongAt cut offset → Member offset all_offsets
       by (inl is) =
-          before_keys (member_left offset (attribute_offsets there) (list_offsets (lists_of there))
+          before_lists (member_left offset (attribute_offsets there) (name_offsets there)
           (attributes_complete start cut.attributes offset (record { before = is.before; attribute = is.attribute; is_at = is.is_at; wrong = is.wrong })))
-      by (inr (inl is)) = before_keys (member_right offset (attribute_offsets there) (list_offsets (lists_of there)) (lists_complete start cut.attributes offset (at_item offset is)))
-      by (inr (inr (inl is))) =
-          before_tail (member_right offset (attribute_offsets there ++ list_offsets (lists_of there)) (keyless_offsets (start + length cut.word) (lists_of there).keys)
+      by (inr (inl is)) = before_lists (member_right offset (attribute_offsets there) (name_offsets there) (names_complete start cut.attributes offset (at_name offset is)))
+      by (inr (inr (inl is))) = before_keys (member_right offset (attribute_offsets there ++ name_offsets there) (list_offsets (lists_of there)) (lists_complete start cut.attributes offset (at_item offset is)))
+      by (inr (inr (inr (inl is)))) =
+          before_tail (member_right offset (attribute_offsets there ++ name_offsets there ++ list_offsets (lists_of there)) (keyless_offsets (start + length cut.word) (lists_of there).keys)
           (keyless_complete start cut.attributes (start + length cut.word) offset (recursion_from_All (λ attribute. IsAbout OfKeys attribute → ⊥) cut.attributes is.none) is.is_at))
-      by (inr (inr (inr is))) =
-          member_right offset (attribute_offsets there ++ list_offsets (lists_of there) ++ keyless_offsets (start + length cut.word) (lists_of there).keys) (tail_offsets text (after_blanks cut.tail)) (tail_complete offset is)
+      by (inr (inr (inr (inr is)))) =
+          member_right offset (attribute_offsets there ++ name_offsets there ++ list_offsets (lists_of there) ++ keyless_offsets (start + length cut.word) (lists_of there).keys) (tail_offsets text (after_blanks cut.tail)) (tail_complete offset is)

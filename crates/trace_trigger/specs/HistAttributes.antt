@@ -4,7 +4,7 @@ use Rattle.std.specs.List.{prefix_len}
 use Rattle.trace_lex.specs.Prefixes.{is_not}
 use Rattle.trace_trigger.specs.declared.spec.Action.TheVariants.{Pause, Continue, Clear}
 use Rattle.trace_trigger.specs.declared.attribute.Topic.{Topic}
-use Rattle.trace_trigger.specs.declared.attribute.Topic.TheVariants.{Keys, Values, Sort, Size, Asked, Unknown}
+use Rattle.trace_trigger.specs.declared.attribute.Topic.TheVariants.{Keys, Values, Sort, Size, Name, Asked, Unknown}
 use Rattle.trace_trigger.specs.declared.attribute.Attribute.{Attribute}
 use Rattle.trace_trigger.specs.declared.piece.ListItem.{ListItem}
 use Rattle.trace_trigger.specs.HistPieces.{pieces_of}
@@ -31,6 +31,7 @@ topic_of head = if bytes_eq head (codes "keys=") || bytes_eq head (codes "key=")
     else if is_values head then Values
     else if bytes_eq head (codes "sort=") then Sort
     else if bytes_eq head (codes "size=") then Size
+    else if bytes_eq head (codes "name=") then Name
     else asked_by head
 
 -- an attribute is at the offset of its first byte; its value is what follows the head

@@ -75,6 +75,7 @@ by source descending = record { source = source; descending = descending }
 -- a key alone: 2,048 entries, sorted by `hitcount`
 abbrev pub by_n : SpecSeen
 by_n = record {
+  name = None;
   keys = key (codes "n") (number_field 0) ∷ [];
   values = [];
   sort = upwards (codes "hitcount") ∷ [];
@@ -92,6 +93,10 @@ by_key other = record by_n { keys = other ∷ [] }
 abbrev pub sorted_by : List ℕ → SpecSeen → SpecSeen
 sorted_by name spec = record spec { sort = upwards name ∷ []; sort_sources = by (sorted.Key 0) false ∷ [] }
 
+-- and with a name
+abbrev pub called : List ℕ → SpecSeen → SpecSeen
+called name spec = record spec { name = Some name }
+
 -- `hitcount` is there whether it is written or not, and a size is rounded up to a power of two
 abbrev pub accepted : List Case
 accepted =
@@ -103,11 +108,15 @@ accepted =
     ∷ codes "hist:keys=n.log2:sort=n" gives Ok (sorted_by (codes "n") (by_key (modified (codes "n.log2") (codes "n") Log2 (number_field 0))))
     ∷ codes "hist:keys=n.buckets=4294967295" gives Ok (by_key (modified (codes "n.buckets=4294967295") (codes "n") (Buckets 4294967295) (number_field 0)))
     ∷ codes "hist:keys=common_pid.buckets=1" gives Ok (by_key (modified (codes "common_pid.buckets=1") (codes "common_pid") (Buckets 1) Pid))
+    ∷ codes "hist:keys=n:name=both" gives Ok (called (codes "both") by_n)
+    ∷ codes "!hist:name=abcdefghijklmnopqrstuvwxyz_12345:keys=n" gives Ok (called (codes "abcdefghijklmnopqrstuvwxyz_12345") by_n)
+    ∷ codes "hist:name=n:keys=n:sort=n" gives Ok (called (codes "n") (sorted_by (codes "n") by_n))
     ∷ []
 
 -- all that a string can say: lists in the order written, the field of a sum and of a filter
 abbrev pub by_who : SpecSeen
 by_who = record {
+  name = None;
   keys = key (codes "who") (text_field 0) ∷ key (codes "common_pid") Pid ∷ [];
   values = codes "d" ∷ [];
   sort = downwards (codes "d") ∷ upwards (codes "who") ∷ [];
@@ -121,6 +130,7 @@ by_who = record {
 -- a name that is a key and a value too is sorted by as a value
 abbrev pub by_both : SpecSeen
 by_both = record {
+  name = None;
   keys = key (codes "common_cpu") Cpu ∷ key (codes "d") (number_field 1) ∷ [];
   values = codes "common_pid" ∷ codes "d" ∷ [];
   sort = upwards (codes "d") ∷ upwards (codes "common_cpu") ∷ [];
@@ -155,6 +165,23 @@ wrong_attributes =
     ∷ codes "hist:vals=n x" gives Err (HistSyntax 11)
     ∷ codes "hist:keys=n x" gives Err (HistSyntax 12)
     ∷ codes "!hist:keys=n  if " gives Err (HistSyntax 14)
+    ∷ []
+
+-- a table's name that is none, at its first byte. A second one is wrong at the attribute's, and a name cannot be sorted by
+abbrev pub wrong_table_names : List Case
+wrong_table_names =
+    codes "hist:keys=n:name=9x" gives Err (HistSyntax 17)
+    ∷ codes "!hist:keys=n:name=" gives Err (HistSyntax 18)
+    ∷ codes "hist:keys=n:name= x" gives Err (HistSyntax 17)
+    ∷ codes "hist:name=a,b:keys=n" gives Err (HistSyntax 10)
+    ∷ codes "hist:keys=n:name=a=b:foo" gives Err (HistSyntax 17)
+    ∷ codes "hist:name=abcdefghijklmnopqrstuvwxyz_123456:keys=n" gives Err (HistSyntax 10)
+    ∷ codes "hist:foo:keys=n:name=9x" gives Err (HistSyntax 5)
+    ∷ codes "hist:keys=n:name" gives Err (HistSyntax 12)
+    ∷ codes "hist:keys=n:name=a:name=a" gives Err (HistSyntax 19)
+    ∷ codes "hist:keys=n:name=a:name=9x" gives Err (HistSyntax 19)
+    ∷ codes "hist:keys=n:name=9x:name=a" gives Err (HistSyntax 17)
+    ∷ codes "hist:keys=n:name=t:sort=t" gives Err (HistSyntax 24)
     ∷ []
 
 abbrev pub wrong_items : List Case

@@ -8,7 +8,7 @@ use Rattle.trace_lex.specs.Names.{is_name}
 use Rattle.trace_trigger.specs.Frames.{mark, IsTail}
 use Rattle.trace_trigger.specs.declared.spec.Action.{Action}
 use Rattle.trace_trigger.specs.declared.spec.SortKey.{SortKey}
-use Rattle.trace_trigger.specs.HistGrammar.{IsCut, Subject, OfKeys, OfValues, OfSort, OfSize, OfAction, HasValue, HasName, IsKey, IsWordFor, IsSortItem}
+use Rattle.trace_trigger.specs.HistGrammar.{IsCut, Subject, OfKeys, OfValues, OfSort, OfSize, OfName, OfAction, HasValue, HasName, IsKey, IsWordFor, IsSortItem}
 
 -- ---- how each text is cut
 
@@ -45,6 +45,7 @@ IsAbout OfKeys attribute = (head : List ℕ) × (value : List ℕ) × HasValue O
 IsAbout OfValues attribute = (head : List ℕ) × (value : List ℕ) × HasValue OfValues attribute head value
 IsAbout OfSort attribute = (head : List ℕ) × (value : List ℕ) × HasValue OfSort attribute head value
 IsAbout OfSize attribute = (head : List ℕ) × (value : List ℕ) × HasValue OfSize attribute head value
+IsAbout OfName attribute = (head : List ℕ) × (value : List ℕ) × HasValue OfName attribute head value
 IsAbout OfAction attribute = (action : Action) × IsWordFor action attribute
 
 -- one that is about nothing
@@ -69,6 +70,18 @@ pub record WrongAttribute {text : List ℕ} (cut : Cut text) (offset : ℕ) : Ty
   pub attribute : List ℕ
   pub is_at : IsAt 58 (first_offset cut) cut.attributes before attribute offset
   pub wrong : IsUnknown attribute ⊎ (IsRepeated before attribute ⊎ IsNoSize attribute)
+
+-- what is written as the table's name is none, and the offset is that of its first byte
+pub record WrongName {text : List ℕ} (cut : Cut text) (offset : ℕ) : Type 0 where
+  pub before : List (List ℕ)
+  pub attribute : List ℕ
+  pub attribute_offset : ℕ
+  pub is_at : IsAt 58 (first_offset cut) cut.attributes before attribute attribute_offset
+  pub head : List ℕ
+  pub value : List ℕ
+  pub has : HasValue OfName attribute head value
+  pub none : is_name value ≡ false
+  pub is_there : offset ≡ attribute_offset + length head
 
 -- ---- wrong items of lists
 
@@ -95,6 +108,7 @@ Lend OfKeys items name = Any (HasName name) items
 Lend OfValues items name = Contains items name
 Lend OfSort items name = ⊥
 Lend OfSize items name = ⊥
+Lend OfName items name = ⊥
 Lend OfAction items name = ⊥
 
 pub record IsLentBy (subject : Subject) (attributes : List (List ℕ)) (name : List ℕ) : Type 0 where
@@ -119,6 +133,7 @@ IsWrongItem OfKeys attributes before item = IsNoKey before item
 IsWrongItem OfValues attributes before item = IsNoValue before item
 IsWrongItem OfSort attributes before item = IsWrongSort attributes before item
 IsWrongItem OfSize attributes before item = ⊥
+IsWrongItem OfName attributes before item = ⊥
 IsWrongItem OfAction attributes before item = ⊥
 
 -- how many bytes come before the first item of an attribute after these
@@ -157,7 +172,7 @@ pub record WrongTail {text : List ℕ} (cut : Cut text) (offset : ℕ) : Type 0 
 -- ---- all of it
 
 abbrev pub IsWrongAt : {text : List ℕ} → Cut text → ℕ → Type 0
-IsWrongAt cut offset = WrongAttribute cut offset ⊎ (WrongItem cut offset ⊎ (LacksKeys cut offset ⊎ WrongTail cut offset))
+IsWrongAt cut offset = WrongAttribute cut offset ⊎ (WrongName cut offset ⊎ (WrongItem cut offset ⊎ (LacksKeys cut offset ⊎ WrongTail cut offset)))
 
 -- the leftmost offset where a text is wrong
 pub record IsLeftmostWrong (text : List ℕ) (offset : ℕ) : Type 0 where

@@ -1,6 +1,6 @@
 -- How the text of a hist trigger is written: what it is put together of, and what it then says (histogram.rst, "hist triggers"). Nothing in this
 -- file goes over the text. That `HistTexts` says the same is stated in `HistLaws`.
-use Rattle.std.specs.Prelude.{◌≡◌, ◌≢◌, ◌⊎◌, ℕ, ◌<◌, ◌≤◌, Bool, true, false, not, IsTrue, bytes_eq, codes, List, [], ◌∷◌, ◌++◌, length, filter, slice_get, Option, Some}
+use Rattle.std.specs.Prelude.{◌≡◌, ◌≢◌, ◌⊎◌, ℕ, ◌<◌, ◌≤◌, Bool, true, false, not, IsTrue, bytes_eq, codes, List, [], ◌∷◌, ◌++◌, length, filter, slice_get, Option, Some, None}
 use Rattle.std.specs.List.{All, Any, AllPairs, AllZip, Contains, join_with_byte}
 use Rattle.trace_lex.specs.Decimals.{decimal_number}
 use Rattle.trace_lex.specs.Names.{is_name}
@@ -29,12 +29,13 @@ pub record IsCut (byte : ℕ) (text : List ℕ) (parts : List (List ℕ)) : Type
 
 -- ---- attributes
 
--- what an attribute sets: the keys as written, the values, what is sorted by, how many entries are asked for, what is asked for
+-- what an attribute sets: the keys as written, the values, what is sorted by, how many entries are asked for, the table's name, what is asked for
 pub data Setting : Type 0 where
   Keys : List (List ℕ) → Setting
   Values : List (List ℕ) → Setting
   Sort : List SortKey → Setting
   Size : ℕ → Setting
+  Name : List ℕ → Setting
   Asks : Action → Setting
 
 -- what it is about
@@ -43,6 +44,7 @@ pub data Subject : Type 0 where
   OfValues : Subject
   OfSort : Subject
   OfSize : Subject
+  OfName : Subject
   OfAction : Subject
 
 abbrev pub subject_of : Setting → Subject
@@ -50,6 +52,7 @@ subject_of (Keys items) = OfKeys
 subject_of (Values names) = OfValues
 subject_of (Sort keys) = OfSort
 subject_of (Size entries) = OfSize
+subject_of (Name name) = OfName
 subject_of (Asks action) = OfAction
 
 -- how an attribute that has a value begins
@@ -58,6 +61,7 @@ IsHead OfKeys head = (head ≡ codes "keys=") ⊎ (head ≡ codes "key=")
 IsHead OfValues head = (head ≡ codes "values=") ⊎ ((head ≡ codes "vals=") ⊎ (head ≡ codes "val="))
 IsHead OfSort head = head ≡ codes "sort="
 IsHead OfSize head = head ≡ codes "size="
+IsHead OfName head = head ≡ codes "name="
 IsHead OfAction head = ⊥
 
 -- an attribute begins so, and the rest is its value
@@ -138,12 +142,18 @@ pub record WritesSize (attribute : List ℕ) (entries : ℕ) : Type 0 where
   pub has : HasValue OfSize attribute head digits
   pub number : decimal_number digits ≡ Some entries
 
+pub record WritesName (attribute name : List ℕ) : Type 0 where
+  pub head : List ℕ
+  pub has : HasValue OfName attribute head name
+  pub named : IsTrue (is_name name)
+
 -- how each setting is written
 abbrev pub Writes : List ℕ → Setting → Type 0
 Writes attribute (Keys items) = WritesKeys attribute items
 Writes attribute (Values names) = WritesValues attribute names
 Writes attribute (Sort keys) = WritesSort attribute keys
 Writes attribute (Size entries) = WritesSize attribute entries
+Writes attribute (Name name) = WritesName attribute name
 Writes attribute (Asks action) = IsWordFor action attribute
 
 -- a name is that of a key, or it is one of the values
@@ -181,8 +191,14 @@ IsSet {A} settings by otherwise value = Contains settings (by value) ⊎ (((othe
 abbrev pub summed_names : List (List ℕ) → List (List ℕ)
 summed_names names = filter (λ name. not (bytes_eq name (codes "hitcount"))) names
 
--- the lists, the size and the action of a trigger with these settings
+-- this name is set, or, where there is none, no name is
+abbrev pub IsNamed : List Setting → Option (List ℕ) → Type 0
+IsNamed settings None = (name : List ℕ) → Contains settings (Name name) → ⊥
+IsNamed settings (Some name) = Contains settings (Name name)
+
+-- the name, the lists, the size and the action of a trigger with these settings
 pub record AreSettingsOf (settings : List Setting) (spec : SpecSeen) : Type 0 where
+  pub name : IsNamed settings spec.name
   pub keys : Contains settings (Keys (written_of spec.keys))
   pub listed : List (List ℕ)
   pub listed_set : IsSet settings Values [] listed

@@ -1,5 +1,5 @@
--- What the attributes of a hist trigger say (histogram.rst, "hist triggers"): lists of names, a size, and what is asked for. Of several attributes on
--- one topic the first counts.
+-- What the attributes of a hist trigger say (histogram.rst, "hist triggers"): the name of its table, lists of names, a size, and what is asked for. Of
+-- several attributes on one topic the first counts.
 use Rattle.std.specs.Prelude.{ℕ, ◌+◌, Bool, true, false, ◌&&◌, ◌||◌, bytes_eq, codes, List, [], ◌∷◌, map, take, drop, filter, not, Option, None, Some, option_map}
 use Rattle.std.specs.List.{find, list_any, prefix_len}
 use Rattle.trace_lex.specs.Prefixes.{is_not}
@@ -8,7 +8,7 @@ use Rattle.trace_trigger.specs.declared.spec.Action.{Action}
 use Rattle.trace_trigger.specs.declared.spec.Action.TheVariants.{Attach}
 use Rattle.trace_trigger.specs.declared.spec.SortKey.{SortKey}
 use Rattle.trace_trigger.specs.declared.attribute.Topic.{Topic}
-use Rattle.trace_trigger.specs.declared.attribute.Topic.TheVariants.{Keys, Values, Sort, Size, Asked, Unknown}
+use Rattle.trace_trigger.specs.declared.attribute.Topic.TheVariants.{Keys, Values, Sort, Size, Name, Asked, Unknown}
 use Rattle.trace_trigger.specs.declared.attribute.Attribute.{Attribute}
 use Rattle.trace_trigger.specs.declared.piece.ListItem.{ListItem}
 use Rattle.trace_trigger.specs.HistPieces.{pieces_of}
@@ -21,6 +21,7 @@ is_same_topic Keys Keys = true
 is_same_topic Values Values = true
 is_same_topic Sort Sort = true
 is_same_topic Size Size = true
+is_same_topic Name Name = true
 is_same_topic (Asked left) (Asked right) = true
 is_same_topic left right = false
 
@@ -37,8 +38,8 @@ items_in None = []
 items_in (Some attribute) = items_of attribute
 
 -- the value of an attribute
-abbrev pub size_in : Option Attribute → Option (List ℕ)
-size_in attribute = option_map (λ (size : Attribute). size.value) attribute
+abbrev pub value_of : Option Attribute → Option (List ℕ)
+value_of attribute = option_map (λ (found : Attribute). found.value) attribute
 
 abbrev pub asked_for : Topic → Action
 asked_for (Asked action) = action
@@ -46,6 +47,7 @@ asked_for Keys = Attach
 asked_for Values = Attach
 asked_for Sort = Attach
 asked_for Size = Attach
+asked_for Name = Attach
 asked_for Unknown = Attach
 
 abbrev pub action_in : Option Attribute → Action
@@ -55,6 +57,7 @@ action_in (Some attribute) = asked_for attribute.topic
 -- ---- all of them
 
 pub record Lists : Type 0 where
+  pub name : Option (List ℕ)
   pub keys : List ListItem
   pub values : List ListItem
   pub sort : List ListItem
@@ -63,10 +66,11 @@ pub record Lists : Type 0 where
 
 unfoldable pub lists_of : List Attribute → Lists
 lists_of attributes = record {
+  name = value_of (first_about Name attributes);
   keys = items_in (first_about Keys attributes);
   values = items_in (first_about Values attributes);
   sort = items_in (first_about Sort attributes);
-  size = size_in (first_about Size attributes);
+  size = value_of (first_about Size attributes);
   action = action_in (first_about (Asked Attach) attributes);
 }
 

@@ -1,11 +1,11 @@
 -- The offsets at which a trigger string breaks the grammar (histogram.rst, "hist triggers"). The least of them is told.
-use Rattle.std.specs.Prelude.{ℕ, Bool, true, false, not, ◌&&◌, ◌||◌, nat_lt, if◌then◌else◌, List, [], ◌∷◌, ◌++◌, length, map, min, Option, None, Some}
+use Rattle.std.specs.Prelude.{ℕ, ◌+◌, Bool, true, false, not, ◌&&◌, ◌||◌, nat_lt, if◌then◌else◌, List, [], ◌∷◌, ◌++◌, length, map, min, Option, None, Some}
 use Rattle.std.specs.Option.{is_none}
 use Rattle.std.specs.List.{list_any}
 use Rattle.trace_lex.specs.Names.{is_name}
 use Rattle.trace_lex.specs.Decimals.{decimal_number}
 use Rattle.trace_trigger.specs.declared.attribute.Topic.{Topic}
-use Rattle.trace_trigger.specs.declared.attribute.Topic.TheVariants.{Size, Unknown}
+use Rattle.trace_trigger.specs.declared.attribute.Topic.TheVariants.{Size, Name, Unknown}
 use Rattle.trace_trigger.specs.declared.attribute.Attribute.{Attribute}
 use Rattle.trace_trigger.specs.declared.piece.ListItem.{ListItem}
 use Rattle.trace_trigger.specs.HistParts.{attributes_of, end_of, tail_of, is_condition, offset_in}
@@ -38,6 +38,14 @@ is_wrong_attribute before attribute = (is_unknown attribute.topic || is_repeated
 
 unfoldable pub attribute_offsets : List Attribute → List ℕ
 attribute_offsets attributes = map (λ (attribute : Attribute). attribute.at) (wrong_after is_wrong_attribute [] attributes)
+
+-- a name comes after `name=`
+abbrev pub is_bad_name : Attribute → Bool
+is_bad_name attribute = is_same_topic Name attribute.topic && not (is_name attribute.value)
+
+-- and where it is none, it is wrong at its first byte
+unfoldable pub name_offsets : List Attribute → List ℕ
+name_offsets attributes = map (λ (attribute : Attribute). attribute.at + attribute.skip) (wrong_after (λ before attribute. is_bad_name attribute) [] attributes)
 
 -- ---- items
 
@@ -80,6 +88,7 @@ list_offsets lists = key_offsets lists.keys ++ value_offsets lists.values ++ sor
 
 unfoldable pub wrong_offsets : List ℕ → List ℕ
 wrong_offsets text = attribute_offsets (attributes_of text)
+    ++ name_offsets (attributes_of text)
     ++ list_offsets (lists_of (attributes_of text))
     ++ keyless_offsets (end_of text) (lists_of (attributes_of text)).keys
     ++ tail_offsets text (tail_of text)

@@ -15,9 +15,10 @@ written_of keys = map (λ (key : Key). key.written) keys
 abbrev pub key_names : List Key → List (List ℕ)
 key_names keys = map (λ (key : Key). key.name) keys
 
--- its keys; its values, without `hitcount`, and what is sorted by, as written; how many entries there may be; what is asked for; its filter. And what
--- the values mean in the trigger's event, and what the entries are sorted by.
+-- its table's name, if it has one; its keys; its values, without `hitcount`, and what is sorted by, as written; how many entries there may be; what
+-- is asked for; its filter. And what the values mean in the trigger's event, and what the entries are sorted by.
 pub record SpecSeen : Type 0 where
+  pub name : Option (List ℕ)
   pub keys : List Key
   pub values : List (List ℕ)
   pub sort : List SortKey

@@ -34,6 +34,7 @@ spec_from definition text lists =
     each (value_source definition.fields) (summed_items lists.values) >>= λ values.
     size_of lists.size >>= λ size.
     filter_of definition text (condition_of (tail_of text)) >>= λ only_if. Ok (record {
+      name = lists.name;
       keys = keys;
       values = names_of (summed_items lists.values);
       sort = sort_keys lists.sort;

@@ -1,3 +1,5 @@
+pub mod FittingLaws
+pub mod FittingSpecs
 pub mod Frames
 pub mod TriggerAnswers
 pub mod TriggerTexts

@@ -17,6 +17,8 @@ pub(crate) enum Topic {
     Values,
     Sort,
     Size,
+    /// The name of the table.
+    Name,
     /// What is asked for.
     Asked(Action),
     /// No attribute begins so.
@@ -74,6 +76,8 @@ fn topic_of(head: &[u8]) -> Topic
         Topic::Sort
     } else if head == b"size=".as_slice() {
         Topic::Size
+    } else if head == b"name=".as_slice() {
+        Topic::Name
     } else {
         asked_by(head)
     }

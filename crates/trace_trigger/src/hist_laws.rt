@@ -1,13 +1,15 @@
 //! What the definitions of hist triggers' texts mean. Each function does nothing: its contract is a theorem.
 
 ghost use Rattle.trace_trigger.specs.HistLaws.{OkIsWritten, SyntaxIsLeftmost, SyntaxIsUnwritten, RefusalIsAsWritten};
-ghost use Rattle.trace_trigger.specs.HistExamples.{tick, move, AreRead, accepted as accepted_of_tick, accepted_of_move, wrong_attributes, wrong_items, wrong_modifiers, too_many, wrong_names, wrong_keys_of_move, wrong_values_of_move};
+ghost use Rattle.trace_trigger.specs.FittingLaws.{FittingSpecsCountAlike, FittingSpecsOfOneEventReadAlike, FittingIsDecided, FittingIsReflexive, FittingIsSymmetric, FittingIsTransitive};
+ghost use Rattle.trace_trigger.specs.HistExamples.{tick, move, AreRead, accepted as accepted_of_tick, accepted_of_move, wrong_attributes, wrong_table_names, wrong_items, wrong_modifiers, too_many, wrong_names, wrong_keys_of_move, wrong_values_of_move};
 
 /// A string says this of a hist trigger of an event exactly if it can be written so: attributes that each set something, in any order, each at
 /// most once, the keys always; within the limits, with names of the event, and with a filter of it, if with any. It is refused for its syntax
-/// exactly if it cannot be written so, whatever the event, at the leftmost offset where it is wrong: an attribute, an item of a list, the first
-/// word's end without keys, or what follows the word. If it can be written so, it is refused exactly for the first cause that there is: too many
-/// names, the first key that is none or a string with a modifier, the first value that is none or a string, the size, the filter.
+/// exactly if it cannot be written so, whatever the event, at the leftmost offset where it is wrong: an attribute, a table's name, an item of a
+/// list, the first word's end without keys, or what follows the word. If it can be written so, it is refused exactly for the first cause that
+/// there is: too many names, the first key that is none or a string with a modifier, the first value that is none or a string, the size, the
+/// filter.
 pub fn hist_triggers_are_as_written()
     ensures ok { OkIsWritten }
     ensures leftmost { SyntaxIsLeftmost }
@@ -15,11 +17,24 @@ pub fn hist_triggers_are_as_written()
     ensures refused { RefusalIsAsWritten }
 {}
 
+/// Of hist triggers that fit one another, perhaps of two events, the keys have the same modifiers, there are as many values, the sort keys mean the
+/// same, and the size is the same. If both are of one event, their keys and their values are the same and mean the same. Each fits itself, it fits
+/// those that fit it, and it fits what those fit.
+pub fn fitting_triggers_count_alike()
+    ensures alike { FittingSpecsCountAlike }
+    ensures of_one_event { FittingSpecsOfOneEventReadAlike }
+    ensures decided { FittingIsDecided }
+    ensures reflexive { FittingIsReflexive }
+    ensures symmetric { FittingIsSymmetric }
+    ensures transitive { FittingIsTransitive }
+{}
+
 /// The definitions can be computed, and they give each worked string what is written beside it.
 pub fn examples_are_read()
     ensures accepted { AreRead tick accepted_of_tick }
     ensures accepted_of_move { AreRead move accepted_of_move }
     ensures attributes { AreRead tick wrong_attributes }
+    ensures table_names { AreRead tick wrong_table_names }
     ensures items { AreRead tick wrong_items }
     ensures modifiers { AreRead tick wrong_modifiers }
     ensures many { AreRead tick too_many }

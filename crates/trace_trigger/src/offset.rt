@@ -1,8 +1,10 @@
 //! Where a trigger string breaks the grammar.
 
 ghost use Rattle.std.specs.Prelude.{◌≡◌, ◌≤◌, ◌++◌, length};
+ghost use Rattle.std.specs.List.{All};
 ghost use Rattle.std.specs.Option.{is_some};
 ghost use Rattle.trace_lex.specs.Decimals as decimals;
+ghost use Rattle.trace_trigger.specs.HistAttributes.{IsLocated};
 ghost use Rattle.trace_trigger.specs.HistOffsets as offsets;
 
 use crate::attribute::{Attribute, Topic};
@@ -69,6 +71,28 @@ fn attribute_offset(attributes: &[Attribute]) -> Option<usize>
     for (index, attribute) in attributes.iter().enumerate() {
         if is_wrong_attribute(&attributes[..index], attribute) {
             offset = earlier(offset, Some(attribute.at));
+        }
+    }
+    offset
+}
+
+/// Whether an attribute is a table's name that is none.
+fn is_bad_name(attribute: &Attribute) -> bool
+    ensures { result ≡ offsets.is_bad_name attribute.now }
+{
+    is_same_topic(Topic::Name, attribute.topic) && !is_name(attribute.value.as_bytes())
+}
+
+/// The first offset of a table's name that is none.
+#[tactic(auto, using(crate::proofs::WrongOffsets::from_wrong, crate::proofs::WrongOffsets::from_right, crate::proofs::WrongOffsets::from_end), unfolding(crate::specs::HistOffsets::name_offsets))]
+fn name_offset(attributes: &[Attribute]) -> Option<usize>
+    requires { All IsLocated attributes.now }
+    ensures { result ≡ offsets.least (offsets.name_offsets attributes.now) }
+{
+    let mut offset = None;
+    for attribute in attributes {
+        if is_bad_name(attribute) {
+            offset = earlier(offset, Some(attribute.at + attribute.skip));
         }
     }
     offset
@@ -181,11 +205,13 @@ pub(crate) fn wrong_offset(
     attributes: &[Attribute],
     written: &WrittenLists,
 ) -> Option<usize>
-    requires { length tail.now ≤ length text.now }
-    ensures { result ≡ offsets.least (offsets.attribute_offsets attributes.now ++ offsets.list_offsets written.now
+    requires tail { length tail.now ≤ length text.now }
+    requires located { All IsLocated attributes.now }
+    ensures { result ≡ offsets.least (offsets.attribute_offsets attributes.now ++ offsets.name_offsets attributes.now ++ offsets.list_offsets written.now
         ++ offsets.keyless_offsets end written.now.keys ++ offsets.tail_offsets text.now tail.now) }
 {
-    let listed = earlier(attribute_offset(attributes), list_offset(written));
+    let attributed = earlier(attribute_offset(attributes), name_offset(attributes));
+    let listed = earlier(attributed, list_offset(written));
     let worded = earlier(listed, keyless_offset(end, &written.keys));
     earlier(worded, tail_offset(text, tail))
 }

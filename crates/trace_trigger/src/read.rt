@@ -55,9 +55,11 @@ pub(crate) fn spec_from(
 ) -> Result<HistSpec, TriggerFault>
     requires condition { option_copied condition ≡ parts.condition_of (parts.tail_of text.now) }
     requires bound { IfSome condition (λ filter. length filter.now ≤ length text.now) }
+    requires few { length written.keys ≤ 3 }
     ensures { IsAnswered result (texts.spec_from event.now text.now written) }
 {
     let WrittenLists {
+        name,
         keys,
         values,
         sort,
@@ -73,6 +75,7 @@ pub(crate) fn spec_from(
     let sort = sort_keys(alloc, &sort)?;
     let sort_sources = sort_rules(alloc, &keys, &values, &sort)?;
     Ok(HistSpec {
+        name,
         keys,
         values,
         sort,

@@ -1,10 +1,12 @@
 //! What a hist trigger says (histogram.rst, "hist triggers").
 
-ghost use Rattle.std.specs.Prelude.{◌≡◌, ◌≢◌, ◌↔◌, Option, Some, None, Err, IsTrue, option_copied, bytes_eq};
+ghost use Rattle.std.specs.Prelude.{◌≡◌, ◌≢◌, ◌↔◌, ◌≤◌, Option, Some, None, Err, IsTrue, length, option_copied, bytes_eq};
+ghost use Rattle.std.specs.Bool.{beq};
 ghost use Rattle.trace_trigger.specs.TriggerAnswers.{IsAnswered};
 ghost use Rattle.trace_trigger.specs.HistSpecs.{written_of};
 ghost use Rattle.trace_trigger.specs.HistTexts.{IsHistText, spec_of};
-ghost use Rattle.trace_trigger.specs.SameSpecs.{IsSame, is_same, same_filter, same_sort_key, is_passed, filter_text};
+ghost use Rattle.trace_trigger.specs.SameSpecs.{IsSame, is_same, same_sort_key, same_text, is_passed, filter_text};
+ghost use Rattle.trace_trigger.specs.FittingSpecs.{Fits, are_texts, is_fitting};
 ghost use Rattle.std.specs.Cmp.Lexicographic.{pointwise};
 
 use crate::fault::TriggerFault;
@@ -43,6 +45,8 @@ pub enum Action {
 /// What a hist trigger says.
 #[derive(Drop)]
 pub struct HistSpec {
+    // The name of its table.
+    pub(crate) name: Option<Text>,
     pub(crate) keys: Vec<Key>,
     pub(crate) values: Vec<Text>,
     pub(crate) sort: Vec<SortKey>,
@@ -61,6 +65,7 @@ impl Model for HistSpec {
     ghost Value = { SpecSeen };
 
     ghost view = { λ s. record {
+      name = s.name;
       keys = s.keys.items;
       values = s.values.items;
       sort = s.sort.items;
@@ -70,6 +75,11 @@ impl Model for HistSpec {
       value_sources = s.value_sources.items;
       sort_sources = s.sort_sources.items;
     } };
+
+    ghost use Rattle.std.specs.Prelude.{◌≤◌, length};
+
+    // A string that says more is refused.
+    ghost invariant = { λ s. length s.keys.items ≤ 3 };
 }
 
 impl HistSpec {
@@ -92,9 +102,20 @@ impl HistSpec {
         spec_from(alloc, text, written, condition_of(tail), event)
     }
 
+    /// The name of its table, which triggers of this name share.
+    pub fn name(&self) -> Option<&[u8]>
+        ensures { option_copied result ≡ self.now.name }
+    {
+        match &self.name {
+            Some(name) => Some(name.as_bytes()),
+            None => None,
+        }
+    }
+
     /// Its keys, in their order.
     pub fn keys(&self) -> &[Key]
-        ensures { result.now ≡ self.now.keys }
+        ensures value { result.now ≡ self.now.keys }
+        ensures few { length result.now ≤ 3 }
     {
         &self.keys
     }
@@ -148,17 +169,32 @@ impl HistSpec {
         &self.sort_sources
     }
 
-    /// Whether two triggers of one event are the same: they have the same keys, values, sort keys and filter. Their sizes and what they ask
+    /// Whether two triggers of one event are the same: they have the same name, keys, values, sort keys and filter. Their sizes and what they ask
     /// for don't matter.
     #[tactic(auto, unfolding(crate::specs::SameSpecs::is_same))]
     pub fn same(&self, other: &HistSpec) -> bool
         ensures same { IsTrue result ↔ IsSame self.now other.now }
         ensures value { result ≡ is_same self.now other.now }
     {
-        is_same_keys(&self.keys, &other.keys)
+        is_same_name(&self.name, &other.name)
+            && is_same_keys(&self.keys, &other.keys)
             && is_same_names(&self.values, &other.values)
             && is_same_sort(&self.sort, &other.sort)
             && is_same_filter(&self.filter, &other.filter)
+    }
+
+    /// Whether two triggers, perhaps of two events, may count in one table: they have the same keys, each a string in both events or in neither,
+    /// the same values and sort keys, and one size.
+    #[tactic(auto, unfolding(crate::specs::FittingSpecs::is_fitting))]
+    pub fn fits(&self, other: &HistSpec) -> bool
+        ensures fits { IsTrue result ↔ Fits self.now other.now }
+        ensures value { result ≡ is_fitting self.now other.now }
+    {
+        is_same_keys(&self.keys, &other.keys)
+            && is_same_kinds(&self.keys, &other.keys)
+            && is_same_names(&self.values, &other.values)
+            && is_same_sort(&self.sort, &other.sort)
+            && self.size == other.size
     }
 
     /// Whether the trigger counts a row of its event that is emitted on a CPU by a process. It takes no memory.
@@ -193,6 +229,26 @@ fn are_written_alike(left: &[Key], right: &[Key]) -> bool
     }
 }
 
+/// Whether each key is a string in both lists or in neither.
+fn is_same_kinds(left: &[Key], right: &[Key]) -> bool
+    ensures value { result ≡ pointwise beq (are_texts left.now) (are_texts right.now) }
+    ensures same { IsTrue result ↔ (are_texts left.now ≡ are_texts right.now) }
+{
+    are_alike_in_kind(left, right)
+}
+
+fn are_alike_in_kind(left: &[Key], right: &[Key]) -> bool
+    ensures { result ≡ pointwise beq (are_texts left.now) (are_texts right.now) }
+{
+    match (left, right) {
+        ([], []) => true,
+        ([first, left @ ..], [second, right @ ..]) => {
+            first.operand.is_text() == second.operand.is_text() && are_alike_in_kind(left, right)
+        }
+        _ => false,
+    }
+}
+
 fn is_same_names(left: &[Text], right: &[Text]) -> bool
     ensures value { result ≡ pointwise bytes_eq left.now right.now }
     ensures same { IsTrue result ↔ (left.now ≡ right.now) }
@@ -207,9 +263,21 @@ fn is_same_sort(left: &[SortKey], right: &[SortKey]) -> bool
     left == right
 }
 
+/// Whether there are two names that are the same, or none.
+fn is_same_name(left: &Option<Text>, right: &Option<Text>) -> bool
+    ensures value { result ≡ same_text left.now right.now }
+    ensures same { IsTrue result ↔ (left.now ≡ right.now) }
+{
+    match (left, right) {
+        (Some(left), Some(right)) => left == right,
+        (None, None) => true,
+        _ => false,
+    }
+}
+
 /// Whether there are two filters of one text, or none.
 fn is_same_filter(left: &Option<Filter>, right: &Option<Filter>) -> bool
-    ensures value { result ≡ same_filter (filter_text left.now) (filter_text right.now) }
+    ensures value { result ≡ same_text (filter_text left.now) (filter_text right.now) }
     ensures same { IsTrue result ↔ (filter_text left.now ≡ filter_text right.now) }
 {
     match (left, right) {

@@ -14,9 +14,11 @@ use std::marker::Model;
 use trace_format::Text;
 use trace_lex::{is_name, len_before, rest_of};
 
-/// The lists of names, cut into items, and the rest of what the attributes say. Of several attributes on one topic the first counts.
+/// The name of the table, the lists of names, cut into items, and the rest of what the attributes say. Of several attributes on one topic the
+/// first counts.
 #[derive(Drop)]
 pub(crate) struct WrittenLists {
+    pub(crate) name: Option<Text>,
     pub(crate) keys: Vec<ListItem>,
     pub(crate) values: Vec<ListItem>,
     pub(crate) sort: Vec<ListItem>,
@@ -30,6 +32,7 @@ impl Model for WrittenLists {
     ghost Value = { Lists };
 
     ghost view = { λ w. record {
+      name = w.name;
       keys = w.keys.items;
       values = w.values.items;
       sort = w.sort.items;
@@ -46,10 +49,11 @@ impl WrittenLists {
         ensures { IfOk result (λ written. written ≡ lists.lists_of attributes.now) }
     {
         Ok(WrittenLists {
+            name: value_of(first_about(Topic::Name, attributes))?,
             keys: items_about(alloc, Topic::Keys, attributes)?,
             values: items_about(alloc, Topic::Values, attributes)?,
             sort: items_about(alloc, Topic::Sort, attributes)?,
-            size: size_in(first_about(Topic::Size, attributes))?,
+            size: value_of(first_about(Topic::Size, attributes))?,
             action: action_in(first_about(Topic::Asked(Action::Attach), attributes)),
         })
     }
@@ -72,6 +76,7 @@ pub(crate) fn is_same_topic(left: Topic, right: Topic) -> bool
         (Topic::Values, Topic::Values) => true,
         (Topic::Sort, Topic::Sort) => true,
         (Topic::Size, Topic::Size) => true,
+        (Topic::Name, Topic::Name) => true,
         (Topic::Asked(_), Topic::Asked(_)) => true,
         _ => false,
     }
@@ -106,8 +111,8 @@ fn items_about(
 }
 
 /// A copy of the value of an attribute.
-fn size_in(attribute: Option<&Attribute>) -> Result<Option<Text>, AllocError>
-    ensures { IfOk result (λ size. size ≡ lists.size_in (option_copied attribute.entry)) }
+fn value_of(attribute: Option<&Attribute>) -> Result<Option<Text>, AllocError>
+    ensures { IfOk result (λ value. value ≡ lists.value_of (option_copied attribute.entry)) }
 {
     match attribute {
         Some(attribute) => Ok(Some(attribute.value.clone()?)),

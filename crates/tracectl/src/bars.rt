@@ -10,7 +10,7 @@ const MOST_COLUMNS: u64 = 60;
 struct Entry<'a> {
     /// Its keys, as they are printed.
     keys: &'a str,
-    /// How many emissions had them. A script has room for far fewer than 2^32.
+    /// How many rows had them. A script has room for far fewer than 2^32.
     count: u32,
 }
 

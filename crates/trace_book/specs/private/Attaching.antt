@@ -1,5 +1,6 @@
 -- What a trigger text changes of an event's triggers, by what an instance keeps of them.
-use Rattle.std.specs.Prelude.{◌≡◌, ℕ, ◌+◌, Bool, true, false, is_some, if◌then◌else◌, List, [], ◌∷◌, length, map, Option, Some, None, Result, Ok, Err, option_copied}
+use Rattle.std.specs.Prelude.{◌≡◌, ℕ, ◌+◌, Bool, true, false, is_some, if◌then◌else◌, List, [], ◌∷◌, length, map, slice_set, Option, Some, None, Result, Ok, Err, option_copied}
+use Rattle.trace_format.specs.Catalogs.{AreEvents}
 use Rattle.trace_format.specs.Definitions.{Definition}
 use Rattle.trace_trigger.specs.HistSpecs.{SpecSeen}
 use Rattle.trace_trigger.specs.declared.spec.Action.{Action}
@@ -14,24 +15,34 @@ use Rattle.trace_command.specs.Requests.{Request, WriteFile}
 use Rattle.trace_command.specs.declared.command.Reply.TheVariants.{Done}
 use Rattle.trace_command.specs.declared.file_name.EventFile.TheVariants as per_event
 use Rattle.trace_command.specs.declared.refusal.Refusal.{Refusal}
-use Rattle.trace_command.specs.declared.refusal.Refusal.TheVariants.{TriggerExists}
+use Rattle.trace_command.specs.declared.refusal.Refusal.TheVariants.{Memory, TriggerExists}
 use Rattle.trace_history.specs.History.{trigger_answer}
-use Rattle.trace_history.specs.Settings.{event_named}
+use Rattle.trace_history.specs.Settings.{declared_events, event_named}
+use Rattle.trace_history.specs.Declarations.{IsIndexOf}
 use Rattle.trace_history.specs.Snapshots.{spare_armed}
-use Rattle.trace_book.specs.Changes.{IsPossible, hists_changed, trigger_changed}
-use Rattle.trace_book.specs.Instances.{kept_trigger}
-use Rattle.trace_book.specs.KeptHists.{kept_hists, kept_of}
+use Rattle.trace_book.specs.Changes.{IsAsked as IsAskedOf, IsJoinedBy, IsPossible, asks_triggers, hists_changed, trigger_changed}
+use Rattle.trace_book.specs.Instances.{TablesFit, kept_trigger}
+use Rattle.trace_book.specs.KeptHists.{kept_hists, names_table_of}
+use Rattle.std.specs.List.{find, flat_map}
+use Rattle.trace_trigger.specs.FittingSpecs.{is_fitting}
+use Rattle.trace_hist.specs.Hists.{StandsFor}
+use Rattle.trace_history.specs.HistTriggers.{is_pause}
+use Rattle.trace_book.specs.declared.hists.AttachedHist.{AttachedHist}
 use Rattle.trace_book.specs.declared.attach.EventTriggers.{EventTriggers}
 use Rattle.trace_book.specs.declared.change.TriggerChange.{TriggerChange}
-use Rattle.trace_book.specs.declared.change.TriggerChange.TheVariants.{Attach, AskHist}
+use Rattle.trace_book.specs.declared.change.TriggerChange.TheVariants.{Attach, AttachHist, MakeHist, AskTable}
 use Rattle.trace_book.specs.declared.write.WrittenText.{WrittenText}
 
--- the event is declared, and what is kept of its triggers agrees with the requests
+-- the event is declared, at this index, and what is kept of its triggers and of the hist triggers of all events agrees with the requests
 pub record AreKept (name : Option (List ℕ)) (past : List Request) (event : Definition) (triggers : EventTriggers) : Type 0 where
   pub id : ℕ
   pub named : event_named event.name past ≡ Some (record { id = id; event = event })
   pub snapshot : option_copied triggers.snapshot ≡ kept_trigger name past event
-  pub hists : map kept_of triggers.hists.now ≡ kept_hists name past event
+  pub hists : triggers.hists.now ≡ kept_hists name past event
+  pub all : triggers.all.now ≡ map (kept_hists name past) (declared_events past)
+  pub index : IsIndexOf (declared_events past) event.name triggers.event event
+  pub distinct : AreEvents [] (declared_events past)
+  pub fitting : TablesFit name past
 
 -- the request that writes a text to the event's trigger file
 abbrev pub write_of : Option (List ℕ) → Definition → WrittenText → Request
@@ -48,6 +59,9 @@ pub record IsTriggerEffect (name : Option (List ℕ)) (past : List Request) (eve
   pub hists : kept_hists name (write_of name event written ∷ past) event
       ≡ hists_changed change (if written.append then kept_hists name past event else [])
   pub possible : IsPossible change (length (if written.append then kept_hists name past event else []))
+  pub tables : (number : ℕ) → IsAskedOf name past (write_of name event written) (asks_triggers change number) number
+  pub joined : IsJoinedBy name past change
+  pub fitting : TablesFit name past → TablesFit name (write_of name event written ∷ past)
   pub spare : spare_armed (said_of event written.text.now) ≡ arms change
 
 abbrev pub IsTriggerChange : Option (List ℕ) → List Request → Definition → WrittenText → Result TriggerChange Refusal → Type 0
@@ -77,18 +91,24 @@ IsSaidChange what triggers written result =
 abbrev pub IsAttached : SnapshotTrigger → EventTriggers → WrittenText → Result TriggerChange Refusal → Type 0
 IsAttached trigger = IsSaidChange (said.Attach trigger)
 
--- a hist trigger
-abbrev pub IsAsked : SpecSeen → EventTriggers → WrittenText → Result TriggerChange Refusal → Type 0
-IsAsked spec = IsSaidChange (said.Hist spec)
+-- a hist trigger of this event
+abbrev pub IsAsked : SpecSeen → Definition → EventTriggers → WrittenText → Result TriggerChange Refusal → Type 0
+IsAsked spec event triggers written result =
+    (name : Option (List ℕ)) (past : List Request) → length past ≡ written.number → AreKept name past event triggers
+    → said_of event written.text.now ≡ Ok (said.Hist spec) → IsTriggerChange name past event written result
 
 -- a hist trigger that is removed
 abbrev pub IsRemovedHist : SpecSeen → EventTriggers → WrittenText → Result TriggerChange Refusal → Type 0
 IsRemovedHist spec = IsSaidChange (said.RemoveHist spec)
 
--- what is changed where the one at an index says the same
+-- what is changed where the one that says the same has this table
 abbrev pub asked_change : ℕ → Action → Result TriggerChange Refusal
-asked_change index action.Attach = Err TriggerExists
-asked_change index asked = Ok (AskHist index asked)
+asked_change table action.Attach = Err TriggerExists
+asked_change table asked = Ok (AskTable table asked)
+
+-- the triggers that `>` or `>>` leaves, of all events
+abbrev pub left_of : EventTriggers → Bool → List (List AttachedHist)
+left_of triggers append = if append then triggers.all.now else slice_set triggers.all.now triggers.event []
 
 -- whether a hist trigger is attached where none says the same
 abbrev pub attaches : Action → Bool
@@ -96,3 +116,22 @@ attaches action.Attach = true
 attaches action.Pause = true
 attaches action.Continue = false
 attaches action.Clear = false
+
+-- ---- a hist trigger that is attached
+
+-- the first trigger whose table a text names, of those of all events
+abbrev pub named_in : SpecSeen → List (List AttachedHist) → Option AttachedHist
+named_in spec all = find (names_table_of spec) (flat_map (λ (hists : List AttachedHist). hists) all)
+
+-- it counts in the table of another one, if it fits that
+abbrev pub joined_change : ℕ → SpecSeen → AttachedHist → Result TriggerChange Refusal
+joined_change number spec other = if is_fitting spec other.spec
+    then Ok (AttachHist (record { number = number; table = other.table; spec = spec }))
+    else Err TriggerExists
+
+-- a table is made with it, if there is memory
+abbrev pub IsMadeChange : ℕ → SpecSeen → Result TriggerChange Refusal → Type 0
+IsMadeChange number spec (Ok (MakeHist attached hist)) =
+    (attached ≡ record { number = number; table = number; spec = spec }) × (hist.spec ≡ spec) × StandsFor hist [] × (hist.paused ≡ is_pause spec.action)
+IsMadeChange number spec (Ok change) = ⊥
+IsMadeChange number spec (Err refusal) = refusal ≡ Memory

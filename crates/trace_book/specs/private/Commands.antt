@@ -1,5 +1,5 @@
 -- What is prepared for a write to a file, and for a read of one.
-use Rattle.std.specs.Prelude.{◌≡◌, ℕ, ◌<◌, ◌++◌, ◌∷◌, nat_lt, not, Bool, List, [], length, map, Option, Some, None, Result, Ok, Err, codes, ⊤}
+use Rattle.std.specs.Prelude.{◌≡◌, ℕ, ◌<◌, ◌++◌, ◌∷◌, nat_lt, not, Bool, true, false, List, [], length, map, slice_index_or, All, is_some, Option, Some, None, Result, Ok, Err, codes, ⊤}
 use Rattle.std.specs.Option.{option_map}
 use Rattle.std.specs.List.{filter}
 use Rattle.trace_filter.specs.Filters.{Parsed, parsed_of}
@@ -17,7 +17,11 @@ use Rattle.trace_history.specs.History.{filter_answer, read_answer, write_answer
 use Rattle.trace_history.specs.Rings.{rings, rings_after_read}
 use Rattle.trace_history.specs.Settings.{declared_events, now_of, written_filter}
 use Rattle.trace_book.specs.Instances.{InstanceSeen, InstanceStandsFor}
-use Rattle.trace_book.specs.KeptHists.{KeptHist}
+use Rattle.trace_book.specs.KeptHists.{KeptTable, kept_at, table_numbered}
+use Rattle.trace_book.specs.declared.hists.AttachedHist.{AttachedHist}
+use Rattle.trace_book.specs.declared.tables.Table.{Table}
+use Rattle.trace_hist.specs.Groups.{grouped}
+use Rattle.trace_trigger.specs.HistSpecs.{SpecSeen}
 use Rattle.trace_book.specs.Changes.{IsEffect, IsLawful, rings_changed}
 use Rattle.trace_book.specs.declared.change.InstanceChange.{InstanceChange}
 use Rattle.trace_book.specs.declared.change.InstanceChange.TheVariants.{Keep, Take, TakeCpu}
@@ -68,16 +72,25 @@ shown_filter (Some kept) = kept.text ++ codes "\n"
 abbrev pub shown_kept : Trigger → texts.Trigger
 shown_kept t = texts.Snapshot t.left (option_map (λ (filter : Parsed). filter.text) t.filter)
 
--- a kept hist trigger as its files show it
-abbrev pub shown_kept_hist : KeptHist → texts.Trigger
-shown_kept_hist k = texts.Hist (record { spec = k.spec; rules = k.spec.sort_sources; paused = k.paused; table = k.table })
+-- a hist trigger that says this, with its table, as its files show it. (Each trigger has a table.)
+abbrev pub shown_with : SpecSeen → Option KeptTable → texts.ShownHist
+shown_with spec None = record { spec = spec; rules = spec.sort_sources; paused = false; table = grouped spec [] }
+shown_with spec (Some k) = record { spec = spec; rules = k.spec.sort_sources; paused = k.paused; table = k.table }
+
+-- one that is kept, with these tables
+abbrev pub shown_attached : List Table → AttachedHist → texts.Trigger
+shown_attached tables a = texts.Hist (shown_with a.spec (kept_at a.table tables))
+
+-- the table of each is among these
+abbrev pub AreThere : List Table → List AttachedHist → Type 0
+AreThere tables hists = All (λ (a : AttachedHist). is_some (table_numbered a.table tables) ≡ true) hists
 
 -- triggers in the order in which they were attached
-abbrev pub kept_in_order : Option Trigger → List KeptHist → List texts.Trigger
-kept_in_order None hists = map shown_kept_hist hists
-kept_in_order (Some t) hists =
-    map shown_kept_hist (filter (λ (k : KeptHist). nat_lt k.number t.number) hists)
-    ++ shown_kept t ∷ map shown_kept_hist (filter (λ (k : KeptHist). not (nat_lt k.number t.number)) hists)
+abbrev pub kept_in_order : List Table → Option Trigger → List AttachedHist → List texts.Trigger
+kept_in_order tables None hists = map (shown_attached tables) hists
+kept_in_order tables (Some t) hists =
+    map (shown_attached tables) (filter (λ (a : AttachedHist). nat_lt a.number t.number) hists)
+    ++ shown_kept t ∷ map (shown_attached tables) (filter (λ (a : AttachedHist). not (nat_lt a.number t.number)) hists)
 
 -- what files are read from agrees with the requests done so far: the events, the clock and the instance of this name
 pub record IsSource (g : Config) (name : Option (List ℕ)) (past : List Request) (source : FileSource) : Type 0 where
@@ -93,6 +106,7 @@ pub record HasAll (source : FileSource) (event : ℕ) : Type 0 where
   pub filters : event < length source.instance.now.filters
   pub triggers : event < length source.instance.now.triggers
   pub hists : event < length source.instance.now.hists
+  pub tables : AreThere source.instance.now.tables (slice_index_or source.instance.now.hists event [])
 
 -- the CPU or the event of a file is there for a read
 abbrev pub IsReadable : FileSource → Found → Type 0

@@ -1,13 +1,12 @@
 -- What an emission that is prepared does in each instance, and its record.
-use Rattle.std.specs.Prelude.{◌≡◌, ℕ, ℤ, ◌+◌, ◌<◌, ◌≤◌, true, false, List, length, slice_index_or, Option, Some, None}
+use Rattle.std.specs.Prelude.{◌≡◌, ℕ, ℤ, ◌+◌, false, List, Option, Some, None}
 use Rattle.trace_format.specs.Cells.{Cells}
 use Rattle.trace_record.specs.Record.{IsRecord}
 use Rattle.trace_history.specs.Emissions.{record_bytes}
-use Rattle.trace_book.specs.Instances.{InstanceSeen, IsAlike}
+use Rattle.trace_book.specs.Instances.{IsAlike}
 use Rattle.trace_book.specs.private.Rows.{reach_of}
 use Rattle.trace_book.specs.States.{AllReached, EachCame}
 use Rattle.trace_book.specs.declared.change.Pending.{Pending}
-use Rattle.trace_book.specs.declared.change.Reach.{Reach}
 use Rattle.trace_book.specs.declared.change.Reaches.{Reaches}
 use Rattle.trace_book.specs.declared.state.Named.{Named}
 use Rattle.trace_book.specs.declared.state.State.{State}

@@ -1,10 +1,11 @@
 //! What an emission does to an instance: first it is looked what that is, then its hist triggers take the memory that they need, and then it is taken
 //! in.
 
-ghost use Rattle.std.specs.Prelude.{◌≡◌, ◌≤◌, ◌<◌, true, is_some, length, slice_index_or, OnOk};
+ghost use Rattle.std.specs.Prelude.{◌≡◌, ◌≤◌, ◌<◌, [], true, is_some, length, slice_index_or, OnOk};
 ghost use Rattle.trace_record.specs.Record.{IsRecord};
 ghost use Rattle.trace_buffer.specs.Buffers as buffers;
 ghost use Rattle.trace_book.specs.Instances.{IsAlike};
+ghost use Rattle.trace_book.specs.KeptHists.{KeysAgree};
 ghost use Rattle.trace_book.specs.private.Rows as rows;
 ghost use Rattle.trace_book.specs.private.Rows.{kept_holds};
 ghost use Rattle.trace_book.specs.States.{CanCountRow, CanFire, HasFewRows, row_of, IsDelivered, IsOffered, IsExchanged, IsWritable, IsWritten, HasFew};
@@ -29,10 +30,11 @@ impl Instance {
     ) -> Result<(), AllocError>
         requires event { event < length self.old.hists }
         requires passed { passed ≡ passed_in (record { values = row.now.values; cpu = cpu; pid = pid }) event self.old }
+        requires agree { KeysAgree (slice_index_or self.old.hists event []) }
         ensures alike { IsAlike self.old self.new }
         ensures ready { OnOk result (CanCountRow (record { values = row.now.values; cpu = cpu; pid = pid }) event self.new) }
     {
-        self.hists[event].reserve(passed, row, cpu, pid)
+        self.hists[event].reserve(&mut self.tables, passed, row, cpu, pid)
     }
 
     /// What an emission of the event at this index does here: whether it is recorded, which filters of the event's hist triggers it passes,
@@ -81,6 +83,7 @@ impl Instance {
         requires event { delivery.now.event < length self.old.triggers }
         requires hists { delivery.now.event < length self.old.hists }
         requires passed { reach.passed ≡ passed_in (row_of delivery.now) delivery.now.event self.old }
+        requires agree { KeysAgree (slice_index_or self.old.hists delivery.now.event []) }
         requires counted { CanCountRow (row_of delivery.now) delivery.now.event self.old }
         requires few_rows { HasFewRows self.old }
         requires record { IsWritable delivery.now.record self.old }
@@ -117,11 +120,18 @@ impl Instance {
     fn offer(&mut self, delivery: &Delivery, reach: Reach)
         requires hists { delivery.now.event < length self.old.hists }
         requires passed { reach.passed ≡ passed_in (row_of delivery.now) delivery.now.event self.old }
+        requires agree { KeysAgree (slice_index_or self.old.hists delivery.now.event []) }
         requires counted { CanCountRow (row_of delivery.now) delivery.now.event self.old }
         requires few_rows { HasFewRows self.old }
         ensures { IsOffered delivery.now self.old self.new }
     {
-        self.hists[delivery.event].hit(reach.passed, &delivery.row, delivery.cpu, delivery.pid);
+        self.hists[delivery.event].hit(
+            &mut self.tables,
+            reach.passed,
+            &delivery.row,
+            delivery.cpu,
+            delivery.pid,
+        );
     }
 
     // Exchanges the sides for the trigger of the event at this index, which acts once less.

@@ -1,12 +1,14 @@
 -- What one more row does to a histogram: the way in which it is kept. That this agrees with the grouping of all rows is proved in
 -- proofs/GroupLaws.antt.
-use Rattle.std.specs.Prelude.{ℕ, zero, suc, ℤ, pos, ◌+◌, Bool, true, false, nat_lt, if◌then◌else◌, List, [], ◌∷◌, ◌++◌, length, map, replicate}
+use Rattle.std.specs.Prelude.{◌≡◌, ℕ, zero, suc, ℤ, pos, ◌+◌, Bool, true, false, nat_lt, if◌then◌else◌, List, [], ◌∷◌, ◌++◌, length, map, replicate}
 use Rattle.trace_format.specs.Cells.{Datum}
 use Rattle.trace_format.specs.Operands.{Emission}
 use Rattle.trace_trigger.specs.declared.key.Key.{Key}
+use Rattle.trace_trigger.specs.HistSpecs.{SpecSeen}
 use Rattle.trace_hist.specs.Hits.{Hit, key_cell}
+use Rattle.trace_hist.specs.Stored.{Kept}
 use Rattle.trace_hist.specs.Groups.{Entry, Table, same_key, is_among, added}
-use Rattle.trace_hist.specs.Hists.{Seen, Unknown, entry_keys}
+use Rattle.trace_hist.specs.Hists.{Place, Unknown, entry_keys}
 
 -- the key that a trigger reads of an emission
 abbrev pub key_of : List Key → Emission → List Datum
@@ -41,10 +43,19 @@ abbrev pub after_row : ℕ → ℕ → Table → Hit → Table
 after_row size width table hit =
     stepped (is_among (entry_keys table.entries) hit.key) (nat_lt (length table.entries) size) width table hit
 
-abbrev pub after_hit : Seen → Hit → Seen
-after_hit hist hit = record {
-  spec = hist.spec;
-  paused = hist.paused;
-  table = after_row hist.spec.size (length hist.spec.value_sources) hist.table hit;
-  next = Unknown;
+abbrev pub none_kept : ℕ → ℕ → Kept
+none_kept size width = record { size = size; width = width; table = record { entries = []; hits = 0; dropped = 0 }; next = Unknown }
+
+-- what was reserved stays reserved
+abbrev pub after_hit : Kept → Hit → Kept
+after_hit kept hit = record {
+  size = kept.size;
+  width = kept.width;
+  table = after_row kept.size kept.width kept.table hit;
+  next = kept.next;
 }
+
+-- of what a trigger's histogram has counted
+pub record AreOf (spec : SpecSeen) (kept : Kept) : Type 0 where
+  pub size : kept.size ≡ spec.size
+  pub width : kept.width ≡ length spec.value_sources

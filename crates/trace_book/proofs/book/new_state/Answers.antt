@@ -15,6 +15,7 @@ returns c =
       filters = made.filters;
       triggers = made.triggers;
       hists = made.hists;
+      tables = made.tables;
       overwrite = made.overwrite;
       tracing = made.tracing;
       live = made.live;

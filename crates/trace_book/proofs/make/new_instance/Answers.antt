@@ -17,6 +17,7 @@ returns-clause-stands c = λ past many.
       filters = new.filters ∙ ap filters many;
       triggers = new.triggers ∙ ap triggers many;
       hists = new.hists ∙ ap hists many;
+      tables = new.tables;
       overwrite = new.overwrite;
       tracing = new.tracing;
       live = new.live;

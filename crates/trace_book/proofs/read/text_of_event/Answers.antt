@@ -1,10 +1,7 @@
-use Rattle.std.proofs.Common.{◌≡◌, List, [], ℕ, map, IfOk, ap, ◌∙◌, subst}
+use Rattle.std.proofs.Common.{◌≡◌, List, [], ℕ, IfOk, ap, ◌∙◌, subst}
 use Rattle.trace_format.specs.Definitions.{Definition}
 use Rattle.trace_history.specs.FileTexts.{flag_text}
-use Rattle.trace_text.specs.HistText.{hist_text}
-use Rattle.trace_book.specs.private.Commands.{shown_filter, shown_kept_hist}
-use Rattle.trace_book.specs.KeptHists.{kept_of}
-use Rattle.trace_book.specs.declared.hists.AttachedHist.{AttachedHist}
+use Rattle.trace_book.specs.private.Commands.{shown_filter}
 use Rattle.trace_book.proofs.EventReads.{enabled-at_place, filter-at_place, format-at_place, hists-at_place, triggers-at_place}
 use Rattle.trace_book.proofs.read.text_of_event.Goals as goal
 
@@ -34,8 +31,7 @@ returns-in-Hist c = λ g name past is.
     let inside = c.requires.event.declared in
     rw c.in-Hist.is
     (subst (λ (t : List ℕ). IfOk c.histograms.result (λ text. text ≡ t))
-    (ap (λ (hists : List AttachedHist). hist_text (map shown_kept_hist (map kept_of hists))) c.hists.ensures
-    ∙ hists-at_place g name past c.args.source c.args.event is inside c.requires.event.hists) c.histograms.ensures)
+    (hists-at_place g name past c.args.source c.args.event is inside c.requires.event.hists) c.histograms.ensures)
 
 pub returns-in-Format : goal.returns-in-Format
 returns-in-Format c = λ g name past is.

@@ -1,4 +1,4 @@
-use Rattle.std.proofs.Common.{◌≡◌, ◌<◌, length, get_or, Ok, Err, arith, rules}
+use Rattle.std.proofs.Common.{◌≡◌, ◌<◌, length, get_or, Ok, Err, rules}
 use Rattle.trace_history.specs.Settings.{declared_events, written_flag}
 use Rattle.trace_book.specs.private.Commands.{needed_flag}
 use Rattle.trace_book.proofs.Writes.{no-switch, switches-one, sets-one, refuses-one}
@@ -42,11 +42,10 @@ returns-in_err-change-in-Trigger-clause-change c = λ g name past number events 
     let index = c.args.event in
     let refused = c.in_err-change-in-Trigger.field-0.0 in
     let inside : index < length c.args.catalog.now = c.requires.event in
-    let within : index < length c.args.instance.now.hists = omega (arith, inside, c.requires.hists) in
     let event = c.event_at-in-Trigger.result.now in
     let at : event ≡ get_or (declared_events past) index event = rw events at c.event_at-in-Trigger.ensures in
-    let kept = kept-at g name past c.args.instance.now index event c.of-triggers.result stands (rw events at distinct) (rw events at inside) within at
-    c.of-triggers.ensures.snapshot c.of-triggers.ensures.hists in
+    let kept = kept-at g name past c.args.instance.now index event c.of-triggers.result stands (rw events at distinct) (rw events at inside) at
+    c.of-triggers.ensures.snapshot c.of-triggers.ensures.hists c.of-triggers.ensures.all c.of-triggers.ensures.event in
     let out : c.from_residual-in_err-change-in-Trigger.result ≡ Err refused = search rules in
     rw (out, c.in-Trigger.is, events)
     (trigger-refused g name past index event c.args.written refused (rw events at distinct) (rw events at inside) at
@@ -56,11 +55,10 @@ pub returns-in_ok-change-in-Trigger-clause-change : goal.returns-in_ok-change-in
 returns-in_ok-change-in-Trigger-clause-change c = λ g name past number events distinct stands.
     let index = c.args.event in
     let inside : index < length c.args.catalog.now = c.requires.event in
-    let within : index < length c.args.instance.now.hists = omega (arith, inside, c.requires.hists) in
     let event = c.event_at-in-Trigger.result.now in
     let at : event ≡ get_or (declared_events past) index event = rw events at c.event_at-in-Trigger.ensures in
-    let kept = kept-at g name past c.args.instance.now index event c.of-triggers.result stands (rw events at distinct) (rw events at inside) within at
-    c.of-triggers.ensures.snapshot c.of-triggers.ensures.hists in
+    let kept = kept-at g name past c.args.instance.now index event c.of-triggers.result stands (rw events at distinct) (rw events at inside) at
+    c.of-triggers.ensures.snapshot c.of-triggers.ensures.hists c.of-triggers.ensures.all c.of-triggers.ensures.event in
     rw (c.in-Trigger.is, events)
     (trigger-written g name past index event c.args.written c.in_ok-change-in-Trigger.change (rw events at distinct) (rw events at inside) at
     (c.in_ok-change-in-Trigger.ensures.change name past number kept))

@@ -1,5 +1,6 @@
-use Rattle.std.proofs.Common.{◌≡◌, ◌^◌, map, slice_get, Some, rules}
+use Rattle.std.proofs.Common.{◌≡◌, map, slice_get, Some, rules}
 use Rattle.std.specs.Map.{values_of}
+use Rattle.trace_hist.specs.Hists.{most_rows}
 use Rattle.trace_hist.specs.Hits.{number_at}
 use Rattle.trace_hist.proofs.TableLemmas.{tally-counted, counted_at-is, counted-more, distinct-is}
 use Rattle.trace_hist.proofs.entries.count_row.Goals as goal
@@ -7,12 +8,12 @@ use Rattle.trace_hist.proofs.entries.count_row.Goals as goal
 pub count-requires-clause-hitcount : goal.count-requires-clause-hitcount
 count-requires-clause-hitcount c =
     let at : Some c.in-Some.tally.now ≡ slice_get (values_of c.args.entries.now.entries) c.args.index = search rules in
-    (tally-counted (2 ^ 32) c.args.entries.now.entries c.args.index c.in-Some.tally.now at c.requires.counted).0
+    (tally-counted most_rows c.args.entries.now.entries c.args.index c.in-Some.tally.now at c.requires.counted).0
 
 pub count-requires-clause-sums : goal.count-requires-clause-sums
 count-requires-clause-sums c =
     let at : Some c.in-Some.tally.now ≡ slice_get (values_of c.args.entries.now.entries) c.args.index = search rules in
-    (tally-counted (2 ^ 32) c.args.entries.now.entries c.args.index c.in-Some.tally.now at c.requires.counted).1
+    (tally-counted most_rows c.args.entries.now.entries c.args.index c.in-Some.tally.now at c.requires.counted).1
 
 pub returns-clause-entries : goal.returns-clause-entries
 returns-clause-entries c =

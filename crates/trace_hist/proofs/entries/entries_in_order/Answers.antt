@@ -1,5 +1,4 @@
-use Rattle.std.proofs.Common.{◌≡◌, map, take, ap, ◌∙◌, List, subst, rules}
-use Rattle.trace_trigger.specs.declared.sort_rule.SortRule.{SortRule}
+use Rattle.std.proofs.Common.{◌≡◌, map, take, ap, ◌∙◌, rules}
 use Rattle.trace_hist.specs.PrintOrder.{row_in, printed, IsPrintOrder}
 use Rattle.trace_hist.specs.Stored.{entries_in}
 use Rattle.trace_hist.proofs.PrintLaws.{printed_is_in_print_order, one_print_order}
@@ -7,11 +6,9 @@ use Rattle.trace_hist.proofs.entries.entries_in_order.Goals as goal
 
 pub returns : goal.returns
 returns c =
-    let rules_now = c.args.spec.now.sort_sources in
+    let rules_now = c.args.rules.now in
     let built = map row_in c.in_ok-rows.rows.items in
     let shown = map row_in c.sort_entries.new.entries.items in
     let all : built ≡ take c.args.count (entries_in c.args.entries.now.entries) = search rules in
-    let rules_are : c.sort_sources.result.now ≡ rules_now = search rules in
-    let order : IsPrintOrder rules_now built shown =
-    subst (λ (l : List SortRule). IsPrintOrder l built shown) rules_are c.in_ok-sort_entries.ensures in
+    let order : IsPrintOrder rules_now built shown = search rules in
     one_print_order rules_now built (printed rules_now built) shown (printed_is_in_print_order rules_now built) order ∙ ap (printed rules_now) all

@@ -1,4 +1,5 @@
 use Rattle.trace_history.proofs.CountedRows.{counted_rows_are_of_emissions, emissions_are_counted_once, emissions_are_counted, unmet_emissions_are_not_counted}
+use Rattle.trace_history.proofs.TableUnions.{named_tables_are_unions}
 use Rattle.trace_history.proofs.laws.emissions_are_counted.Goals as goal
 
 pub returns-clause-rows : goal.returns-clause-rows
@@ -12,3 +13,6 @@ returns-clause-counted c = emissions_are_counted
 
 pub returns-clause-unmet : goal.returns-clause-unmet
 returns-clause-unmet c = unmet_emissions_are_not_counted
+
+pub returns-clause-unions : goal.returns-clause-unions
+returns-clause-unions c = named_tables_are_unions

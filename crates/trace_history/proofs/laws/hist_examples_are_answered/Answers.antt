@@ -27,3 +27,9 @@ returns-clause-four c = examples-are_answered.four
 
 pub returns-clause-events : goal.returns-clause-events
 returns-clause-events c = examples-are_answered.events
+
+pub returns-clause-table : goal.returns-clause-table
+returns-clause-table c = examples-are_answered.table
+
+pub returns-clause-twice : goal.returns-clause-twice
+returns-clause-twice c = examples-are_answered.twice

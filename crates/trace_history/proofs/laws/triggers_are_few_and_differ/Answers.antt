@@ -1,4 +1,5 @@
-use Rattle.trace_history.proofs.HistTriggers.{at_most_four_triggers, hist_triggers_differ, hist_triggers_are_in_order}
+use Rattle.trace_history.proofs.FewTriggers.{at_most_four_triggers}
+use Rattle.trace_history.proofs.HistTriggers.{hist_triggers_differ, hist_triggers_are_in_order}
 use Rattle.trace_history.proofs.AttachedHists.{hist_triggers_are_those_attached}
 use Rattle.trace_history.proofs.laws.triggers_are_few_and_differ.Goals as goal
 

@@ -10,6 +10,9 @@ returns-clause-accepted_of_move c = examples-are_read.accepted_of_move
 pub returns-clause-attributes : goal.returns-clause-attributes
 returns-clause-attributes c = examples-are_read.attributes
 
+pub returns-clause-table_names : goal.returns-clause-table_names
+returns-clause-table_names c = examples-are_read.table_names
+
 pub returns-clause-items : goal.returns-clause-items
 returns-clause-items c = examples-are_read.items
 

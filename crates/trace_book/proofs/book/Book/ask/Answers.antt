@@ -106,7 +106,7 @@ pub deliver-requires-clause-few_rows : goal.deliver-requires-clause-few_rows
 deliver-requires-clause-few_rows c =
     let book = c.self.inside in
     let stands = state_alike-stands book.config _ _ (past_of book.entries.items) c.prepare_emission.ensures.alike c.self.invariant.stands in
-    few_rows_from_stands book.config _ (past_of book.entries.items) stands
+    few_rows_from_stands book.config _ book.entries.items c.self.invariant.legal stands
     (omega (arith, length-past_of book.entries.items, c.len.ensures, book.entries.ok.0, c.self.invariant.in_range.few_entries))
 
 pub invariant_of-self-2 : goal.invariant_of-self-2

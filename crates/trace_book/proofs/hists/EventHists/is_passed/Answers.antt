@@ -1,9 +1,8 @@
-use Rattle.std.proofs.Common.{◌≡◌, ◌∙◌, get_or, length, map, ap, sym, arith, to_z, of_z, w32, rules}
+use Rattle.std.proofs.Common.{◌≡◌, ◌∙◌, get_or, length, ap, sym, arith, to_z, of_z, w32, rules}
 use Rattle.std.proofs.lemmas.Int.{to_z-of_z}
 use Rattle.trace_trigger.specs.SameSpecs.{is_passed}
 use Rattle.trace_format.specs.Operands.{Emission}
 use Rattle.trace_book.specs.declared.hists.AttachedHist.{AttachedHist}
-use Rattle.trace_book.specs.KeptHists.{is_passed_at, kept_of}
 use Rattle.trace_book.proofs.EachHist.{passed_at, passed_past}
 use Rattle.trace_book.proofs.hists.EventHists.is_passed.Goals as goal
 
@@ -17,4 +16,4 @@ returns c =
     let pid : to_z w32 (of_z w32 c.args.pid) ≡ c.args.pid = to_z-of_z w32 c.args.pid (search rules) in
     let one = c.index.result.now in
     let here : one ≡ get_or c.args.self.now c.args.index one = search rules in
-    rw pid at c.passes.ensures ∙ ap (λ (a : AttachedHist). is_passed a.hist.spec.filter e) here ∙ sym (passed_at e c.args.self.now c.args.index one (omega (arith, ap length c.self.view_is, c.self.inside.hists.ok.0)))
+    rw pid at c.passes.ensures ∙ ap (λ (a : AttachedHist). is_passed a.spec.filter e) here ∙ sym (passed_at e c.args.self.now c.args.index one (omega (arith, ap length c.self.view_is, c.self.inside.hists.ok.0)))

@@ -8,6 +8,7 @@ invariant-loop-event l = record {
   filters : l.instance.filters ≡ replicate l._event None;
   triggers : l.instance.triggers ≡ replicate l._event None;
   hists : l.instance.hists ≡ replicate l._event [];
+  tables : l.instance.tables ≡ [];
   overwrite : l.instance.overwrite ≡ true;
   tracing : l.instance.tracing ≡ true;
   live : IsNewSide l.cpus l.pages l.page_bytes l.instance.sides.live;

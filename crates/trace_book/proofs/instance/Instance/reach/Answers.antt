@@ -1,10 +1,9 @@
-use Rattle.std.proofs.Common.{◌≡◌, ◌∙◌, ℤ, Bool, List, [], get_or, map, ap, sym, to_z, of_z, w32, rules}
+use Rattle.std.proofs.Common.{◌≡◌, ◌∙◌, List, ap, to_z, of_z, w32, rules}
 use Rattle.std.proofs.lemmas.Int.{to_z-of_z}
-use Rattle.std.proofs.lemmas.List.{get_or-map}
 use Rattle.trace_format.specs.Operands.{Emission}
 use Rattle.trace_book.specs.private.Rows.{fires, records}
 use Rattle.trace_book.specs.Instances.{passed_in}
-use Rattle.trace_book.specs.KeptHists.{KeptHist, kept_of, passed}
+use Rattle.trace_book.specs.KeptHists.{passed}
 use Rattle.trace_book.specs.declared.hists.AttachedHist.{AttachedHist}
 use Rattle.trace_book.proofs.instance.Instance.reach.Goals as goal
 
@@ -16,8 +15,6 @@ returns c =
     let e : Emission = record { values = row.values; cpu = c.args.cpu; pid = c.args.pid } in
     let recorded : c.records.result ≡ records i c.args.event row c.args.cpu c.args.pid = rw pid at c.records.ensures in
     let fired : c.fires.result ≡ fires i c.args.event row c.args.cpu c.args.pid = rw pid at c.fires.ensures in
-    let each : c.passed.result ≡ passed e (map kept_of c.hists.result.now) = rw pid at c.passed.ensures in
-    let known : c.passed.result ≡ passed_in e c.args.event i =
-    each ∙ ap (λ (l : List AttachedHist). passed e (map kept_of l)) c.hists.ensures
-    ∙ ap (λ (l : List KeptHist). passed e l) (sym (get_or-map (map kept_of) i.hists c.args.event [] [] c.requires.hists)) in
+    let each : c.passed.result ≡ passed e c.hists.result.now = rw pid at c.passed.ensures in
+    let known : c.passed.result ≡ passed_in e c.args.event i = each ∙ ap (λ (l : List AttachedHist). passed e l) c.hists.ensures in
     λ k. record { records = recorded k; passed = known k; fires = fired k }

@@ -1,4 +1,4 @@
-use Rattle.std.proofs.Common.{◌≡◌, ◌<◌, ◌≤◌, ℕ, List, All, Ok, Err, Some, length, arith, rules, sym, subst, ap, ◌∙◌, to_z, of_z, w32}
+use Rattle.std.proofs.Common.{◌≡◌, ◌<◌, ◌≤◌, ℕ, All, Ok, Err, Some, length, arith, rules, ap, ◌∙◌, to_z, of_z, w32}
 use Rattle.std.proofs.lemmas.Int.{to_z-of_z}
 use Rattle.trace_format.specs.Rows.{row_of}
 use Rattle.trace_record.specs.Record.{record_size}
@@ -9,9 +9,6 @@ use Rattle.trace_book.specs.declared.change.Reach.{Reach}
 use Rattle.trace_book.proofs.Emitting.{named-found, answers-emission, is-emission, ready-emission, fit-at}
 use Rattle.trace_command.specs.Requests.{Emission}
 use Rattle.trace_command.specs.declared.refusal.Refusal.TheVariants.{Memory}
-use Rattle.trace_format.specs.Definitions.{Definition}
-use Rattle.trace_history.specs.Declarations.{IsIndexOf}
-use Rattle.trace_history.specs.Settings.{event_named_in}
 use Rattle.trace_book.specs.States.{CanCountRow}
 use Rattle.trace_book.specs.declared.state.Named.{Named}
 use Rattle.trace_book.proofs.Alike.{state_alike-stands}

@@ -1,0 +1,65 @@
+-- What callers see of a histogram, by what it has counted.
+use Rattle.std.proofs.Common.{◌≡◌, ℕ, ◌<◌, ◌≢◌, Bool, true, false, List, ◌++◌, ◌∷◌, [], length, sym, ap, ◌∙◌, subst}
+use Rattle.trace_format.specs.Operands.{Emission}
+use Rattle.trace_trigger.specs.HistSpecs.{SpecSeen}
+use Rattle.trace_hist.specs.Hits.{Hit, hit_of}
+use Rattle.trace_hist.specs.Groups.{Table, is_among, grouped}
+use Rattle.trace_hist.specs.Hists.{Seen, In, StandsFor, IsPlaceOf, IsReservedAs, IsReservedForKey, NeedsEntryAs, entry_keys}
+use Rattle.trace_hist.specs.Stored.{seen_of, Kept}
+use Rattle.trace_hist.specs.private.Steps.{AreOf, after_hit}
+use Rattle.trace_hist.proofs.Counting.{stands-after_row, still-place}
+
+module _ (spec : SpecSeen) (paused : Bool) (counts : Kept) (are : AreOf spec counts) where
+  -- ---- a row that is counted
+
+  module _ (now : Seen) (view : seen_of spec paused counts ≡ now) (left : Kept) (hit : Hit) (counted : left ≡ after_hit counts hit) where
+    pub hit-stands : (rows : List Hit) → StandsFor now rows → StandsFor (seen_of spec paused left) (rows ++ hit ∷ [])
+    unfolding StandsFor
+    hit-stands rows stands =
+        let was : counts.table ≡ grouped spec rows =
+        ap (λ (s : Seen). s.table) view ∙ stands ∙ ap (λ (s : Seen). grouped s.spec rows) (sym view) in
+        ap (λ (k : Kept). k.table) counted ∙ stands-after_row spec counts.size counts.width counts.table rows hit are.size are.width was
+
+    pub hit-still : IsPlaceOf counts.next counts.size counts.table.entries hit.key → IsReservedForKey (seen_of spec paused left) hit.key
+    unfolding IsReservedAs
+    hit-still place = λ other emission same active.
+        let after = still-place counts.next counts.size counts.width counts.table hit place in
+        let there : IsPlaceOf left.next counts.size left.table.entries hit.key =
+        subst (λ (k : Kept). IsPlaceOf k.next counts.size k.table.entries hit.key) (sym counted) after in
+        let sized : IsPlaceOf left.next spec.size left.table.entries hit.key =
+        subst (λ (n : ℕ). IsPlaceOf left.next n left.table.entries hit.key) are.size there in
+        subst (λ key. IsPlaceOf left.next spec.size left.table.entries key) (sym same) sized
+
+  -- ---- a row that is reserved
+
+  module _ (now : Seen) (view : seen_of spec paused counts ≡ now) (by : SpecSeen) (emission : Emission) (active : paused ≡ false) where
+    pub place-reserved : IsReservedAs now by emission → IsPlaceOf counts.next counts.size counts.table.entries (hit_of by emission).key
+    unfolding IsReservedAs
+    place-reserved reserved =
+        let there : IsReservedAs (seen_of spec paused counts) by emission = subst (λ (s : Seen). IsReservedAs s by emission) (sym view) reserved in
+        subst (λ (n : ℕ). IsPlaceOf counts.next n counts.table.entries (hit_of by emission).key) (sym are.size) (there active)
+
+    pub needs-entry : length counts.table.entries < counts.size → is_among (entry_keys counts.table.entries) (hit_of by emission).key ≡ false
+        → counts.next ≢ In (hit_of by emission).key → NeedsEntryAs now by emission
+    needs-entry room new unreserved =
+        let needs : NeedsEntryAs (seen_of spec paused counts) by emission = record {
+          active = active;
+          room = subst (λ (n : ℕ). length counts.table.entries < n) are.size room;
+          new = new;
+          unreserved = unreserved;
+        } in
+        subst (λ (s : Seen). NeedsEntryAs s by emission) view needs
+
+  -- what was reserved, with the entries that are shown as they were
+  pub reserved-place : (left : Kept) (by : SpecSeen) (emission : Emission) → left.table ≡ counts.table
+      → IsPlaceOf left.next counts.size counts.table.entries (hit_of by emission).key → IsReservedAs (seen_of spec paused left) by emission
+  unfolding IsReservedAs
+  reserved-place left by emission same place = λ active.
+      let sized : IsPlaceOf left.next spec.size counts.table.entries (hit_of by emission).key =
+      subst (λ (n : ℕ). IsPlaceOf left.next n counts.table.entries (hit_of by emission).key) are.size place in
+      subst (λ (t : Table). IsPlaceOf left.next spec.size t.entries (hit_of by emission).key) (sym same) sized
+
+-- a paused histogram needs nothing
+pub paused-reserved : (hist : Seen) (by : SpecSeen) (emission : Emission) → hist.paused ≡ true → IsReservedAs hist by emission
+unfolding IsReservedAs
+paused-reserved hist by emission paused = λ active. (let clash = sym active ∙ paused in cc)

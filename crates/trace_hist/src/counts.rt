@@ -1,0 +1,142 @@
+//! What a histogram has counted: its entries and totals, and where the next row is counted.
+
+ghost use Rattle.std.specs.Prelude.{◌≡◌, ◌≢◌, ◌+◌, ◌<◌, false, length, map, IfOk, OnOk, OnErr};
+ghost use Rattle.trace_hist.specs.Groups.{is_among};
+ghost use Rattle.trace_hist.specs.Hits.{hit_of};
+ghost use Rattle.trace_hist.specs.Hists.{In, IsPlaceOf, entry_keys, most_rows};
+ghost use Rattle.trace_hist.specs.PrintOrder.{row_in, printed};
+ghost use Rattle.trace_hist.specs.private.Steps.{after_hit, none_kept};
+
+use crate::entries::{Entries, count_row, entries_in_order, shown_with};
+use crate::entry::HistRow;
+use crate::next::{Next, is_reserved, reserve};
+use crate::totals::Totals;
+use indexmap::IndexMap;
+use std::alloc::{AllocError, Global};
+use std::marker::Model;
+use trace_format::Emission;
+use trace_trigger::{HistSpec, SortRule};
+
+/// The entries and totals of a histogram.
+#[derive(Drop)]
+pub(crate) struct Counts {
+    // How many entries there may be, and how many sums each has.
+    size: usize,
+    width: usize,
+    // The entries in first-seen order. Those from `shown` on, at most one, are reserved.
+    entries: Entries,
+    shown: usize,
+    // How many rows were counted into entries, and how many had none.
+    hits: u64,
+    dropped: u64,
+    next: Next,
+}
+
+impl Model for Counts {
+    ghost use Rattle.trace_hist.specs.Stored.{Kept};
+
+    ghost Value = { Kept };
+
+    ghost use Rattle.trace_hist.specs.Stored.{seen, IsSound};
+
+    ghost view = { seen };
+
+    ghost invariant = { IsSound };
+}
+
+impl Counts {
+    /// Of no rows, with room for so many entries of so many sums.
+    pub(crate) fn new(alloc: Global, size: usize, width: usize) -> Counts
+        ensures { result ≡ none_kept size width }
+    {
+        Counts {
+            size,
+            width,
+            entries: IndexMap::new(alloc),
+            shown: 0,
+            hits: 0,
+            dropped: 0,
+            next: Next::Unknown,
+        }
+    }
+
+    /// Makes room for a row of an emission, which a trigger reads, so that `count` can count it.
+    pub(crate) fn reserve(
+        &mut self,
+        alloc: Global,
+        by: &HistSpec,
+        emission: &Emission,
+    ) -> Result<(), AllocError>
+        ensures size { self.new.size ≡ self.old.size }
+        ensures width { self.new.width ≡ self.old.width }
+        ensures table { self.new.table ≡ self.old.table }
+        ensures place { OnOk result (IsPlaceOf self.new.next self.old.size self.old.table.entries (hit_of by.now emission.now).key) }
+        ensures err { OnErr result (self.new ≡ self.old) }
+        ensures room { OnErr result (length self.old.table.entries < self.old.size) }
+        ensures new { OnErr result (is_among (entry_keys self.old.table.entries) (hit_of by.now emission.now).key ≡ false) }
+        ensures unreserved { OnErr result (self.old.next ≢ In (hit_of by.now emission.now).key) }
+    {
+        let keys = by.keys();
+        if is_reserved(&self.entries, self.next, keys, emission) {
+            return Ok(());
+        }
+        self.next = reserve(
+            &mut self.entries,
+            alloc,
+            self.shown,
+            self.size,
+            self.width,
+            keys,
+            emission,
+        )?;
+        Ok(())
+    }
+
+    /// Counts a row of an emission, which a trigger reads, where that was reserved. What was reserved stays so.
+    pub(crate) fn count(&mut self, by: &HistSpec, emission: &Emission)
+        requires place { IsPlaceOf self.old.next self.old.size self.old.table.entries (hit_of by.now emission.now).key }
+        requires few { self.old.table.hits + self.old.table.dropped < most_rows }
+        ensures { self.new ≡ after_hit self.old (hit_of by.now emission.now) }
+    {
+        match self.next {
+            Next::At(index) => {
+                self.shown = shown_with(&self.entries, self.shown, index);
+                count_row(&mut self.entries, index, by.value_sources(), emission);
+                self.hits += 1;
+            }
+            Next::Dropped => self.dropped += 1,
+            Next::Unknown => unreachable!(),
+        }
+    }
+
+    /// Forgets all rows. The memory that was taken stays.
+    pub(crate) fn clear(&mut self)
+        ensures { self.new ≡ none_kept self.old.size self.old.width }
+    {
+        self.entries.clear();
+        self.shown = 0;
+        self.hits = 0;
+        self.dropped = 0;
+        self.next = Next::Unknown;
+    }
+
+    /// How many rows were counted, into how many entries, and how many had none.
+    pub(crate) fn totals(&self) -> Totals
+        ensures hits { result.hits ≡ self.now.table.hits }
+        ensures entries { result.entries ≡ length self.now.table.entries }
+        ensures dropped { result.dropped ≡ self.now.table.dropped }
+    {
+        Totals {
+            hits: self.hits,
+            entries: self.shown as u64,
+            dropped: self.dropped,
+        }
+    }
+
+    /// The entries that are shown, in print order.
+    pub(crate) fn rows(&self, alloc: Global, rules: &[SortRule]) -> Result<Vec<HistRow>, AllocError>
+        ensures { IfOk result (λ shown. map row_in shown.items ≡ printed rules.now self.now.table.entries) }
+    {
+        entries_in_order(alloc, rules, &self.entries, self.shown)
+    }
+}
