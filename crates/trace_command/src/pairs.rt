@@ -105,6 +105,10 @@ impl Pairs {
         let name = Text::from_slice(alloc, name)?;
         let value = Text::from_slice(alloc, value)?;
         let pair = Pair { name, value };
+        if self.as_slice().is_empty() {
+            self.list = PairList::One(pair);
+            return Ok(());
+        }
         if let PairList::Many(pairs) = &mut self.list {
             pairs.push(pair)?;
             return Ok(());
