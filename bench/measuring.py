@@ -1,6 +1,7 @@
 """What the scripts beside this one have in common: programs are run in turns, and their time or their instructions are measured."""
 import os
 import re
+import statistics
 import subprocess
 import sys
 import tempfile
@@ -41,6 +42,22 @@ def least_times(runs):
     """
     rounds = [[run_once(*run) for run in runs] for _ in range(RUNS)]
     return [min(of_one) for of_one in zip(*rounds)]
+
+
+def processor_time(words):
+    """The processor time of one run, in seconds, which other work on the machine changes less than its time by the clock."""
+    process = subprocess.Popen(words, stdin=subprocess.DEVNULL, stdout=subprocess.DEVNULL)
+    _, status, used = os.wait4(process.pid, 0)
+    process.returncode = os.waitstatus_to_exitcode(status)
+    if process.returncode != 0:
+        sys.exit("the program ended with %d" % process.returncode)
+    return used.ru_utime + used.ru_stime
+
+
+def middle_times(runs):
+    """For each run, its words, the processor time in the middle of several, in seconds. The runs take turns."""
+    rounds = [[processor_time(words) for words in runs] for _ in range(RUNS)]
+    return [statistics.median(of_one) for of_one in zip(*rounds)]
 
 
 def instructions(words, text=""):

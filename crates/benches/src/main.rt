@@ -1,10 +1,12 @@
-//! Measures the ticket lock beside a mutex, and puts into a ring.
+//! Measures the ticket lock beside a mutex, puts into a ring, and a histogram.
 //!
 //! Without words it makes short runs and prints how many turns were taken. With `turns` it prints the turns per second of 1, 2, 4 and 8 threads at a
 //! count, under the ticket lock and under a mutex, and how many turns of the mutex go on one of the lock. With `puts PAGE-BYTES COUNT` it puts so many
-//! records into a ring, so that its instructions can be counted.
+//! records into a ring, so that its instructions can be counted. With `hists FIELD KEYS HITS` it counts so many rows in a histogram of so many keys, by
+//! turns, and with `prints ENTRIES COUNT` it makes the text of a histogram so often, so that what these take can be measured.
 #![tactic(auto)]
 
+mod hists;
 mod puts;
 mod run;
 mod turns;
@@ -41,12 +43,34 @@ fn put_records<R: Print + AllocGlobal>(rt: &R, page_bytes: &str, count: &str) ->
     Ok(())
 }
 
+fn count_rows<R: Print + AllocGlobal>(rt: &R, field: &str, keys: &str, hits: &str) -> Result<()> {
+    let totals = hists::hit_often(
+        rt.alloc(),
+        field,
+        keys.parse::<u32>()?,
+        hits.parse::<u32>()?,
+    )?;
+    println!(rt; "{} hits", totals.hits)?;
+    Ok(())
+}
+
+fn print_entries<R: Print + AllocGlobal>(rt: &R, entries: &str, count: &str) -> Result<()> {
+    let bytes = hists::print_often(rt.alloc(), entries.parse::<u32>()?, count.parse::<u32>()?)?;
+    println!(rt; "{bytes} bytes")?;
+    Ok(())
+}
+
 fn main(rt: HostRuntime) -> Result<()> {
     let words: Vec<String> = env::args(&rt)?.skip(1).collect(rt.alloc())?;
-    match words.len() {
-        0 => show_counts(&rt),
-        1 if words[0].as_str() == "turns" => measure_turns(&rt),
-        3 if words[0].as_str() == "puts" => put_records(&rt, words[1].as_str(), words[2].as_str()),
-        _ => Err(anyhow!("the words are turns, or puts PAGE-BYTES COUNT")),
+    let words: Vec<&str> = words.iter().map(String::as_str).collect(rt.alloc())?;
+    match words.as_slice() {
+        [] => show_counts(&rt),
+        ["turns"] => measure_turns(&rt),
+        ["puts", page_bytes, count] => put_records(&rt, page_bytes, count),
+        ["hists", field, keys, hits] => count_rows(&rt, field, keys, hits),
+        ["prints", entries, count] => print_entries(&rt, entries, count),
+        _ => Err(anyhow!(
+            "the words are turns, puts PAGE-BYTES COUNT, hists FIELD KEYS HITS, or prints ENTRIES COUNT"
+        )),
     }
 }

@@ -7,7 +7,7 @@ use Rattle.trace_format.specs.Cells.{Datum}
 use Rattle.trace_hist.specs.declared.key_cell.KeyCell.{KeyCell}
 use Rattle.trace_hist.specs.declared.tally.Tally.{Tally}
 use Rattle.trace_hist.specs.Groups.{Entry, same_key, is_among}
-use Rattle.trace_hist.specs.Hists.{In, entry_keys, IsPlaceOf}
+use Rattle.trace_hist.specs.Hists.{entry_keys, IsPlaceOf}
 use Rattle.trace_hist.specs.Stored.{entry_in, entries_in, empty_entry, place_at, IsEnd, AreCounted}
 use Rattle.trace_hist.proofs.SumLaws.{within-zeros}
 
@@ -18,11 +18,6 @@ pub place-known : (entries : List Entry) (i : ℕ) (key : List Datum) (size : �
 place-known [] i key size shown at = cc
 place-known (e ∷ entries) zero key size shown at = ap (λ o. unwrap_or o key) at
 place-known (e ∷ entries) (suc i) key size shown at = place-known entries i key size shown at
-
-pub place-is : (entries : List Entry) (i : ℕ) (key : List Datum) → slice_get (entry_keys entries) i ≡ Some key → place_at (slice_get entries i) ≡ In key
-place-is [] i key at = cc
-place-is (e ∷ entries) zero key at = ap (λ o. In (unwrap_or o key)) at
-place-is (e ∷ entries) (suc i) key at = place-is entries i key at
 
 -- the key of none is that of none of the first
 pub among-take : (n : ℕ) (entries : List Entry) (key : List Datum) → is_among (entry_keys entries) key ≡ false

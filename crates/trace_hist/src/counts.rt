@@ -9,7 +9,8 @@ ghost use Rattle.trace_hist.specs.private.Steps.{after_hit, none_kept};
 
 use crate::entries::{Entries, count_row, entries_in_order, shown_with};
 use crate::entry::HistRow;
-use crate::next::{Next, is_reserved, reserve};
+use crate::hints::Hints;
+use crate::next::{Next, reserve};
 use crate::totals::Totals;
 use indexmap::IndexMap;
 use std::alloc::{AllocError, Global};
@@ -26,6 +27,7 @@ pub(crate) struct Counts {
     // The entries in first-seen order. Those from `shown` on, at most one, are reserved.
     entries: Entries,
     shown: usize,
+    hints: Hints,
     // How many rows were counted into entries, and how many had none.
     hits: u64,
     dropped: u64,
@@ -54,6 +56,7 @@ impl Counts {
             width,
             entries: IndexMap::new(alloc),
             shown: 0,
+            hints: Hints::new(alloc),
             hits: 0,
             dropped: 0,
             next: Next::Unknown,
@@ -77,11 +80,9 @@ impl Counts {
         ensures unreserved { OnErr result (self.old.next ≢ In (hit_of by.now emission.now).key) }
     {
         let keys = by.keys();
-        if is_reserved(&self.entries, self.next, keys, emission) {
-            return Ok(());
-        }
         self.next = reserve(
             &mut self.entries,
+            &mut self.hints,
             alloc,
             self.shown,
             self.size,

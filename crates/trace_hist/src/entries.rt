@@ -5,10 +5,10 @@ ghost use Rattle.std.specs.List.{IsDistinct};
 ghost use Rattle.indexmap.specs.IndexMap.{spare};
 ghost use Rattle.trace_format.specs.Cells.{datum_of};
 ghost use Rattle.trace_hist.specs.Groups as groups;
-ghost use Rattle.trace_hist.specs.Hits.{number_at, key_cell as key_cell_of};
+ghost use Rattle.trace_hist.specs.Hits.{number_at};
 ghost use Rattle.trace_hist.specs.Hists.{entry_keys, most_rows};
 ghost use Rattle.trace_hist.specs.PrintOrder as order;
-ghost use Rattle.trace_hist.specs.Stored.{datum_in, cells_in, entry_in, entries_in, empty_entry, AreCounted};
+ghost use Rattle.trace_hist.specs.Stored.{datum_in, datum_read, cells_in, entry_in, entries_in, empty_entry, AreCounted};
 ghost use Rattle.trace_hist.specs.private.Steps.{key_of, counted_at};
 
 use crate::cell::key_cell;
@@ -89,11 +89,11 @@ pub(crate) fn index_of(entries: &Entries, keys: &[Key], emission: &Emission) -> 
     }
 }
 
-/// Whether a kept cell is the one that a key has in an emission.
-fn is_cell_of(cell: &KeyCell<'static>, key: &Key, emission: &Emission) -> bool
-    ensures { result ≡ groups.same_cell (datum_in cell.now) (key_cell_of emission.now key.now) }
+/// Whether a kept cell is a row's.
+fn is_cell<'a>(kept: &KeyCell<'static>, cell: RowCell<'a>) -> bool
+    ensures { result ≡ groups.same_cell (datum_in kept.now) (datum_read cell.entry) }
 {
-    match (cell, key_cell(key, emission)) {
+    match (kept, cell) {
         (KeyCell::Num(left), RowCell::Num(right)) => *left == right,
         (KeyCell::Text(left), RowCell::Text(right)) => left.as_slice() == right,
         _ => false,
@@ -107,7 +107,7 @@ fn is_key_of(cells: &[KeyCell<'static>], keys: &[Key], emission: &Emission) -> b
     match (cells, keys) {
         ([], []) => true,
         ([cell, cells @ ..], [key, keys @ ..]) => {
-            is_cell_of(cell, key, emission) && is_key_of(cells, keys, emission)
+            is_cell(cell, key_cell(key, emission)) && is_key_of(cells, keys, emission)
         }
         _ => false,
     }
@@ -119,6 +119,26 @@ pub(crate) fn has_key_at(entries: &Entries, index: usize, keys: &[Key], emission
 {
     match entries.get_index(index) {
         Some((cells, _)) => is_key_of(cells, keys, emission),
+        None => false,
+    }
+}
+
+/// Whether kept cells are a row's cell alone.
+fn is_only_cell<'a>(cells: &[KeyCell<'static>], cell: RowCell<'a>) -> bool
+    ensures { result ≡ groups.same_key (map datum_in cells.now) (datum_read cell.entry ∷ []) }
+{
+    match cells {
+        [kept] => is_cell(kept, cell),
+        _ => false,
+    }
+}
+
+/// Whether the entry at an index is that of a key of this one cell.
+pub(crate) fn has_cell_at<'a>(entries: &Entries, index: usize, cell: RowCell<'a>) -> bool
+    ensures { IsTrue result → slice_get (entry_keys (entries_in entries.now.entries)) index ≡ Some (datum_read cell.entry ∷ []) }
+{
+    match entries.get_index(index) {
+        Some((cells, _)) => is_only_cell(cells, cell),
         None => false,
     }
 }

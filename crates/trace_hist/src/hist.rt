@@ -15,13 +15,15 @@
 //! A row is counted in two phases, since an emission may reach many histograms and is refused as a whole where memory is short:
 //!
 //! ```text
-//!   reserve_hit   looks the row's key up, and notes the index of its entry (`next`). A new key is put in last, with a count of 0, or
+//!   reserve_hit   finds the entry of the row's key, and notes its index (`next`). A new key is put in last, with a count of 0, or
 //!                 dropped where the table is full. Only a new entry takes memory, and before anything changes
 //!   hit           adds the row to the entry at that index. If that is the reserved one, it is shown from then on
 //! ```
 //!
-//! `next` stays after a hit, so that it counts another row with the same key without a look-up of its own, and so a `reserve_hit` of the same key again
-//! finds its entry there. If a row is not counted after all (the emission was refused), the reserved entry is left at the end and not shown. The next
+//! The entry of a key is found by a hint, mostly (hints.rt): the entry that a hint names is compared with the row, and only if the key is not its own is
+//! the key looked up by its hash.
+//!
+//! `next` stays after a hit, so that it counts another row with the same key, which another trigger reads. If a row is not counted after all (the emission was refused), the reserved entry is left at the end and not shown. The next
 //! `reserve_hit` of another key takes it out, unless it is refused or the histogram is paused, and so does `clear`. A paused histogram reserves nothing.
 //!
 //! Several triggers may count in one table, also triggers of several events: each call has a form that says which trigger reads the row

@@ -9,6 +9,7 @@ mod cell;
 mod counts;
 mod entries;
 mod entry;
+mod hints;
 mod hist;
 mod key_cell;
 pub mod laws;

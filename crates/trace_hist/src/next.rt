@@ -1,12 +1,14 @@
 //! Where the next row is counted.
 
-ghost use Rattle.std.specs.Prelude.{◌≡◌, ℕ, ◌<◌, ◌≤◌, false, IsTrue, length, take, drop, IfOk, OnErr};
+ghost use Rattle.std.specs.Prelude.{◌≡◌, ℕ, ◌<◌, ◌≤◌, false, length, take, drop, slice_get, Some, IfOk, IfSome, IfNone, OnErr};
 ghost use Rattle.trace_hist.specs.Groups.{is_among};
-ghost use Rattle.trace_hist.specs.Hists.{In, IsPlaceOf, entry_keys};
+ghost use Rattle.trace_hist.specs.Hists.{IsPlaceOf, entry_keys};
 ghost use Rattle.trace_hist.specs.Stored.{entries_in, place_in, IsEnd, AreCounted};
 ghost use Rattle.trace_hist.specs.private.Steps.{key_of};
 
-use crate::entries::{Entries, has_key_at, index_of, keep_first, reserve_entry};
+use crate::cell::key_cell;
+use crate::entries::{Entries, has_cell_at, has_key_at, index_of, keep_first, reserve_entry};
+use crate::hints::{Hints, fingerprint_of, fingerprint_of_cell};
 use std::alloc::{AllocError, Global};
 use trace_format::Emission;
 use trace_trigger::Key;
@@ -22,20 +24,71 @@ pub(crate) enum Next {
     Dropped,
 }
 
-/// Whether a row with an emission's key is counted there, in an entry.
-pub(crate) fn is_reserved(entries: &Entries, next: Next, keys: &[Key], emission: &Emission) -> bool
-    ensures { IsTrue result → place_in (entries_in entries.now.entries) next ≡ In (key_of keys.now emission.now) }
+/// The index of the entry of an emission's key: the one of which there is a hint, if that is right, else the one that is looked up. A key of one cell,
+/// which most are, is read once for both.
+fn index_of_key(
+    entries: &Entries,
+    hints: &mut Hints,
+    keys: &[Key],
+    emission: &Emission,
+) -> Option<usize>
+    requires { length keys.now ≤ 3 }
+    ensures known { IfSome result (λ index. slice_get (entry_keys (entries_in entries.now.entries)) index ≡ Some (key_of keys.now emission.now)) }
+    ensures new { IfNone result (is_among (entry_keys (entries_in entries.now.entries)) (key_of keys.now emission.now) ≡ false) }
 {
-    match next {
-        Next::At(index) => has_key_at(entries, index, keys, emission),
-        Next::Unknown | Next::Dropped => false,
+    let [key] = keys else {
+        return index_of_cells(entries, hints, keys, emission);
+    };
+    let cell = key_cell(key, emission);
+    let fingerprint = fingerprint_of_cell(cell);
+    match hints.get(fingerprint) {
+        Some(index) if has_cell_at(entries, index, cell) => Some(index),
+        _ => look_up(entries, hints, fingerprint, keys, emission),
     }
+}
+
+/// The same of a key of any cells.
+#[inline(never)]
+fn index_of_cells(
+    entries: &Entries,
+    hints: &mut Hints,
+    keys: &[Key],
+    emission: &Emission,
+) -> Option<usize>
+    requires { length keys.now ≤ 3 }
+    ensures known { IfSome result (λ index. slice_get (entry_keys (entries_in entries.now.entries)) index ≡ Some (key_of keys.now emission.now)) }
+    ensures new { IfNone result (is_among (entry_keys (entries_in entries.now.entries)) (key_of keys.now emission.now) ≡ false) }
+{
+    let fingerprint = fingerprint_of(keys, emission);
+    match hints.get(fingerprint) {
+        Some(index) if has_key_at(entries, index, keys, emission) => Some(index),
+        _ => look_up(entries, hints, fingerprint, keys, emission),
+    }
+}
+
+/// The same without a look at the hint, which is noted anew.
+#[inline(never)]
+fn look_up(
+    entries: &Entries,
+    hints: &mut Hints,
+    fingerprint: u64,
+    keys: &[Key],
+    emission: &Emission,
+) -> Option<usize>
+    requires { length keys.now ≤ 3 }
+    ensures known { IfSome result (λ index. slice_get (entry_keys (entries_in entries.now.entries)) index ≡ Some (key_of keys.now emission.now)) }
+    ensures new { IfNone result (is_among (entry_keys (entries_in entries.now.entries)) (key_of keys.now emission.now) ≡ false) }
+{
+    let index = index_of(entries, keys, emission)?;
+    hints.set(fingerprint, index);
+    Some(index)
 }
 
 /// Finds the entry of an emission's key. A new key gets an entry of no rows after the first `shown` ones, if there is room
 /// for it. An entry that was reserved for another key is taken out.
 pub(crate) fn reserve(
     entries: &mut Entries,
+    hints: &mut Hints,
     alloc: Global,
     shown: usize,
     size: usize,
@@ -58,7 +111,7 @@ pub(crate) fn reserve(
     ensures room { OnErr result (shown < size) }
     ensures new { OnErr result (is_among (entry_keys (entries_in entries.old.entries)) (key_of keys.now emission.now) ≡ false) }
 {
-    if let Some(index) = index_of(entries, keys, emission) {
+    if let Some(index) = index_of_key(entries, hints, keys, emission) {
         if index < shown {
             keep_first(entries, shown);
         }
@@ -67,6 +120,7 @@ pub(crate) fn reserve(
     if shown >= size {
         return Ok(Next::Dropped);
     }
+    hints.make_room(alloc, shown)?;
     reserve_entry(entries, alloc, shown, width, keys, emission)?;
     Ok(Next::At(shown))
 }

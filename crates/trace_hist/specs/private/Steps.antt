@@ -8,7 +8,7 @@ use Rattle.trace_trigger.specs.HistSpecs.{SpecSeen}
 use Rattle.trace_hist.specs.Hits.{Hit, key_cell}
 use Rattle.trace_hist.specs.Stored.{Kept}
 use Rattle.trace_hist.specs.Groups.{Entry, Table, same_key, is_among, added}
-use Rattle.trace_hist.specs.Hists.{Place, Unknown, entry_keys}
+use Rattle.trace_hist.specs.Hists.{Unknown, entry_keys}
 
 -- the key that a trigger reads of an emission
 abbrev pub key_of : List Key → Emission → List Datum
