@@ -6,4 +6,5 @@ pub mod Merges
 pub mod Lists
 pub mod MergeLaws
 pub mod PipeLaws
+pub mod EachCpu
 pub mod Bounds

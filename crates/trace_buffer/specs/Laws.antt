@@ -1,5 +1,5 @@
 -- The definitions once more, in the words of the subject.
-use Rattle.std.specs.Prelude.{◌≡◌, ◌≢◌, ℕ, ◌-◌, ◌<◌, ◌≤◌, ◌==◌, min, List, [], ◌++◌, length, map, filter, Some, slice_get}
+use Rattle.std.specs.Prelude.{◌≡◌, ◌≢◌, ℕ, ◌-◌, ◌<◌, ◌≤◌, ◌==◌, min, List, [], ◌++◌, length, map, filter, Some, slice_get, slice_index_or}
 use Rattle.std.specs.List.Sorted.{IsPermutation, IsNonDecreasingBy, IsStableByKey}
 use Rattle.std.specs.Ordering.{nat_cmp}
 use Rattle.trace_record.specs.Record.{timestamp}
@@ -8,6 +8,7 @@ use Rattle.page_ring.specs.Events.{Event}
 use Rattle.trace_buffer.specs.Buffers.{Seen, StandsFor, cpus}
 use Rattle.trace_buffer.specs.Families.{CpuReading, on_cpu, events_of, cpu_readings, kept_count}
 use Rattle.trace_buffer.specs.Orders.{kept_from, merged, consume_any, taken_of_cpu, after_cpu_reads}
+use Rattle.trace_buffer.specs.CpuCounts.{after_reads_of_each, count_of}
 
 -- a buffer stands for one list of events for each CPU
 abbrev pub OneListEach : Type 0
@@ -75,6 +76,13 @@ abbrev pub OtherCpusStay : Type 0
 OtherCpusStay =
     (cpu other reads : ℕ) (family : List (List Event)) → other ≢ cpu
     → events_of (after_cpu_reads cpu reads family) other ≡ events_of family other
+
+-- reads of each CPU, as many as reads of all CPUs take of its records, leave what these leave
+abbrev pub ReadsOfEachLeaveTheSame : Type 0
+ReadsOfEachLeaveTheSame =
+    (pages page_bytes reads : ℕ) (counts : List ℕ) (family : List (List Event))
+    → ((cpu : ℕ) → cpu < length family → slice_index_or counts cpu 0 ≡ count_of cpu (consume_any pages page_bytes reads family).taken)
+    → after_reads_of_each pages page_bytes counts family ≡ (consume_any pages page_bytes reads family).family
 
 -- ---- how many records reads take
 

@@ -1,5 +1,6 @@
 pub mod Families
 pub mod Orders
+pub mod CpuCounts
 pub mod Buffers
 pub mod CpuReadings
 pub mod Sound

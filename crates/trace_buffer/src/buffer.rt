@@ -8,11 +8,13 @@ ghost use Rattle.page_ring.specs.Account.{put_answer, readings_of};
 ghost use Rattle.page_ring.specs.Shown as shown;
 ghost use Rattle.trace_buffer.specs.Families.{events_of, with_events, with_cleared, all_cleared, cpu_readings, cpu_stats, kept_count};
 ghost use Rattle.trace_buffer.specs.Orders as orders;
+ghost use Rattle.trace_buffer.specs.CpuCounts.{after_reads_of_each};
 ghost use Rattle.trace_buffer.specs.Buffers as seen;
 ghost use Rattle.trace_buffer.specs.Buffers.{StandsFor, offers};
 ghost use Rattle.trace_buffer.specs.CpuReadings.{kept_reading, taken_reading};
 ghost use Rattle.trace_buffer.specs.private.Nexts.{next_of};
 
+use crate::CPUS;
 use crate::cursor::{Cursor, read_in_order};
 use crate::merge::{push_kept, sort_by_time};
 use crate::taken::{Taken, push_taken};
@@ -258,6 +260,20 @@ impl Buffer {
         ensures offers { offers self.new ≡ offers self.old }
     {
         take_from(&mut self.rings[cpu as usize], limit)
+    }
+
+    /// Consumes so many records of each CPU, or as many as its ring keeps.
+    pub fn take_each(&mut self, counts: &[u64; CPUS])
+        ensures stands { (family : List (List event.Event)) → StandsFor self.old family
+            → StandsFor self.new (after_reads_of_each self.old.pages self.old.page_bytes counts.now family) }
+        ensures cpus { seen.cpus self.new ≡ seen.cpus self.old }
+        ensures pages { self.new.pages ≡ self.old.pages }
+        ensures page_bytes { self.new.page_bytes ≡ self.old.page_bytes }
+        ensures offers { offers self.new ≡ offers self.old }
+    {
+        for cpu in 0..self.cpus() {
+            let _taken = self.take_cpu(cpu, counts[cpu as usize]);
+        }
     }
 
     /// Empties every ring: it is as when it was new, statistics too.

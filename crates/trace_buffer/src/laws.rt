@@ -2,7 +2,7 @@
 //! contract is a theorem.
 #![tactic(auto)]
 
-ghost use Rattle.trace_buffer.specs.Laws.{OneListEach, AllAreByCpu, MergedIsInTimeOrder, OneTimeOrder, EachReadTakesEarliest, ReadsConsumeWhatTheyTake, CpuReadsConsumeWhatTheyTake, OtherCpusStay, ReadsTakeSoMany, CpuReadsTakeSoMany};
+ghost use Rattle.trace_buffer.specs.Laws.{OneListEach, AllAreByCpu, MergedIsInTimeOrder, OneTimeOrder, EachReadTakesEarliest, ReadsConsumeWhatTheyTake, CpuReadsConsumeWhatTheyTake, OtherCpusStay, ReadsOfEachLeaveTheSame, ReadsTakeSoMany, CpuReadsTakeSoMany};
 
 /// A buffer stands for one list of events for each CPU.
 pub fn one_list_each()
@@ -27,6 +27,13 @@ pub fn reads_consume_what_they_take()
     ensures any { ReadsConsumeWhatTheyTake }
     ensures cpu { CpuReadsConsumeWhatTheyTake }
     ensures others { OtherCpusStay }
+{
+    page_ring::laws::least_is_read();
+}
+
+/// Consuming reads of each CPU, as many as reads of all CPUs take of its records, leave what these leave.
+pub fn reads_of_each_leave_the_same()
+    ensures { ReadsOfEachLeaveTheSame }
 {
     page_ring::laws::least_is_read();
 }

@@ -3,7 +3,8 @@
 //!
 //! A buffer's contracts speak of a list of ring events for each CPU that it stands for, as those of `page_ring` speak of one list. There are two
 //! orders of the records of several CPUs. `merged` shows all kept records by time. `preview_any` and `take_any` read in pipe order: the next
-//! record is the earliest of the CPUs' first ones. Where each CPU's records rise in time, the two are the same.
+//! record is the earliest of the CPUs' first ones. Where each CPU's records rise in time, the two are the same. `take_each` consumes what a preview
+//! showed by how many records it showed of each CPU.
 #![tactic(auto)]
 
 mod buffer;
@@ -16,11 +17,14 @@ mod times;
 ghost use Rattle.std.specs.Prelude.{◌≡◌};
 
 pub use buffer::Buffer;
-pub use taken::Taken;
+pub use taken::{Taken, count_each};
+
+/// How many CPUs a buffer may have.
+pub const CPUS: usize = 8;
 
 /// How many CPUs a buffer may have.
 pub fn most_cpus() -> u32
     ensures { result ≡ 8 }
 {
-    8
+    CPUS as u32
 }

@@ -1,9 +1,11 @@
 //! A record as a consuming read takes it.
 
-ghost use Rattle.std.specs.Prelude.{◌≡◌, ◌++◌, map, take, OnOk};
+ghost use Rattle.std.specs.Prelude.{◌≡◌, ℕ, ◌<◌, ◌++◌, map, take, slice_index_or, OnOk};
 ghost use Rattle.trace_buffer.specs.CpuReadings.{taken_reading};
 ghost use Rattle.trace_buffer.specs.Families.{on_cpu};
+ghost use Rattle.trace_buffer.specs.CpuCounts.{count_of};
 
+use crate::CPUS;
 use page_ring::{Kept, KeptRecords};
 use std::alloc::AllocError;
 
@@ -54,4 +56,18 @@ pub(crate) fn push_taken<'a>(
         left -= 1;
     }
     Ok(())
+}
+
+/// How many of these records are of each CPU.
+pub fn count_each(records: &[Taken<'_>]) -> [u64; CPUS]
+    ensures { (cpu : ℕ) → cpu < 8 → slice_index_or result cpu 0 ≡ count_of cpu (map taken_reading records.now) }
+{
+    let mut counts = [0; CPUS];
+    for i in 0..records.len() {
+        let cpu = records[i].cpu as usize;
+        if cpu < CPUS {
+            counts[cpu] += 1;
+        }
+    }
+    counts
 }
