@@ -34,7 +34,8 @@ use Rattle.trace_book.specs.declared.change.TriggerChange.TheVariants.{Keep, Att
 use Rattle.trace_book.specs.declared.trigger.Trigger.{Trigger}
 use Rattle.trace_book.specs.declared.write.WrittenText.{WrittenText}
 use Rattle.trace_book.proofs.Attached.{IsNamed, all-are, all_left, hists-stay, own_left, snapshot-attached, snapshot-removed, snapshot-stays, tables-stay, text_request}
-use Rattle.trace_book.proofs.FittingTables.{fit-fewer, fit-tables, left-fit}
+use Rattle.trace_history.proofs.NamedTables.{fit-fewer}
+use Rattle.trace_book.proofs.FittingTables.{fit-tables, left-fit}
 use Rattle.trace_book.proofs.NamedIn.{copied-some}
 use Rattle.trace_book.proofs.OneSays.{IsOnlyOne, found-only, some-position}
 use Rattle.trace_book.proofs.Snapshotting.{none-is, some-mapped, there-is}

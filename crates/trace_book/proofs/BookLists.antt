@@ -10,8 +10,8 @@ use Rattle.trace_command.specs.Requests.{Request}
 use Rattle.trace_history.specs.Declarations.{IsIndexOf}
 use Rattle.trace_history.specs.HistTriggers.{HistTrigger, is_of, left_by, those_of}
 use Rattle.trace_history.specs.Settings.{NumberedEvent, declared_events}
-use Rattle.trace_history.proofs.EventLists.{one_place}
-use Rattle.trace_history.proofs.Events.{place_of_id}
+use Rattle.trace_history.proofs.EventLists.{one_index}
+use Rattle.trace_history.proofs.Events.{index_of_id}
 use Rattle.trace_history.proofs.LegalEvents.{named-is_numbered}
 use Rattle.trace_history.proofs.Members.{IsIn, each-in, filter-in, in-filter}
 use Rattle.trace_history.proofs.OwnFiles.{IsNamed}
@@ -96,7 +96,7 @@ other-at events event index k t distinct place inside other is = by (is_of event
         let one : event.name ≡ t.event.name = (bytes_eq-Decides event.name t.event.name).0 at in
         let two : (get_or events k no_event).name ≡ t.event.name = (bytes_eq-Decides (get_or events k no_event).name t.event.name).0 is in
         let here : event.name ≡ (get_or events index event).name = ap (λ (e : Definition). e.name) place.there in
-        absurd (other (one_place events k index no_event event distinct inside place.inside (two ∙ sym one ∙ here)))
+        absurd (other (one_index events k index no_event event distinct inside place.inside (two ∙ sym one ∙ here)))
 
 -- the book's lists have those of all that are left
 pub lists-left : (past : List Request) (hists : List HistTrigger) (event : Definition) (index : ℕ) (append : Bool) → AreEvents [] (declared_events past)
@@ -145,7 +145,7 @@ declared-at past t named =
     let events = declared_events past in
     let k : NumberedEvent = named.k in
     let numbered = named-is_numbered events t.event.name k named.there in
-    let place = place_of_id events t.event.name k.id k.event numbered.named numbered.there in
+    let place = index_of_id events t.event.name k.id k.event numbered.named numbered.there in
     let at : get_or events (k.id - 1) no_event ≡ t.event =
     same-at events (k.id - 1) no_event k.event place.inside ∙ sym place.there ∙ named.event in
     record {

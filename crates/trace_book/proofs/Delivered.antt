@@ -22,7 +22,7 @@ use Rattle.trace_history.specs.Settings.{declared_events, overwrites}
 use Rattle.trace_history.specs.Snapshots.{has_spare, is_exchanged_by}
 use Rattle.trace_history.specs.Triggers as triggers
 use Rattle.trace_history.specs.Triggers.{is_left, met_by, passes, times_left, trigger_of}
-use Rattle.trace_history.proofs.EventLists.{map-agrees, map-set, one_place}
+use Rattle.trace_history.proofs.EventLists.{map-agrees, map-set, one_index}
 use Rattle.trace_history.proofs.Sides.{rings-exchanged, rings-stay}
 use Rattle.trace_history.proofs.Triggered.{number-before, times_left-less, times_left-same}
 use Rattle.trace_format.specs.Operands.{Emission as Row}
@@ -125,7 +125,7 @@ differs-at events i j d event are first there second other = by (bytes_eq (get_o
     by false is = is
     by true is =
         let e : (get_or events j d).name ≡ event.name = (bytes_eq-Decides (get_or events j d).name event.name).0 is in
-        absurd (other (one_place events j i d event are second first (e ∙ ap (λ (v : Definition). v.name) there)))
+        absurd (other (one_index events j i d event are second first (e ∙ ap (λ (v : Definition). v.name) there)))
 
 -- the trigger of an event at an index
 pub trigger-at : (name : Option (List ℕ)) (past : List Request) (kept : List (Option Trigger)) (ename : List ℕ) (index : ℕ) (event : Definition)

@@ -64,10 +64,10 @@ names_more old now i read new inside same names = λ k d. ⊎_elim
     (cases_eq k i)
 
 -- what an emission does in each instance is known, also in one more
-pub reached_more : (Q : ℕ → Reach → Type 0) (each : List Reach) (i : ℕ) (reach : Reach) → i < length each → Q i reach
-    → ((k : ℕ) → k < i → Q k (get_or each k no_reach)) → (k : ℕ) → k < i + 1 → Q k (get_or (set each i reach) k no_reach)
-reached_more Q each i reach inside one before = λ k h. below_more
-    (λ (j : ℕ). Q j (get_or (set each i reach) j no_reach)) i
+pub reached_more : {X : Type 0} (none : X) (Q : ℕ → X → Type 0) (each : List X) (i : ℕ) (reach : X) → i < length each → Q i reach
+    → ((k : ℕ) → k < i → Q k (get_or each k none)) → (k : ℕ) → k < i + 1 → Q k (get_or (set each i reach) k none)
+reached_more none Q each i reach inside one before = λ k h. below_more
+    (λ (j : ℕ). Q j (get_or (set each i reach) j none)) i
     (λ j below. let other : j ≢ i = omega arith in rw get_or-set_other (before j below))
     (rw get_or-set_same one)
     k h
@@ -77,7 +77,7 @@ pub none_more : (each : List Reach) (i : ℕ) (reach : Reach) (some : Bool) → 
     → (some ≡ false → (k : ℕ) → k < i → (get_or each k no_reach).records ≡ false)
     → (some || reach.records) ≡ false → (k : ℕ) → k < i + 1 → (get_or (set each i reach) k no_reach).records ≡ false
 none_more each i reach true inside before none = absurd (cc)
-none_more each i reach false inside before none = reached_more (λ k r. r.records ≡ false) each i reach inside none (before refl)
+none_more each i reach false inside before none = reached_more no_reach (λ k r. r.records ≡ false) each i reach inside none (before refl)
 
 -- ---- names
 

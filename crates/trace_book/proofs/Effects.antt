@@ -117,8 +117,8 @@ pub own_read : (g : Config) (name : Option (List ℕ)) (past : List Request) (na
 own_read g name past named limit Keep reading is =
     calm-effect g name past (ReadFile name (Some named) limit) Keep (calm-read name name past (Some named) limit) quiet-keep
     (record { enabled = refl; filters = refl; overwrite = refl; tracing = refl; rings = rw (same_instance name) is })
-own_read g name past named limit (Take most) reading is =
-    calm-effect g name past (ReadFile name (Some named) limit) (Take most) (calm-read name name past (Some named) limit)
+own_read g name past named limit (Take counts) reading is =
+    calm-effect g name past (ReadFile name (Some named) limit) (Take counts) (calm-read name name past (Some named) limit)
     (record { triggers = λ old. refl; hists = λ old. refl; asks = λ table. refl; joined = λ name past. tt; sides = λ cpus pages page_bytes f. refl })
     (record { enabled = refl; filters = refl; overwrite = refl; tracing = refl; rings = rw (same_instance name) is })
 own_read g name past named limit (TakeCpu cpu most) reading is =
@@ -158,7 +158,7 @@ declarations_read g other name past limit =
 pub lawful_read : (g : Config) (events : ℕ) (i : InstanceSeen) (change : InstanceChange) → IsUsableInstance g events i → IsReading g.cpus change
     → IsLawful i change
 lawful_read g events i Keep usable reading = tt
-lawful_read g events i (Take most) usable reading = tt
+lawful_read g events i (Take counts) usable reading = tt
 lawful_read g events i (TakeCpu cpu most) usable reading = omega (arith, reading, usable.shaped.live.cpus)
 lawful_read g events i (Switch event flag) usable reading = absurd reading
 lawful_read g events i (SwitchAll flag) usable reading = absurd reading

@@ -8,6 +8,7 @@ use Rattle.std.proofs.lemmas.Bool.{lt-ltb}
 use Rattle.trace_record.specs.Record.{IsRecord}
 use Rattle.trace_filter.specs.Filters.{Parsed, parsed_of}
 use Rattle.trace_format.specs.Cells.{Cells}
+use Rattle.trace_format.specs.Operands.{Emission as Row}
 use Rattle.trace_format.specs.Definitions.{Definition}
 use Rattle.trace_format.specs.Rows.{row_of}
 use Rattle.trace_format.specs.declared.pair.Pair.{Pair}
@@ -128,12 +129,12 @@ answers-emission g past name cpu pairs k row inside there built = rw (lt-ltb cpu
 
 -- what is written ahead is the record of the emission
 pub is-emission : (g : Config) (old new : State) (past : List Request) (name : List ℕ) (cpu : ℕ) (pid : ℤ) (pairs : List Pair) (found : Found) (row : Cells)
-    (reaches : Reaches) (pending : Option Pending) → StandsFor g old past → Some (numbered found) ≡ event_named_in old.catalog name
+    (reaches : Reaches) (passed : List (List Bool)) (pending : Option Pending) → StandsFor g old past → Some (numbered found) ≡ event_named_in old.catalog name
     → IsIndexOf old.catalog name found.index found.event.now → row_of found.event.now pairs ≡ Ok row → IsStateAlike old new
     → AreReached found.index row cpu pid reaches old.instances.items → IsAhead new found.index row cpu pid reaches pending
     → IsEmission g past (Emission name cpu pid pairs) new.instances.items
-    (record { event = found.index; row = row; cpu = cpu; pid = pid; reaches = reaches; «record» = pending })
-is-emission g old new past name cpu pid pairs found row reaches pending stands named indexed built alike are ahead = record {
+    (record { event = found.index; row = row; cpu = cpu; pid = pid; reaches = reaches; passed = passed; «record» = pending })
+is-emission g old new past name cpu pid pairs found row reaches passed pending stands named indexed built alike are ahead = record {
   declares = refl;
   made = refl;
   removed = refl;
@@ -192,31 +193,30 @@ can-be-written g state past event row cpu pid reaches None stands inside ahead s
 can-be-written g state past event row cpu pid reaches (Some p) stands inside ahead short =
     let of = ahead.bytes p refl in (of.2, short p refl, λ k d within. rw (of.0, (stands.each k d within).shaped.live.cpus) inside)
 
--- the filters of which hist triggers it passes is known still where their memory grew
-passed-still : (old new : State) (event : ℕ) (row : Cells) (cpu : ℕ) (pid : ℤ) (reaches : Reaches) → IsStateAlike old new
-    → AreReached event row cpu pid reaches old.instances.items
-    → ArePassed (record { values = row.values; cpu = cpu; pid = pid }) event reaches new.instances.items
-passed-still old new event row cpu pid reaches alike are k d inside =
+-- the filters of which hist triggers it passes are known still where their memory grew
+passed-still : (old new : State) (emission : Row) (event : ℕ) (known : List (List Bool)) → IsStateAlike old new
+    → ArePassed emission event known old.instances.items → ArePassed emission event known new.instances.items
+passed-still old new emission event known alike are k d inside =
     let within : k < length old.instances.items = omega (arith, inside, alike.instances.many) in
     let same = ap (λ (i : InstanceSeen). i.hists) (alike.instances.came k d within).rest in
-    ap (λ (r : Reach). r.passed) (are.each k d within)
-    ∙ ap (λ (hists : List (List AttachedHist)). passed (record { values = row.values; cpu = cpu; pid = pid }) (get_or hists event [])) (sym same)
+    are k d within ∙ ap (λ (hists : List (List AttachedHist)). passed emission (get_or hists event [])) (sym same)
 
 -- and so all is there for the emission
 pub ready-emission : (g : Config) (old new : State) (past : List Request) (request : Request) (event : ℕ) (row : Cells) (cpu : ℕ) (pid : ℤ)
-    (reaches : Reaches) (pending : Option Pending) → StandsFor g new past
-    → IsEmission g past request new.instances.items (record { event = event; row = row; cpu = cpu; pid = pid; reaches = reaches; «record» = pending })
-    → IsStateAlike old new → cpu < g.cpus → AreReached event row cpu pid reaches old.instances.items
+    (reaches : Reaches) (known : List (List Bool)) (pending : Option Pending) → StandsFor g new past
+    → IsEmission g past request new.instances.items
+    (record { event = event; row = row; cpu = cpu; pid = pid; reaches = reaches; passed = known; «record» = pending })
+    → IsStateAlike old new → cpu < g.cpus → ArePassed (record { values = row.values; cpu = cpu; pid = pid }) event known old.instances.items
     → All (λ (n : Named). CanCountRow (record { values = row.values; cpu = cpu; pid = pid }) event n.instance) new.instances.items
     → IsAhead new event row cpu pid reaches pending → ((p : Pending) → pending ≡ Some p → length p.bytes.items ≤ g.page_bytes)
-    → CanEmit g new (record { event = event; row = row; cpu = cpu; pid = pid; reaches = reaches; «record» = pending })
-ready-emission g old new past request event row cpu pid reaches pending stands emission alike inside are counted ahead short = (
+    → CanEmit g new (record { event = event; row = row; cpu = cpu; pid = pid; reaches = reaches; passed = known; «record» = pending })
+ready-emission g old new past request event row cpu pid reaches known pending stands emission alike inside are counted ahead short = (
   rw stands.events emission.index.inside,
   can-be-written g new past event row cpu pid reaches pending stands inside ahead short,
   λ k d within.
       let n = get_or new.instances.items k d in
       can-fire g n.name past emission.e event (reach_at reaches k) n.instance (stands.each k d within) emission.index (emission.fires k d within),
-  passed-still old new event row cpu pid reaches alike are,
+  passed-still old new (record { values = row.values; cpu = cpu; pid = pid }) event known alike are,
   counted,
 )
 

@@ -28,7 +28,8 @@ use Rattle.trace_book.specs.declared.change.TriggerChange.TheVariants.{Keep, Det
 use Rattle.trace_book.specs.declared.hists.AttachedHist.{AttachedHist}
 use Rattle.trace_book.specs.declared.write.WrittenText.{WrittenText}
 use Rattle.trace_book.proofs.Attached.{IsNamed, all-are, all_left, hists-asked, hists-removed, own_left, snapshot-stays, tables-asked, tables-stay, text_request}
-use Rattle.trace_book.proofs.FittingTables.{fit-fewer, fit-tables, left-fit}
+use Rattle.trace_history.proofs.NamedTables.{fit-fewer}
+use Rattle.trace_book.proofs.FittingTables.{fit-tables, left-fit}
 use Rattle.trace_book.proofs.OneSays.{one-removed, some-position, without_same}
 use Rattle.trace_book.proofs.Answering.{answered, count-left, fit-stays, has-same, has-same_left, only-left, refused, room-full, room-had, same_left}
 

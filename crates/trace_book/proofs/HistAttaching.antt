@@ -2,8 +2,9 @@
 -- that the text names, or in one that is made with it.
 use Rattle.std.proofs.Common.{◌≡◌, ℕ, ◌<◌, ◌==◌, length, Bool, true, false, if◌then◌else◌, List, [], ◌∷◌, ◌++◌, is_some, Option, None, Some, option_map, Result, Ok, Err, refl, sym, ap, ◌∙◌, subst}
 use Rattle.std.proofs.lemmas.Option.{same_Some}
+use Rattle.std.specs.Global.{Box}
 use Rattle.trace_format.specs.Definitions.{Definition}
-use Rattle.trace_hist.specs.Hists.{Seen, StandsFor}
+use Rattle.trace_hist.specs.Hists.{StandsFor}
 use Rattle.trace_trigger.specs.FittingSpecs.{is_fitting}
 use Rattle.trace_trigger.specs.HistSpecs.{SpecSeen}
 use Rattle.trace_trigger.specs.TriggerTexts.{said_of}
@@ -16,20 +17,22 @@ use Rattle.trace_history.specs.History.{fitting_answer, trigger_answer}
 use Rattle.trace_history.specs.HistTriggers.{HistTrigger, fits_that, has_same, hist_triggers, hists_said, is_pause, named_by, table_or, those_of}
 use Rattle.trace_history.proofs.EventHists.{own-left}
 use Rattle.trace_history.proofs.Members.{IsIn, in-contains}
+use Rattle.trace_history.proofs.NamedTables.{fit-fewer, fit-new, left-old}
+use Rattle.trace_history.proofs.SharedTables.{said-alike}
 use Rattle.trace_history.proofs.Tables.{found-in}
-use Rattle.trace_book.specs.private.Attaching.{AreKept, IsAsked, IsMadeChange, attaches, joined_change, kept_count, left_of, named_in}
-use Rattle.trace_book.specs.Changes.{IsAsked as IsAskedOf}
+use Rattle.trace_book.specs.private.Attaching.{AreKept, IsAsked, IsJoinedChange, IsMadeChange, attaches, kept_count, left_of, named_in}
+use Rattle.trace_book.specs.Changes.{IsAsked as IsAskedOf, Joins}
 use Rattle.trace_book.specs.Instances.{TablesFit}
 use Rattle.trace_book.specs.KeptHists.{attached_as, kept_hists}
 use Rattle.trace_book.specs.declared.attach.EventTriggers.{EventTriggers}
+use Rattle.trace_book.specs.declared.change.NewHist.{NewHist}
 use Rattle.trace_book.specs.declared.change.TriggerChange.{TriggerChange}
 use Rattle.trace_book.specs.declared.change.TriggerChange.TheVariants.{Keep, Attach, Detach, AttachHist, MakeHist, DetachHist, AskTable}
 use Rattle.trace_book.specs.declared.hists.AttachedHist.{AttachedHist}
 use Rattle.trace_book.specs.declared.write.WrittenText.{WrittenText}
 use Rattle.trace_book.proofs.Attached.{IsNamed, all-are, all_left, hists-attached, new_of, own_left, snapshot-stays, tables-attached, text_request}
-use Rattle.trace_book.proofs.FittingTables.{fit-fewer, fit-new, fit-tables, left-fit, left-old, left-there}
+use Rattle.trace_book.proofs.FittingTables.{fit-tables, left-fit, left-there}
 use Rattle.trace_book.proofs.Named.{book-alike, book-there, book_left, found-as}
-use Rattle.trace_book.proofs.SaidSpecs.{counts-alike}
 use Rattle.trace_book.proofs.Answering.{done-late, has-same_left, refused, same_left}
 use Rattle.trace_book.proofs.HistAnswering.{few-left, fit-answer, fits_named}
 
@@ -105,11 +108,11 @@ none-there name past event kept append spec are lost =
     by (Some t) is = absurd (cc)
 
 -- it counts in a table that is there
-join-done : (spec : SpecSeen) (event : Definition) (kept : EventTriggers) (written : WrittenText) (other : AttachedHist)
+join-done : (spec : SpecSeen) (event : Definition) (kept : EventTriggers) (written : WrittenText) (other : AttachedHist) (attached : Box AttachedHist)
     → same_left spec kept written.append ≡ None → attaches spec.action ≡ true → kept_count kept written.append < 4
     → named_in spec (left_of kept written.append) ≡ Some other → is_fitting spec other.spec ≡ true
-    → IsAsked spec event kept written (Ok (AttachHist (new_as written.number other.table spec)))
-join-done spec event kept written other none attaching few found fits = λ name past number are is.
+    → attached.value ≡ new_as written.number other.table spec → IsAsked spec event kept written (Ok (AttachHist attached))
+join-done spec event kept written other attached none attaching few found fits same = λ name past number are is.
     let lacks : has_same spec (own_left name past event written.append) ≡ false = has-same_left name past event kept spec written.append are ∙ ap is_some none in
     let joined = named-there name past event kept written.append spec other are found in
     let alike = book-alike name past event kept written.append spec are in
@@ -122,19 +125,36 @@ join-done spec event kept written other none attaching few found fits = λ name 
       record {
         snapshot = snapshot-stays name past event written.append written.text.now (Ok (said.Hist spec)) is refl;
         hists = hists-attached name past event are.id written.append written.text.now spec are.named is lacks
-            ∙ ap (λ (a : AttachedHist). before ++ a ∷ []) (attached-as name past event written.append spec written.number other.table number table);
+            ∙ ap (λ (a : AttachedHist). before ++ a ∷ [])
+            (attached-as name past event written.append spec written.number other.table number table ∙ sym same);
         possible = few-left name past event kept written.append are few;
-        tables = λ k. tables-as name past event kept written spec other.table k are is lacks table;
-        joined = record {
+        tables = λ k. subst
+            (λ (a : AttachedHist). IsAskedOf name past (text_request name event written.append written.text.now)
+            (if a.table == k then Some a.spec.action else None) k)
+            (sym same) (tables-as name past event kept written spec other.table k are is lacks table);
+        joined = subst (Joins name past) (sym same) (record {
           t = joined.t;
           there = in-contains joined.t (hist_triggers name past) joined.there;
           table = ap (λ (a : AttachedHist). a.table) joined.seen;
-          alike = counts-alike name past event written.text.now spec joined.t joined.there is here;
-        };
+          alike = said-alike name past event written.text.now spec joined.t (in-contains joined.t (hist_triggers name past) joined.there) is here;
+        });
         fitting = fit-attached name past event are.id written.append written.text.now spec are.named is lacks fitting;
         spare = rw is refl;
       },
     )
+
+-- there is no memory for it
+join-memory : (spec : SpecSeen) (event : Definition) (kept : EventTriggers) (written : WrittenText) (other : AttachedHist)
+    → same_left spec kept written.append ≡ None → attaches spec.action ≡ true → kept_count kept written.append < 4
+    → named_in spec (left_of kept written.append) ≡ Some other → is_fitting spec other.spec ≡ true
+    → IsAsked spec event kept written (Err refusal.Memory)
+join-memory spec event kept written other none attaching few found fits = λ name past number are is.
+    let joined = named-there name past event kept written.append spec other are found in
+    let alike = book-alike name past event kept written.append spec are in
+    let here : is_fitting spec joined.t.spec ≡ true = ap (λ (a : AttachedHist). is_fitting spec a.spec) joined.seen ∙ fits in
+    let fitting : fits_named name past event written.append spec ≡ true = sym alike.fits ∙ ap (fits_that spec) joined.found ∙ here in
+    done-late (trigger_answer name past written.append written.text.now event)
+    (fit-answer spec kept written event name past none attaching few are is ∙ ap (λ (b : Bool). fitting_answer b (Ok Done)) fitting)
 
 -- a text that does not fit the table that it names
 join-refused : (spec : SpecSeen) (event : Definition) (kept : EventTriggers) (written : WrittenText) (other : AttachedHist)
@@ -150,24 +170,33 @@ join-refused spec event kept written other none attaching few found fits = λ na
     (fit-answer spec kept written event name past none attaching few are is ∙ ap (λ (b : Bool). fitting_answer b (Ok Done)) fitting)
 
 pub ask-joined : (spec : SpecSeen) (event : Definition) (kept : EventTriggers) (written : WrittenText) (other : AttachedHist)
+    (result : Result TriggerChange Refusal)
     → same_left spec kept written.append ≡ None → attaches spec.action ≡ true → kept_count kept written.append < 4
-    → named_in spec (left_of kept written.append) ≡ Some other
-    → IsAsked spec event kept written (joined_change written.number spec other)
-ask-joined spec event kept written other none attaching few found = by (is_fitting spec other.spec) refl
+    → named_in spec (left_of kept written.append) ≡ Some other → IsJoinedChange written.number spec other result
+    → IsAsked spec event kept written result
+ask-joined spec event kept written other (Ok (AttachHist attached)) none attaching few found is =
+    join-done spec event kept written other attached none attaching few found is.0 is.1
+ask-joined spec event kept written other (Ok Keep) none attaching few found is = absurd is
+ask-joined spec event kept written other (Ok (Attach trigger)) none attaching few found is = absurd is
+ask-joined spec event kept written other (Ok Detach) none attaching few found is = absurd is
+ask-joined spec event kept written other (Ok (MakeHist made)) none attaching few found is = absurd is
+ask-joined spec event kept written other (Ok (DetachHist at)) none attaching few found is = absurd is
+ask-joined spec event kept written other (Ok (AskTable table asked)) none attaching few found is = absurd is
+ask-joined spec event kept written other (Err refused) none attaching few found is =
+    subst (λ (r : Refusal). IsAsked spec event kept written (Err r)) (sym is) (by (is_fitting spec other.spec) refl)
   where
     by : (fits : Bool) → is_fitting spec other.spec ≡ fits
-        → IsAsked spec event kept written
-        (if fits then Ok (AttachHist (new_as written.number other.table spec)) else Err refusal.TriggerExists)
-    by true is = join-done spec event kept written other none attaching few found is
-    by false is = join-refused spec event kept written other none attaching few found is
+        → IsAsked spec event kept written (Err (if fits then refusal.Memory else refusal.TriggerExists))
+    by true fits = join-memory spec event kept written other none attaching few found fits
+    by false fits = join-refused spec event kept written other none attaching few found fits
 
 -- a table is made with it
-make-done : (spec : SpecSeen) (event : Definition) (kept : EventTriggers) (written : WrittenText) (attached : AttachedHist) (hist : Seen)
+make-done : (spec : SpecSeen) (event : Definition) (kept : EventTriggers) (written : WrittenText) (made : Box NewHist)
     → same_left spec kept written.append ≡ None → attaches spec.action ≡ true → kept_count kept written.append < 4
     → named_in spec (left_of kept written.append) ≡ None
-    → attached ≡ new_as written.number written.number spec → hist.spec ≡ spec → StandsFor hist [] → hist.paused ≡ is_pause spec.action
-    → IsAsked spec event kept written (Ok (MakeHist attached hist))
-make-done spec event kept written attached hist none attaching few lost same says empty paused = λ name past number are is.
+    → made.value.attached ≡ new_as written.number written.number spec → made.value.hist.spec ≡ spec → StandsFor made.value.hist []
+    → made.value.hist.paused ≡ is_pause spec.action → IsAsked spec event kept written (Ok (MakeHist made))
+make-done spec event kept written made none attaching few lost same says empty paused = λ name past number are is.
     let lacks : has_same spec (own_left name past event written.append) ≡ false = has-same_left name past event kept spec written.append are ∙ ap is_some none in
     let alike = book-alike name past event kept written.append spec are in
     let nothing = none-there name past event kept written.append spec are lost in
@@ -210,8 +239,8 @@ make-memory spec event kept written none attaching few lost = λ name past numbe
 pub ask-made : (spec : SpecSeen) (event : Definition) (kept : EventTriggers) (written : WrittenText) (result : Result TriggerChange Refusal)
     → same_left spec kept written.append ≡ None → attaches spec.action ≡ true → kept_count kept written.append < 4
     → named_in spec (left_of kept written.append) ≡ None → IsMadeChange written.number spec result → IsAsked spec event kept written result
-ask-made spec event kept written (Ok (MakeHist attached hist)) none attaching few lost is =
-    make-done spec event kept written attached hist none attaching few lost is.0 is.1 is.2 is.3
+ask-made spec event kept written (Ok (MakeHist made)) none attaching few lost is =
+    make-done spec event kept written made none attaching few lost is.0 is.1 is.2 is.3
 ask-made spec event kept written (Ok Keep) none attaching few lost is = absurd is
 ask-made spec event kept written (Ok (Attach trigger)) none attaching few lost is = absurd is
 ask-made spec event kept written (Ok Detach) none attaching few lost is = absurd is

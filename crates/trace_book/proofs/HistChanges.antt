@@ -1,7 +1,7 @@
 -- What a change of an event's triggers and an emission make of the hist triggers of an instance and of their tables.
 use Rattle.std.proofs.Common.{◌≡◌, ℕ, ◌<◌, ◌==◌, Bool, true, false, if◌then◌else◌, List, [], ◌∷◌, ◌++◌, length, filter, get_or, set, take, drop, Option, Some, None, option_map, refl, sym, ap, ◌∙◌, subst, arith}
 use Rattle.std.proofs.lemmas.List.{get_or_default, take_at}
-use Rattle.std.specs.Global.{Vec}
+use Rattle.std.specs.Global.{Box, Vec}
 use Rattle.std.specs.Vec.{vec_len}
 use Rattle.std.specs.List.{remove}
 use Rattle.trace_buffer.specs.Buffers as buffers
@@ -15,6 +15,7 @@ use Rattle.trace_book.specs.States.{IsOffered, row_of}
 use Rattle.trace_book.specs.private.Tables.{AreSet}
 use Rattle.trace_book.specs.declared.change.Delivery.{Delivery}
 use Rattle.trace_book.specs.declared.change.InstanceChange.TheVariants.{Triggers}
+use Rattle.trace_book.specs.declared.change.NewHist.{NewHist}
 use Rattle.trace_book.specs.declared.change.TriggerChange.{TriggerChange}
 use Rattle.trace_book.specs.declared.change.TriggerChange.TheVariants.{AskTable, Attach, AttachHist, Detach, DetachHist, Keep, MakeHist}
 use Rattle.trace_book.specs.declared.hists.AttachedHist.{AttachedHist}
@@ -104,23 +105,24 @@ detached event append value old read mine view within here is =
     (λ n. unasked (kept_at n old.tables)) (λ f. refl)
 
 -- one more is attached, and its table is asked
-pub hist_joined : (event : ℕ) (append : Bool) (one : AttachedHist) (value old : InstanceSeen) (read mine : List AttachedHist) (tables : List Table)
-    → old ≡ value → event < length value.hists → read ≡ get_or old.hists event read → mine ≡ (if append then read else []) ++ one ∷ []
+pub hist_joined : (event : ℕ) (append : Bool) (one : Box AttachedHist) (value old : InstanceSeen) (read mine : List AttachedHist) (tables : List Table)
+    → old ≡ value → event < length value.hists → read ≡ get_or old.hists event read → mine ≡ (if append then read else []) ++ one.value ∷ []
     → ((number : ℕ) → kept_at number tables
-    ≡ (if one.table == number then option_map (asked one.spec.action) (kept_at number old.tables) else kept_at number old.tables))
+    ≡ (if one.value.table == number then option_map (asked one.value.spec.action) (kept_at number old.tables) else kept_at number old.tables))
     → AreSet event append (AttachHist one) value (record old { hists = set old.hists event mine; tables = tables })
 hist_joined event append one value old read mine tables view within here is asks =
     hists_set event append (AttachHist one) value old read mine old.triggers tables view within here refl is
-    (λ n. asks n ∙ asked-one one.table n one.spec.action (kept_at n old.tables)) (λ f. refl)
+    (λ n. asks n ∙ asked-one one.value.table n one.value.spec.action (kept_at n old.tables)) (λ f. refl)
 
 -- one more is attached, with a table
-pub hist_made : (event : ℕ) (append : Bool) (one : AttachedHist) (hist : Seen) (value old : InstanceSeen) (read mine : List AttachedHist)
-    (tables : List Table) → old ≡ value → event < length value.hists → read ≡ get_or old.hists event read
-    → mine ≡ (if append then read else []) ++ one ∷ [] → tables ≡ record { number = one.table; hist = hist } ∷ old.tables
-    → AreSet event append (MakeHist one hist) value (record old { hists = set old.hists event mine; tables = tables })
-hist_made event append one hist value old read mine tables view within here is made =
-    hists_set event append (MakeHist one hist) value old read mine old.triggers tables view within here refl is
-    (λ n. ap (kept_at n) made ∙ made-one one hist n (table_numbered n old.tables)) (λ f. refl)
+pub hist_made : (event : ℕ) (append : Bool) (one : Box NewHist) (value old : InstanceSeen) (read mine : List AttachedHist) (tables : List Table)
+    → old ≡ value → event < length value.hists → read ≡ get_or old.hists event read
+    → mine ≡ (if append then read else []) ++ one.value.attached ∷ []
+    → tables ≡ record { number = one.value.attached.table; hist = one.value.hist } ∷ old.tables
+    → AreSet event append (MakeHist one) value (record old { hists = set old.hists event mine; tables = tables })
+hist_made event append one value old read mine tables view within here is made =
+    hists_set event append (MakeHist one) value old read mine old.triggers tables view within here refl is
+    (λ n. ap (kept_at n) made ∙ made-one one.value.attached one.value.hist n (table_numbered n old.tables)) (λ f. refl)
 
 -- a table is asked
 pub table_asked : (event : ℕ) (append : Bool) (table : ℕ) (action : Action) (value old : InstanceSeen) (read mine : List AttachedHist)

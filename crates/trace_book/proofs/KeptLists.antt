@@ -9,7 +9,7 @@ use Rattle.trace_command.specs.Requests.{Request}
 use Rattle.trace_history.specs.HistTriggers.{HistTrigger, hist_triggers, is_of, those_of}
 use Rattle.trace_history.specs.Declarations.{IsIndexOf}
 use Rattle.trace_history.specs.Settings.{NumberedEvent, declared_events}
-use Rattle.trace_history.proofs.Events.{place_of_id}
+use Rattle.trace_history.proofs.Events.{index_of_id}
 use Rattle.trace_history.proofs.LegalEvents.{named-is_numbered}
 use Rattle.trace_history.proofs.Members.{IsIn, each-in, filter-in, in-all, in-filter}
 use Rattle.trace_history.proofs.OwnFiles.{IsNamed, all-named}
@@ -59,7 +59,7 @@ pub kept-one : (P : AttachedHist → Type 0) (name : Option (List ℕ)) (past : 
 kept-one P name past hists are all t there =
     let named = each-in (IsNamed past) t (hist_triggers name past) (all-named name past) there in
     let numbered = named-is_numbered (declared_events past) t.event.name named.k named.there in
-    let place = place_of_id (declared_events past) t.event.name named.k.id named.k.event numbered.named numbered.there in
+    let place = index_of_id (declared_events past) t.event.name named.k.id named.k.event numbered.named numbered.there in
     mapped-in P t (those_of t.event (hist_triggers name past))
     (at-declared P name past t named.k (subst (AllOfEach P) are all) place named.event)
     (filter-in t (is_of t.event) (hist_triggers name past) there ((bytes_eq-Decides t.event.name t.event.name).1 refl))
@@ -79,8 +79,8 @@ left-all P false hists index all = All-nil P
 
 -- it holds of the trigger that a change attaches
 abbrev pub OfAttached : (AttachedHist → Type 0) → TriggerChange → Type 0
-OfAttached P (AttachHist attached) = P attached
-OfAttached P (MakeHist attached hist) = P attached
+OfAttached P (AttachHist attached) = P attached.value
+OfAttached P (MakeHist made) = P made.value.attached
 OfAttached P change = Unit {0}
 
 abbrev pub OfNew : (AttachedHist → Type 0) → InstanceChange → Type 0
@@ -89,8 +89,8 @@ OfNew P change = Unit {0}
 
 changed-all : (P : AttachedHist → Type 0) (change : TriggerChange) (hists : List AttachedHist) → All P hists → OfAttached P change
     → All P (hists_changed change hists)
-changed-all P (AttachHist attached) hists all new = All-push P hists attached all new
-changed-all P (MakeHist attached hist) hists all new = All-push P hists attached all new
+changed-all P (AttachHist attached) hists all new = All-push P hists attached.value all new
+changed-all P (MakeHist made) hists all new = All-push P hists made.value.attached all new
 changed-all P (DetachHist index) hists all new =
     All-append P (take index hists) (drop (suc index) hists) (All-take P index hists all) (All-drop P (suc index) hists all)
 changed-all P change hists all new = all

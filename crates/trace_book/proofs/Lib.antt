@@ -10,11 +10,11 @@ pub mod BookLists
 pub mod FittingTables
 pub mod Named
 pub mod NamedIn
-pub mod SaidSpecs
 pub mod RecordBytes
 pub mod Lookups
 pub mod EachHist
 pub mod EachInstance
+pub mod ReservedEach
 pub mod LiveSide
 pub mod HistChanges
 pub mod NewInstance

@@ -1,5 +1,6 @@
 -- Instances that are made and removed.
 use Rattle.std.proofs.Common.{◌≡◌, ℕ, ◌<◌, ◌≤◌, ltb, Bool, true, false, List, [], ◌∷◌, length, get_or, All, is_some, Option, Some, None, Result, Ok, Err, refl, sym, ◌∙◌, subst, arith}
+use Rattle.std.specs.Global.{Box}
 use Rattle.std.specs.List.{list_any}
 use Rattle.std.specs.Str.{bytes_eq}
 use Rattle.std.proofs.lemmas.Bool.{lt-ltb, false≢true}
@@ -135,11 +136,12 @@ make-memory g state past path name found stands is good at none few =
     let new : is_there (Some name) past ≡ false = there-index g state past (Some name) found stands at ∙ none in
     rw is (out_of_memory (named_answer past name) Done (can_be_made past name good new (few-names g state past stands few)))
 
-pub make-done : (g : Config) (state : State) (past : List Request) (path : Option (List ℕ)) (name : List ℕ) (found : Option ℕ) (named : Named)
+pub make-done : (g : Config) (state : State) (past : List Request) (path : Option (List ℕ)) (name : List ℕ) (found : Option ℕ) (made : Box Named)
     → StandsFor g state past → path ≡ Some name → is_name name ≡ true → place_in state (Some name) ≡ found → is_some found ≡ false
-    → length state.instances.items < 8 → named.name ≡ Some name → InstanceStandsFor g (Some name) (MakeInstance (Some name) ∷ past) named.instance
-    → IsPrepared g past (MakeInstance path) state (Ok (record { change = Make named; reply = Done }))
-make-done g state past path name found named stands is good at none few called own =
+    → length state.instances.items < 8 → made.value.name ≡ Some name
+    → InstanceStandsFor g (Some name) (MakeInstance (Some name) ∷ past) made.value.instance
+    → IsPrepared g past (MakeInstance path) state (Ok (record { change = Make made; reply = Done }))
+make-done g state past path name found made stands is good at none few called own =
     let new : is_there (Some name) past ≡ false = there-index g state past (Some name) found stands at ∙ none in
     let fewer = few-names g state past stands few in
     rw is (

@@ -1,5 +1,5 @@
 -- The table that a text names: the trigger that a book finds in its lists has the same one as the trigger that the requests name.
-use Rattle.std.proofs.Common.{◌≡◌, inl, inr, ℕ, Bool, true, false, if◌then◌else◌, List, [], ◌∷◌, ◌++◌, length, map, set, Option, None, Some, option_map, refl, sym, ap, ◌∙◌, eqb-true}
+use Rattle.std.proofs.Common.{◌≡◌, ℕ, Bool, true, false, if◌then◌else◌, List, [], ◌∷◌, ◌++◌, length, map, set, Option, None, Some, option_map, refl, sym, ap, ◌∙◌}
 use Rattle.std.specs.List.{find, flat_map}
 use Rattle.std.proofs.lemmas.Bool.{false≢true}
 use Rattle.std.proofs.lemmas.List.{map-append, map-set}
@@ -12,15 +12,16 @@ use Rattle.trace_history.specs.HistTriggers.{HistTrigger, fits_that, hist_trigge
 use Rattle.trace_history.specs.Settings.{declared_events}
 use Rattle.trace_history.proofs.EventHists.{tables-apart}
 use Rattle.trace_history.proofs.Members.{IsIn, each-in}
+use Rattle.trace_history.proofs.NamedTables.{AllFit, one-table}
 use Rattle.trace_history.proofs.OwnFiles.{all-named}
-use Rattle.trace_history.proofs.Tables.{AreApart, IsFound, found-in, name-same, none-found, one-or_apart}
+use Rattle.trace_history.proofs.Tables.{AreApart, IsFound, found-in, name-same, none-found}
 use Rattle.trace_book.specs.KeptHists.{attached_as, kept_hists}
 use Rattle.trace_book.specs.KeptHists as kept
 use Rattle.trace_book.specs.private.Attaching.{AreKept, left_of, named_in}
 use Rattle.trace_book.specs.declared.attach.EventTriggers.{EventTriggers}
 use Rattle.trace_book.specs.declared.hists.AttachedHist.{AttachedHist}
 use Rattle.trace_book.proofs.BookLists.{flat, event_lists, lists_left, lists-left, left-lists}
-use Rattle.trace_book.proofs.FittingTables.{Fit, left-there, tables-fit}
+use Rattle.trace_book.proofs.FittingTables.{left-there, tables-fit}
 
 -- ---- what a book finds
 
@@ -79,7 +80,7 @@ both-ways true false there back = absurd (false≢true (there refl))
 both-ways false true there back = absurd (false≢true (back refl))
 both-ways false false there back = refl
 
-named-alike : (number : ℕ) (spec : SpecSeen) (all one other : List HistTrigger) → AreApart all → Fit all
+named-alike : (number : ℕ) (spec : SpecSeen) (all one other : List HistTrigger) → AreApart all → AllFit all
     → ((t : HistTrigger) → IsIn t one → IsIn t other) → ((t : HistTrigger) → IsIn t other → IsIn t one) → ((t : HistTrigger) → IsIn t other → IsIn t all)
     → NameAlike number spec (named_by spec one) (named_by spec other)
 named-alike number spec all one other apart fit there back among = by (named_by spec one) (named_by spec other) refl refl
@@ -119,10 +120,7 @@ named-alike number spec all one other apart fit there back among = by (named_by 
         one_name = ap (λ (n : Option (List ℕ)). is_name_of n v.spec.name) (sym (name-same spec.name t.spec.name mine.names)) ∙ yours.names
 
         shared : t.table ≡ v.table
-        shared = elim (one-or_apart t v all apart first second) [
-          | inl same ↦ ap (λ (u : HistTrigger). u.table) same
-          | inr (tables, numbers) ↦ eqb-true t.table v.table (tables ∙ one_name)
-        ]
+        shared = one-table t v all apart first second one_name
 
 -- those that a book has left are those that the requests say
 pub book-there : (name : Option (List ℕ)) (past : List Request) (event : Definition) (triggers : EventTriggers) (append : Bool)

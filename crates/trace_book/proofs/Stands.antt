@@ -4,6 +4,7 @@ use Rattle.std.proofs.lemmas.Bool.{cases_eq}
 use Rattle.std.proofs.lemmas.List.{map-append}
 use Rattle.std.proofs.lemmas.List.Elements.{All-append, All-drop, All-push, All-same, All-take}
 use Rattle.std.proofs.lemmas.List.Filters.{length-filter_both}
+use Rattle.std.specs.Global.{Box}
 use Rattle.std.specs.List.{AllByRecursion, IsDistinct, filter}
 use Rattle.std.specs.Option.{option_to_list}
 use Rattle.std.specs.Str.{bytes_eq}
@@ -158,10 +159,11 @@ declare_stands g old new past request reply event stands given is step =
     (unwatched_after g past request reply name event given none (stands.unwatched name event none))
     (stands.each k d inside))))
 
-make_stands : (g : Config) (old new : State) (past : List Request) (request : Request) (reply : Reply) (named : Named)
-    → StandsFor g old past → answer_with_room g past request ≡ Ok reply → IsMade g past request named → IsStep old new (Make named)
+make_stands : (g : Config) (old new : State) (past : List Request) (request : Request) (reply : Reply) (made : Box Named)
+    → StandsFor g old past → answer_with_room g past request ≡ Ok reply → IsMade g past request made.value → IsStep old new (Make made)
     → StandsFor g new (request ∷ past)
-make_stands g old new past request reply named stands given is step =
+make_stands g old new past request reply made stands given is step =
+    let named = made.value in
     let names = instance_names past in
     let items = old.instances.items in
     let now : instance_names (request ∷ past) ≡ names ++ is.name ∷ [] = rw (is.removed, is.made) refl in

@@ -210,14 +210,15 @@ early-all name past hists are =
 -- so a change only asks something of the table of a trigger that was there before
 old-changed : (name : Option (List ℕ)) (past : List Request) (change : InstanceChange) (number : ℕ) (found : Option KeptTable) → IsJoined name past change
     → number < length past → table_after change number found ≡ option_map (asked_if (asks change number)) found
-old-changed name past (Triggers index append (MakeHist attached hist)) number found made early =
-    by (attached.table == number) refl
+old-changed name past (Triggers index append (MakeHist one)) number found made early =
+    by (one.value.attached.table == number) refl
   where
-    by : (same : Bool) → (attached.table == number) ≡ same
-        → (if same then Some (kept_table hist) else found) ≡ option_map (asked_if (if same then Some attached.spec.action else None)) found
+    by : (same : Bool) → (one.value.attached.table == number) ≡ same
+        → (if same then Some (kept_table one.value.hist) else found)
+        ≡ option_map (asked_if (if same then Some one.value.attached.spec.action else None)) found
     by true is =
         let new = made.table in
-        absurd (omega (arith, eqb-true attached.table number is, new, early))
+        absurd (omega (arith, eqb-true one.value.attached.table number is, new, early))
     by false is = sym (none-asked found)
 old-changed name past (Triggers index append change) number found joined early = refl
 old-changed name past change number found joined early = sym (none-asked found)
@@ -228,12 +229,15 @@ new-stands : (name : Option (List ℕ)) (past : List Request) (request : Request
     → ((number : ℕ) → IsAsked name past request (asks change number) number) → IsJoined name past change
     → hists ≡ map (kept_hists name past) (declared_events past) → AllOfEach (TableStandsFor name past old) hists
     → OfNew (λ a. is_used a.table (hists_after change hists) ≡ true → TableStandsFor name (request ∷ past) new a) change
-new-stands name past request (Triggers index append (AttachHist a)) hists old new came asked joins are all = λ used.
+new-stands name past request (Triggers index append (AttachHist one)) hists old new came asked joins are all = λ used.
+    let a = one.value in
     let there = contains-in joins.t (hist_triggers name past) joins.there in
     let own = kept-one (TableStandsFor name past old) name past hists are all joins.t there in
-    table-asked name past request old new a (asks (Triggers index append (AttachHist a)) a.table) (asked a.table) (came a.table used)
+    table-asked name past request old new a (asks (Triggers index append (AttachHist one)) a.table) (asked a.table) (came a.table used)
     (table-joined name past old a joins.t joins.table joins.alike own)
-new-stands name past request (Triggers index append (MakeHist a hist)) hists old new came asked made are all = λ used.
+new-stands name past request (Triggers index append (MakeHist one)) hists old new came asked made are all = λ used.
+    let a = one.value.attached in
+    let hist = one.value.hist in
     let itself : (a.table == a.table) ≡ true = eq-eqb a.table a.table refl in
     table-made name past request new a hist made
     (subst (λ (told : Option Action). IsAsked name past request told a.table)

@@ -1,15 +1,14 @@
 -- Memory that is taken late: for which trigger texts none is taken, and what a request is answered that takes none before.
-use Rattle.std.proofs.Common.{◌≡◌, ◌≢◌, ◌<◌, ◌≤◌, ℕ, Bool, true, false, codes, if◌then◌else◌, List, length, Option, Some, None, Result, Ok, Err, IfErr, refl, ap}
+use Rattle.std.proofs.Common.{◌≡◌, ◌≢◌, ◌<◌, ◌≤◌, ℕ, Bool, true, false, codes, if◌then◌else◌, List, length, Result, Ok, Err, IfErr, refl}
 use Rattle.std.specs.List.{list_all}
 use Rattle.trace_lex.specs.Blanks.{is_blank}
 use Rattle.trace_format.specs.Definitions.{Definition}
 use Rattle.trace_trigger.specs.HistSpecs.{SpecSeen}
 use Rattle.trace_trigger.specs.HistTexts.{spec_of}
 use Rattle.trace_trigger.specs.TriggerAnswers.{◌>>=◌}
-use Rattle.trace_trigger.specs.TriggerTexts.{after, begins, is_hist_text, said_after, said_of, snapshot_said, trigger_of}
+use Rattle.trace_trigger.specs.TriggerTexts.{begins, is_hist_text, said_of, snapshot_said}
 use Rattle.trace_trigger.specs.declared.fault.TriggerFault.{TriggerFault}
 use Rattle.trace_trigger.specs.declared.fault.TriggerFault.TheVariants as fault
-use Rattle.trace_trigger.specs.declared.trigger.SnapshotTrigger.{SnapshotTrigger}
 use Rattle.trace_trigger.specs.declared.trigger.TriggerText.TheVariants as said
 use Rattle.trace_command.specs.Refusals.{refusal_of_trigger}
 use Rattle.trace_command.specs.Requests.{Request}
@@ -18,6 +17,7 @@ use Rattle.trace_command.specs.declared.command.Reply.{Reply}
 use Rattle.trace_command.specs.declared.refusal.Refusal.{Refusal}
 use Rattle.trace_command.specs.declared.refusal.Refusal.TheVariants.{HistoryFull, Memory}
 use Rattle.trace_history.specs.History.{answer, answer_with_room}
+use Rattle.trace_history.proofs.SaidHists.{snapshot-no_hist}
 use Rattle.trace_book.specs.States.{IsPrepared}
 use Rattle.trace_book.specs.declared.state.State.{State}
 use Rattle.trace_book.proofs.Histories.{answer-done, answer-full, answer-refused}
@@ -35,24 +35,7 @@ other-fault (fault.HistSyntax at) other is = cc
 other-fault fault.BadSize other is = cc
 other-fault fault.Memory other is = other refl
 
--- what is said of a snapshot trigger is nothing of a hist trigger
-pub snapshot-no_hist : (definition : Definition) (text : List ℕ) (spec : SpecSeen) → snapshot_said definition text ≡ Ok (said.Hist spec) → ⊥
-unfolding snapshot_said
-snapshot-no_hist definition text spec e = by (after (codes "!") text) e
-  where
-    attach : (read : Result SnapshotTrigger TriggerFault) → (read >>= λ trigger. Ok (said.Attach trigger)) ≡ Ok (said.Hist spec) → ⊥
-    attach (Ok trigger) h = cc
-    attach (Err faulty) h = cc
-
-    remove : (read : Result SnapshotTrigger TriggerFault) → (read >>= λ trigger. Ok said.Remove) ≡ Ok (said.Hist spec) → ⊥
-    remove (Ok trigger) h = cc
-    remove (Err faulty) h = cc
-
-    by : (body : Option (List ℕ)) → said_after definition text body ≡ Ok (said.Hist spec) → ⊥
-    by None h = attach (trigger_of definition text text) h
-    by (Some body) h = remove (trigger_of definition text body) h
-
--- a text that says something of a hist trigger begins so
+-- a string that says something of a hist trigger begins so
 pub hist-begins : (definition : Definition) (text : List ℕ) (spec : SpecSeen) → said_of definition text ≡ Ok (said.Hist spec) → is_hist_text text ≡ true
 unfolding said_of
 hist-begins definition text spec e =
@@ -66,29 +49,6 @@ hist-begins definition text spec e =
     blank false true is two also h = rw is refl
     blank false false is true also h = rw (is, also) refl
     blank false false is false also h = absurd (snapshot-no_hist definition text spec h)
-
--- and what it says of it is what is read from it
-pub hist-spec : (definition : Definition) (text : List ℕ) (spec : SpecSeen) → said_of definition text ≡ Ok (said.Hist spec) → spec_of definition text ≡ Ok spec
-unfolding said_of
-hist-spec definition text spec e =
-    blank (list_all is_blank text) (begins (codes "hist:") text) (begins (codes "!hist:") text) e
-  where
-    reads : (read : Result SpecSeen TriggerFault) → (read >>= λ s. Ok (said.Hist s)) ≡ Ok (said.Hist spec) → read ≡ Ok spec
-    reads (Ok s) h = let same : s ≡ spec = cc in ap Ok same
-    reads (Err faulty) h = absurd (cc)
-
-    removes : (read : Result SpecSeen TriggerFault) → (read >>= λ s. Ok (said.RemoveHist s)) ≡ Ok (said.Hist spec) → ⊥
-    removes (Ok s) h = cc
-    removes (Err faulty) h = cc
-
-    blank : (nothing one two : Bool)
-        → (if nothing then Ok said.Nothing
-        else if one then (spec_of definition text >>= λ s. Ok (said.Hist s)) else if two then (spec_of definition text >>= λ s. Ok (said.RemoveHist s)) else snapshot_said definition text) ≡ Ok (said.Hist spec)
-        → spec_of definition text ≡ Ok spec
-    blank true one two h = absurd (cc)
-    blank false true two h = reads (spec_of definition text) h
-    blank false false true h = absurd (removes (spec_of definition text) h)
-    blank false false false h = absurd (snapshot-no_hist definition text spec h)
 
 -- ---- answers
 

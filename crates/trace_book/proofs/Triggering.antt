@@ -109,7 +109,7 @@ set-changed index append Keep olds old is = ap (set olds index) (sym is) ∙ set
 set-changed index append (Attach trigger) olds old is = refl
 set-changed index append Detach olds old is = refl
 set-changed index append (AttachHist attached) olds old is = ap (set olds index) (sym is) ∙ set-get_or olds index None
-set-changed index append (MakeHist attached hist) olds old is = ap (set olds index) (sym is) ∙ set-get_or olds index None
+set-changed index append (MakeHist made) olds old is = ap (set olds index) (sym is) ∙ set-get_or olds index None
 set-changed index append (DetachHist at) olds old is = ap (set olds index) (sym is) ∙ set-get_or olds index None
 set-changed index append (AskTable table asked) olds old is = ap (set olds index) (sym is) ∙ set-get_or olds index None
 
@@ -119,7 +119,7 @@ some-before Keep old none some = some
 some-before (Attach trigger) old none some = absurd (cc)
 some-before Detach old none some = absurd (cc)
 some-before (AttachHist attached) old none some = some
-some-before (MakeHist attached hist) old none some = some
+some-before (MakeHist made) old none some = some
 some-before (DetachHist at) old none some = some
 some-before (AskTable table asked) old none some = some
 
@@ -210,7 +210,7 @@ trigger-effect g name past index written change distinct inside is = record {
         ∙ ap (λ (l : List (List Event)). (let f : SideFamilies = record { live = rings g name past; spare = Some l } in f)) (sym (spare-or-new g name past spared))
     sides Detach sets spared = same_sides sets
     sides (AttachHist attached) sets spared = same_sides sets
-    sides (MakeHist attached hist) sets spared = same_sides sets
+    sides (MakeHist made) sets spared = same_sides sets
     sides (DetachHist at) sets spared = same_sides sets
     sides (AskTable table asked) sets spared = same_sides sets
 
@@ -245,7 +245,7 @@ trigger-effect g name past index written change distinct inside is = record {
     spared (Attach trigger) sets snapshot = λ before. spared-new g name past request (there sets)
     spared Detach sets snapshot = unarmed Detach refl sets snapshot
     spared (AttachHist attached) sets snapshot = unarmed (AttachHist attached) refl sets snapshot
-    spared (MakeHist attached hist) sets snapshot = unarmed (MakeHist attached hist) refl sets snapshot
+    spared (MakeHist made) sets snapshot = unarmed (MakeHist made) refl sets snapshot
     spared (DetachHist at) sets snapshot = unarmed (DetachHist at) refl sets snapshot
     spared (AskTable table asked) sets snapshot = unarmed (AskTable table asked) refl sets snapshot
 

@@ -29,6 +29,7 @@ use Rattle.trace_history.specs.History.{IsLegal, IsLegalNewestFirst, past_of, re
 use Rattle.trace_history.specs.HistTriggers.{HistTrigger, asked_by, counted_by, empties, hist_triggers, hists_of, hits_of, is_of, is_paused, those_of}
 use Rattle.trace_history.specs.Triggers as triggers
 use Rattle.trace_history.specs.Triggers.{trigger_of}
+use Rattle.trace_history.proofs.SaidHists.{said-spec}
 use Rattle.trace_history.proofs.AttachedHists.{hist_triggers_are_those_attached}
 use Rattle.trace_history.proofs.FewTriggers.{at_most_four_triggers}
 use Rattle.trace_history.proofs.Members.{IsIn, each-in, in-contains, in-filter}
@@ -42,7 +43,6 @@ use Rattle.trace_book.specs.declared.state.State.{State}
 use Rattle.trace_book.specs.declared.tables.Table.{Table}
 use Rattle.trace_book.specs.declared.trigger.Trigger.{Trigger}
 use Rattle.trace_book.proofs.EachInstance.{length-names_of, name_at, some_names}
-use Rattle.trace_book.proofs.TakenLate.{hist-spec}
 
 -- ---- names
 
@@ -89,7 +89,7 @@ said-by : (name : Option (List ℕ)) (past : List Request) (t : HistTrigger) →
     → (text : List ℕ) × (spec_of t.event text ≡ Ok t.spec)
 said-by name past t there =
     let was = (hist_triggers_are_those_attached name t past).0 (in-contains t (hist_triggers name past) there) in
-    (was.by.text, hist-spec t.event was.by.text t.spec was.by.said)
+    (was.by.text, said-spec t.event was.by.text t.spec was.by.said)
 
 -- triggers of one name's event are of one event
 one-event : (name : Option (List ℕ)) (past : List Request) (event : Definition) (t u : HistTrigger) → IsIn t (hist_triggers name past)

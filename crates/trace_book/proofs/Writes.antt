@@ -31,7 +31,7 @@ use Rattle.trace_book.proofs.Effects.{own_write}
 use Rattle.trace_book.proofs.Filtering.{all-late, changed-map, cleared-all, no-event-refused}
 use Rattle.trace_book.proofs.Resolving.{name_at-is}
 use Rattle.trace_book.proofs.Usable.{usable-stands}
-use Rattle.trace_history.proofs.EventLists.{map-agrees, map-constant, map-set, named_at, one_place}
+use Rattle.trace_history.proofs.EventLists.{map-agrees, map-constant, map-set, named_at, one_index}
 
 -- ---- what changes
 
@@ -143,7 +143,7 @@ other-name events j index d distinct within inside other = by (bytes_eq (get_or 
     by true is =
         let names : (get_or events j d).name ≡ (get_or events index d).name =
         (bytes_eq-Decides (get_or events j d).name (name_at events index)).0 is ∙ sym (name_at-is events index d inside) in
-        absurd (other (one_place events j index d d distinct within inside names))
+        absurd (other (one_index events j index d d distinct within inside names))
 
 no_event : Definition
 no_event = record { name = []; fields = [] }

@@ -3,8 +3,9 @@ use Rattle.std.specs.Prelude.{◌≡◌, ℕ, ◌<◌, min, slice_index_or, slic
 use Rattle.std.specs.List.{Contains, remove}
 use Rattle.page_ring.specs.Events.{Event}
 use Rattle.trace_buffer.specs.Buffers as buffers
-use Rattle.trace_buffer.specs.Families.{with_cleared, all_cleared, cpu_readings, kept_count}
-use Rattle.trace_buffer.specs.Orders.{consume_any, after_cpu_reads}
+use Rattle.trace_buffer.specs.Families.{with_cleared, all_cleared, cpu_readings}
+use Rattle.trace_buffer.specs.Orders.{after_cpu_reads}
+use Rattle.trace_buffer.specs.CpuCounts.{after_reads_of_each}
 use Rattle.trace_filter.specs.Filters.{Parsed, parsed_of}
 use Rattle.trace_format.specs.Definitions.{Definition}
 use Rattle.trace_command.specs.Requests.{Request}
@@ -72,8 +73,8 @@ triggers_after change triggers = triggers
 
 -- the hist triggers of an event after a change, of those that `>` or `>>` left
 abbrev pub hists_changed : TriggerChange → List AttachedHist → List AttachedHist
-hists_changed (AttachHist attached) hists = hists ++ attached ∷ []
-hists_changed (MakeHist attached hist) hists = hists ++ attached ∷ []
+hists_changed (AttachHist attached) hists = hists ++ attached.value ∷ []
+hists_changed (MakeHist made) hists = hists ++ made.value.attached ∷ []
 hists_changed (DetachHist index) hists = remove hists index
 hists_changed change hists = hists
 
@@ -85,8 +86,8 @@ hists_after change hists = hists
 
 -- what is asked of the table of a number
 abbrev pub asks_triggers : TriggerChange → ℕ → Option Action
-asks_triggers (AttachHist attached) number = if attached.table == number then Some attached.spec.action else None
-asks_triggers (MakeHist attached hist) number = if attached.table == number then Some attached.spec.action else None
+asks_triggers (AttachHist attached) number = if attached.value.table == number then Some attached.value.spec.action else None
+asks_triggers (MakeHist made) number = if made.value.attached.table == number then Some made.value.attached.spec.action else None
 asks_triggers (AskTable table action) number = if table == number then Some action else None
 asks_triggers change number = None
 
@@ -96,7 +97,7 @@ asks change number = None
 
 -- the table of a number after a change: one that is made, or the one before, of which something may be asked
 abbrev pub table_changed : TriggerChange → ℕ → Option KeptTable → Option KeptTable
-table_changed (MakeHist attached hist) number found = if attached.table == number then Some (kept_table hist) else found
+table_changed (MakeHist made) number found = if made.value.attached.table == number then Some (kept_table made.value.hist) else found
 table_changed change number found = option_map (asked_if (asks_triggers change number)) found
 
 abbrev pub table_after : InstanceChange → ℕ → Option KeptTable → Option KeptTable
@@ -120,7 +121,7 @@ tracing_after change tracing = tracing
 abbrev pub rings_changed : ℕ → ℕ → InstanceChange → List (List Event) → List (List Event)
 rings_changed pages page_bytes Clear family = all_cleared family
 rings_changed pages page_bytes (ClearCpu cpu) family = with_cleared cpu family
-rings_changed pages page_bytes (Take limit) family = (consume_any pages page_bytes (min limit (kept_count pages page_bytes family)) family).family
+rings_changed pages page_bytes (Take counts) family = after_reads_of_each pages page_bytes counts family
 rings_changed pages page_bytes (TakeCpu cpu limit) family = after_cpu_reads cpu (min limit (length (cpu_readings pages page_bytes family cpu))) family
 rings_changed pages page_bytes change family = family
 
@@ -135,7 +136,7 @@ sides_changed cpus pages page_bytes change f = record { live = rings_changed pag
 -- a change of an event's triggers can be made where so many hist triggers are left: the one that it names is one of them, or there is room for one more
 abbrev pub IsPossible : TriggerChange → ℕ → Type 0
 IsPossible (AttachHist attached) many = many < 4
-IsPossible (MakeHist attached hist) many = many < 4
+IsPossible (MakeHist made) many = many < 4
 IsPossible (DetachHist index) many = index < many
 IsPossible change many = ⊤
 
@@ -188,8 +189,8 @@ pub record IsMadeFor (past : List Request) (attached : AttachedHist) (hist : See
 
 -- a hist trigger that is attached counts in a table that is there, or in one that is made with it
 abbrev pub IsJoinedBy : Option (List ℕ) → List Request → TriggerChange → Type 0
-IsJoinedBy name past (AttachHist attached) = Joins name past attached
-IsJoinedBy name past (MakeHist attached hist) = IsMadeFor past attached hist
+IsJoinedBy name past (AttachHist attached) = Joins name past attached.value
+IsJoinedBy name past (MakeHist made) = IsMadeFor past made.value.attached made.value.hist
 IsJoinedBy name past change = ⊤
 
 abbrev pub IsJoined : Option (List ℕ) → List Request → InstanceChange → Type 0

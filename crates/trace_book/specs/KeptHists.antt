@@ -20,7 +20,7 @@ use Rattle.trace_book.specs.declared.tables.Table.{Table}
 abbrev pub says_same : SpecSeen → AttachedHist → Bool
 says_same spec attached = is_same spec attached.spec
 
--- whether a text names its table
+-- whether a string names its table
 abbrev pub names_table_of : SpecSeen → AttachedHist → Bool
 names_table_of spec attached = is_name_of spec.name attached.spec.name
 
@@ -74,7 +74,7 @@ pub record TableStandsFor (name : Option (List ℕ)) (past : List Request) (tabl
 
 -- ---- what is done to them
 
--- what a text asks of a table
+-- what a string asks of a table
 abbrev pub asked : Action → KeptTable → KeptTable
 asked action k = record {
   spec = k.spec;

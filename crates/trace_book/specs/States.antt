@@ -107,7 +107,7 @@ counted_down (Some t) = Some (record { number = t.number; left = option_map (λ 
 
 -- what an emission does where it does nothing
 abbrev pub no_reach : Reach
-no_reach = record { records = false; passed = []; fires = false }
+no_reach = record { records = false; fires = false }
 
 -- what it does in the instance at an index
 abbrev pub reach_at : Reaches → ℕ → Reach
@@ -194,7 +194,7 @@ IsStep old new (Declare event) =
     (new.catalog ≡ old.catalog ++ event ∷ []) × (new.clock ≡ old.clock)
     × EachCame (λ i j. j ≡ with_event i) old.instances.items new.instances.items
 IsStep old new (Make named) =
-    (new.catalog ≡ old.catalog) × (new.clock ≡ old.clock) × (new.instances.items ≡ old.instances.items ++ named ∷ [])
+    (new.catalog ≡ old.catalog) × (new.clock ≡ old.clock) × (new.instances.items ≡ old.instances.items ++ named.value ∷ [])
 IsStep old new (Remove index) =
     (new.catalog ≡ old.catalog) × (new.clock ≡ old.clock)
     × (new.instances.items ≡ take index old.instances.items ++ drop (index + 1) old.instances.items)
@@ -283,7 +283,7 @@ pub record IsEmission (g : Config) (past : List Request) (request : Request) (in
 -- a change says of a request all that the definitions say of it, after this past, in this state
 abbrev pub IsChangeOf : Config → State → List Request → Request → Change → Type 0
 IsChangeOf g state past request (Declare event) = IsDeclared g past request event
-IsChangeOf g state past request (Make named) = IsMade g past request named
+IsChangeOf g state past request (Make named) = IsMade g past request named.value
 IsChangeOf g state past request (Remove index) = IsRemoved g past request index
 IsChangeOf g state past request (Instance index change) =
     (d : Named) → IsChanged g past request (slice_index_or state.instances.items index d).name
@@ -306,9 +306,10 @@ IsWritable None i = ⊤
 IsWritable (Some pending) i =
     IsRecord pending.bytes.items × (length pending.bytes.items ≤ i.sides.live.page_bytes) × (pending.cpu < buffers.cpus i.sides.live)
 
--- it is known of each instance the filters of which hist triggers of the event an emission passes
-abbrev pub ArePassed : Emission → ℕ → Reaches → List Named → Type 0
-ArePassed emission event reaches instances = AllReached (λ reach i. reach.passed ≡ passed_in emission event i) reaches instances
+-- of each instance, the filters of which hist triggers of the event an emission passes
+abbrev pub ArePassed : Emission → ℕ → List (List Bool) → List Named → Type 0
+ArePassed emission event passed instances =
+    (k : ℕ) (n : Named) → k < length instances → slice_index_or passed k [] ≡ passed_in emission event (slice_index_or instances k n).instance
 
 -- the hist triggers of the event at an index have the memory to count an emission
 abbrev pub CanCountRow : Emission → ℕ → InstanceSeen → Type 0
@@ -335,7 +336,7 @@ abbrev pub CanEmit : Config → State → Delivery → Type 0
 CanEmit g state delivery =
     (delivery.event < length state.catalog) × CanBeWritten g state.instances.items delivery.record
     × AllReached CanFire delivery.reaches state.instances.items
-    × ArePassed (row_of delivery) delivery.event delivery.reaches state.instances.items
+    × ArePassed (row_of delivery) delivery.event delivery.passed state.instances.items
     × All (λ (n : Named). CanCountRow (row_of delivery) delivery.event n.instance) state.instances.items
 
 -- what was prepared for a request, or why it is refused

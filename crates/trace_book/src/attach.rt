@@ -7,7 +7,7 @@ ghost use Rattle.trace_book.specs.KeptHists.{says_same};
 ghost use Rattle.trace_trigger.specs.TriggerTexts.{said_of};
 ghost use Rattle.trace_trigger.specs.declared.trigger.TriggerText.TheVariants as said;
 
-use crate::change::TriggerChange;
+use crate::change::{NewHist, TriggerChange};
 use crate::hists::{AttachedHist, EventHists, MOST_TRIGGERS};
 use crate::instance::Instance;
 use crate::trigger::Trigger;
@@ -102,7 +102,7 @@ impl<'a> EventTriggers<'a> {
         }
         self.check_room(written.append)?;
         match self.named_by(written.append, &spec) {
-            Some(other) => joined(written, spec, other),
+            Some(other) => joined(alloc, written, spec, other),
             None => made(alloc, event, written, spec),
         }
     }
@@ -180,20 +180,22 @@ fn asked_again(table: u64, action: Action) -> Result<TriggerChange, Refusal>
 
 // A hist trigger that counts in the table of another one, which it names, if it fits.
 fn joined(
+    alloc: Global,
     written: WrittenText<'_>,
     spec: HistSpec,
     other: &AttachedHist,
 ) -> Result<TriggerChange, Refusal>
-    ensures { result ≡ attaching.joined_change written.entry.number spec other.now }
+    ensures { attaching.IsJoinedChange written.entry.number spec other.now result }
 {
     if !spec.fits(&other.spec) {
         return Err(Refusal::TriggerExists);
     }
-    Ok(TriggerChange::AttachHist(AttachedHist {
+    let attached = AttachedHist {
         number: written.number,
         table: other.table,
         spec,
-    }))
+    };
+    Ok(TriggerChange::AttachHist(Box::new(alloc, attached)?))
 }
 
 // A hist trigger with a table of its own, which keeps what the string says too, and so reads it once more.
@@ -209,13 +211,15 @@ fn made(
     let TriggerText::Hist(again) = TriggerText::parse(alloc, written.text, event)? else {
         unreachable!();
     };
-    let hist = Hist::new(alloc, again)?;
-    let attached = AttachedHist {
-        number: written.number,
-        table: written.number,
-        spec,
+    let made = NewHist {
+        attached: AttachedHist {
+            number: written.number,
+            table: written.number,
+            spec,
+        },
+        hist: Hist::new(alloc, again)?,
     };
-    Ok(TriggerChange::MakeHist(attached, hist))
+    Ok(TriggerChange::MakeHist(Box::new(alloc, made)?))
 }
 
 // Whether a text attaches a hist trigger where none says the same.

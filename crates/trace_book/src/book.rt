@@ -6,9 +6,9 @@
 //!                        emission                       any other command
 //!   prepare   looks      prepare_emission: Delivery     prepare: Change and Reply      refusals are found here, in their order
 //!             grows      row, hists, record             the change itself              may be refused memory
-//!             grows      room in the history            room in the history            HistoryFull comes before Memory
+//!             writes     its entry ahead                its entry ahead                HistoryFull comes before Memory
 //!   commit    changes    deliver                        commit                         an emission's takes no memory
-//!             records    one entry more                 one entry more
+//!             records    the entry counts               the entry counts
 //! ```
 //!
 //! `commit` can be refused memory for a spare side, a hist trigger and its table, an event or an instance alone: all growth of such a command comes
@@ -34,8 +34,9 @@ use crate::memory::EmissionMemory;
 use crate::state::{Named, Prepared, State};
 use std::alloc::{AllocError, Global};
 use std::marker::Model;
-use trace_command::{Command, Config, Entry, Refusal, Reply};
+use trace_command::{Command, Config, Refusal, Reply};
 use trace_format::Catalog;
+use trace_log::{Entries, History};
 
 /// A tracer's book: what it was made with, the history of what was done, and what that has come to. It is worked through files as
 /// ftrace.rst describes them, one command at a time.
@@ -43,7 +44,7 @@ use trace_format::Catalog;
 pub struct Book {
     alloc: Global,
     config: Config,
-    entries: Vec<Entry>,
+    history: History,
     state: State,
     memory: EmissionMemory,
 }
@@ -74,7 +75,7 @@ impl Book {
         Ok(Book {
             alloc,
             config,
-            entries: Vec::new(alloc),
+            history: History::new(alloc),
             state: new_state(alloc, &config)?,
             memory: EmissionMemory::new(alloc),
         })
@@ -119,19 +120,18 @@ impl Book {
             Ok(delivery) => delivery,
             Err(refusal) => return refused(command, refusal),
         };
-        if self.config.history_limit <= self.entries.len() as u64 {
+        if self.config.history_limit <= self.history.len() as u64 {
             return refused_late(command, delivery, Refusal::HistoryFull);
         }
-        let Ok(()) = self.entries.reserve(1) else {
+        let Ok(()) = self
+            .history
+            .write_emission_ahead(ticket, by, event.as_bytes(), *cpu, *pid, pairs.as_slice())
+        else {
             return refused_late(command, delivery, Refusal::Memory);
         };
         self.state.deliver(&self.config, &delivery);
         self.memory.keep(delivery);
-        self.entries.push_reserved(Entry {
-            ticket,
-            by,
-            command,
-        });
+        self.history.append_written();
         Ok(Reply::Done)
     }
 
@@ -153,28 +153,24 @@ impl Book {
         let Prepared { change, reply } = self.state.prepare(
             self.alloc,
             &self.config,
-            self.entries.len() as u64,
+            self.history.len() as u64,
             &command,
         )?;
-        if self.entries.len() as u64 >= self.config.history_limit {
+        if self.history.len() as u64 >= self.config.history_limit {
             return Err(Refusal::HistoryFull);
         }
-        self.entries.reserve(1)?;
+        self.history.write_ahead(ticket, by, &command)?;
         self.state.commit(&self.config, change)?;
-        self.entries.push_reserved(Entry {
-            ticket,
-            by,
-            command,
-        });
+        self.history.append_written();
         Ok(reply)
     }
 
     /// The history, oldest entry first. It is legal: tickets rise, and each entry was done after those before it.
-    pub fn entries(&self) -> &[Entry]
-        ensures entries { result.now ≡ self.now.entries }
+    pub fn entries(&self) -> Entries<'_>
+        ensures entries { result ≡ self.now.entries }
         ensures legal { IsLegal self.now.config self.now.entries }
     {
-        &self.entries
+        self.history.entries()
     }
 
     /// The clock: how many emissions were done.

@@ -3,21 +3,22 @@
 ghost use Rattle.std.specs.Prelude.{◌≡◌};
 ghost use Rattle.trace_book.specs.Changes as changes;
 
-use crate::hists::{AttachedHist, MOST_TRIGGERS};
+use crate::hists::{AttachedHist, Passed};
 use crate::make::INSTANCES;
 use crate::state::Named;
 use crate::trigger::Trigger;
+use trace_buffer::CPUS;
 use trace_filter::Filter;
 use trace_format::{EventDef, Row};
 use trace_hist::{Action, Hist};
 
-/// What a command changes that is no emission.
+/// What a command changes that is no emission. It is moved from function to function whatever it is, so what needs much room lies in a box.
 #[derive(Drop)]
 pub(crate) enum Change {
     /// One more event is declared.
     Declare(EventDef),
     /// One more instance is there.
-    Make(Named),
+    Make(Box<Named>),
     /// The instance at this index is there no more.
     Remove(usize),
     /// The instance at this index is changed.
@@ -48,8 +49,8 @@ pub(crate) enum InstanceChange {
     Clear,
     /// A CPU's ring of the live side is emptied.
     ClearCpu(u32),
-    /// So many records are consumed, of all CPUs in the order of time.
-    Take(u64),
+    /// So many records of each CPU are consumed.
+    Take([u64; CPUS]),
     /// So many records of a CPU are consumed.
     TakeCpu(u32, u64),
     /// The sides are exchanged, where a spare one is made if there is none.
@@ -69,13 +70,20 @@ pub(crate) enum TriggerChange {
     /// The event's trigger for snapshots is removed.
     Detach,
     /// The event gets one more hist trigger, which counts in a table that is there.
-    AttachHist(AttachedHist),
-    /// The event gets one more hist trigger, and the instance this table, in which it counts.
-    MakeHist(AttachedHist, Hist),
+    AttachHist(Box<AttachedHist>),
+    /// The event gets one more hist trigger, and the instance a table, in which it counts.
+    MakeHist(Box<NewHist>),
     /// The hist trigger at this index, which says the same, is removed. The text is appended, since `>` leaves none.
     DetachHist(usize),
     /// What a text asks for is done to the table of this number, that of the hist trigger that says the same.
     AskTable(u64, Action),
+}
+
+/// A hist trigger, and the table that is made with it.
+#[derive(Drop)]
+pub(crate) struct NewHist {
+    pub attached: AttachedHist,
+    pub hist: Hist,
 }
 
 /// What becomes of an event's filter.
@@ -104,13 +112,11 @@ impl FilterChange {
     }
 }
 
-/// What an emission does in an instance.
+/// What an emission does in an instance, but for its hist triggers.
 #[derive(Clone, Copy)]
 pub(crate) struct Reach {
     /// Whether its record is written.
     pub records: bool,
-    /// Of each hist trigger of the event, by its index, whether it passes the filter.
-    pub passed: [bool; MOST_TRIGGERS],
     /// Whether it makes the event's trigger for snapshots act.
     pub fires: bool,
 }
@@ -123,7 +129,7 @@ pub(crate) struct Reaches {
 }
 
 /// What an emission brings to the instances: the index of its event; its row, which the event's hist triggers are offered, with its CPU and its
-/// process; what it does in each of them; and its record, if one records it.
+/// process; what it does in each of them; the filters of which hist triggers of each it passes; and its record, if one records it.
 #[derive(Drop)]
 pub(crate) struct Delivery {
     pub event: usize,
@@ -131,6 +137,7 @@ pub(crate) struct Delivery {
     pub cpu: u32,
     pub pid: i32,
     pub reaches: Reaches,
+    pub passed: [Passed; INSTANCES],
     pub record: Option<Pending>,
 }
 

@@ -1,4 +1,4 @@
-//! Emissions: a row is built once, each filter is asked once, and each hist trigger that it reaches has memory, before any instance is written to.
+//! Emissions: a row is built once, each filter is asked once, and each table that counts the row has memory, before any instance is written to.
 
 ghost use Rattle.std.specs.Prelude.{◌≡◌, ℕ, ◌+◌, ◌<◌, ◌≤◌, ◌^◌, true, List, [], length, All, slice_index_or, Some, IfOk, OnOk};
 ghost use Rattle.trace_buffer.specs.Buffers as buffers;
@@ -15,7 +15,7 @@ ghost use Rattle.trace_book.specs.declared.change.Pending.{Pending as PendingHer
 ghost use Rattle.trace_book.specs.States.{StandsFor, IsPreparedEmission, IsUsable, EachCame, CanCountRow, ArePassed};
 
 use crate::change::{Delivery, Pending, Reach, Reaches};
-use crate::hists::MOST_TRIGGERS;
+use crate::hists::{MOST_TRIGGERS, Passed};
 use crate::make::INSTANCES;
 use crate::memory::EmissionMemory;
 use crate::resolve::find_likely;
@@ -55,7 +55,7 @@ impl State {
         let size = payload_size(found.event);
         let row = memory.row(found.event, pairs)?;
         let reaches = reach_each(&self.instances, index, &row, cpu, pid);
-        self.reserve_hits(&reaches, index, &row, cpu, pid)?;
+        let passed = self.reserve_hits(index, &row, cpu, pid)?;
         let pending = self.write_ahead(memory, &reaches, index, cpu, pid, size, &row)?;
         Ok(Delivery {
             event: index,
@@ -63,28 +63,30 @@ impl State {
             cpu,
             pid,
             reaches,
+            passed,
             record: pending,
         })
     }
 
-    // Takes the memory that the hist triggers of the event at this index need to count a row, in each instance.
+    // Asks the filters of the hist triggers of the event at this index about a row, in each instance, and takes the memory to count it for those
+    // which it passes.
     fn reserve_hits(
         &mut self,
-        reaches: &Reaches,
         index: usize,
         row: &Row,
         cpu: u32,
         pid: i32,
-    ) -> Result<(), AllocError>
+    ) -> Result<[Passed; INSTANCES], AllocError>
         requires few { length self.old.instances.items ≤ 8 }
         requires index { All (λ n. index < length n.instance.hists) self.old.instances.items }
         requires agree { All (λ n. KeysAgree (slice_index_or n.instance.hists index [])) self.old.instances.items }
-        requires passed { ArePassed (record { values = row.now.values; cpu = cpu; pid = pid }) index reaches.now self.old.instances.items }
         ensures alike { emissions.IsStateAlike self.old self.new }
+        ensures passed { IfOk result (λ passed. ArePassed (record { values = row.now.values; cpu = cpu; pid = pid }) index passed
+            self.old.instances.items) }
         ensures counted { OnOk result (All (λ n. CanCountRow (record { values = row.now.values; cpu = cpu; pid = pid }) index n.instance)
             self.new.instances.items) }
     {
-        reserve_each(&mut self.instances, reaches, index, row, cpu, pid)
+        reserve_each(&mut self.instances, index, row, cpu, pid)
     }
 
     // The record of an emission of the event at this index, which does this in each instance; none if no instance records it.
@@ -113,18 +115,16 @@ impl State {
     }
 }
 
-// What an emission of the event at this index does in each instance.
+// What an emission of the event at this index does in each instance, but for its hist triggers.
 fn reach_each(instances: &[Named], event: usize, row: &Row, cpu: u32, pid: i32) -> Reaches
     requires few { length instances.now ≤ 8 }
     requires enabled { All (λ n. event < length n.instance.enabled) instances.now }
     requires filters { All (λ n. event < length n.instance.filters) instances.now }
     requires triggers { All (λ n. event < length n.instance.triggers) instances.now }
-    requires hists { All (λ n. event < length n.instance.hists) instances.now }
     ensures { emissions.AreReached event row.now cpu pid result instances.now }
 {
     let nothing = Reach {
         records: false,
-        passed: [false; MOST_TRIGGERS],
         fires: false,
     };
     let mut each = [nothing; INSTANCES];
@@ -137,25 +137,27 @@ fn reach_each(instances: &[Named], event: usize, row: &Row, cpu: u32, pid: i32) 
     Reaches { each, recorded }
 }
 
-// Takes the memory that the hist triggers of the event at this index need to count a row, in each instance.
+// Asks the filters of the hist triggers of the event at this index about a row, in each instance, and takes the memory to count it for those which
+// it passes.
 fn reserve_each(
     instances: &mut [Named],
-    reaches: &Reaches,
     event: usize,
     row: &Row,
     cpu: u32,
     pid: i32,
-) -> Result<(), AllocError>
+) -> Result<[Passed; INSTANCES], AllocError>
     requires few { length instances.old ≤ 8 }
     requires event { All (λ n. event < length n.instance.hists) instances.old }
     requires agree { All (λ n. KeysAgree (slice_index_or n.instance.hists event [])) instances.old }
-    requires passed { ArePassed (record { values = row.now.values; cpu = cpu; pid = pid }) event reaches.now instances.old }
     ensures alike { EachCame IsAlike instances.old instances.new }
+    ensures passed { IfOk result (λ passed. ArePassed (record { values = row.now.values; cpu = cpu; pid = pid }) event passed instances.old) }
     ensures counted { OnOk result (All (λ n. CanCountRow (record { values = row.now.values; cpu = cpu; pid = pid }) event n.instance) instances.new) }
 {
+    let mut passed = [[false; MOST_TRIGGERS]; INSTANCES];
     for i in 0..instances.len() {
-        let passed = reaches.each[i].passed;
-        instances[i].instance.reserve(passed, event, row, cpu, pid)?;
+        if instances[i].instance.has_hists(event) {
+            passed[i] = instances[i].instance.reserve(event, row, cpu, pid)?;
+        }
     }
-    Ok(())
+    Ok(passed)
 }

@@ -1,6 +1,6 @@
 //! The hist triggers of an event, as an instance keeps them (histogram.rst, "hist triggers").
 
-ghost use Rattle.std.specs.Prelude.{◌≡◌, ℕ, ◌+◌, ◌<◌, ◌≤◌, ◌^◌, true, if◌then◌else◌, [], ◌∷◌, ◌++◌, length, position, All, IfSome, OnOk, OnErr, option_copied, is_some};
+ghost use Rattle.std.specs.Prelude.{◌≡◌, ℕ, ◌+◌, ◌<◌, ◌≤◌, ◌^◌, true, if◌then◌else◌, [], ◌∷◌, ◌++◌, length, position, All, IfOk, IfSome, OnOk, OnErr, option_copied, is_some};
 ghost use Rattle.std.specs.List.{find, remove};
 ghost use Rattle.trace_book.specs.private.Commands.{shown_attached};
 ghost use Rattle.trace_book.specs.KeptHists as kept;
@@ -18,6 +18,9 @@ use trace_text::Shown;
 
 /// How many triggers an event may have in an instance, of all kinds.
 pub(crate) const MOST_TRIGGERS: usize = 4;
+
+/// Of each hist trigger of an event, by its index, whether an emission passes its filter; `false` where there is none.
+pub(crate) type Passed = [bool; MOST_TRIGGERS];
 
 /// A hist trigger that is attached.
 #[derive(Drop)]
@@ -150,13 +153,10 @@ impl EventHists {
         let _removed = self.hists.remove(index);
     }
 
-    /// Of each, by its index, whether a row passes its filter; `false` where there is none.
-    pub(crate) fn passed(&self, row: &Row, cpu: u32, pid: i32) -> [bool; MOST_TRIGGERS]
+    // The filters of which of them a row passes.
+    fn passed(&self, row: &Row, cpu: u32, pid: i32) -> Passed
         ensures { result ≡ kept.passed (record { values = row.now.values; cpu = cpu; pid = pid }) self.now }
     {
-        if self.hists.is_empty() {
-            return [false; MOST_TRIGGERS];
-        }
         [
             self.is_passed(0, row, cpu, pid),
             self.is_passed(1, row, cpu, pid),
@@ -175,40 +175,33 @@ impl EventHists {
         self.hists[index].spec.passes(row, cpu, pid)
     }
 
-    /// Takes the memory that their tables need to count a row. It is known which of the filters that passes.
+    /// Asks the filter of each about a row, and takes the memory to count it in the tables of those whose filter it passes. It tells which these are.
     pub(crate) fn reserve(
         &self,
         tables: &mut [Table],
-        passed: [bool; MOST_TRIGGERS],
         row: &Row,
         cpu: u32,
         pid: i32,
-    ) -> Result<(), AllocError>
+    ) -> Result<Passed, AllocError>
         requires agree { kept.KeysAgree self.now }
-        requires passed { passed ≡ kept.passed (record { values = row.now.values; cpu = cpu; pid = pid }) self.now }
+        ensures passed { IfOk result (λ passed. passed ≡ kept.passed (record { values = row.now.values; cpu = cpu; pid = pid }) self.now) }
         ensures alike { (number : ℕ) → kept_at number tables.new ≡ kept_at number tables.old }
         ensures ready { OnOk result (All (kept.CanCount (record { values = row.now.values; cpu = cpu; pid = pid }) tables.new) self.now) }
     {
+        let passed = self.passed(row, cpu, pid);
         for i in 0..self.hists.len() {
             if passed[i] {
                 let attached = &self.hists[i];
                 tables::reserve(tables, attached.table, &attached.spec, row, cpu, pid)?;
             }
         }
-        Ok(())
+        Ok(passed)
     }
 
     /// Counts a row in the table of each whose filter it passes, unless that is paused.
-    pub(crate) fn hit(
-        &self,
-        tables: &mut [Table],
-        passed: [bool; MOST_TRIGGERS],
-        row: &Row,
-        cpu: u32,
-        pid: i32,
-    )
+    pub(crate) fn hit(&self, tables: &mut [Table], passed: &Passed, row: &Row, cpu: u32, pid: i32)
         requires agree { kept.KeysAgree self.now }
-        requires passed { passed ≡ kept.passed (record { values = row.now.values; cpu = cpu; pid = pid }) self.now }
+        requires passed { passed.now ≡ kept.passed (record { values = row.now.values; cpu = cpu; pid = pid }) self.now }
         requires ready { All (kept.CanCount (record { values = row.now.values; cpu = cpu; pid = pid }) tables.old) self.now }
         requires few { All (kept.HasRoomToCount tables.old) self.now }
         ensures { kept.AreHit (record { values = row.now.values; cpu = cpu; pid = pid }) self.now tables.old tables.new }

@@ -15,7 +15,7 @@ ghost use Rattle.trace_book.specs.States.{with_event};
 ghost use Rattle.trace_book.specs.private.Tables.{AreSet};
 ghost use Rattle.trace_book.specs.declared.change.TriggerChange.TheVariants as attaching;
 
-use crate::change::{FilterChange, InstanceChange, TriggerChange};
+use crate::change::{FilterChange, InstanceChange, NewHist, TriggerChange};
 use crate::hists::{AttachedHist, EventHists};
 use crate::tables;
 use crate::tables::Table;
@@ -25,7 +25,6 @@ use std::alloc::{AllocError, Global};
 use std::marker::Model;
 use trace_buffer::Buffer;
 use trace_filter::Filter;
-use trace_hist::Hist;
 use trace_snapshot::Sides;
 
 /// How many events there may ever be.
@@ -241,9 +240,7 @@ impl Instance {
             InstanceChange::SetTracing(flag) => self.tracing = flag,
             InstanceChange::Clear => self.sides.live_mut().clear(),
             InstanceChange::ClearCpu(cpu) => self.sides.live_mut().clear_cpu(cpu),
-            InstanceChange::Take(count) => {
-                let _taken = self.sides.live_mut().take_any(count);
-            }
+            InstanceChange::Take(counts) => self.sides.live_mut().take_each(&counts),
             InstanceChange::TakeCpu(cpu, count) => {
                 let _taken = self.sides.live_mut().take_cpu(cpu, count);
             }
@@ -298,7 +295,7 @@ impl Instance {
                 self.triggers[event] = None;
             }
             TriggerChange::AttachHist(attached) => self.join(event, append, attached)?,
-            TriggerChange::MakeHist(attached, hist) => self.make(event, append, attached, hist)?,
+            TriggerChange::MakeHist(made) => self.make(event, append, made)?,
             TriggerChange::DetachHist(index) => self.hists[event].remove(index),
             TriggerChange::AskTable(table, action) => {
                 self.hists[event].keep(append);
@@ -309,7 +306,12 @@ impl Instance {
     }
 
     // Attaches a hist trigger that counts in a table that is there, and asks of that what the trigger's text asks for.
-    fn join(&mut self, event: usize, append: bool, attached: AttachedHist) -> Result<(), AllocError>
+    fn join(
+        &mut self,
+        event: usize,
+        append: bool,
+        attached: Box<AttachedHist>,
+    ) -> Result<(), AllocError>
         requires hists { event < length self.old.hists }
         requires few { length (if append then slice_index_or self.old.hists event [] else []) < 4 }
         ensures joined { OnOk result (AreSet event append (attaching.AttachHist attached) self.old self.new) }
@@ -317,25 +319,20 @@ impl Instance {
     {
         let table = attached.table;
         let action = attached.spec.action();
-        self.hists[event].attach(append, attached)?;
+        self.hists[event].attach(append, Box::into_inner(attached))?;
         tables::ask(&mut self.tables, table, action);
         Ok(())
     }
 
     // Attaches a hist trigger, with a table for it.
-    fn make(
-        &mut self,
-        event: usize,
-        append: bool,
-        attached: AttachedHist,
-        hist: Hist,
-    ) -> Result<(), AllocError>
+    fn make(&mut self, event: usize, append: bool, made: Box<NewHist>) -> Result<(), AllocError>
         requires hists { event < length self.old.hists }
         requires few { length (if append then slice_index_or self.old.hists event [] else []) < 4 }
-        ensures made { OnOk result (AreSet event append (attaching.MakeHist attached hist) self.old self.new) }
+        ensures made { OnOk result (AreSet event append (attaching.MakeHist made) self.old self.new) }
         ensures refused { OnErr result (self.new ≡ self.old) }
     {
         self.tables.reserve(1)?;
+        let NewHist { attached, hist } = Box::into_inner(made);
         let number = attached.table;
         self.hists[event].attach(append, attached)?;
         self.tables.insert(0, Table { number, hist }).unwrap();

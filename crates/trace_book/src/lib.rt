@@ -27,3 +27,4 @@ pub use trace_command::{Command, Config, Entry, Pairs, Refusal, Reply};
 pub use trace_format::Pair;
 pub use trace_history::laws;
 pub use trace_lex::Text;
+pub use trace_log::Entries;

@@ -45,8 +45,9 @@ impl State {
             return Err(Refusal::TooMany);
         }
         let named = new_instance(alloc, config, name, self.catalog.len())?;
+        let boxed = Box::new(alloc, named)?;
         Ok(Prepared {
-            change: Change::Make(named),
+            change: Change::Make(boxed),
             reply: Reply::Done,
         })
     }

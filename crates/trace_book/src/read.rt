@@ -7,6 +7,7 @@ ghost use Rattle.trace_command.specs.declared.command.Config.{Config};
 ghost use Rattle.trace_command.specs.declared.file_name.CpuFile.TheVariants as per_cpu;
 ghost use Rattle.trace_command.specs.declared.file_name.TopFile.TheVariants as top;
 ghost use Rattle.trace_history.specs.FileTexts as file_texts;
+ghost use Rattle.trace_history.specs.History as history;
 ghost use Rattle.trace_history.specs.Settings.{declared_events};
 ghost use Rattle.trace_buffer.specs.Buffers as buffers;
 ghost use Rattle.trace_format.specs.Definitions.{Definition};
@@ -23,6 +24,7 @@ use crate::resolve::{File, event_at};
 use crate::shown::{shown_hists, shown_in_order};
 use crate::text::{filter_text, flag_text, mixture_text, option_text, push_declarations};
 use std::alloc::{AllocError, Global};
+use trace_buffer::count_each;
 use trace_command::{CpuFile, EventFile, Refusal, Reply, TopFile};
 use trace_format::Catalog;
 use trace_lex::Text;
@@ -86,7 +88,7 @@ fn text_of_instance(
 ) -> Result<Text, AllocError>
     ensures { (g : Config) (name : Option (List ℕ)) (past : List Request)
         → IsSource g name past source.entry
-        → IfOk result (λ text. text ≡ file_texts.text_of g name past (paths.OfInstance file)) }
+        → IfOk result (λ text. text ≡ history.text_of g name past (paths.OfInstance file)) }
 {
     let instance = source.instance;
     match file {
@@ -110,7 +112,7 @@ fn text_of_cpu(
     requires { cpu < buffers.cpus source.instance.now.sides.live }
     ensures { (g : Config) (name : Option (List ℕ)) (past : List Request)
         → IsSource g name past source.entry
-        → IfOk result (λ text. text ≡ file_texts.text_of g name past (paths.OfCpu cpu file)) }
+        → IfOk result (λ text. text ≡ history.text_of g name past (paths.OfCpu cpu file)) }
 {
     match file {
         CpuFile::Trace => trace(alloc, source, Some(cpu)),
@@ -130,7 +132,7 @@ fn text_of_event(
     requires event { HasAll source event }
     ensures { (g : Config) (name : Option (List ℕ)) (past : List Request)
         → IsSource g name past source.entry
-        → IfOk result (λ text. text ≡ file_texts.text_of g name past (paths.OfEvent (name_at source.entry.catalog.now event) file)) }
+        → IfOk result (λ text. text ≡ history.text_of g name past (paths.OfEvent (name_at source.entry.catalog.now event) file)) }
 {
     let instance = source.instance;
     match file {
@@ -240,18 +242,25 @@ pub(crate) fn declarations(alloc: Global, catalog: &Catalog) -> Result<Text, All
     Ok(Text::from(out))
 }
 
-// What the pipe of all CPUs gives, up to a limit. The string is built before anything is consumed.
+// What the pipe of all CPUs gives, up to a limit. The string is built before anything is consumed. Which records these are is found once: the
+// change only says how many of each CPU they are.
 #[tactic(auto, unfolding(trace_history::specs::FileTexts::shown_pipe))]
 fn read_pipe(alloc: Global, source: FileSource<'_>, limit: Option<u64>) -> Result<Shown, Refusal>
     ensures { (g : Config) (name : Option (List ℕ)) (past : List Request)
         → IsSource g name past source.entry → IsRead g name past limit (paths.OfInstance top.TracePipe) result }
 {
+    // Theorems: a buffer has a list of events for each CPU, and so many records of each are the ones that are shown.
+    trace_buffer::laws::one_list_each();
+    trace_buffer::laws::reads_of_each_leave_the_same();
+    let buffer = source.instance.buffer();
+    // What is known of it bounds the lists.
+    let _cpus = buffer.cpus();
     let most = limit.unwrap_or(u64::MAX);
-    let taken = source.instance.buffer().preview_any(most)?;
+    let taken = buffer.preview_any(most)?;
     let mut out = Vec::new(alloc);
     pipe_text(alloc, source.catalog, &taken, &mut out)?;
     Ok(Shown {
-        change: InstanceChange::Take(most),
+        change: InstanceChange::Take(count_each(&taken)),
         reply: Reply::Text(Text::from(out)),
     })
 }

@@ -52,7 +52,7 @@ impl State {
                 self.catalog.add(event, config.page_bytes as usize)?;
                 add_event(&mut self.instances);
             }
-            Change::Make(named) => self.instances.push(named)?,
+            Change::Make(named) => self.instances.push(Box::into_inner(named))?,
             Change::Remove(index) => {
                 let _named = self.instances.remove(index);
             }
@@ -107,7 +107,7 @@ fn deliver_each(instances: &mut [Named], delivery: &Delivery)
     requires record { All (λ n. states.IsWritable delivery.now.record n.instance) instances.old }
     requires hists { All (λ n. delivery.now.event < length n.instance.hists) instances.old }
     requires agree { All (λ n. KeysAgree (slice_index_or n.instance.hists delivery.now.event [])) instances.old }
-    requires passed { states.ArePassed (states.row_of delivery.now) delivery.now.event delivery.now.reaches instances.old }
+    requires passed { states.ArePassed (states.row_of delivery.now) delivery.now.event delivery.now.passed instances.old }
     requires counted { All (λ n. states.CanCountRow (states.row_of delivery.now) delivery.now.event n.instance) instances.old }
     requires few_rows { All (λ n. states.HasFewRows n.instance) instances.old }
     requires few { All (λ n. states.HasFew n.instance) instances.old }
@@ -117,6 +117,6 @@ fn deliver_each(instances: &mut [Named], delivery: &Delivery)
     for i in 0..instances.len() {
         instances[i]
             .instance
-            .deliver(delivery, delivery.reaches.each[i]);
+            .deliver(delivery, delivery.reaches.each[i], &delivery.passed[i]);
     }
 }

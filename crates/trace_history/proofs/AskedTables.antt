@@ -1,5 +1,6 @@
 -- What is asked of tables, through any of their triggers, and what leaves them as they are.
-use Rattle.std.proofs.Common.{◌≡◌, inl, inr, ℕ, Bool, true, false, ◌||◌, if◌then◌else◌, List, [], ◌∷◌, ◌++◌, length, Option, None, Some, option_map, Ok, refl, sym, ap, ◌∙◌, subst, append-nil}
+use Rattle.std.proofs.Common.{◌≡◌, inl, inr, ℕ, Bool, true, false, ◌||◌, if◌then◌else◌, List, [], ◌∷◌, ◌++◌, length, Option, None, Some, option_map, Ok, refl, sym, ap, ◌∙◌, subst, append-nil, ◌==◌, eqb-true}
+use Rattle.std.proofs.lemmas.Bool.{false≢true}
 use Rattle.std.proofs.lemmas.Slice.Eq.{bytes_eq-Decides}
 use Rattle.trace_hist.specs.Hits.{Hit}
 use Rattle.trace_format.specs.Definitions.{Definition}
@@ -7,7 +8,7 @@ use Rattle.trace_trigger.specs.HistSpecs.{SpecSeen}
 use Rattle.trace_trigger.specs.SameSpecs.{IsSame}
 use Rattle.trace_trigger.specs.TriggerTexts.{said_of}
 use Rattle.trace_trigger.specs.declared.spec.Action.{Action}
-use Rattle.trace_trigger.specs.declared.spec.Action.TheVariants.{Clear}
+use Rattle.trace_trigger.specs.declared.spec.Action.TheVariants.{Attach, Pause, Clear}
 use Rattle.trace_trigger.specs.declared.trigger.TriggerText.TheVariants.{Hist}
 use Rattle.trace_command.specs.Paths.{OfEvent}
 use Rattle.trace_command.specs.Requests.{Request, WriteFile}
@@ -16,14 +17,14 @@ use Rattle.trace_history.specs.Emissions.{Emitted, emitted}
 use Rattle.trace_history.specs.HistTriggers.{HistTrigger, Written, asked_by, counted_by, empties, has_same, hist_triggers, hists_after, hists_of, hits_of, is_of, is_pause, is_paused, paused_after, says_same, those_of, written_for, written_to}
 use Rattle.trace_history.specs.Laws.{IsAttachedBy}
 use Rattle.trace_history.specs.Settings.{NumberedEvent, event_named}
-use Rattle.trace_history.specs.TableLaws.{ClearsLeaveNone, OtherRequestsLeaveHistTriggers, OtherRequestsLeaveTables, TablesAreAskedThroughEach, TablesBeginEmpty}
+use Rattle.trace_history.specs.TableLaws.{ClearsLeaveNone, JoiningPausesOrLeaves, OtherRequestsLeaveHistTriggers, OtherRequestsLeaveTables, OtherTriggersLeaveTables, TablesAreAskedThroughEach, TablesBeginEmpty}
 use Rattle.trace_history.proofs.AttachedHists.{attached-then, is-there}
 use Rattle.trace_history.proofs.EventHists.{hists_of-after, own_after}
 use Rattle.trace_history.proofs.HistTriggers.{same-itself, same-there}
 use Rattle.trace_history.proofs.Members.{IsIn, all-in, each-in, filter-in, in-all}
 use Rattle.trace_history.proofs.OwnFiles.{IsNamed, all-named}
 use Rattle.trace_history.proofs.PipeReads.{is_same-self}
-use Rattle.trace_history.proofs.TableSteps.{asked-through, asked-unwritten, nothing-counted, table-new}
+use Rattle.trace_history.proofs.TableSteps.{asked-none, asked-through, asked-unwritten, emitted-unwritten, nothing-counted, table-new}
 
 -- ---- what is asked through a trigger
 
@@ -121,6 +122,40 @@ tables_begin_empty instance past request =
         (asked-new instance past request t (attached-then instance past request t there is)) in
         (new.1, new.0)
 
+-- ---- tables that are joined
+
+-- what emits nothing and empties no table leaves the rows that it counted
+rows-stay : (instance : Option (List ℕ)) (table : ℕ) (past : List Request) (request : Request) → empties (asked_by instance table past request) ≡ false
+    → emitted past request ≡ None → hits_of instance table (request ∷ past) ≡ hits_of instance table past
+rows-stay instance table past request kept quiet =
+    ap (λ (b : Bool). if b then [] else hits_of instance table past
+    ++ counted_by table (is_paused instance table past) (hist_triggers instance past) (emitted past request)) kept
+    ∙ ap (λ (o : Option Emitted). hits_of instance table past ++ counted_by table (is_paused instance table past) (hist_triggers instance past) o) quiet
+    ∙ ap (λ (rows : List Hit). hits_of instance table past ++ rows)
+    (nothing-counted table (is_paused instance table past) (hist_triggers instance past))
+    ∙ append-nil (hits_of instance table past)
+
+-- what writes to a trigger file emits nothing
+written-quiet : (instance : Option (List ℕ)) (past : List Request) (request : Request) (w : Written) → written_to instance past request ≡ Some w
+    → emitted past request ≡ None
+written-quiet instance past request w written = by (emitted past request) refl
+  where
+    by : (e : Option Emitted) → emitted past request ≡ e → e ≡ None
+    by None is = refl
+    by (Some e) is = let none : None ≡ Some w = sym (emitted-unwritten instance past request e is) ∙ written in absurd (cc)
+
+pub joining_pauses_or_leaves : JoiningPausesOrLeaves
+joining_pauses_or_leaves instance t past request by =
+    let asked = asked-new instance past request t by in
+    let after : (a : Action) → t.spec.action ≡ a
+    → is_paused instance t.table (request ∷ past) ≡ paused_after (Some a) (is_paused instance t.table past) =
+    λ a is. ap (λ (o : Option Action). paused_after o (is_paused instance t.table past)) asked
+    ∙ ap (λ (b : Action). paused_after (Some b) (is_paused instance t.table past)) is in (
+      after Pause,
+      after Attach,
+      λ kept. rows-stay instance t.table past request (ap empties asked ∙ kept) (written-quiet instance past request _ by.written),
+    )
+
 -- ---- all other requests
 
 pub other_requests_leave_hist_triggers : OtherRequestsLeaveHistTriggers
@@ -135,11 +170,24 @@ other_requests_leave_tables instance table past request unwritten =
     (λ t there. all-in (λ (u : HistTrigger). u.table ≡ table → written_for u.event (written_to instance past request) ≡ None) t
     (hist_triggers instance (request ∷ past)) unwritten there) in (
       ap (λ (a : Option Action). paused_after a (is_paused instance table past)) none,
-      λ quiet. ap (λ (a : Option Action). if empties a then [] else hits_of instance table past
-          ++ counted_by table (is_paused instance table past) (hist_triggers instance past) (emitted past request)) none
-          ∙ ap (λ (o : Option Emitted). hits_of instance table past ++ counted_by table (is_paused instance table past)
-          (hist_triggers instance past) o) quiet
-          ∙ ap (λ (rows : List Hit). hits_of instance table past ++ rows)
-          (nothing-counted table (is_paused instance table past) (hist_triggers instance past))
-          ∙ append-nil (hits_of instance table past),
+      λ quiet. rows-stay instance table past request (ap empties none) quiet,
     )
+
+pub other_triggers_leave_tables : OtherTriggersLeaveTables
+other_triggers_leave_tables instance table past request unsaid =
+    let none : asked_by instance table past request ≡ None = asked-none instance table past request apart in (
+      ap (λ (a : Option Action). paused_after a (is_paused instance table past)) none,
+      λ quiet. rows-stay instance table past request (ap empties none) quiet,
+    )
+  where
+    apart : (w : Written) (spec : SpecSeen) (t : HistTrigger) → written_to instance past request ≡ Some w → said_of w.event w.text ≡ Ok (Hist spec)
+        → IsIn t (hist_triggers instance (request ∷ past)) → is_of w.event t ≡ true → says_same spec t ≡ true → (t.table == table) ≡ false
+    apart w spec t written said there own says = by (t.table == table) refl
+      where
+        by : (same : Bool) → (t.table == table) ≡ same → same ≡ false
+        by true is =
+            let differs : says_same spec t ≡ false =
+            all-in (λ (u : HistTrigger). u.table ≡ table → is_of w.event u ≡ true → says_same spec u ≡ false) t
+            (hist_triggers instance (request ∷ past)) (unsaid w spec written said) there (eqb-true t.table table is) own in
+            absurd (false≢true (sym differs ∙ says))
+        by false is = refl

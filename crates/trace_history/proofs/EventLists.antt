@@ -22,7 +22,7 @@ map-constant f v (x ∷ xs) d agree =
     let rest = map-constant f v xs d (λ j inside. agree (suc j) (omega (arith, inside))) in
     cc
 
--- a function that differs from another at one place
+-- a function that differs from another at one index
 pub map-set : {A B : Type 0} (f h : A → B) (v : B) (xs : List A) (i : ℕ) (d : A) → i < length xs → h (get_or xs i d) ≡ v
     → ((j : ℕ) → j < length xs → (j ≡ i → ⊥) → h (get_or xs j d) ≡ f (get_or xs j d)) → map h xs ≡ set (map f xs) i v
 map-set f h v [] i d inside here others = absurd (omega arith)
@@ -34,7 +34,7 @@ map-set f h v (x ∷ xs) (suc i) d inside here others =
     let rest = map-set f h v xs i d (omega arith) here (λ j within other. others (suc j) (omega (arith, within)) (λ e. other (omega (arith, e)))) in
     cc
 
--- each event has the number of its place
+-- the number of each event is one more than its index
 pub id_at : (events : List Definition) (j : ℕ) (d : Definition) → AreEvents [] events → j < length events → id_of events (get_or events j d).name ≡ Some (suc j)
 id_at events j d are inside = (found_event events (suc j) (get_or events j d) are (slice_get-get_or events j d inside)).named
 
@@ -43,9 +43,9 @@ pub named_at : (events : List Definition) (j : ℕ) (d : Definition) → AreEven
 named_at events j d are inside = rw (id_at events j d are inside, slice_get-get_or events j d inside) refl
 
 -- no two have one name
-pub one_place : (events : List Definition) (i j : ℕ) (d e : Definition) → AreEvents [] events → i < length events → j < length events
+pub one_index : (events : List Definition) (i j : ℕ) (d e : Definition) → AreEvents [] events → i < length events → j < length events
     → (get_or events i d).name ≡ (get_or events j e).name → i ≡ j
-one_place events i j d e are first second same =
+one_index events i j d e are first second same =
     let ids : Some (suc i) ≡ Some (suc j) = sym (id_at events i d are first) ∙ ap (id_of events) same ∙ id_at events j e are second in
     let same_id : suc i ≡ suc j = cc in
     omega (arith, same_id)

@@ -14,67 +14,67 @@ abbrev pub found_from : ℕ → List ℕ → List Definition → Option Numbered
 found_from id name [] = None
 found_from id name (event ∷ events) = cond (bytes_eq name event.name) (Some (record { id = id; event = event })) (found_from (id + 1) name events)
 
--- the place of a name, or the number of events
-place : List ℕ → List Definition → ℕ
-place name events = position_or_len (λ (event : Definition). bytes_eq name event.name) events
+-- the index of a name, or the number of events
+index : List ℕ → List Definition → ℕ
+index name events = position_or_len (λ (event : Definition). bytes_eq name event.name) events
 
-place-none : (name : List ℕ) → place name [] ≡ 0
-unfolding place
-place-none name = refl
+index-none : (name : List ℕ) → index name [] ≡ 0
+unfolding index
+index-none name = refl
 
-place-first : (name : List ℕ) (event : Definition) (events : List Definition) → bytes_eq name event.name ≡ true → place name (event ∷ events) ≡ 0
-unfolding place
-place-first name event events is = rw is refl
+index-first : (name : List ℕ) (event : Definition) (events : List Definition) → bytes_eq name event.name ≡ true → index name (event ∷ events) ≡ 0
+unfolding index
+index-first name event events is = rw is refl
 
-place-next : (name : List ℕ) (event : Definition) (events : List Definition) → bytes_eq name event.name ≡ false
-    → place name (event ∷ events) ≡ suc (place name events)
-unfolding place
-place-next name event events is = rw is (omega arith)
+index-next : (name : List ℕ) (event : Definition) (events : List Definition) → bytes_eq name event.name ≡ false
+    → index name (event ∷ events) ≡ suc (index name events)
+unfolding index
+index-next name event events is = rw is (omega arith)
 
-id-is_place : (name : List ℕ) (events : List Definition)
-    → id_of events name ≡ option_map (λ (i : ℕ). i + 1) (cond (ltb (place name events) (length events)) (Some (place name events)) None)
-unfolding place
-id-is_place name events = refl
+id-is_index : (name : List ℕ) (events : List Definition)
+    → id_of events name ≡ option_map (λ (i : ℕ). i + 1) (cond (ltb (index name events) (length events)) (Some (index name events)) None)
+unfolding index
+id-is_index name events = refl
 
 ltb-next : (p n : ℕ) → ltb (suc p) (suc n) ≡ ltb p n
 ltb-next p n = grind (arith, nat_tests)
 
--- the event at a place, as found
-at_place : ℕ → ℕ → List Definition → Option NumberedEvent
-at_place id p events = cond (ltb p (length events)) (option_map (λ (e : Definition). record { id = id + p; event = e }) (slice_get events p)) None
+-- the event at an index, as found
+at_index : ℕ → ℕ → List Definition → Option NumberedEvent
+at_index id p events = cond (ltb p (length events)) (option_map (λ (e : Definition). record { id = id + p; event = e }) (slice_get events p)) None
 
-at_place-first : (id : ℕ) (event : Definition) (events : List Definition) → at_place id 0 (event ∷ events) ≡ Some (record { id = id; event = event })
-unfolding at_place
-at_place-first id event events =
+at_index-first : (id : ℕ) (event : Definition) (events : List Definition) → at_index id 0 (event ∷ events) ≡ Some (record { id = id; event = event })
+unfolding at_index
+at_index-first id event events =
     let inside : ltb 0 (suc (length events)) ≡ true = grind (arith, nat_tests) in
     rw inside (ap (λ (n : ℕ). Some (let k : NumberedEvent = record { id = n; event = event } in k)) (omega arith))
 
-at_place-next : (id p : ℕ) (event : Definition) (events : List Definition) → at_place id (suc p) (event ∷ events) ≡ at_place (id + 1) p events
-unfolding at_place
-at_place-next id p event events =
+at_index-next : (id p : ℕ) (event : Definition) (events : List Definition) → at_index id (suc p) (event ∷ events) ≡ at_index (id + 1) p events
+unfolding at_index
+at_index-next id p event events =
     let next : id + suc p ≡ id + 1 + p = omega arith in
     rw (ltb-next p (length events), next) refl
 
-found_at : (id : ℕ) (name : List ℕ) (events : List Definition) → found_from id name events ≡ at_place id (place name events) events
-unfolding at_place
-found_at id name [] = rw (place-none name) refl
+found_at : (id : ℕ) (name : List ℕ) (events : List Definition) → found_from id name events ≡ at_index id (index name events) events
+unfolding at_index
+found_at id name [] = rw (index-none name) refl
 found_at id name (event ∷ events) = by_name (bytes_eq name event.name) refl (found_at (id + 1) name events)
   where
-    by_name : (same : Bool) → bytes_eq name event.name ≡ same → found_from (id + 1) name events ≡ at_place (id + 1) (place name events) events
-        → found_from id name (event ∷ events) ≡ at_place id (place name (event ∷ events)) (event ∷ events)
-    by_name true is rest = rw (is, place-first name event events is) (sym (at_place-first id event events))
-    by_name false is rest = rw (is, place-next name event events is) (rest ∙ sym (at_place-next id (place name events) event events))
+    by_name : (same : Bool) → bytes_eq name event.name ≡ same → found_from (id + 1) name events ≡ at_index (id + 1) (index name events) events
+        → found_from id name (event ∷ events) ≡ at_index id (index name (event ∷ events)) (event ∷ events)
+    by_name true is rest = rw (is, index-first name event events is) (sym (at_index-first id event events))
+    by_name false is rest = rw (is, index-next name event events is) (rest ∙ sym (at_index-next id (index name events) event events))
 
 pub named_in-found : (name : List ℕ) (events : List Definition) → event_named_in events name ≡ found_from 1 name events
-unfolding at_place
-named_in-found name events = by_place (ltb (place name events) (length events)) refl
+unfolding at_index
+named_in-found name events = by_index (ltb (index name events) (length events)) refl
   where
-    by_place : (inside : Bool) → ltb (place name events) (length events) ≡ inside → event_named_in events name ≡ found_from 1 name events
-    by_place true is =
-        let next : place name events + 1 ≡ suc (place name events) = omega arith in
-        let last : 1 + place name events ≡ suc (place name events) = omega arith in
-        rw (found_at 1 name events, id-is_place name events, is, next, last) refl
-    by_place false is = rw (found_at 1 name events, id-is_place name events, is) refl
+    by_index : (inside : Bool) → ltb (index name events) (length events) ≡ inside → event_named_in events name ≡ found_from 1 name events
+    by_index true is =
+        let next : index name events + 1 ≡ suc (index name events) = omega arith in
+        let last : 1 + index name events ≡ suc (index name events) = omega arith in
+        rw (found_at 1 name events, id-is_index name events, is, next, last) refl
+    by_index false is = rw (found_at 1 name events, id-is_index name events, is) refl
 
 -- an event that is not among more events is not among fewer
 found-fewer : (id : ℕ) (name : List ℕ) (events more : List Definition) → found_from id name (events ++ more) ≡ None → found_from id name events ≡ None
@@ -91,7 +91,7 @@ pub named_in-fewer : (name : List ℕ) (events more : List Definition) → event
 named_in-fewer name events more none =
     named_in-found name events ∙ found-fewer 1 name events more (sym (named_in-found name (events ++ more)) ∙ none)
 
--- the number of a name is one more than its place
+-- the number of a name is one more than its index
 from_next : (o : Option ℕ) (i : ℕ) → option_map (λ (n : ℕ). n + 1) o ≡ Some (suc i) → o ≡ Some i
 from_next None i is = absurd (cc)
 from_next (Some n) i is =
@@ -102,11 +102,11 @@ id-position : (events : List Definition) (name : List ℕ) (i : ℕ) → id_of e
     → position (λ (e : Definition). bytes_eq name e.name) events ≡ Some i
 id-position events name i is = from_next _ i is
 
--- an event that was found by its name stands at its place
-pub place_of_id : (events : List Definition) (name : List ℕ) (id : ℕ) (event : Definition) → id_of events name ≡ Some id → event_of events id ≡ Some event
+-- an event that was found by its name is at its index
+pub index_of_id : (events : List Definition) (name : List ℕ) (id : ℕ) (event : Definition) → id_of events name ≡ Some id → event_of events id ≡ Some event
     → IsIndexOf events name (id - 1) event
-place_of_id events name zero event named there = absurd (let h : None ≡ Some event = there in cc)
-place_of_id events name (suc i) event named there =
+index_of_id events name zero event named there = absurd (let h : None ≡ Some event = there in cc)
+index_of_id events name (suc i) event named there =
     let at : position (λ (e : Definition). bytes_eq name e.name) events ≡ Some i = id-position events name i named in
     let found = position-Some (λ (e : Definition). bytes_eq name e.name) events i event at in
     let is : get_or events i event ≡ event = get_or_from_slice_get events i event event there in

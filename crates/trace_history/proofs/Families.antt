@@ -7,7 +7,7 @@ use Rattle.trace_buffer.specs.Orders.{Candidate, Consumed, next_from, with_taken
 
 -- ---- one list of them
 
--- a list that was put at a place is there, if the place is, and the others are as they were
+-- a list that was put at an index is there, if the index is, and the others are as they were
 pub set-at : {A : Type 0} (xs : List A) (i j : ℕ) (v d : A) → (get_or (set xs i v) j d ≡ get_or xs j d) ⊎ ((j ≡ i) × (get_or (set xs i v) j d ≡ v))
 set-at [] i j v d = inl refl
 set-at (x ∷ xs) zero zero v d = inr (refl, refl)

@@ -26,7 +26,7 @@ use Rattle.trace_history.specs.Laws.{AtMostFourTriggers}
 use Rattle.trace_history.specs.Settings.{NumberedEvent, is_same, makes, event_named, declares, declared_events}
 use Rattle.trace_history.specs.Triggers.{Trigger, written_trigger, trigger_of}
 use Rattle.trace_history.proofs.EventHists.{hists_of-after, hists_of-made, own_after, own_said}
-use Rattle.trace_history.proofs.Events.{named_in-fewer, place_of_id}
+use Rattle.trace_history.proofs.Events.{named_in-fewer, index_of_id}
 use Rattle.trace_history.proofs.LegalEvents.{done-had_room, asked-done, named_in-more, named-is_numbered}
 use Rattle.trace_history.proofs.OwnFiles.{OwnWritten, as_written, own-declared, own-none, own_written, trigger_after, trigger_of-after}
 use Rattle.trace_history.proofs.Spares.{same-instance}
@@ -276,6 +276,6 @@ pub at_most_four_triggers : AtMostFourTriggers
 at_most_four_triggers g entries instance name k legal there =
     let past = requests_of entries in
     let numbered = named-is_numbered (declared_events past) name k there in
-    let place = place_of_id (declared_events past) name k.id k.event numbered.named numbered.there in
-    let same : name ≡ k.event.name = (bytes_eq-Decides name k.event.name).0 place.named in
+    let index = index_of_id (declared_events past) name k.id k.event numbered.named numbered.there in
+    let same : name ≡ k.event.name = (bytes_eq-Decides name k.event.name).0 index.named in
     (few-legal g entries instance k legal).few (subst (λ (n : List ℕ). event_named n past ≡ Some k) same there)

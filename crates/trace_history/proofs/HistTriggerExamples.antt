@@ -34,7 +34,7 @@ use Rattle.trace_history.specs.Emissions.{record_bytes, filter_holds}
 use Rattle.trace_history.specs.Settings.{written_flag, clears_filter, can_take, written_option, written_tracing}
 use Rattle.trace_history.specs.Snapshots.{written_snapshot}
 use Rattle.trace_history.specs.Examples.{small, IsAnswered}
-use Rattle.trace_history.specs.HistTriggerExamples.{shown_triggers, refused_hist_triggers, paused_and_cleared, counted_unrecorded, histograms_of_an_instance, removed_hist_triggers, hist_triggers_anew, four_triggers, triggers_of_two_events, shared_table, table_of_one_event}
+use Rattle.trace_history.specs.HistTriggerExamples.{shown_triggers, refused_hist_triggers, paused_and_cleared, counted_unrecorded, histograms_of_an_instance, removed_hist_triggers, hist_triggers_anew, four_triggers, triggers_of_two_events, shared_table, table_of_one_event, refused_by_two_rules}
 
 pub record AreAnswered : Type 0 where
   pub shown : IsAnswered (small 1) shown_triggers
@@ -48,6 +48,7 @@ pub record AreAnswered : Type 0 where
   pub events : IsAnswered (small 1) triggers_of_two_events
   pub table : IsAnswered (small 1) shared_table
   pub twice : IsAnswered (small 1) table_of_one_event
+  pub order : IsAnswered (small 1) refused_by_two_rules
 
 pub examples-are_answered : AreAnswered
 unfolding head_bytes head_of timestamp account readings_of stats_of cut step definition_of value_of row_of answer_of operand_named filter_step
@@ -69,4 +70,5 @@ examples-are_answered = record {
   events = refl;
   table = refl;
   twice = refl;
+  order = refl;
 }

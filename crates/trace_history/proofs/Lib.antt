@@ -23,6 +23,7 @@ pub mod LegalEvents
 pub mod NamedTables
 pub mod OwnAnswers
 pub mod PipeReads
+pub mod SaidHists
 pub mod SettingExamples
 pub mod SharedTables
 pub mod ShownRecords

@@ -1,5 +1,5 @@
 -- Hist triggers of one name share a table, which is made with the first of them and goes with the last; and in a legal history they fit each other.
-use Rattle.std.proofs.Common.{◌≡◌, ◌⊎◌, inl, inr, ℕ, ◌==◌, arith, Bool, true, false, if◌then◌else◌, List, [], ◌∷◌, length, Option, None, Some, IsOk, Result, Ok, refl, sym, ap, ◌∙◌, subst, eq-eqb, eqb-true}
+use Rattle.std.proofs.Common.{◌≡◌, ◌⊎◌, inl, inr, ℕ, ◌<◌, ◌==◌, arith, Bool, true, false, not, ◌&&◌, if◌then◌else◌, List, [], ◌∷◌, ◌++◌, length, filter, Option, None, Some, IsOk, Result, Ok, Err, refl, sym, ap, ◌∙◌, subst, eq-eqb, eqb-true}
 use Rattle.std.specs.List.{Contains}
 use Rattle.std.proofs.lemmas.Bool.{false≢true}
 use Rattle.trace_format.specs.Definitions.{Definition}
@@ -8,24 +8,24 @@ use Rattle.trace_trigger.specs.HistSpecs.{SpecSeen}
 use Rattle.trace_trigger.specs.TriggerTexts.{said_of}
 use Rattle.trace_trigger.specs.declared.fault.TriggerFault.{TriggerFault}
 use Rattle.trace_trigger.specs.declared.trigger.TriggerText.{TriggerText}
-use Rattle.trace_trigger.specs.declared.trigger.TriggerText.TheVariants.{Hist}
+use Rattle.trace_trigger.specs.declared.trigger.TriggerText.TheVariants.{Nothing, Attach, Remove, Hist, RemoveHist}
 use Rattle.trace_trigger.proofs.FittingLaws.{fitting_fits, fitting_is_reflexive, fitting_is_symmetric, fitting_is_transitive}
 use Rattle.trace_command.specs.Requests.{Request, request_of}
 use Rattle.trace_command.specs.declared.command.Config.{Config}
 use Rattle.trace_command.specs.declared.command.Entry.{Entry}
 use Rattle.trace_history.specs.History.{IsLegalNewestFirst, answer_with_room, hist_answer, new_hist_answer, requests_of, said_answer}
-use Rattle.trace_history.specs.HistTriggers.{HistTrigger, Written, fits_that, has_same, hist_triggers, hists_after, hists_of, hits_of, is_name_of, is_pause, is_paused, kept_by, left_by, named_by, names_table_of, new_hist, table_or, those_of, written_to}
+use Rattle.trace_history.specs.HistTriggers.{HistTrigger, Written, fits_that, has_same, hist_triggers, hists_after, hists_of, hists_said, hits_of, is_name_of, is_of, is_pause, is_paused, kept_by, left_by, named_by, names_table_of, new_hist, says_same, table_or, those_of, written_to}
 use Rattle.trace_history.specs.Settings.{makes}
 use Rattle.trace_history.specs.TableLaws.{NamedTablesAreShared, SharedTablesFit, TablesGoWithTheirLast}
 use Rattle.trace_history.specs.Triggers.{Trigger, trigger_of}
 use Rattle.trace_history.proofs.AskedTables.{asked-new}
-use Rattle.trace_history.proofs.AttachedHists.{IsMade, after-in, attached-then, is-there}
+use Rattle.trace_history.proofs.AttachedHists.{attached-then, is-there}
 use Rattle.trace_history.proofs.EventHists.{own-left, tables-apart, tables-made_before}
 use Rattle.trace_history.proofs.FewTriggers.{new-was_taken, said-of_written}
 use Rattle.trace_history.proofs.LegalEvents.{done-had_room}
-use Rattle.trace_history.proofs.Members.{IsIn, all-in, contains-in, each-in, in-all, left-in}
+use Rattle.trace_history.proofs.Members.{IsIn, all-in, contains-in, each-in, in-all, in-filter, in-push, left-in}
 use Rattle.trace_history.proofs.TableSteps.{table-new}
-use Rattle.trace_history.proofs.Tables.{IsBefore, found-in, one-or_apart}
+use Rattle.trace_history.proofs.Tables.{AreApart, IsBefore, found-in, one-or_apart}
 
 -- ---- they are shared by name
 
@@ -35,14 +35,19 @@ shared : (t u : HistTrigger) (hists : List HistTrigger) → (t ≡ u) ⊎ ((t.ta
 shared t u hists (inl same) named = ap (λ (v : HistTrigger). v.table) same
 shared t u hists (inr (tables, numbers)) named = eqb-true t.table u.table (tables ∙ named)
 
-pub named-share : (instance : Option (List ℕ)) (past : List Request) (t u : HistTrigger)
+-- of triggers that share tables by name alone, those of one name share theirs
+pub one-table : (t u : HistTrigger) (hists : List HistTrigger) → AreApart hists → IsIn t hists → IsIn u hists
+    → is_name_of t.spec.name u.spec.name ≡ true → t.table ≡ u.table
+one-table t u hists apart first second = shared t u hists (one-or_apart t u hists apart first second)
+
+named-share : (instance : Option (List ℕ)) (past : List Request) (t u : HistTrigger)
     → Contains (hist_triggers instance past) t → Contains (hist_triggers instance past) u
     → is_name_of t.spec.name u.spec.name ≡ true → t.table ≡ u.table
 named-share instance past t u first second =
     let hists = hist_triggers instance past in
-    shared t u hists (one-or_apart t u hists (tables-apart instance past) (contains-in t hists first) (contains-in u hists second))
+    one-table t u hists (tables-apart instance past) (contains-in t hists first) (contains-in u hists second)
 
-pub share-named : (instance : Option (List ℕ)) (past : List Request) (t u : HistTrigger)
+share-named : (instance : Option (List ℕ)) (past : List Request) (t u : HistTrigger)
     → Contains (hist_triggers instance past) t → Contains (hist_triggers instance past) u
     → t.table ≡ u.table → (t ≡ u) ⊎ (is_name_of t.spec.name u.spec.name ≡ true)
 share-named instance past t u first second same =
@@ -95,8 +100,60 @@ tables_go_with_their_last instance t past request by none =
 abbrev pub AllFit : List HistTrigger → Type 0
 AllFit hists = (t u : HistTrigger) → IsIn t hists → IsIn u hists → t.table ≡ u.table → is_fitting t.spec u.spec ≡ true
 
-pub fit-none : AllFit []
+fit-none : AllFit []
 fit-none t u first second same = absurd first
+
+pub fit-fewer : (few many : List HistTrigger) → ((t : HistTrigger) → IsIn t few → IsIn t many) → AllFit many → AllFit few
+fit-fewer few many among fit t u one other same = fit t u (among t one) (among u other) same
+
+-- their tables were made before a new one
+abbrev pub AreOld : ℕ → List HistTrigger → Type 0
+AreOld number hists = (t : HistTrigger) → IsIn t hists → t.table < number
+
+-- a new one that fits the one that it names fits all of its table
+new-fits : (number : ℕ) (event : Definition) (hists : List HistTrigger) (spec : SpecSeen) → AreOld number hists → AllFit hists
+    → fits_that spec (named_by spec hists) ≡ true → (u : HistTrigger) → IsIn u hists → (new_hist number event hists spec).table ≡ u.table
+    → is_fitting spec u.spec ≡ true
+new-fits number event hists spec old fit fits u there same = by (named_by spec hists) refl fits same
+  where
+    by : (found : Option HistTrigger) → named_by spec hists ≡ found → fits_that spec found ≡ true → table_or number found ≡ u.table
+        → is_fitting spec u.spec ≡ true
+    by None none fits same = let less = old u there in absurd (omega (arith, less, same))
+    by (Some v) found fits same =
+        fitting_is_transitive spec v.spec u.spec fits (fit v u (found-in spec hists v found).there there same)
+
+pub fit-new : (number : ℕ) (event : Definition) (hists : List HistTrigger) (spec : SpecSeen) → AreOld number hists → AllFit hists
+    → fits_that spec (named_by spec hists) ≡ true → AllFit (hists ++ new_hist number event hists spec ∷ [])
+fit-new number event hists spec old fit fits t u one other same =
+    by (in-push t new hists one) (in-push u new hists other)
+  where
+    new : HistTrigger
+    new = new_hist number event hists spec
+
+    with-new : (v : HistTrigger) → IsIn v hists → new.table ≡ v.table → is_fitting spec v.spec ≡ true
+    with-new v there at = new-fits number event hists spec old fit fits v there at
+
+    by : IsIn t hists ⊎ (new ≡ t) → IsIn u hists ⊎ (new ≡ u) → is_fitting t.spec u.spec ≡ true
+    by (inl first) (inl second) = fit t u first second same
+    by (inl first) (inr is) =
+        let at : new.table ≡ t.table = ap (λ (v : HistTrigger). v.table) is ∙ sym same in
+        subst (λ (v : HistTrigger). is_fitting t.spec v.spec ≡ true) is (fitting_is_symmetric spec t.spec (with-new t first at))
+    by (inr is) (inl second) =
+        let at : new.table ≡ u.table = ap (λ (v : HistTrigger). v.table) is ∙ same in
+        subst (λ (v : HistTrigger). is_fitting v.spec u.spec ≡ true) is (with-new u second at)
+    by (inr is) (inr also) =
+        subst (λ (v : HistTrigger). is_fitting v.spec u.spec ≡ true) is
+        (subst (λ (v : HistTrigger). is_fitting spec v.spec ≡ true) also (fitting_is_reflexive spec))
+
+-- those that a string leaves fit each other, and their tables were made before
+pub left-fit : (event : Definition) (append : Bool) (hists : List HistTrigger) → AllFit hists → AllFit (left_by event append hists)
+left-fit event append hists fit = fit-fewer (left_by event append hists) hists (λ t there. (left-in t event append hists there).0) fit
+
+pub left-old : (instance : Option (List ℕ)) (past : List Request) (event : Definition) (append : Bool)
+    → AreOld (length past) (left_by event append (hist_triggers instance past))
+left-old instance past event append t there =
+    (each-in (IsBefore (length past)) t (hist_triggers instance past) (tables-made_before instance past)
+    (left-in t event append (hist_triggers instance past) there).0).table
 
 -- what a text says of a hist trigger that is attached fits the table that it names
 fits-named : (g : Config) (instance : Option (List ℕ)) (past : List Request) (request : Request) (w : Written) (spec : SpecSeen)
@@ -126,70 +183,36 @@ fits-named g instance past request w spec done written says none =
     asked : IsOk (new_hist_answer attached own (fits_that spec (named_by spec left)) spec.action)
     asked = rw alone at told
 
--- so a new trigger fits those that share its table
-fits-older : (instance : Option (List ℕ)) (past : List Request) (w : Written) (spec : SpecSeen) (t u : HistTrigger)
-    → AllFit (hist_triggers instance past)
-    → fits_that spec (named_by spec (left_by w.event w.append (hist_triggers instance past))) ≡ true
-    → new_hist (length past) w.event (left_by w.event w.append (hist_triggers instance past)) spec ≡ t
-    → IsIn u (hist_triggers instance past) → t.table ≡ u.table → is_fitting t.spec u.spec ≡ true
-fits-older instance past w spec t u fit fits is there same = by (named_by spec left) refl fits
+-- it stays so with each string that is written
+fit-said : (number : ℕ) (event : Definition) (hists : List HistTrigger) (said : Result TriggerText TriggerFault) → AreOld number hists → AllFit hists
+    → ((spec : SpecSeen) → said ≡ Ok (Hist spec) → has_same spec (those_of event hists) ≡ false → fits_that spec (named_by spec hists) ≡ true)
+    → AllFit (hists_said number event hists said)
+fit-said number event hists (Ok (Hist spec)) old fit fits = by (has_same spec (those_of event hists)) refl
   where
-    left : List HistTrigger
-    left = left_by w.event w.append (hist_triggers instance past)
+    by : (same : Bool) → has_same spec (those_of event hists) ≡ same → AllFit (if same then hists else hists ++ new_hist number event hists spec ∷ [])
+    by true is = fit
+    by false is = fit-new number event hists spec old fit (fits spec refl is)
+fit-said number event hists (Ok (RemoveHist spec)) old fit fits =
+    let stays : HistTrigger → Bool = λ t. not (is_of event t && says_same spec t) in
+    fit-fewer (filter stays hists) hists (λ t there. (in-filter t stays hists there).0) fit
+fit-said number event hists (Ok (Attach trigger)) old fit fits = fit
+fit-said number event hists (Ok Remove) old fit fits = fit
+fit-said number event hists (Ok Nothing) old fit fits = fit
+fit-said number event hists (Err fault) old fit fits = fit
 
-    says : spec ≡ t.spec
-    says = ap (λ (v : HistTrigger). v.spec) is
-
-    tables : table_or (length past) (named_by spec left) ≡ u.table
-    tables = ap (λ (v : HistTrigger). v.table) is ∙ same
-
-    by : (found : Option HistTrigger) → named_by spec left ≡ found → fits_that spec found ≡ true → is_fitting t.spec u.spec ≡ true
-    by None at fitting =
-        let before = (each-in (IsBefore (length past)) u (hist_triggers instance past) (tables-made_before instance past) there).table in
-        let late : length past ≡ u.table = ap (table_or (length past)) (sym at) ∙ tables in
-        absurd (omega (arith, before, late))
-    by (Some v) at fitting =
-        let found = left-in v w.event w.append (hist_triggers instance past) (found-in spec left v at).there in
-        let others : v.table ≡ u.table = ap (table_or (length past)) (sym at) ∙ tables in
-        fitting_is_transitive t.spec v.spec u.spec (ap (λ (s : SpecSeen). is_fitting s v.spec) (sym says) ∙ fitting) (fit v u found.0 there others)
-
--- it stays so with each request that is done
+-- and so with each request that is done
 pub fit-step : (g : Config) (instance : Option (List ℕ)) (past : List Request) (request : Request) → IsOk (answer_with_room g past request)
     → AllFit (hist_triggers instance past) → AllFit (hist_triggers instance (request ∷ past))
-fit-step g instance past request done fit t u first second same = by (makes instance request) refl first second
+fit-step g instance past request done fit = by (makes instance request) (written_to instance past request) refl
   where
-    hists : List HistTrigger
-    hists = hist_triggers instance past
-
-    written : Option Written
-    written = written_to instance past request
-
-    made-older : (v : HistTrigger) (older : HistTrigger) → IsMade (length past) written hists v → IsIn older hists → v.table ≡ older.table
-        → is_fitting v.spec older.spec ≡ true
-    made-older v older made there tables =
-        fits-older instance past made.w made.new.spec v older fit
-        (fits-named g instance past request made.w made.new.spec done made.is made.new.says made.new.none) made.new.is there tables
-
-    by : (new : Bool) → makes instance request ≡ new → IsIn t (if new then [] else hists_after (length past) written hists)
-        → IsIn u (if new then [] else hists_after (length past) written hists) → is_fitting t.spec u.spec ≡ true
-    by true is there also = absurd there
-    by false is there also =
-        elim (after-in (length past) written hists t there) [
-          | inl (t_older, t_stays) ↦ elim (after-in (length past) written hists u also) [
-            | inl (u_older, u_stays) ↦ fit t u t_older u_older same
-            | inr u_made ↦ fitting_is_symmetric u.spec t.spec (made-older u t u_made t_older (sym same))
-          ]
-          | inr t_made ↦ elim (after-in (length past) written hists u also) [
-            | inl (u_older, u_stays) ↦ made-older t u t_made u_older same
-            | inr u_made ↦ elim (one-or_apart t u (hist_triggers instance (request ∷ past)) (tables-apart instance (request ∷ past)) first second) [
-              | inl one ↦ subst (λ (v : HistTrigger). is_fitting t.spec v.spec ≡ true) one (fitting_is_reflexive t.spec)
-              | inr (tables, numbers) ↦
-                  let both : t.number ≡ u.number = sym (ap (λ (v : HistTrigger). v.number) t_made.new.is)
-                  ∙ ap (λ (v : HistTrigger). v.number) u_made.new.is in
-                  absurd (false≢true (sym numbers ∙ eq-eqb t.number u.number both))
-            ]
-          ]
-        ]
+    by : (new : Bool) (written : Option Written) → written_to instance past request ≡ written
+        → AllFit (if new then [] else hists_after (length past) written (hist_triggers instance past))
+    by true written is = fit-none
+    by false None is = fit
+    by false (Some w) is =
+        fit-said (length past) w.event (left_by w.event w.append (hist_triggers instance past)) (said_of w.event w.text)
+        (left-old instance past w.event w.append) (left-fit w.event w.append (hist_triggers instance past) fit)
+        (λ spec says none. fits-named g instance past request w spec done is says none)
 
 pub fit-legal : (g : Config) (entries : List Entry) (instance : Option (List ℕ)) → IsLegalNewestFirst g entries
     → AllFit (hist_triggers instance (requests_of entries))

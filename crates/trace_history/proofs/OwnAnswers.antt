@@ -35,8 +35,7 @@ use Rattle.trace_command.specs.declared.file_name.EventFile.TheVariants as per_e
 use Rattle.trace_command.specs.declared.file_name.TopFile.TheVariants as top
 use Rattle.trace_command.specs.declared.refusal.Refusal.{Refusal}
 use Rattle.trace_command.specs.declared.refusal.Refusal.TheVariants as refusals
-use Rattle.trace_history.specs.FileTexts.{text_of}
-use Rattle.trace_history.specs.History.{row_answer, event_answer, emission_answer, added_answer, read_declaration_answer, declaration_answer, switch_answer, taken_answer, filter_answer, named_filter_answer, filter_of_all_answer, option_answer, tracing_answer, spare_answer, snapshot_answer, most_triggers, trigger_count, room_answer, asked_answer, fitting_answer, new_hist_answer, said_answer, trigger_answer, named_trigger_answer, write_answer, whole_text, read_answer, most_instances, named_answer, make_answer, remove_answer, missing_cpu, missing_event, missing, unless_refused, file_answer, instance_answer, answer_with_room, unless_full, answer, past_of, answer_to}
+use Rattle.trace_history.specs.History.{row_answer, event_answer, emission_answer, added_answer, read_declaration_answer, declaration_answer, switch_answer, taken_answer, filter_answer, named_filter_answer, filter_of_all_answer, option_answer, tracing_answer, spare_answer, snapshot_answer, most_triggers, trigger_count, room_answer, asked_answer, fitting_answer, new_hist_answer, said_answer, trigger_answer, named_trigger_answer, text_of, write_answer, whole_text, read_answer, most_instances, named_answer, make_answer, remove_answer, missing_cpu, missing_event, missing, unless_refused, file_answer, instance_answer, answer_with_room, unless_full, answer, past_of, answer_to}
 use Rattle.trace_history.specs.Settings.{NumberedEvent, event_named, declared_events, written_flag, written_option, written_tracing, instance_names, is_there, clears_filter, can_take}
 use Rattle.trace_history.specs.Snapshots.{SnapshotWrite, Frees, Takes, Empties, written_snapshot}
 use Rattle.trace_history.specs.Triggers.{Trigger, trigger_of, has_trigger}

@@ -16,7 +16,7 @@ use Rattle.trace_command.specs.Requests.{Request, WriteFile}
 use Rattle.trace_history.specs.HistTriggers.{HistTrigger, Written, says_same, has_same, is_of, left_by, those_of, new_hist, hist_triggers, hists_said, written_for, written_to, hists_after}
 use Rattle.trace_history.specs.Settings.{NumberedEvent, is_same, makes, set_by, event_named, declares, declared_events}
 use Rattle.trace_history.specs.Triggers.{Trigger, written_trigger, sets_trigger, trigger_of}
-use Rattle.trace_history.proofs.Events.{place_of_id}
+use Rattle.trace_history.proofs.Events.{index_of_id}
 use Rattle.trace_history.proofs.LegalEvents.{named_in-more, named-is_numbered}
 
 -- ---- names
@@ -52,8 +52,8 @@ pub record IsNamed (past : List Request) (t : HistTrigger) : Type 0 where
 named-itself : (name : List ℕ) (past : List Request) (k : NumberedEvent) → event_named name past ≡ Some k → name ≡ k.event.name
 named-itself name past k there =
     let numbered = named-is_numbered (declared_events past) name k there in
-    let place = place_of_id (declared_events past) name k.id k.event numbered.named numbered.there in
-    (bytes_eq-Decides name k.event.name).0 place.named
+    let index = index_of_id (declared_events past) name k.id k.event numbered.named numbered.there in
+    (bytes_eq-Decides name k.event.name).0 index.named
 
 pub own-none : (instance : Option (List ℕ)) (event : Definition) (past : List Request) (request : Request) → own_written instance event request ≡ None
     → written_for event (written_to instance past request) ≡ None

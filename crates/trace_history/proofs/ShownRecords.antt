@@ -57,14 +57,14 @@ length-payload event row is = length-bytes_of row.kinds row.values is.values ∙
 
 -- ---- events by number
 
-slice_get-more : (events more : List Definition) (place : ℕ) (event : Definition) → slice_get events place ≡ Some event → slice_get (events ++ more) place ≡ Some event
-slice_get-more [] more place event there = absurd (cc)
+slice_get-more : (events more : List Definition) (index : ℕ) (event : Definition) → slice_get events index ≡ Some event → slice_get (events ++ more) index ≡ Some event
+slice_get-more [] more index event there = absurd (cc)
 slice_get-more (first ∷ events) more zero event there = there
-slice_get-more (first ∷ events) more (suc place) event there = slice_get-more events more place event there
+slice_get-more (first ∷ events) more (suc index) event there = slice_get-more events more index event there
 
 event_of-more : (events more : List Definition) (id : ℕ) (event : Definition) → event_of events id ≡ Some event → event_of (events ++ more) id ≡ Some event
 event_of-more events more zero event there = absurd (cc)
-event_of-more events more (suc place) event there = slice_get-more events more place event there
+event_of-more events more (suc index) event there = slice_get-more events more index event there
 
 -- an event keeps its number
 event_of-later : (later entries : List Entry) (id : ℕ) (event : Definition) → event_of (declared_events (requests_of entries)) id ≡ Some event
@@ -77,14 +77,14 @@ event_of-later (entry ∷ later) entries id event there =
 
 event_of-small : (events : List Definition) (id : ℕ) (event : Definition) → event_of events id ≡ Some event → id ≤ length events
 event_of-small events zero event there = absurd (cc)
-event_of-small events (suc place) event there = let within = slice_get_within events place event there in omega (arith, within)
+event_of-small events (suc index) event there = let within = slice_get_within events index event there in omega (arith, within)
 
 event_of-fit : (g : Config) (entries : List Entry) (id : ℕ) (event : Definition) → IsLegalNewestFirst g entries
     → event_of (declared_events (requests_of entries)) id ≡ Some event → IsFit g.page_bytes event
 event_of-fit g entries zero event legal there = absurd (cc)
-event_of-fit g entries (suc place) event legal there =
+event_of-fit g entries (suc index) event legal there =
     let events = declared_events (requests_of entries) in
-    fit_at g.page_bytes events place event (legal-events g entries legal).fit (slice_get_within events place event there) (sym (get_or_from_slice_get events place event event there))
+    fit_at g.page_bytes events index event (legal-events g entries legal).fit (slice_get_within events index event there) (sym (get_or_from_slice_get events index event event there))
 
 ticks-le : (request : Request) → ticks request ≤ 1
 ticks-le (Emission event cpu pid pairs) = omega arith

@@ -20,7 +20,7 @@ use Rattle.trace_history.specs.Laws.{TriggersHaveTheirSpare}
 use Rattle.trace_history.specs.Settings.{NumberedEvent, is_same, makes, set_by, event_named, declares, declared_events}
 use Rattle.trace_history.specs.Snapshots.{SnapshotWrite, Frees, Takes, Empties, written_snapshot, spare_written, spare_armed, spare_armed_for, sets_spare, has_spare}
 use Rattle.trace_history.specs.Triggers.{Trigger, written_trigger, sets_trigger, trigger_of, has_trigger}
-use Rattle.trace_history.proofs.Events.{named_in-fewer, place_of_id}
+use Rattle.trace_history.proofs.Events.{named_in-fewer, index_of_id}
 use Rattle.trace_history.proofs.EventLists.{named_at}
 use Rattle.trace_history.proofs.LegalEvents.{done-had_room, asked-done, named_in-more, named-is_numbered, legal-events}
 
@@ -40,8 +40,8 @@ pub named-passes : (test : Definition → Bool) (past : List Request) (name : Li
 named-passes test past name k found passes =
     let events = declared_events past in
     let numbered = named-is_numbered events name k found in
-    let place = place_of_id events name k.id k.event numbered.named numbered.there in
-    list_any_at test events (k.id - 1) k.event place.inside (ap test (sym place.there) ∙ passes)
+    let index = index_of_id events name k.id k.event numbered.named numbered.there in
+    list_any_at test events (k.id - 1) k.event index.inside (ap test (sym index.there) ∙ passes)
 
 -- ---- what a write sets of a trigger
 
@@ -250,10 +250,10 @@ armed-legal g (entry ∷ entries) instance k legal =
 
 -- an event among the declared ones that passes a test
 record IsPassed (test : Definition → Bool) (events : List Definition) : Type 0 where
-  place : ℕ
+  index : ℕ
   event : Definition
-  inside : place < length events
-  there : get_or events place event ≡ event
+  inside : index < length events
+  there : get_or events index event ≡ event
   passes : test event ≡ true
 
 passed-in : (test : Definition → Bool) (events : List Definition) → list_any test events ≡ true → IsPassed test events
@@ -262,10 +262,10 @@ passed-in test (event ∷ events) is = by (test event) refl is (passed-in test e
   where
     by : (first : Bool) → test event ≡ first → (first || list_any test events) ≡ true → (list_any test events ≡ true → IsPassed test events)
         → IsPassed test (event ∷ events)
-    by true here h rest = record { place = 0; event = event; inside = omega arith; there = refl; passes = here }
+    by true here h rest = record { index = 0; event = event; inside = omega arith; there = refl; passes = here }
     by false here h rest =
         let found = rest h in
-        record { place = suc found.place; event = found.event; inside = omega (arith, found.inside); there = found.there; passes = found.passes }
+        record { index = suc found.index; event = found.event; inside = omega (arith, found.inside); there = found.there; passes = found.passes }
 
 value_of-some : {A : Type 0} (o : Option A) (P : Type 0) → is_some o ≡ true → ((x : A) → o ≡ Some x → P) → P
 value_of-some None P is then_P = absurd (cc)
@@ -276,9 +276,9 @@ triggers_have_their_spare g entries instance legal has =
     let past = requests_of entries in
     let events = declared_events past in
     let found = passed-in (λ (event : Definition). is_some (trigger_of instance event past)) events has in
-    let k : NumberedEvent = record { id = suc found.place; event = found.event } in
+    let k : NumberedEvent = record { id = suc found.index; event = found.event } in
     let there : event_named found.event.name past ≡ Some k =
-    subst (λ (event : Definition). event_named event.name past ≡ Some (let n : NumberedEvent = record { id = suc found.place; event = event } in n)) found.there
-    (named_at events found.place found.event (legal-events g entries legal).are found.inside) in
+    subst (λ (event : Definition). event_named event.name past ≡ Some (let n : NumberedEvent = record { id = suc found.index; event = event } in n)) found.there
+    (named_at events found.index found.event (legal-events g entries legal).are found.inside) in
     value_of-some (trigger_of instance found.event past) (has_spare instance past ≡ true) found.passes
     (λ t attached. (armed-legal g entries instance k legal).armed t there attached)

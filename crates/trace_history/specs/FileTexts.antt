@@ -1,12 +1,8 @@
--- What each file of an instance shows, by the requests done so far. The newest request comes first.
+-- What the files of an instance show, by the requests done so far. The newest request comes first. Which file shows which is in History.antt.
 use Rattle.std.specs.Prelude.{ℕ, nat_lt, Bool, true, false, not, if◌then◌else◌, List, [], ◌∷◌, ◌++◌, map, flat_map, Option, Some, None, codes}
 use Rattle.std.specs.List.{filter, list_all, list_any}
 use Rattle.std.specs.Option.{option_map}
 use Rattle.trace_buffer.specs.Families.{cpu_stats}
-use Rattle.trace_command.specs.Paths.{File, SyntheticEvents, OfInstance, OfCpu, OfEvent}
-use Rattle.trace_command.specs.declared.file_name.CpuFile.TheVariants as per_cpu
-use Rattle.trace_command.specs.declared.file_name.EventFile.TheVariants as per_event
-use Rattle.trace_command.specs.declared.file_name.TopFile.TheVariants as top
 use Rattle.trace_filter.specs.Filters.{Parsed}
 use Rattle.trace_lex.specs.Blanks.{trimmed}
 use Rattle.trace_format.specs.Definitions.{Definition}
@@ -19,7 +15,7 @@ use Rattle.trace_text.specs.StatsText.{stats_text}
 use Rattle.trace_text.specs.TriggerText.{trigger_text}
 use Rattle.trace_text.specs.TriggerText as texts
 use Rattle.trace_command.specs.Requests.{Request}
-use Rattle.trace_history.specs.Settings.{NumberedEvent, event_named, declared_events, is_enabled, filter_of, overwrites, is_tracing, now_of}
+use Rattle.trace_history.specs.Settings.{NumberedEvent, declared_events, now_of}
 use Rattle.trace_history.specs.Rings.{rings, spare_rings, pipe_read, cpu_pipe_read}
 use Rattle.trace_history.specs.Triggers.{Trigger, trigger_of, times_left}
 use Rattle.trace_history.specs.HistTriggers.{HistTrigger, hists_of, is_paused, table_of}
@@ -107,24 +103,3 @@ triggers_of_event instance past (Some k) =
 abbrev pub hists_of_event : Option (List ℕ) → List Request → Option NumberedEvent → List ℕ
 hists_of_event instance past None = []
 hists_of_event instance past (Some k) = hist_text (map (shown_hist instance past) (hists_of instance k.event past))
-
--- what a file shows that is read whole; of a pipe, and of the filter of all events, nothing
-abbrev pub text_of : Config → Option (List ℕ) → List Request → File → List ℕ
-text_of g instance past SyntheticEvents = declarations_text past
-text_of g instance past (OfInstance top.Trace) = shown_trace g instance past None
-text_of g instance past (OfInstance top.TracePipe) = []
-text_of g instance past (OfInstance top.Overwrite) = flag_text (overwrites instance past)
-text_of g instance past (OfInstance top.TraceOptions) = option_text (overwrites instance past)
-text_of g instance past (OfInstance top.TracingOn) = flag_text (is_tracing instance past)
-text_of g instance past (OfInstance top.Snapshot) = shown_snapshot g instance past
-text_of g instance past (OfInstance top.EventsEnable) =
-    switches_text (map (λ event. is_enabled instance event.name past) (declared_events past))
-text_of g instance past (OfInstance top.EventsFilter) = []
-text_of g instance past (OfCpu cpu per_cpu.Trace) = shown_trace g instance past (Some cpu)
-text_of g instance past (OfCpu cpu per_cpu.TracePipe) = []
-text_of g instance past (OfCpu cpu per_cpu.Stats) = cpu_stats_text g instance past cpu
-text_of g instance past (OfEvent event per_event.Enable) = flag_text (is_enabled instance event past)
-text_of g instance past (OfEvent event per_event.Filter) = filter_text (filter_of instance event past)
-text_of g instance past (OfEvent event per_event.Trigger) = triggers_of_event instance past (event_named event past)
-text_of g instance past (OfEvent event per_event.Hist) = hists_of_event instance past (event_named event past)
-text_of g instance past (OfEvent event per_event.Format) = format_of_event (event_named event past)

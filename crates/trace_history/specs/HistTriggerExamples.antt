@@ -277,3 +277,17 @@ table_of_one_event =
     ∷ anew (codes "hist:keys=common_pid:name=t") gives done
     ∷ cat hist_file gives shows (no_histogram (codes "hist:name=t:keys=common_pid:vals=hitcount:sort=hitcount:size=2048 [active]"))
     ∷ [])
+
+-- One that says the same as an attached trigger is refused for that, even where there are four. Where there are four, any other is refused for that, even
+-- if it does not fit the table that it names; for this it is refused where there is room.
+abbrev pub refused_by_two_rules : List Turn
+refused_by_two_rules =
+    with_tick (more (codes "hist:keys=n:name=t") gives done
+    ∷ more (codes "hist:keys=common_pid") gives done
+    ∷ more (codes "hist:keys=common_cpu") gives done
+    ∷ more (codes "snapshot") gives done
+    ∷ more (codes "hist:keys=n:name=t") gives Err TriggerExists
+    ∷ more (codes "hist:keys=n,common_pid:name=t") gives Err TooMany
+    ∷ more (codes "!snapshot") gives done
+    ∷ more (codes "hist:keys=n,common_pid:name=t") gives Err TriggerExists
+    ∷ [])

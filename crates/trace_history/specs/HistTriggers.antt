@@ -42,7 +42,7 @@ is_of event t = bytes_eq event.name t.event.name
 abbrev pub those_of : Definition → List HistTrigger → List HistTrigger
 those_of event hists = filter (is_of event) hists
 
--- whether a hist trigger says the same as a text: it has the same name, keys, values, sort keys and filter
+-- whether a hist trigger says the same as a string: it has the same name, keys, values, sort keys and filter
 abbrev pub says_same : SpecSeen → HistTrigger → Bool
 says_same spec t = is_same_spec spec t.spec
 
@@ -50,7 +50,7 @@ says_same spec t = is_same_spec spec t.spec
 abbrev pub has_same : SpecSeen → List HistTrigger → Bool
 has_same spec hists = list_any (says_same spec) hists
 
--- `>` takes an event's hist triggers away before the text takes effect, `>>` keeps them: what is left of the event's own
+-- `>` takes an event's hist triggers away before the string takes effect, `>>` keeps them: what is left of the event's own
 abbrev pub kept_by : Bool → List HistTrigger → List HistTrigger
 kept_by append hists = if append then hists else []
 
@@ -65,30 +65,30 @@ abbrev pub is_name_of : Option (List ℕ) → Option (List ℕ) → Bool
 is_name_of (Some name) (Some other) = bytes_eq name other
 is_name_of name other = false
 
--- whether a text names the table of a hist trigger
+-- whether a string names the table of a hist trigger
 abbrev pub names_table_of : SpecSeen → HistTrigger → Bool
 names_table_of spec t = is_name_of spec.name t.spec.name
 
--- the hist trigger whose table a text names, the first of an instance
+-- the hist trigger whose table a string names, the first of an instance
 abbrev pub named_by : SpecSeen → List HistTrigger → Option HistTrigger
 named_by spec hists = find (names_table_of spec) hists
 
--- the table of the trigger that a text attaches as the request of this number: the one that it names, if that is there; else a new one
+-- the table of the trigger that a string attaches as the request of this number: the one that it names, if that is there; else a new one
 abbrev pub table_or : ℕ → Option HistTrigger → ℕ
 table_or number None = number
 table_or number (Some t) = t.table
 
--- whether a text fits the table that it names, if that is there
+-- whether a string fits the table that it names, if that is there
 abbrev pub fits_that : SpecSeen → Option HistTrigger → Bool
 fits_that spec None = true
 fits_that spec (Some t) = is_fitting spec t.spec
 
--- the one that a text attaches to an event, as the request of this number, where the instance has these
+-- the one that a string attaches to an event, as the request of this number, where the instance has these
 abbrev pub new_hist : ℕ → Definition → List HistTrigger → SpecSeen → HistTrigger
 new_hist number event hists spec = record { event = event; number = number; spec = spec; table = table_or number (named_by spec hists) }
 
--- the hist triggers after a text that the request of this number writes for an event: one is attached if none of the event says the same, or the same
--- one is removed. Any other text leaves those that are there.
+-- the hist triggers after a string that the request of this number writes for an event: one is attached if none of the event says the same, or the
+-- same one is removed. Any other string leaves those that are there.
 abbrev pub hists_said : ℕ → Definition → List HistTrigger → Result TriggerText TriggerFault → List HistTrigger
 hists_said number event hists (Ok (Hist spec)) =
     if has_same spec (those_of event hists) then hists else hists ++ new_hist number event hists spec ∷ []
@@ -96,7 +96,7 @@ hists_said number event hists (Ok (RemoveHist spec)) = filter (λ t. not (is_of 
 hists_said number event hists said = hists
 
 -- what a request writes to the trigger file of an event of an instance: which event that is of those declared before, whether it is by `>>`, and the
--- text
+-- string
 pub record Written : Type 0 where
   pub event : Definition
   pub append : Bool
@@ -130,7 +130,7 @@ hists_of instance event past = those_of event (hist_triggers instance past)
 
 -- ---- pauses
 
--- whether a text speaks of a table through one of these triggers, which is the one that says the same
+-- whether a string speaks of a table through one of these triggers, which is the one that says the same
 abbrev pub speaks_of : SpecSeen → ℕ → HistTrigger → Bool
 speaks_of spec table t = says_same spec t && (t.table == table)
 
@@ -138,7 +138,7 @@ abbrev pub is_pause : Action → Bool
 is_pause Pause = true
 is_pause action = false
 
--- what a text asks of a table, where an event has these hist triggers after it: one of them says the same, be it that the text attached it
+-- what a string asks of a table, where an event has these hist triggers after it: one of them says the same, be it that the string attached it
 abbrev pub asked_of : ℕ → List HistTrigger → Result TriggerText TriggerFault → Option Action
 asked_of table hists (Ok (Hist spec)) = if list_any (speaks_of spec table) hists then Some spec.action else None
 asked_of table hists said = None
@@ -158,7 +158,7 @@ paused_after (Some Pause) paused = true
 paused_after (Some Continue) paused = false
 paused_after asked paused = paused
 
--- whether a table is paused: as it was asked last, by the texts too that attached its triggers
+-- whether a table is paused: as it was asked last, by the strings too that attached its triggers
 abbrev pub is_paused : Option (List ℕ) → ℕ → List Request → Bool
 is_paused instance table [] = false
 is_paused instance table (request ∷ past) = paused_after (asked_by instance table past request) (is_paused instance table past)

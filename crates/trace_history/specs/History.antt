@@ -1,5 +1,5 @@
 -- The answer that the requests done so far give a request, and which histories are legal. The newest request comes first.
-use Rattle.std.specs.Prelude.{ℕ, ◌+◌, ◌<◌, ◌^◌, nat_lt, Bool, not, ◌&&◌, ◌||◌, is_some, IsOk, if◌then◌else◌, List, [], ◌∷◌, length, reverse, All, Option, Some, None, Result, Ok, Err, ⊤}
+use Rattle.std.specs.Prelude.{ℕ, ◌+◌, ◌<◌, ◌^◌, nat_lt, Bool, not, ◌&&◌, ◌||◌, is_some, IsOk, if◌then◌else◌, List, [], ◌∷◌, length, map, reverse, All, Option, Some, None, Result, Ok, Err, ⊤}
 use Rattle.std.specs.List.{list_any}
 use Rattle.trace_command.specs.Paths.{File, SyntheticEvents, OfInstance, OfCpu, OfEvent}
 use Rattle.trace_command.specs.declared.file_name.CpuFile.TheVariants as per_cpu
@@ -23,8 +23,8 @@ use Rattle.trace_trigger.specs.declared.fault.TriggerFault.{TriggerFault}
 use Rattle.trace_trigger.specs.declared.trigger.TriggerText.{TriggerText}
 use Rattle.trace_trigger.specs.declared.trigger.TriggerText.TheVariants.{Nothing, Attach, Remove, Hist, RemoveHist}
 use Rattle.trace_command.specs.Requests.{Request, Emission, MakeInstance, RemoveInstance, WriteFile, ReadFile, request_of, FitsItsTypes}
-use Rattle.trace_history.specs.FileTexts.{shown_pipe, shown_cpu_pipe, text_of}
-use Rattle.trace_history.specs.Settings.{NumberedEvent, event_named, declared_events, written_flag, written_option, written_tracing, instance_names, is_there, clears_filter, can_take}
+use Rattle.trace_history.specs.FileTexts.{shown_pipe, shown_cpu_pipe, shown_snapshot, shown_trace, cpu_stats_text, declarations_text, filter_text, flag_text, format_of_event, hists_of_event, option_text, switches_text, triggers_of_event}
+use Rattle.trace_history.specs.Settings.{NumberedEvent, event_named, declared_events, filter_of, is_enabled, is_tracing, overwrites, written_flag, written_option, written_tracing, instance_names, is_there, clears_filter, can_take}
 use Rattle.trace_command.specs.Refusals.{refusal_of_catalog, refusal_of_filter, refusal_of_trigger}
 use Rattle.trace_history.specs.Snapshots.{SnapshotWrite, Frees, Takes, Empties, written_snapshot}
 use Rattle.trace_history.specs.Triggers.{Trigger, trigger_of, has_trigger}
@@ -175,21 +175,51 @@ abbrev pub named_trigger_answer : Option (List ℕ) → List Request → Bool �
 named_trigger_answer instance past append text None = Err NoSuchEvent
 named_trigger_answer instance past append text (Some k) = trigger_answer instance past append text k.event
 
--- what a write to a file of an instance answers: to a trace any string is done, and a file that is not named can't be written
+-- ---- the files
+
+-- a file of an instance: what it shows where it is read whole, and what a write of a string to it answers, by `>>` or by `>`
+pub record FileRule : Type 0 where
+  pub shows : List ℕ
+  pub written : Bool → List ℕ → Result Reply Refusal
+
+abbrev pub read_and_written : List ℕ → (Bool → List ℕ → Result Reply Refusal) → FileRule
+read_and_written text written = record { shows = text; written = written }
+
+-- one that can't be written
+abbrev pub only_read : List ℕ → FileRule
+only_read text = read_and_written text (λ append text. Err NotWritable)
+
+-- each file. A pipe and the filter of all events are not read whole. A write of any string to a trace is done.
+abbrev pub rule_of : Config → Option (List ℕ) → List Request → File → FileRule
+rule_of g instance past SyntheticEvents = read_and_written (declarations_text past) (declaration_answer g past)
+rule_of g instance past (OfInstance top.Trace) = read_and_written (shown_trace g instance past None) (λ append text. Ok Done)
+rule_of g instance past (OfInstance top.TracePipe) = only_read []
+rule_of g instance past (OfInstance top.Overwrite) = read_and_written (flag_text (overwrites instance past)) (λ append. switch_answer)
+rule_of g instance past (OfInstance top.TraceOptions) = read_and_written (option_text (overwrites instance past)) (λ append. option_answer)
+rule_of g instance past (OfInstance top.TracingOn) = read_and_written (flag_text (is_tracing instance past)) (λ append. tracing_answer)
+rule_of g instance past (OfInstance top.Snapshot) = read_and_written (shown_snapshot g instance past) (λ append. snapshot_answer instance past)
+rule_of g instance past (OfInstance top.EventsEnable) =
+    read_and_written (switches_text (map (λ event. is_enabled instance event.name past) (declared_events past))) (λ append. switch_answer)
+rule_of g instance past (OfInstance top.EventsFilter) = read_and_written [] (λ append text. filter_of_all_answer text (declared_events past))
+rule_of g instance past (OfCpu cpu per_cpu.Trace) = read_and_written (shown_trace g instance past (Some cpu)) (λ append text. Ok Done)
+rule_of g instance past (OfCpu cpu per_cpu.TracePipe) = only_read []
+rule_of g instance past (OfCpu cpu per_cpu.Stats) = only_read (cpu_stats_text g instance past cpu)
+rule_of g instance past (OfEvent event per_event.Enable) = read_and_written (flag_text (is_enabled instance event past)) (λ append. switch_answer)
+rule_of g instance past (OfEvent event per_event.Filter) =
+    read_and_written (filter_text (filter_of instance event past)) (λ append text. named_filter_answer text (event_named event past))
+rule_of g instance past (OfEvent event per_event.Trigger) =
+    read_and_written (triggers_of_event instance past (event_named event past))
+    (λ append text. named_trigger_answer instance past append text (event_named event past))
+rule_of g instance past (OfEvent event per_event.Hist) = only_read (hists_of_event instance past (event_named event past))
+rule_of g instance past (OfEvent event per_event.Format) = only_read (format_of_event (event_named event past))
+
+-- what a file shows that is read whole
+abbrev pub text_of : Config → Option (List ℕ) → List Request → File → List ℕ
+text_of g instance past file = (rule_of g instance past file).shows
+
+-- what a write to a file answers
 abbrev pub write_answer : Config → Option (List ℕ) → List Request → Bool → List ℕ → File → Result Reply Refusal
-write_answer g instance past append text SyntheticEvents = declaration_answer g past append text
-write_answer g instance past append text (OfInstance top.Trace) = Ok Done
-write_answer g instance past append text (OfInstance top.Overwrite) = switch_answer text
-write_answer g instance past append text (OfInstance top.TraceOptions) = option_answer text
-write_answer g instance past append text (OfInstance top.TracingOn) = tracing_answer text
-write_answer g instance past append text (OfInstance top.Snapshot) = snapshot_answer instance past text
-write_answer g instance past append text (OfInstance top.EventsEnable) = switch_answer text
-write_answer g instance past append text (OfInstance top.EventsFilter) = filter_of_all_answer text (declared_events past)
-write_answer g instance past append text (OfCpu cpu per_cpu.Trace) = Ok Done
-write_answer g instance past append text (OfEvent event per_event.Enable) = switch_answer text
-write_answer g instance past append text (OfEvent event per_event.Filter) = named_filter_answer text (event_named event past)
-write_answer g instance past append text (OfEvent event per_event.Trigger) = named_trigger_answer instance past append text (event_named event past)
-write_answer g instance past append text _ = Err NotWritable
+write_answer g instance past append text file = (rule_of g instance past file).written append text
 
 -- ---- what a read of each file answers
 

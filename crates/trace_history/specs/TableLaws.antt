@@ -8,7 +8,7 @@ use Rattle.trace_trigger.specs.FittingSpecs.{Fits}
 use Rattle.trace_trigger.specs.HistSpecs.{SpecSeen}
 use Rattle.trace_trigger.specs.SameSpecs.{IsSame}
 use Rattle.trace_trigger.specs.TriggerTexts.{said_of}
-use Rattle.trace_trigger.specs.declared.spec.Action.TheVariants.{Clear}
+use Rattle.trace_trigger.specs.declared.spec.Action.TheVariants.{Attach, Pause, Clear}
 use Rattle.trace_trigger.specs.declared.trigger.TriggerText.TheVariants.{Hist}
 use Rattle.trace_command.specs.Paths.{OfEvent}
 use Rattle.trace_command.specs.Requests.{Request, WriteFile}
@@ -17,7 +17,7 @@ use Rattle.trace_command.specs.declared.command.Entry.{Entry}
 use Rattle.trace_command.specs.declared.file_name.EventFile.TheVariants as per_event
 use Rattle.trace_history.specs.Emissions.{Emitted, emitted}
 use Rattle.trace_history.specs.History.{requests_of, IsLegalNewestFirst}
-use Rattle.trace_history.specs.HistTriggers.{HistTrigger, asked_by, counted_hit, empties, hist_triggers, hists_of, hits_of, is_name_of, is_pause, is_paused, left_by, paused_after, table_of, written_for, written_to}
+use Rattle.trace_history.specs.HistTriggers.{HistTrigger, Written, asked_by, counted_hit, empties, hist_triggers, hists_of, hits_of, is_name_of, is_of, is_pause, is_paused, left_by, paused_after, says_same, table_of, written_for, written_to}
 use Rattle.trace_history.specs.Laws.{IsAttachedBy, some_later}
 use Rattle.trace_history.specs.Settings.{makes}
 use Rattle.trace_history.specs.Triggers.{passes}
@@ -47,7 +47,7 @@ SharedTablesAreShownAlike =
     → t.table ≡ u.table
     → (table_of instance t (requests_of entries) ≡ table_of instance u (requests_of entries)) × (t.spec.sort_sources ≡ u.spec.sort_sources)
 
--- a table begins with no row counted, and paused if the text that makes it asks for that
+-- a table begins with no row counted, and paused if the string that makes it asks for that
 abbrev pub TablesBeginEmpty : Type 0
 TablesBeginEmpty =
     (instance : Option (List ℕ)) (past : List Request) (request : Request)
@@ -115,6 +115,25 @@ abbrev pub OtherRequestsLeaveTables : Type 0
 OtherRequestsLeaveTables =
     (instance : Option (List ℕ)) (table : ℕ) (past : List Request) (request : Request)
     → All (λ t. t.table ≡ table → written_for t.event (written_to instance past request) ≡ None) (hist_triggers instance (request ∷ past))
+    → (is_paused instance table (request ∷ past) ≡ is_paused instance table past)
+    × (emitted past request ≡ None → hits_of instance table (request ∷ past) ≡ hits_of instance table past)
+
+-- A trigger that is attached and joins a table pauses it if it says `pause`. If it says nothing of the kind, the table stays paused or not as it was.
+-- Unless the trigger empties it, the table keeps the rows that it counted.
+abbrev pub JoiningPausesOrLeaves : Type 0
+JoiningPausesOrLeaves =
+    (instance : Option (List ℕ)) (t : HistTrigger) (past : List Request) (request : Request) → IsAttachedBy instance t past request
+    → (t.spec.action ≡ Pause → is_paused instance t.table (request ∷ past) ≡ true)
+    × (t.spec.action ≡ Attach → is_paused instance t.table (request ∷ past) ≡ is_paused instance t.table past)
+    × (empties (Some t.spec.action) ≡ false → hits_of instance t.table (request ∷ past) ≡ hits_of instance t.table past)
+
+-- What is written for other triggers leaves a table too, also where they are of an event that has a trigger of the table: if the string says the same as
+-- none of the table's triggers of its event, the table stays paused or not, and keeps the rows that it counted.
+abbrev pub OtherTriggersLeaveTables : Type 0
+OtherTriggersLeaveTables =
+    (instance : Option (List ℕ)) (table : ℕ) (past : List Request) (request : Request)
+    → ((w : Written) (spec : SpecSeen) → written_to instance past request ≡ Some w → said_of w.event w.text ≡ Ok (Hist spec)
+    → All (λ t. t.table ≡ table → is_of w.event t ≡ true → says_same spec t ≡ false) (hist_triggers instance (request ∷ past)))
     → (is_paused instance table (request ∷ past) ≡ is_paused instance table past)
     × (emitted past request ≡ None → hits_of instance table (request ∷ past) ≡ hits_of instance table past)
 

@@ -3,10 +3,10 @@
 
 ghost use Rattle.trace_history.specs.Examples.{small, IsAnswered, merged_reads, instances, instance_made_again, recording_off, lost_line_after_overrun, precedence_and_kept_filter};
 ghost use Rattle.trace_history.specs.SnapshotExamples.{two_snapshots, counted_trigger, unlimited_trigger, removed_trigger, trigger_of_disabled_event, refused_triggers, sides_of_an_instance};
-ghost use Rattle.trace_history.specs.HistTriggerExamples.{shown_triggers, refused_hist_triggers, paused_and_cleared, counted_unrecorded, histograms_of_an_instance, removed_hist_triggers, hist_triggers_anew, four_triggers, triggers_of_two_events, shared_table, table_of_one_event};
+ghost use Rattle.trace_history.specs.HistTriggerExamples.{shown_triggers, refused_hist_triggers, paused_and_cleared, counted_unrecorded, histograms_of_an_instance, removed_hist_triggers, hist_triggers_anew, four_triggers, triggers_of_two_events, shared_table, table_of_one_event, refused_by_two_rules};
 ghost use Rattle.trace_history.specs.SettingExamples.{switched, filters_of_all, options_of_an_instance, recorded_by_its_settings, emptied, refused_in_order, eight_instances, short, full_history};
 ghost use Rattle.trace_history.specs.Laws.{FiltersAreOfTheirEvents, FiltersHoldAsTheirTrees, RecordsShowTheirRows, KeptRecordsShowEmissions, KeptSpareRecordsShowEmissions, SnapshotsSwapTheSides, TriggersSwapTheSides, SnapshotsStay, TriggersHaveTheirSpare, SparesBeginEmpty, PipeReadsConsumeWhatTheyShow, WholePipeReadsConsumeWhatTheyShow, AtMostFourTriggers, HistTriggersDiffer, HistTriggersAreInOrder, HistTriggersAreThoseAttached};
-ghost use Rattle.trace_history.specs.TableLaws.{CountedRowsAreOfEmissions, EmissionsAreCountedOnce, EmissionsAreCounted, UnmetEmissionsAreNotCounted, NamedTablesAreUnions, OnlyAskingPauses, PausesCountNothing, ClearsLeaveNone, OtherRequestsLeaveHistTriggers, OtherRequestsLeaveTables, TablesBeginEmpty, TablesAreAskedThroughEach, TablesGoWithTheirLast, NamedTablesAreShared, SharedTablesFit, SharedTablesAreShownAlike};
+ghost use Rattle.trace_history.specs.TableLaws.{CountedRowsAreOfEmissions, EmissionsAreCountedOnce, EmissionsAreCounted, UnmetEmissionsAreNotCounted, NamedTablesAreUnions, OnlyAskingPauses, PausesCountNothing, ClearsLeaveNone, OtherRequestsLeaveHistTriggers, OtherRequestsLeaveTables, TablesBeginEmpty, TablesAreAskedThroughEach, JoiningPausesOrLeaves, OtherTriggersLeaveTables, TablesGoWithTheirLast, NamedTablesAreShared, SharedTablesFit, SharedTablesAreShownAlike};
 ghost use Rattle.trace_history.specs.TrailLaws.{TrailsHoldDoneCallsOnce, EachCallIsAnswered, LoneCallersAreAnswered, WornIsNoAnswer, MemoryIsNoAnswer};
 ghost use Rattle.trace_history.specs.TrailExamples.{FirstMakes, SecondMakes, ExactlyOneMakes};
 
@@ -85,16 +85,18 @@ pub fn emissions_are_counted()
     ensures unions { NamedTablesAreUnions }
 {}
 
-/// What is asked of any of its triggers is asked of a table. It stays paused, or not, until it is asked for something; a pause counts nothing; `clear`
-/// leaves no row and ends no pause; and while the instance is there only emissions, and what is written to the trigger files of its triggers' events,
-/// reach a table.
+/// What is asked of any of its triggers is asked of a table, and a trigger that joins it pauses it if it says `pause`, and else leaves it. A table stays
+/// paused, or not, until it is asked for something; a pause counts nothing; `clear` leaves no row and ends no pause; and while the instance is there only
+/// emissions, and what is written to the trigger files of its triggers' events, reach a table: not what is written there for other triggers.
 pub fn only_their_own_files_change_tables()
     ensures asked { TablesAreAskedThroughEach }
+    ensures joined { JoiningPausesOrLeaves }
     ensures state { OnlyAskingPauses }
     ensures pause { PausesCountNothing }
     ensures clear { ClearsLeaveNone }
     ensures hists { OtherRequestsLeaveHistTriggers }
     ensures tables { OtherRequestsLeaveTables }
+    ensures others { OtherTriggersLeaveTables }
 {}
 
 /// The definitions can be computed, and they give worked scripts the answers that stand beside them.
@@ -127,6 +129,7 @@ pub fn hist_examples_are_answered()
     ensures events { IsAnswered (small 1) triggers_of_two_events }
     ensures table { IsAnswered (small 1) shared_table }
     ensures twice { IsAnswered (small 1) table_of_one_event }
+    ensures order { IsAnswered (small 1) refused_by_two_rules }
 {}
 
 /// Likewise to worked scripts of settings and refusals.

@@ -90,8 +90,9 @@ fn run<R: Threads + Wait + Sync, G: Gate + Sync>(
 }
 
 // How many entries are under this caller's number.
-fn count_by(book: &Book, by: u32) -> usize {
-    book.entries().iter().filter(|entry| entry.by == by).count()
+fn count_by(book: &Book, by: u32) -> Result<usize, Fail> {
+    let entries = book.entries().into_vec()?;
+    Ok(entries.iter().filter(|entry| entry.by == by).count())
 }
 
 // A gate that answers `false` when it is asked at one point of one command for the first time, and `true` otherwise. So a worker that asked there
@@ -138,8 +139,8 @@ fn a_gate_stops_a_part_at_each_point(rt: HostRuntime) -> Result<(), Fail> {
                 let stopped = if thread == 0 { 16384 } else { 32768 };
                 let other = if thread == 0 { 32768 } else { 16384 };
                 let asked = call as usize + usize::from(point == Point::Answered);
-                assert_eq!(rt; count_by(&outcome.book, stopped), asked);
-                assert_eq!(rt; count_by(&outcome.book, other), 2);
+                assert_eq!(rt; count_by(&outcome.book, stopped)?, asked);
+                assert_eq!(rt; count_by(&outcome.book, other)?, 2);
             }
         }
     }
@@ -240,7 +241,7 @@ fn meet<R: Threads + Wait + Sync>(rt: &R, alloc: Global, last: u32) -> Result<bo
     let outcome = run(rt, alloc, &gate)?;
     let done = outcome.replies?;
     let by = if last == 0 { 16384 } else { 32768 };
-    let entries = outcome.book.entries();
+    let entries = outcome.book.entries().into_vec()?;
     Ok(
         done.len() == 2
             && gate.first_thread.is_each_once()

@@ -25,7 +25,7 @@ fn the_last_ticket_is_answered_and_then_the_lock_is_worn(rt: HostRuntime) -> Res
     let (root, answer) = ask(&rt, &lock, root, Command::read(alloc, b"tracing_on")?);
     assert_eq!(rt; answer, Err(Refusal::Worn));
     let book = lock.close(root);
-    let entries = book.entries();
+    let entries = book.entries().into_vec()?;
     assert_eq!(rt; entries.len(), 1);
     assert_eq!(rt; entries[0].ticket, last);
     Ok(())

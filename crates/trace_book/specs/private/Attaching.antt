@@ -123,15 +123,17 @@ attaches action.Clear = false
 abbrev pub named_in : SpecSeen → List (List AttachedHist) → Option AttachedHist
 named_in spec all = find (names_table_of spec) (flat_map (λ (hists : List AttachedHist). hists) all)
 
--- it counts in the table of another one, if it fits that
-abbrev pub joined_change : ℕ → SpecSeen → AttachedHist → Result TriggerChange Refusal
-joined_change number spec other = if is_fitting spec other.spec
-    then Ok (AttachHist (record { number = number; table = other.table; spec = spec }))
-    else Err TriggerExists
+-- it counts in the table of another one, if it fits that and there is memory
+abbrev pub IsJoinedChange : ℕ → SpecSeen → AttachedHist → Result TriggerChange Refusal → Type 0
+IsJoinedChange number spec other (Ok (AttachHist attached)) =
+    (is_fitting spec other.spec ≡ true) × (attached.value ≡ record { number = number; table = other.table; spec = spec })
+IsJoinedChange number spec other (Ok change) = ⊥
+IsJoinedChange number spec other (Err refusal) = refusal ≡ (if is_fitting spec other.spec then Memory else TriggerExists)
 
 -- a table is made with it, if there is memory
 abbrev pub IsMadeChange : ℕ → SpecSeen → Result TriggerChange Refusal → Type 0
-IsMadeChange number spec (Ok (MakeHist attached hist)) =
-    (attached ≡ record { number = number; table = number; spec = spec }) × (hist.spec ≡ spec) × StandsFor hist [] × (hist.paused ≡ is_pause spec.action)
+IsMadeChange number spec (Ok (MakeHist made)) =
+    (made.value.attached ≡ record { number = number; table = number; spec = spec }) × (made.value.hist.spec ≡ spec) × StandsFor made.value.hist []
+    × (made.value.hist.paused ≡ is_pause spec.action)
 IsMadeChange number spec (Ok change) = ⊥
 IsMadeChange number spec (Err refusal) = refusal ≡ Memory

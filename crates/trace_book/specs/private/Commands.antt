@@ -52,7 +52,7 @@ IsWrittenFilter text event (Err refusal) = IsRefusal refusal (filter_answer text
 -- a change that a read makes: it sets nothing
 abbrev pub IsReading : ℕ → InstanceChange → Type 0
 IsReading cpus Keep = ⊤
-IsReading cpus (Take most) = ⊤
+IsReading cpus (Take counts) = ⊤
 IsReading cpus (TakeCpu cpu most) = cpu < cpus
 IsReading cpus change = ⊥
 

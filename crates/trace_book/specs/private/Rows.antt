@@ -4,7 +4,7 @@ use Rattle.trace_filter.specs.Filters.{Parsed}
 use Rattle.trace_filter.specs.Values.{holds_of}
 use Rattle.trace_format.specs.Cells.{Cells}
 use Rattle.trace_history.specs.Triggers.{is_left}
-use Rattle.trace_book.specs.Instances.{InstanceSeen, passed_in}
+use Rattle.trace_book.specs.Instances.{InstanceSeen}
 use Rattle.trace_book.specs.declared.change.Reach.{Reach}
 use Rattle.trace_book.specs.declared.trigger.Trigger.{Trigger}
 
@@ -27,10 +27,9 @@ kept_acts (Some t) row cpu pid = is_left t.left && kept_holds t.filter row cpu p
 abbrev pub fires : InstanceSeen → ℕ → Cells → ℕ → ℤ → Bool
 fires i event row cpu pid = kept_acts (slice_index_or i.triggers event None) row cpu pid
 
--- what it does in an instance
+-- what it does in an instance, but for its hist triggers
 abbrev pub reach_of : InstanceSeen → ℕ → Cells → ℕ → ℤ → Reach
 reach_of i event row cpu pid = record {
   records = records i event row cpu pid;
-  passed = passed_in (record { values = row.values; cpu = cpu; pid = pid }) event i;
   fires = fires i event row cpu pid;
 }

@@ -1,7 +1,7 @@
 //! What an emission does to an instance: first it is looked what that is, then its hist triggers take the memory that they need, and then it is taken
 //! in.
 
-ghost use Rattle.std.specs.Prelude.{◌≡◌, ◌≤◌, ◌<◌, [], true, is_some, length, slice_index_or, OnOk};
+ghost use Rattle.std.specs.Prelude.{◌≡◌, ◌≤◌, ◌<◌, ◌==◌, [], true, not, is_some, length, slice_index_or, IfOk, OnOk};
 ghost use Rattle.trace_record.specs.Record.{IsRecord};
 ghost use Rattle.trace_buffer.specs.Buffers as buffers;
 ghost use Rattle.trace_book.specs.Instances.{IsAlike};
@@ -13,43 +13,48 @@ ghost use Rattle.trace_book.specs.Instances.{passed_in};
 
 use super::Instance;
 use crate::change::{Delivery, Pending, Reach};
-use crate::hists::MOST_TRIGGERS;
+use crate::hists::Passed;
 use crate::trigger::passes;
 use std::alloc::AllocError;
 use trace_format::Row;
 
 impl Instance {
-    /// Takes the memory that the hist triggers of the event at this index need to count a row. It is known which of their filters that passes.
+    /// Whether the event at this index has hist triggers.
+    pub(crate) fn has_hists(&self, event: usize) -> bool
+        requires { event < length self.now.hists }
+        ensures { result ≡ not (length (slice_index_or self.now.hists event []) == 0) }
+    {
+        !self.hists[event].as_slice().is_empty()
+    }
+
+    /// Asks the filters of the hist triggers of the event at this index about a row, and takes the memory to count it for those which it passes.
     pub(crate) fn reserve(
         &mut self,
-        passed: [bool; MOST_TRIGGERS],
         event: usize,
         row: &Row,
         cpu: u32,
         pid: i32,
-    ) -> Result<(), AllocError>
+    ) -> Result<Passed, AllocError>
         requires event { event < length self.old.hists }
-        requires passed { passed ≡ passed_in (record { values = row.now.values; cpu = cpu; pid = pid }) event self.old }
         requires agree { KeysAgree (slice_index_or self.old.hists event []) }
+        ensures passed { IfOk result (λ passed. passed ≡ passed_in (record { values = row.now.values; cpu = cpu; pid = pid }) event self.old) }
         ensures alike { IsAlike self.old self.new }
         ensures ready { OnOk result (CanCountRow (record { values = row.now.values; cpu = cpu; pid = pid }) event self.new) }
     {
-        self.hists[event].reserve(&mut self.tables, passed, row, cpu, pid)
+        self.hists[event].reserve(&mut self.tables, row, cpu, pid)
     }
 
-    /// What an emission of the event at this index does here: whether it is recorded, which filters of the event's hist triggers it passes,
-    /// and whether it makes the event's snapshot trigger act. It is recorded where tracing is on, the event is enabled, and its filter passes. A
+    /// What an emission of the event at this index does here, but for the event's hist triggers: whether it is recorded, and whether it makes the
+    /// event's snapshot trigger act. It is recorded where tracing is on, the event is enabled, and its filter passes. A
     /// trigger heeds its own filter alone.
     pub(crate) fn reach(&self, event: usize, row: &Row, cpu: u32, pid: i32) -> Reach
         requires enabled { event < length self.now.enabled }
         requires filters { event < length self.now.filters }
         requires triggers { event < length self.now.triggers }
-        requires hists { event < length self.now.hists }
         ensures { result ≡ rows.reach_of self.now event row.now cpu pid }
     {
         Reach {
             records: self.records(event, row, cpu, pid),
-            passed: self.hists(event).passed(row, cpu, pid),
             fires: self.fires(event, row, cpu, pid),
         }
     }
@@ -78,11 +83,11 @@ impl Instance {
 
     /// Takes in an emission, which does this here: its record is written if it is to be, over older ones where the ring is full and that is
     /// allowed; then the event's hist triggers are offered its row; and then the sides are exchanged if it makes the event's trigger for
-    /// snapshots act.
-    pub(crate) fn deliver(&mut self, delivery: &Delivery, reach: Reach)
+    /// snapshots act. It is known which filters of the hist triggers it passes.
+    pub(crate) fn deliver(&mut self, delivery: &Delivery, reach: Reach, passed: &Passed)
         requires event { delivery.now.event < length self.old.triggers }
         requires hists { delivery.now.event < length self.old.hists }
-        requires passed { reach.passed ≡ passed_in (row_of delivery.now) delivery.now.event self.old }
+        requires passed { passed.now ≡ passed_in (row_of delivery.now) delivery.now.event self.old }
         requires agree { KeysAgree (slice_index_or self.old.hists delivery.now.event []) }
         requires counted { CanCountRow (row_of delivery.now) delivery.now.event self.old }
         requires few_rows { HasFewRows self.old }
@@ -94,7 +99,7 @@ impl Instance {
         if let Some(pending) = &delivery.record {
             self.write(pending, reach);
         }
-        self.offer(delivery, reach);
+        self.offer(delivery, passed);
         if reach.fires {
             self.exchange(delivery.event);
         }
@@ -117,9 +122,9 @@ impl Instance {
     }
 
     // Offers the row of an emission to the hist triggers of its event.
-    fn offer(&mut self, delivery: &Delivery, reach: Reach)
+    fn offer(&mut self, delivery: &Delivery, passed: &Passed)
         requires hists { delivery.now.event < length self.old.hists }
-        requires passed { reach.passed ≡ passed_in (row_of delivery.now) delivery.now.event self.old }
+        requires passed { passed.now ≡ passed_in (row_of delivery.now) delivery.now.event self.old }
         requires agree { KeysAgree (slice_index_or self.old.hists delivery.now.event []) }
         requires counted { CanCountRow (row_of delivery.now) delivery.now.event self.old }
         requires few_rows { HasFewRows self.old }
@@ -127,7 +132,7 @@ impl Instance {
     {
         self.hists[delivery.event].hit(
             &mut self.tables,
-            reach.passed,
+            passed,
             &delivery.row,
             delivery.cpu,
             delivery.pid,

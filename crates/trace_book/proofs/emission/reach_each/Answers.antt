@@ -1,6 +1,7 @@
 use Rattle.std.proofs.Common.{◌≡◌, ◌∙◌, arith, get_or, length-set, subst, to_z, of_z, w32}
 use Rattle.std.proofs.lemmas.List.{get_or_default}
 use Rattle.trace_book.specs.private.Rows.{reach_of}
+use Rattle.trace_book.specs.States.{no_reach}
 use Rattle.trace_book.specs.declared.state.Named.{Named}
 use Rattle.trace_book.proofs.EachInstance.{none_more, reached_more}
 use Rattle.trace_book.proofs.emission.reach_each.Goals as goal
@@ -15,7 +16,7 @@ loop-i-preserved c =
     λ n. subst (λ (m : Named). reach ≡ reach_of m.instance c.args.event c.args.row.now c.args.cpu pid)
     (get_or_default instances c.loop-i.i c.index-instances-i.result n (omega arith)) c.reach-reach.ensures in record {
       many = length-set _ _ _ ∙ was.many;
-      each = reached_more (λ k r. (n : Named) → r ≡ reach_of (get_or instances k n).instance c.args.event c.args.row.now c.args.cpu pid)
+      each = reached_more no_reach (λ k r. (n : Named) → r ≡ reach_of (get_or instances k n).instance c.args.event c.args.row.now c.args.cpu pid)
           c.loop-i.each c.loop-i.i reach (omega (arith, was.many)) here was.each;
       none = none_more c.loop-i.each c.loop-i.i reach c.loop-i.recorded (omega (arith, was.many)) was.none;
     }

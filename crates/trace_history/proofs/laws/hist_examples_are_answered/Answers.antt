@@ -33,3 +33,6 @@ returns-clause-table c = examples-are_answered.table
 
 pub returns-clause-twice : goal.returns-clause-twice
 returns-clause-twice c = examples-are_answered.twice
+
+pub returns-clause-order : goal.returns-clause-order
+returns-clause-order c = examples-are_answered.order

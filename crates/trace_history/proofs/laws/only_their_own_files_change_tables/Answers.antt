@@ -1,4 +1,4 @@
-use Rattle.trace_history.proofs.AskedTables.{clears_leave_none, other_requests_leave_hist_triggers, other_requests_leave_tables, tables_are_asked_through_each}
+use Rattle.trace_history.proofs.AskedTables.{clears_leave_none, joining_pauses_or_leaves, other_requests_leave_hist_triggers, other_requests_leave_tables, other_triggers_leave_tables, tables_are_asked_through_each}
 use Rattle.trace_history.proofs.Pauses.{only_asking_pauses, pauses_count_nothing}
 use Rattle.trace_history.proofs.laws.only_their_own_files_change_tables.Goals as goal
 
@@ -19,3 +19,9 @@ returns-clause-hists c = other_requests_leave_hist_triggers
 
 pub returns-clause-tables : goal.returns-clause-tables
 returns-clause-tables c = other_requests_leave_tables
+
+pub returns-clause-joined : goal.returns-clause-joined
+returns-clause-joined c = joining_pauses_or_leaves
+
+pub returns-clause-others : goal.returns-clause-others
+returns-clause-others c = other_triggers_leave_tables

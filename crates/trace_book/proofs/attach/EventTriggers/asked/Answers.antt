@@ -31,8 +31,8 @@ returns-in-Some-named_by c =
     let none : same_left c.args.spec c.args.self c.args.written.append ≡ None = search rules in
     let attaches : attaching.attaches c.args.spec.action ≡ true = search rules in
     let found : attaching.named_in c.args.spec (attaching.left_of c.args.self c.args.written.append) ≡ Some c.in-Some-named_by.other.now = search rules in
-    rw c.joined.ensures
-    (ask-joined c.args.spec c.args.event.now c.args.self c.args.written c.in-Some-named_by.other.now none attaches c.in_ok-check_room.ensures.room found)
+    ask-joined c.args.spec c.args.event.now c.args.self c.args.written c.in-Some-named_by.other.now c.joined.result none attaches
+    c.in_ok-check_room.ensures.room found c.joined.ensures
 
 pub returns-in-None : goal.returns-in-None
 returns-in-None c =

@@ -2,6 +2,7 @@ use Rattle.std.proofs.Common.{List, [], ◌∷◌, ◌++◌, All, subst, ◌≡�
 use Rattle.std.proofs.lemmas.Int.{to_z-of_z}
 use Rattle.trace_command.specs.Requests.{request_of}
 use Rattle.trace_history.specs.History.{past_of}
+use Rattle.trace_log.specs.HistorySeen.{HistorySeen}
 use Rattle.trace_book.specs.BookSeen.{BookSeen}
 use Rattle.trace_command.specs.declared.command.Entry.{Entry}
 use Rattle.trace_command.specs.declared.command.Reply.TheVariants.{Done}
@@ -15,8 +16,8 @@ use Rattle.trace_book.proofs.book.Book.ask.Goals as goal
 pub prepare_emission-requires-clause-usable : goal.prepare_emission-requires-clause-usable
 prepare_emission-requires-clause-usable c =
     let book = c.self.inside in
-    usable_from_stands book.config book.state (past_of book.entries.items) c.self.invariant.in_range c.self.invariant.stands
-    (omega (arith, length-past_of book.entries.items, c.self.invariant.few))
+    usable_from_stands book.config book.state (past_of book.history.entries) c.self.invariant.in_range c.self.invariant.stands
+    (omega (arith, length-past_of book.history.entries, c.self.invariant.few))
 
 pub invariant_of-self : goal.invariant_of-self
 invariant_of-self c = record {
@@ -29,7 +30,7 @@ invariant_of-self c = record {
 pub returns-in-Err-clause-reply : goal.returns-in-Err-clause-reply
 returns-in-Err-clause-reply c =
     let book = c.self.inside in
-    let past = past_of book.entries.items in
+    let past = past_of book.history.entries in
     let prepared : IsPreparedEmission book.config past (request_of c.args.command) c.prepare_emission.new.self (Err c.in-Err.refusal) =
     rw (c.in-Emit.is, ← c.as_bytes.ensures, ← c.as_slice.ensures) (c.in-Err.ensures.prepared past c.self.invariant.stands) in
     rw (← c.self.view_is, c.refused.ensures) (refused-reply book.config past (request_of c.args.command) c.prepare_emission.new.self c.in-Err.refusal prepared)
@@ -37,7 +38,7 @@ returns-in-Err-clause-reply c =
 pub returns-in-Err-clause-early : goal.returns-in-Err-clause-early
 returns-in-Err-clause-early c =
     let book = c.self.inside in
-    let past = past_of book.entries.items in
+    let past = past_of book.history.entries in
     let prepared : IsPreparedEmission book.config past (request_of c.args.command) c.prepare_emission.new.self (Err c.in-Err.refusal) =
     rw (c.in-Emit.is, ← c.as_bytes.ensures, ← c.as_slice.ensures) (c.in-Err.ensures.prepared past c.self.invariant.stands) in
     rw (← c.self.view_is, c.refused.ensures) (λ early. sym (refused-early book.config past (request_of c.args.command) c.prepare_emission.new.self c.in-Err.refusal prepared early))
@@ -53,9 +54,9 @@ invariant_of-self-then-self-len c = record {
 pub returns-then-self-len-clause-reply : goal.returns-then-self-len-clause-reply
 returns-then-self-len-clause-reply c =
     let book = c.self.inside in
-    let past = past_of book.entries.items in
+    let past = past_of book.history.entries in
     let full : book.config.history_limit ≤ length past =
-    omega (arith, length-past_of book.entries.items, c.len.ensures, book.entries.ok.0) in
+    omega (arith, length-past_of book.history.entries, c.len.ensures) in
     let pid : to_z w32 (of_z w32 c.in-Emit.pid) ≡ c.in-Emit.pid = to_z-of_z w32 c.in-Emit.pid (search rules) in
     let prepared : IsPreparedEmission book.config past (request_of c.args.command) c.prepare_emission.new.self (Ok c.in-Ok.delivery) =
     rw (c.in-Emit.is, ← c.as_bytes.ensures, ← c.as_slice.ensures) (rw pid at c.in-Ok.ensures.prepared past c.self.invariant.stands) in
@@ -64,84 +65,85 @@ returns-then-self-len-clause-reply c =
 pub returns-then-self-len-clause-early : goal.returns-then-self-len-clause-early
 returns-then-self-len-clause-early c =
     let book = c.self.inside in
-    let past = past_of book.entries.items in
+    let past = past_of book.history.entries in
     let full : book.config.history_limit ≤ length past =
-    omega (arith, length-past_of book.entries.items, c.len.ensures, book.entries.ok.0) in
+    omega (arith, length-past_of book.history.entries, c.len.ensures) in
     let pid : to_z w32 (of_z w32 c.in-Emit.pid) ≡ c.in-Emit.pid = to_z-of_z w32 c.in-Emit.pid (search rules) in
     let prepared : IsPreparedEmission book.config past (request_of c.args.command) c.prepare_emission.new.self (Ok c.in-Ok.delivery) =
     rw (c.in-Emit.is, ← c.as_bytes.ensures, ← c.as_slice.ensures) (rw pid at c.in-Ok.ensures.prepared past c.self.invariant.stands) in
     rw (← c.self.view_is, c.refused_late.ensures) (λ early. sym (answer-full book.config past (request_of c.args.command) Done prepared.0 full))
 
-pub returns-in_default-reserve-clause-early : goal.returns-in_default-reserve-clause-early
-returns-in_default-reserve-clause-early c =
+pub returns-in_default-write_emission_ahead-clause-early : goal.returns-in_default-write_emission_ahead-clause-early
+returns-in_default-write_emission_ahead-clause-early c =
     let book = c.self.inside in
-    let past = past_of book.entries.items in
+    let past = past_of book.history.entries in
     let pid : to_z w32 (of_z w32 c.in-Emit.pid) ≡ c.in-Emit.pid = to_z-of_z w32 c.in-Emit.pid (search rules) in
     let prepared : IsPreparedEmission book.config past (request_of c.args.command) c.prepare_emission.new.self (Ok c.in-Ok.delivery) =
     rw (c.in-Emit.is, ← c.as_bytes.ensures, ← c.as_slice.ensures) (rw pid at c.in-Ok.ensures.prepared past c.self.invariant.stands) in
     rw (← c.self.view_is) (λ early. absurd (late-done book.config past (request_of c.args.command) Done prepared.0 early))
 
-pub invariant_of-self-in_default-reserve : goal.invariant_of-self-in_default-reserve
-invariant_of-self-in_default-reserve c = record {
+pub invariant_of-self-in_default-write_emission_ahead : goal.invariant_of-self-in_default-write_emission_ahead
+invariant_of-self-in_default-write_emission_ahead c = record {
   in_range = c.self.invariant.in_range;
-  few = rw c.reserve.ensures.items c.self.invariant.few;
-  legal = rw c.reserve.ensures.items c.self.invariant.legal;
-  stands = rw c.reserve.ensures.items (state_alike-stands _ _ _ _ c.prepare_emission.ensures.alike c.self.invariant.stands);
+  few = rw c.write_emission_ahead.ensures.entries c.self.invariant.few;
+  legal = rw c.write_emission_ahead.ensures.entries c.self.invariant.legal;
+  stands = rw c.write_emission_ahead.ensures.entries (state_alike-stands _ _ _ _ c.prepare_emission.ensures.alike c.self.invariant.stands);
 }
 
 pub deliver-requires-clause-early : goal.deliver-requires-clause-early
 deliver-requires-clause-early c =
     let book = c.self.inside in
-    let stands = state_alike-stands book.config _ _ (past_of book.entries.items) c.prepare_emission.ensures.alike c.self.invariant.stands in
-    omega (arith, stands.early, length-past_of book.entries.items, c.len.ensures, book.entries.ok.0, c.self.invariant.in_range.few_entries)
+    let stands = state_alike-stands book.config _ _ (past_of book.history.entries) c.prepare_emission.ensures.alike c.self.invariant.stands in
+    omega (arith, stands.early, length-past_of book.history.entries, c.len.ensures, c.self.invariant.in_range.few_entries)
 
 pub deliver-requires-clause-few : goal.deliver-requires-clause-few
 deliver-requires-clause-few c =
     let book = c.self.inside in
-    let stands = state_alike-stands book.config _ _ (past_of book.entries.items) c.prepare_emission.ensures.alike c.self.invariant.stands in
-    few_from_stands book.config _ (past_of book.entries.items) stands
-    (omega (arith, length-past_of book.entries.items, c.len.ensures, book.entries.ok.0, c.self.invariant.in_range.few_entries))
+    let stands = state_alike-stands book.config _ _ (past_of book.history.entries) c.prepare_emission.ensures.alike c.self.invariant.stands in
+    few_from_stands book.config _ (past_of book.history.entries) stands
+    (omega (arith, length-past_of book.history.entries, c.len.ensures, c.self.invariant.in_range.few_entries))
 
 pub deliver-requires-clause-few_rows : goal.deliver-requires-clause-few_rows
 deliver-requires-clause-few_rows c =
     let book = c.self.inside in
-    let stands = state_alike-stands book.config _ _ (past_of book.entries.items) c.prepare_emission.ensures.alike c.self.invariant.stands in
-    few_rows_from_stands book.config _ book.entries.items c.self.invariant.legal stands
-    (omega (arith, length-past_of book.entries.items, c.len.ensures, book.entries.ok.0, c.self.invariant.in_range.few_entries))
+    let stands = state_alike-stands book.config _ _ (past_of book.history.entries) c.prepare_emission.ensures.alike c.self.invariant.stands in
+    few_rows_from_stands book.config _ book.history.entries c.self.invariant.legal stands
+    (omega (arith, length-past_of book.history.entries, c.len.ensures, c.self.invariant.in_range.few_entries))
 
 pub invariant_of-self-2 : goal.invariant_of-self-2
 invariant_of-self-2 c =
     let book = c.self.inside in
     let g = book.config in
-    let past = past_of book.entries.items in
+    let past = past_of book.history.entries in
     let request = request_of c.args.command in
     let entry : Entry = record { ticket = c.args.ticket; by = c.args.by; command = c.args.command } in
-    let items : c.push_reserved.new.self.items ≡ book.entries.items ++ entry ∷ [] =
-    c.push_reserved.ensures.items ∙ ap (λ (entries : List Entry). entries ++ entry ∷ []) c.reserve.ensures.items in
+    let written : c.write_emission_ahead.new.self.ahead ≡ entry ∷ [] = search rules in
+    let items : c.append_written.new.self.entries ≡ book.history.entries ++ entry ∷ [] =
+    ap (λ (h : HistorySeen). h.entries) c.append_written.ensures ∙ rw (c.write_emission_ahead.ensures.entries, written) refl in
     let room : length past < book.config.history_limit =
-    omega (arith, length-past_of book.entries.items, c.len.ensures, book.entries.ok.0) in
-    let few : length (book.entries.items ++ entry ∷ []) ≤ 2 ^ 32 =
-    omega (arith, length-append book.entries.items (entry ∷ []), c.len.ensures, book.entries.ok.0, c.self.invariant.in_range.few_entries) in
+    omega (arith, length-past_of book.history.entries, c.len.ensures) in
+    let few : length (book.history.entries ++ entry ∷ []) ≤ 2 ^ 32 =
+    omega (arith, length-append book.history.entries (entry ∷ []), c.len.ensures, c.self.invariant.in_range.few_entries) in
     let pid : to_z w32 (of_z w32 c.in-Emit.pid) ≡ c.in-Emit.pid = to_z-of_z w32 c.in-Emit.pid (search rules) in
     let prepared : IsPreparedEmission book.config past (request_of c.args.command) c.prepare_emission.new.self (Ok c.in-Ok.delivery) =
     rw (c.in-Emit.is, ← c.as_bytes.ensures, ← c.as_slice.ensures) (rw pid at c.in-Ok.ensures.prepared past c.self.invariant.stands) in
     let done = answer-done g past request Done prepared.0 room in
     let Below : BookSeen → Type 0 = λ seen. All (λ (e : Entry). e.ticket < c.args.ticket) seen.entries in
-    let below : All (λ (e : Entry). e.ticket < c.args.ticket) book.entries.items = subst Below (sym c.self.view_is) c.requires in
+    let below : All (λ (e : Entry). e.ticket < c.args.ticket) book.history.entries = subst Below (sym c.self.view_is) c.requires in
     let stands = state_alike-stands g _ _ past c.prepare_emission.ensures.alike c.self.invariant.stands in
     record {
       in_range = c.self.invariant.in_range;
       few = rw items few;
-      legal = rw items (IsLegal-push g book.entries.items entry c.self.invariant.legal (c.ranges.ticket.fits, c.ranges.by.fits, rw c.in-Emit.is (rw pid at c.in-Ok.ensures.fits)) below (rw done refl));
+      legal = rw items (IsLegal-push g book.history.entries entry c.self.invariant.legal (c.ranges.ticket.fits, c.ranges.by.fits, rw c.in-Emit.is (rw pid at c.in-Ok.ensures.fits)) below (rw done refl));
       stands = rw (items, past_of-push) (stands_after_emission g c.prepare_emission.new.self c.deliver.new.self past request c.in-Ok.delivery stands prepared c.deliver.ensures);
     }
 
 pub returns-clause-reply : goal.returns-clause-reply
 returns-clause-reply c =
     let book = c.self.inside in
-    let past = past_of book.entries.items in
+    let past = past_of book.history.entries in
     let room : length past < book.config.history_limit =
-    omega (arith, length-past_of book.entries.items, c.len.ensures, book.entries.ok.0) in
+    omega (arith, length-past_of book.history.entries, c.len.ensures) in
     let pid : to_z w32 (of_z w32 c.in-Emit.pid) ≡ c.in-Emit.pid = to_z-of_z w32 c.in-Emit.pid (search rules) in
     let prepared : IsPreparedEmission book.config past (request_of c.args.command) c.prepare_emission.new.self (Ok c.in-Ok.delivery) =
     rw (c.in-Emit.is, ← c.as_bytes.ensures, ← c.as_slice.ensures) (rw pid at c.in-Ok.ensures.prepared past c.self.invariant.stands) in
@@ -150,7 +152,7 @@ returns-clause-reply c =
 pub returns-clause-early : goal.returns-clause-early
 returns-clause-early c =
     let book = c.self.inside in
-    let past = past_of book.entries.items in
+    let past = past_of book.history.entries in
     let pid : to_z w32 (of_z w32 c.in-Emit.pid) ≡ c.in-Emit.pid = to_z-of_z w32 c.in-Emit.pid (search rules) in
     let prepared : IsPreparedEmission book.config past (request_of c.args.command) c.prepare_emission.new.self (Ok c.in-Ok.delivery) =
     rw (c.in-Emit.is, ← c.as_bytes.ensures, ← c.as_slice.ensures) (rw pid at c.in-Ok.ensures.prepared past c.self.invariant.stands) in
@@ -159,9 +161,9 @@ returns-clause-early c =
 pub deliver-requires-clause-usable : goal.deliver-requires-clause-usable
 deliver-requires-clause-usable c =
     let book = c.self.inside in
-    let stands = state_alike-stands book.config _ _ (past_of book.entries.items) c.prepare_emission.ensures.alike c.self.invariant.stands in
-    usable_from_stands book.config _ (past_of book.entries.items) c.self.invariant.in_range stands
-    (omega (arith, length-past_of book.entries.items, c.self.invariant.few))
+    let stands = state_alike-stands book.config _ _ (past_of book.history.entries) c.prepare_emission.ensures.alike c.self.invariant.stands in
+    usable_from_stands book.config _ (past_of book.history.entries) c.self.invariant.in_range stands
+    (omega (arith, length-past_of book.history.entries, c.self.invariant.few))
 
 pub returns-clause-legal : goal.returns-clause-legal
 returns-clause-legal c = (invariant_of-self-2 c).legal

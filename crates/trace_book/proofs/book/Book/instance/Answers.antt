@@ -10,7 +10,7 @@ returns-in_err-index-clause-there c =
     let book = c.self.inside in
     let none : c.from_residual.result ≡ None = search rules in
     let lost : c.index_of.result ≡ None = search rules in
-    let there = there-index book.config book.state (past_of book.entries.items) (option_map bytes_now c.args.name) c.index_of.result c.self.invariant.stands
+    let there = there-index book.config book.state (past_of book.history.entries) (option_map bytes_now c.args.name) c.index_of.result c.self.invariant.stands
     (sym c.index_of.ensures) in
     rw (← c.self.view_is, none) (sym (there ∙ ap (λ (found : Option ℕ). is_some found) lost))
 
@@ -18,7 +18,7 @@ pub returns-clause-there : goal.returns-clause-there
 returns-clause-there c =
     let book = c.self.inside in
     let found : c.index_of.result ≡ Some c.in_ok-index.index = search rules in
-    let there = there-index book.config book.state (past_of book.entries.items) (option_map bytes_now c.args.name) c.index_of.result c.self.invariant.stands
+    let there = there-index book.config book.state (past_of book.history.entries) (option_map bytes_now c.args.name) c.index_of.result c.self.invariant.stands
     (sym c.index_of.ensures) in
     rw (← c.self.view_is) (sym (there ∙ ap (λ (index : Option ℕ). is_some index) found))
 
@@ -27,5 +27,5 @@ returns-clause-stands c =
     let book = c.self.inside in
     let found : c.index_of.result ≡ Some c.in_ok-index.index = search rules in
     rw (← c.self.view_is)
-    (found-stands book.config book.state (past_of book.entries.items) (option_map bytes_now c.args.name) c.in_ok-index.index c.index.result.now
+    (found-stands book.config book.state (past_of book.history.entries) (option_map bytes_now c.args.name) c.in_ok-index.index c.index.result.now
     c.self.invariant.stands (sym c.index_of.ensures ∙ found) c.index.ensures)

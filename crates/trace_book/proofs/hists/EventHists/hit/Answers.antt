@@ -18,7 +18,7 @@ loop-i-preserved c =
     let inside : i < length hists = omega (arith, many, c.len-i-end.ensures, c.loop-i-test.true) in
     let small : i < 4 = omega (arith, many, c.self.invariant, inside) in
     let at = element hists i inside in
-    let knows : get_or c.args.passed i false ≡ is_passed at.0.spec.filter e =
+    let knows : get_or c.args.passed.now i false ≡ is_passed at.0.spec.filter e =
     rw pid (ap (λ (l : List Bool). get_or l i false) c.requires.passed
     ∙ passed_here (record { values = c.args.row.now.values; cpu = c.args.cpu; pid = c.args.pid }) hists i at.0 inside small
     ∙ ap (λ (b : AttachedHist). is_passed b.spec.filter (record { values = c.args.row.now.values; cpu = c.args.cpu; pid = c.args.pid })) (sym at.1)) in

@@ -2,10 +2,16 @@ use Rattle.std.proofs.Common.{◌≡◌, ◌∙◌, ◌<◌, List, Bool, false, 
 use Rattle.std.proofs.lemmas.Int.{to_z-of_z}
 use Rattle.trace_format.specs.Operands.{Emission}
 use Rattle.trace_trigger.specs.SameSpecs.{is_passed}
+use Rattle.trace_book.specs.KeptHists.{passed}
 use Rattle.trace_book.specs.declared.hists.AttachedHist.{AttachedHist}
 use Rattle.trace_book.proofs.EachHist.{element, passed_here, reserved-more, unreserved-more}
 use Rattle.trace_book.proofs.hists.EventHists.reserve.Goals as goal
 use Rattle.trace_book.proofs.hists.EventHists.reserve.Goals.{then-passed-i+in_ok-reserve, else-passed-i}
+
+pub returns-clause-passed : goal.returns-clause-passed
+returns-clause-passed c =
+    let pid : to_z w32 (of_z w32 c.args.pid) ≡ c.args.pid = to_z-of_z w32 c.args.pid (search rules) in
+    rw pid at c.passed-passed.ensures
 
 pub loop-i-preserved : goal.loop-i-preserved
 loop-i-preserved c =
@@ -17,8 +23,10 @@ loop-i-preserved c =
     let inside : i < length hists = omega (arith, many, c.len-i-end.ensures, c.loop-i-test.true) in
     let small : i < 4 = omega (arith, many, c.self.invariant, inside) in
     let at = element hists i inside in
-    let knows : get_or c.args.passed i false ≡ is_passed at.0.spec.filter e =
-    rw pid (ap (λ (l : List Bool). get_or l i false) c.requires.passed
+    let knows : get_or c.passed-passed.result i false ≡ is_passed at.0.spec.filter e =
+    let found : c.passed-passed.result ≡ passed (record { values = c.args.row.now.values; cpu = c.args.cpu; pid = c.args.pid }) hists =
+    rw pid at c.passed-passed.ensures in
+    rw pid (ap (λ (l : List Bool). get_or l i false) found
     ∙ passed_here (record { values = c.args.row.now.values; cpu = c.args.cpu; pid = c.args.pid }) hists i at.0 inside small
     ∙ ap (λ (b : AttachedHist). is_passed b.spec.filter (record { values = c.args.row.now.values; cpu = c.args.cpu; pid = c.args.pid })) (sym at.1)) in
     let was = c.loop-i.invariant in

@@ -5,18 +5,17 @@ use Rattle.trace_record.specs.Record.{record_size}
 use Rattle.trace_book.specs.private.Emissions.{AreReached, IsAhead}
 use Rattle.trace_book.specs.private.Found.{numbered}
 use Rattle.trace_book.specs.declared.change.Pending.{Pending}
-use Rattle.trace_book.specs.declared.change.Reach.{Reach}
 use Rattle.trace_book.proofs.Emitting.{named-found, answers-emission, is-emission, ready-emission, fit-at}
 use Rattle.trace_command.specs.Requests.{Emission}
 use Rattle.trace_command.specs.declared.refusal.Refusal.TheVariants.{Memory}
-use Rattle.trace_book.specs.States.{CanCountRow}
+use Rattle.trace_book.specs.States.{ArePassed, CanCountRow}
 use Rattle.trace_book.specs.declared.state.Named.{Named}
 use Rattle.trace_book.proofs.Alike.{state_alike-stands}
 use Rattle.trace_book.proofs.Answering.{done-late}
 use Rattle.trace_book.proofs.state.State.prepare_emission.Goals as goal
 
-pub returns-in_err-reserve_hits-clause-prepared : goal.returns-in_err-reserve_hits-clause-prepared
-returns-in_err-reserve_hits-clause-prepared c = λ past stands.
+pub returns-in_err-passed-clause-prepared : goal.returns-in_err-passed-clause-prepared
+returns-in_err-passed-clause-prepared c = λ past stands.
     let g = c.args.config.now in
     let name = c.args.name.now in
     let pairs = c.args.pairs.now in
@@ -24,7 +23,7 @@ returns-in_err-reserve_hits-clause-prepared c = λ past stands.
     let row = c.in_ok-row.row in
     let inside : c.args.cpu < g.cpus = omega arith in
     let built : row_of found.event.now pairs ≡ Ok row = c.in_ok-row.ensures.exact in
-    let out : c.from_residual-in_err-reserve_hits.result ≡ Err Memory = search rules in
+    let out : c.from_residual-in_err-passed.result ≡ Err Memory = search rules in
     rw out (done-late _ (answers-emission g past name c.args.cpu pairs (numbered found) row inside
     (named-found g c.args.self.now past name found stands c.in-Some.ensures.named) built))
 
@@ -40,10 +39,6 @@ returns-in_err-pending-clause-prepared c = λ past stands.
     let out : c.from_residual-in_err-pending.result ≡ Err Memory = search rules in
     rw out (done-late _ (answers-emission g past name c.args.cpu pairs (numbered found) row inside
     (named-found g c.args.self.now past name found stands c.in-Some.ensures.named) built))
-
-pub reserve_hits-requires-clause-passed : goal.reserve_hits-requires-clause-passed
-reserve_hits-requires-clause-passed c = λ k d inside.
-    ap (λ (r : Reach). r.passed) ((rw c.deref.ensures.value at c.reach_each-reaches.ensures).each k d inside)
 
 pub returns-clause-prepared : goal.returns-clause-prepared
 returns-clause-prepared c = λ past stands.
@@ -64,18 +59,21 @@ returns-clause-prepared c = λ past stands.
     let pid : to_z w32 (of_z w32 c.args.pid) ≡ c.args.pid = to_z-of_z w32 c.args.pid (search rules) in
     let reaches = c.reach_each-reaches.result in
     let are : AreReached found.index row c.args.cpu c.args.pid reaches old.instances.items = rw (pid, c.deref.ensures.value) at c.reach_each-reaches.ensures in
+    let passed = c.in_ok-passed.passed in
+    let known : ArePassed (record { values = row.values; cpu = c.args.cpu; pid = c.args.pid }) found.index passed old.instances.items =
+    rw pid at c.in_ok-passed.ensures.passed in
     let ahead : IsAhead new found.index row c.args.cpu c.args.pid reaches pending = rw pid at c.in_ok-pending.ensures.ahead in
     let counted : All (λ (n : Named). CanCountRow (record { values = row.values; cpu = c.args.cpu; pid = c.args.pid }) found.index n.instance) new.instances.items =
-    rw pid at c.in_ok-reserve_hits.ensures.counted in
+    rw pid at c.in_ok-passed.ensures.counted in
     let short : (p : Pending) → pending ≡ Some p → length p.bytes.items ≤ g.page_bytes =
     λ p is.
     let long = c.in_ok-pending.ensures.length p is in
     let size = ap (λ (n : ℕ). record_size n) c.payload_size-size.ensures.size in
     omega (arith, long ∙ size, fit.size) in
-    let emission = is-emission g old new past name c.args.cpu c.args.pid pairs found row reaches pending stands c.in-Some.ensures.named indexed built
+    let emission = is-emission g old new past name c.args.cpu c.args.pid pairs found row reaches passed pending stands c.in-Some.ensures.named indexed built
     alike are ahead in rw pid (
       answers-emission g past name c.args.cpu pairs (numbered found) row inside (named-found g old past name found stands c.in-Some.ensures.named) built,
       emission,
-      ready-emission g old new past (Emission name c.args.cpu c.args.pid pairs) found.index row c.args.cpu c.args.pid reaches pending
-          stands_new emission alike inside are counted ahead short,
+      ready-emission g old new past (Emission name c.args.cpu c.args.pid pairs) found.index row c.args.cpu c.args.pid reaches passed pending
+          stands_new emission alike inside known counted ahead short,
     )

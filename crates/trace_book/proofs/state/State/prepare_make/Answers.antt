@@ -1,9 +1,12 @@
-use Rattle.std.proofs.Common.{◌≡◌, ◌<◌, ◌≤◌, true, false, List, length, is_some, Err, sym, ap, ◌∙◌, rules}
+use Rattle.std.proofs.Common.{◌≡◌, ◌<◌, ◌≤◌, ◌∷◌, true, false, List, length, is_some, Err, Some, sym, ap, ◌∙◌, subst, rules}
 use Rattle.trace_lex.specs.Names.{is_name}
 use Rattle.trace_format.specs.Definitions.{Definition}
 use Rattle.trace_command.specs.Paths as paths
 use Rattle.trace_command.specs.declared.refusal.Refusal.TheVariants.{Memory}
 use Rattle.trace_history.specs.Settings.{declared_events}
+use Rattle.trace_command.specs.Requests.{MakeInstance}
+use Rattle.trace_book.specs.Instances.{InstanceStandsFor}
+use Rattle.trace_book.specs.declared.state.Named.{Named}
 use Rattle.trace_book.proofs.Making.{make-bad_name, make-exists, make-too_many, make-memory, make-done}
 use Rattle.trace_book.proofs.state.State.prepare_make.Goals as goal
 
@@ -35,6 +38,15 @@ returns-in_err-named c = λ past stands.
     rw out (make-memory c.args.config.now c.args.self.now past (paths.instance_of c.args.path.now) c.in-Some.name.now c.index_of.result stands
     (sym c.in-Some.ensures) good (sym c.index_of.ensures) none few)
 
+pub returns-in_err-boxed : goal.returns-in_err-boxed
+returns-in_err-boxed c = λ past stands.
+    let good : is_name c.in-Some.name.now ≡ true = search rules in
+    let none : is_some c.index_of.result ≡ false = search rules in
+    let few : length c.args.self.now.instances.items < 8 = search rules in
+    let out : c.from_residual-in_err-boxed.result ≡ Err Memory = search rules in
+    rw out (make-memory c.args.config.now c.args.self.now past (paths.instance_of c.args.path.now) c.in-Some.name.now c.index_of.result stands
+    (sym c.in-Some.ensures) good (sym c.index_of.ensures) none few)
+
 pub returns : goal.returns
 returns c = λ past stands.
     let good : is_name c.in-Some.name.now ≡ true = search rules in
@@ -42,5 +54,11 @@ returns c = λ past stands.
     let few : length c.args.self.now.instances.items < 8 = search rules in
     let events : c.len-2.result ≡ length (declared_events past) =
     c.len-2.ensures.len ∙ ap (λ (l : List Definition). length l) stands.events in
-    make-done c.args.config.now c.args.self.now past (paths.instance_of c.args.path.now) c.in-Some.name.now c.index_of.result c.in_ok-named.named stands
-    (sym c.in-Some.ensures) good (sym c.index_of.ensures) none few c.in_ok-named.ensures.named (c.in_ok-named.ensures.stands past events)
+    let name = c.in-Some.name.now in
+    let made = c.in_ok-boxed.boxed in
+    let is : made.value ≡ c.in_ok-named.named = c.in_ok-boxed.ensures.ok in
+    let stood : InstanceStandsFor c.args.config.now (Some name) (MakeInstance (Some name) ∷ past) made.value.instance =
+    subst (λ (n : Named). InstanceStandsFor c.args.config.now (Some name) (MakeInstance (Some name) ∷ past) n.instance) (sym is)
+    (c.in_ok-named.ensures.stands past events) in
+    make-done c.args.config.now c.args.self.now past (paths.instance_of c.args.path.now) name c.index_of.result made stands
+    (sym c.in-Some.ensures) good (sym c.index_of.ensures) none few (ap (λ (n : Named). n.name) is ∙ c.in_ok-named.ensures.named) stood

@@ -18,6 +18,11 @@ returns-clause-alike c =
       instances = subst (λ (is : List Named). EachCame IsAlike old is) (sym (written-over len new _ many)) came;
     }
 
+pub returns-clause-passed : goal.returns-clause-passed
+returns-clause-passed c =
+    let pid : to_z w32 (of_z w32 c.args.pid) ≡ c.args.pid = to_z-of_z w32 c.args.pid (search rules) in
+    rw (pid, c.deref_mut.ensures.value) at c.reserve_each.ensures.passed
+
 pub returns-clause-counted : goal.returns-clause-counted
 returns-clause-counted c =
     let new = c.reserve_each.new.instances in

@@ -1,0 +1,6 @@
+pub mod ReadBack
+pub mod PackedLemmas
+pub mod WrittenEntries
+pub mod ChunkFacts
+pub mod PairReads
+pub mod HistoryFacts

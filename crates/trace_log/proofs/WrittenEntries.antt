@@ -1,0 +1,38 @@
+-- What was written of an entry is that entry.
+use Rattle.std.proofs.Common.{◌≡◌, ℕ, ℤ, ◌<◌, ◌^◌, List, [], ◌∷◌, ◌++◌, length, get_or, refl, sym, subst, ◌∙◌, append_assoc}
+use Rattle.std.specs.Int.{w32, w64, to_le_bytes, cast_unsigned}
+use Rattle.trace_format.specs.declared.pair.Pair.{Pair}
+use Rattle.trace_command.specs.declared.command.Command.TheVariants.{Emit}
+use Rattle.trace_command.specs.declared.command.Entry.{Entry}
+use Rattle.trace_log.specs.EntryEncoding.{length_bytes, text_bytes, pairs_bytes, emission_bytes, command_bytes, entry_bytes, IsWritable}
+use Rattle.trace_log.specs.PackedEntries.{IsOneEntry}
+use Rattle.trace_log.proofs.PackedLemmas.{one_entry}
+
+-- the first bytes of an emission, one by one
+pub emission_head : (ticket by cpu : ℕ) (pid : ℤ) (t b c p : List ℕ) → t ≡ to_le_bytes w64 ticket → b ≡ to_le_bytes w32 by → c ≡ to_le_bytes w32 cpu → p ≡ to_le_bytes w32 (cast_unsigned w32 pid) → get_or t 0 0 ∷ get_or t 1 0 ∷ get_or t 2 0 ∷ get_or t 3 0 ∷ get_or t 4 0 ∷ get_or t 5 0 ∷ get_or t 6 0 ∷ get_or t 7 0 ∷ get_or b 0 0 ∷ get_or b 1 0 ∷ get_or b 2 0 ∷ get_or b 3 0 ∷ 0 ∷ get_or c 0 0 ∷ get_or c 1 0 ∷ get_or c 2 0 ∷ get_or c 3 0 ∷ get_or p 0 0 ∷ get_or p 1 0 ∷ get_or p 2 0 ∷ get_or p 3 0 ∷ [] ≡ to_le_bytes w64 ticket ++ to_le_bytes w32 by ++ 0 ∷ [] ++ to_le_bytes w32 cpu ++ to_le_bytes w32 (cast_unsigned w32 pid)
+emission_head ticket by cpu pid t b c p et eb ec ep = rw (et, eb, ec, ep) refl
+
+joined : (t b k c p x l s : List ℕ) → (((((t ++ b) ++ k) ++ c) ++ p) ++ x) ++ l ++ s ≡ (t ++ b) ++ (((((k ++ c) ++ p) ++ x) ++ l) ++ s)
+joined t b k c p x l s = simp append_assoc
+
+-- one write after another
+pub four_writes : (a0 a1 a2 a3 a4 h x l s : List ℕ) → a0 ≡ [] → a1 ≡ a0 ++ h → a2 ≡ a1 ++ x → a3 ≡ a2 ++ l → a4 ≡ a3 ++ s → a4 ≡ h ++ x ++ l ++ s
+four_writes a0 a1 a2 a3 a4 h x l s e0 e1 e2 e3 e4 = rw (e4, e3, e2, e1, e0) refl
+
+pub six_writes : (a0 a1 a2 a3 a4 a5 a6 t b k l x y : List ℕ) → a0 ≡ [] → a1 ≡ a0 ++ t → a2 ≡ a1 ++ b → a3 ≡ a2 ++ k → a4 ≡ a3 ++ l → a5 ≡ a4 ++ x → a6 ≡ a5 ++ y → a6 ≡ t ++ b ++ (k ++ l ++ x ++ y)
+six_writes a0 a1 a2 a3 a4 a5 a6 t b k l x y e0 e1 e2 e3 e4 e5 e6 = rw (e6, e5, e4, e3, e2, e1, e0) (grouped t b k l x y)
+  where
+    grouped : (t b k l x y : List ℕ) → ((((t ++ b) ++ k) ++ l) ++ x) ++ y ≡ (t ++ b) ++ (((k ++ l) ++ x) ++ y)
+    grouped t b k l x y = simp append_assoc
+
+-- the bytes are an entry with this command
+pub entry_written : (entry : Entry) (ahead : List ℕ) → ahead ≡ to_le_bytes w64 entry.ticket ++ to_le_bytes w32 entry.by ++ command_bytes entry.command → entry.ticket < 2 ^ 64 → entry.by < 2 ^ 32 → IsWritable entry.command → IsOneEntry ahead entry
+unfolding entry_bytes
+entry_written entry ahead e t b w = subst (λ (bytes : List ℕ). IsOneEntry bytes entry) (sym e) (one_entry entry t b w)
+
+-- those of an emission, as they are written
+pub emission_written : (ticket by : ℕ) (event : List ℕ) (cpu : ℕ) (pid : ℤ) (pairs : List Pair) (ahead : List ℕ) → ahead ≡ (to_le_bytes w64 ticket ++ to_le_bytes w32 by ++ 0 ∷ [] ++ to_le_bytes w32 cpu ++ to_le_bytes w32 (cast_unsigned w32 pid)) ++ text_bytes event ++ length_bytes (length pairs) ++ pairs_bytes pairs → ticket < 2 ^ 64 → by < 2 ^ 32 → IsWritable (Emit event cpu pid pairs) → IsOneEntry ahead (record { ticket = ticket; by = by; command = Emit event cpu pid pairs })
+unfolding emission_bytes
+emission_written ticket by event cpu pid pairs ahead e t b w =
+    entry_written (record { ticket = ticket; by = by; command = Emit event cpu pid pairs }) ahead
+    (e ∙ joined (to_le_bytes w64 ticket) (to_le_bytes w32 by) (0 ∷ []) (to_le_bytes w32 cpu) (to_le_bytes w32 (cast_unsigned w32 pid)) (text_bytes event) (length_bytes (length pairs)) (pairs_bytes pairs)) t b w

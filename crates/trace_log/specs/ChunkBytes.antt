@@ -1,0 +1,16 @@
+-- How a chunk's fields show, and what is true of them at every moment.
+use Rattle.std.specs.Prelude.{◌≤◌, length, take, drop}
+use Rattle.trace_log.specs.PackedEntries.{entries_in, ArePacked}
+use Rattle.trace_log.specs.ChunkSeen.{ChunkSeen}
+use Rattle.trace_log.specs.declared.chunk.Chunk.TheInside.{Inside}
+
+abbrev pub seen_chunk : Inside → ChunkSeen
+seen_chunk chunk = record {
+  entries = entries_in chunk.count (take chunk.filled chunk.bytes.items);
+  ahead = drop chunk.filled chunk.bytes.items;
+}
+
+-- up to the mark lie the entries that count
+pub record IsChunk (chunk : Inside) : Type 0 where
+  pub mark : chunk.filled ≤ length chunk.bytes.items
+  pub packed : ArePacked chunk.count (take chunk.filled chunk.bytes.items)

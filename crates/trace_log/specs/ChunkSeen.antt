@@ -1,0 +1,13 @@
+-- Chunks as contracts see them.
+use Rattle.std.specs.Prelude.{ℕ, List}
+use Rattle.std.specs.List.{flat_map}
+use Rattle.trace_command.specs.declared.command.Entry.{Entry}
+
+-- the entries that count, and the bytes after them
+pub record ChunkSeen : Type 0 where
+  pub entries : List Entry
+  pub ahead : List ℕ
+
+-- the entries of chunks, in order
+abbrev pub entries_of : List ChunkSeen → List Entry
+entries_of chunks = flat_map (λ chunk. chunk.entries) chunks

@@ -1,0 +1,176 @@
+//! How entries are written as bytes: `specs/EntryEncoding.antt` says it part by part.
+
+ghost use Rattle.std.specs.Prelude.{◌≡◌, ◌<◌, ◌^◌, [], ◌∷◌, ◌++◌, length, OnOk};
+ghost use Rattle.std.specs.Int.{w32, w64, to_le_bytes};
+ghost use Rattle.trace_command.specs.declared.command.Command.{Command};
+ghost use Rattle.trace_log.specs.PackedEntries.{IsOneEntry};
+ghost use Rattle.trace_log.specs.EntryEncoding.{length_bytes, text_bytes, pairs_bytes, other_bytes, ArePairsShort};
+
+use crate::chunk::Chunk;
+use std::alloc::AllocError;
+use trace_command::Command;
+use trace_format::Pair;
+
+// Kinds of commands, as they are written.
+const EMIT: u8 = 0;
+
+const MKDIR: u8 = 1;
+
+const RMDIR: u8 = 2;
+
+const WRITE: u8 = 3;
+
+const APPEND: u8 = 4;
+
+const READ: u8 = 5;
+
+const TAKE: u8 = 6;
+
+// A length of 255 or more is written as this byte and eight more.
+const LONG: u8 = 255;
+
+impl Chunk {
+    // A length.
+    #[tactic(auto, unfolding(crate::specs::EntryEncoding::length_bytes))]
+    fn write_length(&mut self, length: usize) -> Result<(), AllocError>
+        ensures entries { self.new.entries ≡ self.old.entries }
+        ensures ahead { OnOk result (self.new.ahead ≡ self.old.ahead ++ length_bytes length) }
+    {
+        if length < usize::from(LONG) {
+            return self.write_byte(length as u8);
+        }
+        self.write_byte(LONG)?;
+        self.write(&(length as u64).to_le_bytes())
+    }
+
+    // A string.
+    #[tactic(auto, unfolding(crate::specs::EntryEncoding::text_bytes))]
+    fn write_text(&mut self, text: &[u8]) -> Result<(), AllocError>
+        ensures entries { self.new.entries ≡ self.old.entries }
+        ensures ahead { OnOk result (self.new.ahead ≡ self.old.ahead ++ text_bytes text.now) }
+        ensures short { length text.now < 2 ^ 64 }
+    {
+        self.write_length(text.len())?;
+        self.write(text)
+    }
+
+    // Pairs, one after the other.
+    fn write_pairs(&mut self, pairs: &[Pair]) -> Result<(), AllocError>
+        ensures entries { self.new.entries ≡ self.old.entries }
+        ensures ahead { OnOk result (self.new.ahead ≡ self.old.ahead ++ pairs_bytes pairs.now) }
+        ensures short { OnOk result (ArePairsShort pairs.now) }
+    {
+        for pair in pairs {
+            self.write_text(pair.name.as_bytes())?;
+            self.write_text(pair.value.as_bytes())?;
+        }
+        Ok(())
+    }
+
+    /// Writes the entry of an emission ahead. Where memory is refused, a part of it may be written all the same.
+    pub(crate) fn write_emission(
+        &mut self,
+        ticket: u64,
+        by: u32,
+        event: &[u8],
+        cpu: u32,
+        pid: i32,
+        pairs: &[Pair],
+    ) -> Result<(), AllocError>
+        requires { self.old.ahead ≡ [] }
+        ensures entries { self.new.entries ≡ self.old.entries }
+        ensures entry { OnOk result (IsOneEntry self.new.ahead
+            (record { ticket = ticket; by = by; command = Command.Emit event.now cpu pid pairs.now })) }
+    {
+        let t = ticket.to_le_bytes();
+        let b = by.to_le_bytes();
+        let c = cpu.to_le_bytes();
+        let p = pid.to_le_bytes();
+        self.write(&[
+            t[0], t[1], t[2], t[3], t[4], t[5], t[6], t[7], b[0], b[1], b[2], b[3], EMIT, c[0],
+            c[1], c[2], c[3], p[0], p[1], p[2], p[3],
+        ])?;
+        self.write_text(event)?;
+        self.write_length(pairs.len())?;
+        self.write_pairs(pairs)?;
+        Ok(())
+    }
+
+    // Writes the entry of any other command ahead: kind, limit, path and text. Where memory is refused, a part may be written all the same.
+    fn write_other(
+        &mut self,
+        ticket: u64,
+        by: u32,
+        kind: u8,
+        limit: u64,
+        path: &[u8],
+        text: &[u8],
+    ) -> Result<(), AllocError>
+        requires { self.old.ahead ≡ [] }
+        ensures entries { self.new.entries ≡ self.old.entries }
+        ensures ahead { OnOk result (self.new.ahead ≡ to_le_bytes w64 ticket ++ to_le_bytes w32 by ++ other_bytes kind limit path.now text.now) }
+        ensures short { (length path.now < 2 ^ 64) × (length text.now < 2 ^ 64) }
+    {
+        let _path_length = path.len();
+        let _text_length = text.len();
+        self.write(&ticket.to_le_bytes())?;
+        self.write(&by.to_le_bytes())?;
+        self.write_byte(kind)?;
+        self.write(&limit.to_le_bytes())?;
+        self.write_text(path)?;
+        self.write_text(text)?;
+        Ok(())
+    }
+
+    // Writes the entry of a read ahead, likewise.
+    fn write_read(
+        &mut self,
+        ticket: u64,
+        by: u32,
+        path: &[u8],
+        limit: Option<u64>,
+    ) -> Result<(), AllocError>
+        requires { self.old.ahead ≡ [] }
+        ensures entries { self.new.entries ≡ self.old.entries }
+        ensures entry { OnOk result (IsOneEntry self.new.ahead (record { ticket = ticket; by = by; command = Command.Read path.now limit })) }
+    {
+        match limit {
+            None => self.write_other(ticket, by, READ, 0, path, &[]),
+            Some(limit) => self.write_other(ticket, by, TAKE, limit, path, &[]),
+        }
+    }
+
+    /// Writes an entry ahead. Where memory is refused, a part of it may be written all the same.
+    pub(crate) fn write_entry(
+        &mut self,
+        ticket: u64,
+        by: u32,
+        command: &Command,
+    ) -> Result<(), AllocError>
+        requires { self.old.ahead ≡ [] }
+        ensures entries { self.new.entries ≡ self.old.entries }
+        ensures entry { OnOk result (IsOneEntry self.new.ahead (record { ticket = ticket; by = by; command = command.now })) }
+    {
+        match command {
+            Command::Emit {
+                event,
+                cpu,
+                pid,
+                pairs,
+            } => self.write_emission(ticket, by, event.as_bytes(), *cpu, *pid, pairs.as_slice()),
+            Command::Mkdir(path) => self.write_other(ticket, by, MKDIR, 0, path.as_bytes(), &[]),
+            Command::Rmdir(path) => self.write_other(ticket, by, RMDIR, 0, path.as_bytes(), &[]),
+            Command::Write {
+                path,
+                append: false,
+                text,
+            } => self.write_other(ticket, by, WRITE, 0, path.as_bytes(), text.as_bytes()),
+            Command::Write {
+                path,
+                append: true,
+                text,
+            } => self.write_other(ticket, by, APPEND, 0, path.as_bytes(), text.as_bytes()),
+            Command::Read { path, limit } => self.write_read(ticket, by, path.as_bytes(), *limit),
+        }
+    }
+}

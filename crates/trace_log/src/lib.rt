@@ -1,0 +1,11 @@
+//! A history of commands, kept as bytes.
+#![tactic(auto)]
+
+mod chunk;
+mod decode;
+mod encode;
+mod entries;
+mod history;
+
+pub use entries::Entries;
+pub use history::History;
