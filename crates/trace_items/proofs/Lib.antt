@@ -3,4 +3,5 @@ pub mod ScriptLemmas
 pub mod LineFinding
 pub mod PartThreads
 pub mod PartReading
+pub mod EndFinding
 pub mod ItemReading

@@ -1,6 +1,7 @@
 //! Scripts read as items: a script is read from a reader, its lines are told apart, and the next item is a line by itself or a whole parallel part.
 #![tactic(auto)]
 
+mod end;
 pub mod item;
 pub mod laws;
 mod lines_from;

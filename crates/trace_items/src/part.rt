@@ -8,6 +8,7 @@ ghost use Rattle.trace_items.specs.Items.{Threads, ends_with, is_end, fault_afte
 ghost use Rattle.trace_items.specs.PartReads.{commands_in, item_of, with_more, with_line, comes_to, IsPartRead, IsLineAt, HasItsLine};
 ghost use Rattle.trace_items.specs.ScriptLines.{lines_left, bytes_left};
 
+use crate::end::has_end;
 use crate::script::first_line;
 use crate::stop::Stop;
 use std::alloc::{AllocError, Global};
@@ -63,7 +64,7 @@ pub(crate) fn read_line(alloc: Global, line: &[u8]) -> Result<Result<Line, Scrip
 }
 
 /// Whether a line ends a part.
-fn ends(line: &Result<Line, ScriptFault>) -> bool
+pub(crate) fn ends(line: &Result<Line, ScriptFault>) -> bool
     ensures { result ≡ ends_with line.now }
 {
     matches!(line, Ok(Line::End))
@@ -179,7 +180,8 @@ fn read_on<'a>(
     }
 }
 
-/// Reads the lines of a part, which begin with this number, up to its `end`, and gives what they come to; nothing where no `end` comes.
+/// Reads the lines of a part, which begin with this number, up to its `end`, and gives what they come to; nothing where no `end` comes. The `end` is
+/// looked for first: where there is none, no command is kept.
 #[tactic(auto, using(crate::proofs::PartReading::starts, crate::proofs::PartReading::goes_on, crate::proofs::PartReading::ends_not))]
 pub fn read_part<'a>(
     alloc: Global,
@@ -194,6 +196,9 @@ pub fn read_part<'a>(
         read.lines + 1 + bytes_left (option_copied read.rest) ≤ bytes_left (option_copied text.entry))) }
     ensures none { IfOk result (λ found. found ≡ None → list_any is_end (lines_left (option_copied text.entry)) ≡ false) }
 {
+    if !has_end(alloc, text)? {
+        return Ok(None);
+    }
     let mut rest = text;
     let mut lines = 0;
     let mut part = Part::Threads(Vec::new(alloc));
@@ -216,5 +221,5 @@ pub fn read_part<'a>(
         lines += 1;
         rest = after;
     }
-    Ok(None)
+    unreachable!()
 }

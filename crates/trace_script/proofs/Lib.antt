@@ -1,3 +1,4 @@
+pub mod ByteLemmas
 pub mod TokenLemmas
 pub mod WordLemmas
 pub mod TakingLemmas
@@ -6,5 +7,8 @@ pub mod GrammarLaws
 pub mod CommandLemmas
 pub mod CommandLaws
 pub mod LineLaws
+pub mod EndLines
 pub mod EmissionLines
+pub mod BareLines
+pub mod OnePair
 pub mod FaultOrder

@@ -15,11 +15,11 @@ use Rattle.trace_script.specs.declared.token.Token.TheVariants.{Word, Redirect}
 
 -- ---- pairs
 
-is_pair : (o : Option Pair) (pair : Pair) → or_fault WrongWords o ≡ Ok pair → o ≡ Some pair
+pub is_pair : (o : Option Pair) (pair : Pair) → or_fault WrongWords o ≡ Ok pair → o ≡ Some pair
 is_pair None pair e = absurd (cc)
 is_pair (Some p) pair e = cc
 
-is_no_pair : (o : Option Pair) (fault : ScriptFault) → or_fault WrongWords o ≡ Err fault → (o ≡ None) × (fault ≡ WrongWords)
+pub is_no_pair : (o : Option Pair) (fault : ScriptFault) → or_fault WrongWords o ≡ Err fault → (o ≡ None) × (fault ≡ WrongWords)
 is_no_pair None fault e = (refl, cc)
 is_no_pair (Some p) fault e = absurd (cc)
 

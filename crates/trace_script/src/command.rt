@@ -29,7 +29,7 @@ fn first_equals(word: &[u8]) -> Option<usize>
 
 /// The pair that a word writes: its first `=` separates the name from the value.
 #[tactic(auto, unfolding(crate::specs::Lines::pair_of))]
-fn pair(alloc: Global, word: &[u8]) -> Result<Pair, LineError>
+pub(crate) fn pair(alloc: Global, word: &[u8]) -> Result<Pair, LineError>
     ensures { Gives (λ pair. pair) result (or_fault WrongWords (pair_of word.now)) }
 {
     let Some(at) = first_equals(word) else {
@@ -107,7 +107,7 @@ fn without_command(_pairs: Pairs, error: LineError) -> Result<Command, LineError
 }
 
 /// The emission of these words and pairs.
-fn emission_with(
+pub(crate) fn emission_with(
     alloc: Global,
     cpu: &[u8],
     pid: &[u8],

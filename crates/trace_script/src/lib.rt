@@ -1,7 +1,9 @@
 //! Lines of a script read as what they ask for, and outcomes rendered as the bytes that are printed for them.
 #![tactic(auto)]
 
+mod bytes;
 mod command;
+mod emission;
 mod fault;
 pub mod laws;
 mod line;
@@ -14,7 +16,7 @@ mod word;
 pub use command::writes_are_as_written;
 pub use fault::{LineError, ScriptFault};
 pub use line::{
-    Line, commands_are_as_written, faults_come_in_order, lines_are_as_written, prepare,
+    Line, commands_are_as_written, faults_come_in_order, lines_are_as_written, may_end, prepare,
 };
 pub use outcome::{Outcome, render};
 pub use token::tokens_are_as_written;

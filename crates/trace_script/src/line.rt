@@ -1,20 +1,24 @@
 //! A line of a script, read as what it asks for.
 
-ghost use Rattle.std.specs.Prelude.{◌≡◌, ℕ, List, not};
-ghost use Rattle.std.specs.List.{list_all, list_any};
+ghost use Rattle.std.specs.Prelude.{◌≡◌, ℕ, List, Ok, IsTrue, false};
+ghost use Rattle.std.specs.List.{list_any};
 ghost use Rattle.trace_script.specs.Commands.{AsksFor, IsAskedBy};
 ghost use Rattle.trace_script.specs.Faults.{HasFault};
 ghost use Rattle.trace_script.specs.Outcomes.{Gives};
 ghost use Rattle.trace_script.specs.private.TokensLeft.{asked_after};
+ghost use Rattle.trace_script.specs.private.Words.{begins_as_end};
 ghost use Rattle.trace_script.specs.Tokens.{is_quote, tokens_of};
 ghost use Rattle.trace_script.specs.declared.fault.ScriptFault.{ScriptFault as FaultValue};
-ghost use Rattle.trace_script.specs.Lines.{alone, named_line, asked_of, is_line_byte, says_nothing, spoken, line_of};
+ghost use Rattle.trace_script.specs.Lines.{alone, named_line, asked_of, says_nothing, spoken, line_of};
 ghost use Rattle.trace_script.specs.declared.token.Token.{Token};
 ghost use Rattle.trace_script.specs.declared.line.Line.{Line as LineValue};
+ghost use Rattle.trace_script.specs.declared.line.Line.TheVariants.{End};
 
+use crate::bytes::{OTHER, QUOTE, highest_rank};
 use crate::command::{command, emission, is_emit};
+use crate::emission::{emission_line, emission_words};
 use crate::fault::{LineError, ScriptFault};
-use crate::token::{is_quote, tokens};
+use crate::token::{is_quote, tokens, without_blanks};
 use crate::tokens::{BorrowedToken, Tokens};
 use std::alloc::Global;
 use trace_command::Command;
@@ -113,10 +117,11 @@ fn quoted(alloc: Global, line: &[u8]) -> Result<Line, LineError>
     asked(alloc, Tokens::of_list(&list))
 }
 
-/// What a line of lawful length and bytes asks for.
+/// What a line of lawful length and bytes asks for. It is kept out of line, so that an emission of one pair doesn't take the room of the others.
+#[inline(never)]
 #[tactic(auto, unfolding(crate::specs::Lines::spoken))]
 fn spoken(alloc: Global, line: &[u8], has_quotes: bool) -> Result<Line, LineError>
-    requires { has_quotes ≡ list_any is_quote line.now }
+    requires { has_quotes ≡ false → list_any is_quote line.now ≡ false }
     ensures { Gives (λ line. line) result (spoken line.now) }
 {
     if says_nothing(line) {
@@ -128,51 +133,44 @@ fn spoken(alloc: Global, line: &[u8], has_quotes: bool) -> Result<Line, LineErro
     asked(alloc, Tokens::of_line(line))
 }
 
-/// A byte that a line may have: a tab, or one from 0x20 to 0x7e.
-fn is_line_byte(byte: u8) -> bool
-    ensures { result ≡ is_line_byte byte }
-{
-    matches!(byte, b'\t' | b' '..=b'~')
-}
-
-/// Whether a line has bytes of these kinds.
-#[derive(Clone, Copy)]
-struct Bytes {
-    /// Bytes that no line may have.
-    has_others: bool,
-    has_quotes: bool,
-}
-
-/// Looks at the bytes of a line. A loop without an early exit, over bytes, takes many of them at once.
-fn bytes_of(line: &[u8]) -> Bytes
-    ensures others { not result.has_others ≡ list_all is_line_byte line.now }
-    ensures quotes { result.has_quotes ≡ list_any is_quote line.now }
-{
-    let mut others = 0u8;
-    let mut quotes = 0u8;
-    for byte in line {
-        others |= u8::from(!is_line_byte(*byte));
-        quotes |= u8::from(is_quote(*byte));
-    }
-    Bytes {
-        has_others: others != 0,
-        has_quotes: quotes != 0,
-    }
-}
-
 /// What a line asks for. A fault is the first that is found, in the order of [`ScriptFault`].
-#[tactic(auto, unfolding(crate::specs::Lines::line_of))]
+#[tactic(auto, using(crate::proofs::ByteLemmas::lawful, crate::proofs::ByteLemmas::not_lawful, crate::proofs::ByteLemmas::unquoted, crate::proofs::BareLines::emission_spoken), unfolding(crate::specs::Lines::line_of))]
 pub fn prepare(alloc: Global, line: &[u8]) -> Result<Line, LineError>
     ensures { Gives (λ line. line) result (line_of line.now) }
 {
     if line.len() > MOST_BYTES {
         return Err(LineError::Fault(ScriptFault::LineTooLong));
     }
-    let bytes = bytes_of(line);
-    if bytes.has_others {
+    let rank = highest_rank(line);
+    if rank >= OTHER {
         return Err(LineError::Fault(ScriptFault::BadByte));
     }
-    spoken(alloc, line, bytes.has_quotes)
+    if rank == 0 {
+        if let Some(words) = emission_words(line) {
+            return emission_line(alloc, words);
+        }
+    }
+    spoken(alloc, line, rank >= QUOTE)
+}
+
+/// Whether a string begins with the first two bytes of `end`, or with a quote in the place of one of them.
+fn begins_as_end(text: &[u8]) -> bool
+    ensures { result ≡ begins_as_end text.now }
+{
+    match text {
+        [first, second, ..] => {
+            is_quote(*first) || (*first == b'e' && (is_quote(*second) || *second == b'n'))
+        }
+        _ => false,
+    }
+}
+
+/// Whether a line may be an `end`. Its first bytes tell, so that who looks for an `end` needs to prepare few lines.
+#[tactic(auto, using(crate::proofs::EndLines::end_begins))]
+pub fn may_end(line: &[u8]) -> bool
+    ensures { line_of line.now ≡ Ok End → IsTrue result }
+{
+    begins_as_end(without_blanks(line))
 }
 
 /// The grammar of commands: tokens ask for a command, or for a line of a parallel part, exactly where they are written as it is. So they

@@ -1,5 +1,5 @@
 -- Words for the private contracts that cut a line into tokens.
-use Rattle.std.specs.Prelude.{◌≡◌, ℕ, Bool, false, ◌||◌, ◌==◌, not, List, [], ◌∷◌, Option, None, Some}
+use Rattle.std.specs.Prelude.{◌≡◌, ℕ, Bool, false, ◌||◌, ◌&&◌, ◌==◌, not, List, [], ◌∷◌, Option, None, Some}
 use Rattle.trace_lex.specs.Blanks.{is_blank}
 use Rattle.trace_script.specs.Tokens.{LexState, InWord, InQuotes, is_end, is_quote, behind, tokens_from, tokens_of}
 use Rattle.trace_script.specs.declared.fault.LineError.{LineError}
@@ -21,6 +21,12 @@ begins_with_quote (b ∷ bs) = is_quote b
 abbrev pub begins_with_arrow : List ℕ → Bool
 begins_with_arrow [] = false
 begins_with_arrow (b ∷ bs) = b == 62
+
+-- a string that begins with the first two bytes of `end`, or with a quote in the place of one of them
+abbrev pub begins_as_end : List ℕ → Bool
+begins_as_end [] = false
+begins_as_end (b ∷ []) = false
+begins_as_end (b ∷ c ∷ bs) = is_quote b || (b == 101 && (is_quote c || c == 110))
 
 -- a string that begins with a byte of a token
 abbrev pub BeginsToken : List ℕ → Type 0

@@ -1,0 +1,77 @@
+//! What kinds of bytes a line has.
+//!
+//! Each byte is looked at once, and many of them at a time: a line is taken in blocks of 16 bytes, or of 8 where it is shorter, for each of
+//! which the compiler tests all its bytes by the same few instructions. The last block overlaps the one before it, so that no byte is left
+//! over.
+
+ghost use Rattle.std.specs.Prelude.{◌≡◌, ◌<◌, ◌≤◌, length};
+ghost use Rattle.trace_script.specs.Lines.{is_line_byte};
+ghost use Rattle.trace_script.specs.private.Bytes.{rank, highest_rank};
+
+use crate::token::is_quote;
+
+/// The rank of a `>`. Bytes of a word and blanks have rank 0.
+pub(crate) const ARROW: u8 = 1;
+
+/// The rank of a quote.
+pub(crate) const QUOTE: u8 = 2;
+
+/// The rank of a byte that no line may have.
+pub(crate) const OTHER: u8 = 3;
+
+/// A byte that a line may have: a tab, or one from 0x20 to 0x7e.
+fn is_line_byte(byte: u8) -> bool
+    ensures { result ≡ is_line_byte byte }
+{
+    matches!(byte, b'\t' | b' '..=b'~')
+}
+
+/// How rare a byte is. It is a sum, with no branch, so that many bytes are ranked at a time.
+fn rank(byte: u8) -> u8
+    ensures { result ≡ rank byte }
+{
+    u8::from(!is_line_byte(byte)) * OTHER
+        + u8::from(is_quote(byte)) * QUOTE
+        + u8::from(byte == b'>') * ARROW
+}
+
+/// The highest rank of some bytes. It becomes a part of its callers, which give so many bytes that all are ranked at once.
+#[inline(always)]
+fn highest_of(bytes: &[u8]) -> u8
+    ensures { result ≡ highest_rank bytes.now }
+{
+    let mut highest = 0u8;
+    for byte in bytes {
+        highest = highest.max(rank(*byte));
+    }
+    highest
+}
+
+/// The highest rank of a line's bytes, which are taken in blocks of this size.
+#[inline(always)]
+#[tactic(auto, using(crate::proofs::ByteLemmas::later_le))]
+fn highest_in_blocks(line: &[u8], size: usize) -> u8
+    requires some { 0 < size }
+    requires fits { size ≤ length line.now }
+    ensures { result ≡ highest_rank line.now }
+{
+    let last = line.len() - size;
+    let mut highest = highest_of(&line[last..]);
+    let mut at = 0;
+    while at < last {
+        highest = highest.max(highest_of(&line[at..at + size]));
+        at += size;
+    }
+    highest
+}
+
+/// The highest rank of a line's bytes.
+pub(crate) fn highest_rank(line: &[u8]) -> u8
+    ensures { result ≡ highest_rank line.now }
+{
+    match line.len() {
+        16.. => highest_in_blocks(line, 16),
+        8..=15 => highest_in_blocks(line, 8),
+        _ => highest_of(line),
+    }
+}
