@@ -9,6 +9,10 @@ from cases.emitting import REFUSALS, REFUSED, SILENT
 from cases.running import FAILED, MOST_SCRIPT_BYTES, SECONDS, TOP, Case, Outcome, case_of, differences, run
 
 
+PART = b"parallel\nthread\ncat nothing\nthread\ncat nothing\nend\n"
+LONG_PART = PART.replace(b"cat nothing\n", b"cat nothing\n" * 50_000)
+
+
 def pipe_without_reader():
     reader, writer = os.pipe()
     os.close(reader)
@@ -22,6 +26,8 @@ def input_cases():
         case_of("the script is a folder", FAILED, [str(TOP)]),
         case_of("standard input is closed", FAILED, before=lambda: os.close(0)),
         case_of("standard input is empty", Outcome(0, b"", b"")),
+        case_of("standard input has no end", FAILED, stdin=os.open("/dev/zero", os.O_RDONLY)),
+        case_of("the script has no end", FAILED, ["/dev/zero"]),
         case_of(
             "standard input is a folder, standard error is closed",
             FAILED._replace(stderr=b""),
@@ -41,13 +47,16 @@ def output_cases():
 
     return [
         case_of("standard output is a full device", FAILED, script=REFUSED, stdout=full),
+        case_of("standard output is a full device, in a part", FAILED, script=PART, stdout=full),
         case_of("a full device, and nothing to write", done, script=SILENT, stdout=full),
         case_of("standard output is closed", FAILED, script=REFUSED, before=lambda: os.close(1)),
+        case_of("standard output is closed, in a part", FAILED, script=PART, before=lambda: os.close(1)),
         case_of("standard output is closed, and nothing to write", done, script=SILENT, before=lambda: os.close(1)),
         case_of("nobody reads the pipe", FAILED, script=REFUSED, stdout=pipe, before=with_pipe_signal(signal.SIG_DFL)),
         case_of("nobody reads the pipe, and its signal is ignored", FAILED, script=REFUSED, stdout=pipe, before=with_pipe_signal(signal.SIG_IGN)),
         Case("a file that may not grow", file_that_may_not_grow),
-        Case("a reader that leaves after a line", reader_that_leaves),
+        Case("a reader that leaves after a line", reader_that_leaves(b"cat nothing\n" * 100_000, b"! 1: N1 NoSuchFile\n")),
+        Case("a reader that leaves after a line of a part", reader_that_leaves(LONG_PART, b"-- thread 0\n")),
     ]
 
 
@@ -64,17 +73,21 @@ def file_that_may_not_grow(program):
         return differences(got._replace(stdout=file.read()), FAILED._replace(stdout=REFUSALS[:30]))
 
 
-def reader_that_leaves(program):
-    """As `| head -1` does: one line is read of more than a pipe takes."""
-    with tempfile.TemporaryFile() as script:
-        script.write(b"cat nothing\n" * 100_000)
-        script.seek(0)
-        session = subprocess.Popen([str(program), "-"], stdin=script, stdout=subprocess.PIPE, stderr=subprocess.PIPE)
-        line = session.stdout.readline()
-        session.stdout.close()
-        complaint = session.stderr.read()
-        session.stderr.close()
-        return differences(Outcome(session.wait(timeout=SECONDS), line, complaint), FAILED._replace(stdout=b"! 1: N1 NoSuchFile\n"))
+def reader_that_leaves(lines, first):
+    """As `| head -1` does: the first line is read of more than a pipe takes."""
+
+    def leaves(program):
+        with tempfile.TemporaryFile() as script:
+            script.write(lines)
+            script.seek(0)
+            session = subprocess.Popen([str(program), "-"], stdin=script, stdout=subprocess.PIPE, stderr=subprocess.PIPE)
+            line = session.stdout.readline()
+            session.stdout.close()
+            complaint = session.stderr.read()
+            session.stderr.close()
+            return differences(Outcome(session.wait(timeout=SECONDS), line, complaint), FAILED._replace(stdout=first))
+
+    return leaves
 
 
 def comments(count):

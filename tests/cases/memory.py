@@ -3,7 +3,7 @@ import itertools
 import resource
 
 from cases.devices import comments
-from cases.emitting import COSTLY_EMISSION, COSTLY_SETUP, EMISSION, SETUP, emissions
+from cases.emitting import COSTLY_EMISSION, COSTLY_SETUP, EMISSION, SETUP, STATS, emissions, stats
 from cases.running import MOST_SCRIPT_BYTES, OUT_OF_MEMORY, SMALL, TOP, Case, Outcome, case_of, differences, run, text_differences
 from cases.scripts import wanted
 
@@ -13,16 +13,16 @@ def limit_memory(kibibytes):
     return lambda: resource.setrlimit(resource.RLIMIT_AS, (kibibytes * 1024, kibibytes * 1024))
 
 
-def ends_early(got, replies):
-    """What is wrong with a run for which memory did not last: it writes a prefix of the replies, some of them and each one whole."""
+def ends_early(got, replies, some=True):
+    """What is wrong with a run for which memory did not last: it writes a prefix of the replies, some of them unless that isn't asked, each one whole."""
     found = differences(got._replace(stdout=b""), Outcome(3, b"", OUT_OF_MEMORY))
-    ends = set(itertools.accumulate(len(reply) for reply in replies))
+    ends = {0, *itertools.accumulate(len(reply) for reply in replies)}
     whole = b"".join(replies)
     if not whole.startswith(got.stdout):
         found += text_differences("standard output", got.stdout, whole)
     elif len(got.stdout) not in ends:
         found.append("standard output ends after %d bytes, within a reply" % len(got.stdout))
-    if got.stdout in (b"", whole):
+    if got.stdout == whole or (some and not got.stdout):
         found.append("standard output has %s" % ("no reply" if not got.stdout else "every reply, though memory did not last"))
     return found
 
@@ -46,7 +46,7 @@ def lasts(program, lines, count, before):
 
 def replies_before_refusal(program):
     """The reply of each line before the one for which memory did not last is written, and no other. The line is found by runs of fewer lines."""
-    lines, replies = emissions(25_000, 2)
+    lines, replies = emissions(90_000, 2)
     before = limit_memory(16_384)
     done, refused = 0, len(lines)
     if lasts(program, lines, refused, before):
@@ -59,6 +59,43 @@ def replies_before_refusal(program):
             refused = middle
     got = run([program] + SMALL, script=b"".join(lines), before=before)
     return differences(got, Outcome(3, b"".join(replies[:done]), OUT_OF_MEMORY))
+
+
+PART_SIZES = [1024 * size for size in range(16, 256, 8)]  # KiB: from what a script of a few lines needs to more than parts do
+ROUNDS = 40
+ONE_ARENA = ["env", "MALLOC_ARENA_MAX=1"]  # the C library sets aside 64 MiB of address space for each thread, where there are so many: by luck
+
+
+def parts_of_eight_threads():
+    """The lines of a script with parts, of 1,600 emissions each, and each item's reply."""
+    lines, replies = SETUP[:], [b""] * len(SETUP)
+    for done in range(1, ROUNDS + 1):
+        lines += [b"parallel\n"] + ([b"thread\n"] + [EMISSION] * 200) * 8 + [b"end\n", STATS]
+        replies += [b"".join(b"-- thread %d\n" % thread for thread in range(8)), stats(1600 * done)]
+    return lines, replies
+
+
+def parts_in_little_memory(program, before=(), steady=False):
+    """A script with parts, in address space of each of these sizes: it is done, or ends early with whole replies. Where memory is steady, once a size is
+    enough, each that is larger by a quarter or more is."""
+    lines, replies = parts_of_eight_threads()
+    script, enough, found = b"".join(lines), [], []
+    for kibibytes in PART_SIZES:
+        got = run(list(before) + [program] + SMALL, script=script, before=limit_memory(kibibytes))
+        if got == Outcome(0, b"".join(replies), b""):
+            enough.append(kibibytes)
+            continue
+        found += ["%s, in %d KiB" % (difference, kibibytes) for difference in ends_early(got, replies, some=False)]
+        if steady and enough and 4 * kibibytes >= 5 * enough[0]:
+            found.append("%d KiB are enough, and %d are not" % (enough[0], kibibytes))
+    return found + ([] if enough or not steady else ["%d KiB are not enough" % PART_SIZES[-1]])
+
+
+def endless_part():
+    """The longest script, a part whose `end` never comes."""
+    begins = b"parallel\nthread\n"
+    count = (MOST_SCRIPT_BYTES - len(begins)) // len(EMISSION)
+    return begins + EMISSION * count
 
 
 def long_use(program):
@@ -81,9 +118,12 @@ def memory_cases():
         Case("140,000 emissions and 20,000 reads", long_use),
         case_of("a short script in 64 MiB", want, script=short, before=limit_memory(65_536)),
         case_of("a short script in 16 MiB", want, script=short, before=limit_memory(16_384)),
-        Case("a long script in 256 MiB", long_script_differences(262_144, 1100, setup=COSTLY_SETUP, emission=COSTLY_EMISSION)),
-        Case("a long script in 64 MiB", long_script_differences(65_536, 400)),
-        Case("a long script in 16 MiB", long_script_differences(16_384, 100)),
+        Case("a long script with a hist trigger in 24 MiB", long_script_differences(24_576, 500, setup=COSTLY_SETUP, emission=COSTLY_EMISSION)),
+        Case("a long script in 30 MiB", long_script_differences(30_720, 700)),
+        Case("a long script in 16 MiB", long_script_differences(16_384, 300)),
+        Case("a script with parts in little memory, of %d sizes" % len(PART_SIZES), parts_in_little_memory),
+        Case("the same, with one arena", lambda program: parts_in_little_memory(program, ONE_ARENA, steady=True)),
         case_of("a script of 16 MiB in 16 MiB", Outcome(3, b"", OUT_OF_MEMORY), script=longest, before=limit_memory(16_384)),
         Case("each reply before the line for which memory does not last", replies_before_refusal),
+        case_of("a part without an end, of 16 MiB in 64 MiB", Outcome(2, b"! 1: script BlockOutOfPlace\n", b""), script=endless_part(), before=limit_memory(65_536)),
     ]

@@ -1,8 +1,13 @@
 """Parts whose threads may come in any order, and parts of which a thread can't be started."""
+import os
 import resource
+import shutil
+import tempfile
 
 from cases.emitting import SETUP, STATS, stats_text
-from cases.running import OUT_OF_MEMORY, SMALL, TOP, Case, Outcome, case_of, quoted, run
+from cases.running import OUT_OF_MEMORY, SMALL, TOP, Case, Outcome, case_of, differences, quoted, run
+
+NOBODY = 65_534  # a user with no rights
 
 
 def stats_of_two_threads(program):
@@ -18,8 +23,8 @@ def stats_of_two_threads(program):
     return found + ([] if len(oldest) == 2 and all(47 <= time <= 97 for time in oldest) else ["the oldest are of %s" % oldest])
 
 
-def eight_threads():
-    """Eight threads of 200 emissions each, in a process each: all come, and none twice."""
+def eight_thread_script():
+    """Eight threads of 200 emissions each, in a process each, and what is written where all come, and none twice."""
     lines = SETUP + [b"echo hist:keys=common_pid:sort=common_pid > events/synthetic/tick/trigger\n", b"parallel\n"]
     for process in range(8):
         lines += [b"thread\n"] + [b"emit 0 %d tick n=1\n" % process] * 200
@@ -28,22 +33,32 @@ def eight_threads():
     replies += ["# trigger info: hist:keys=common_pid:vals=hitcount:sort=common_pid:size=2048 [active]", "#", ""]
     replies += ["{ common_pid: %10d } hitcount:        200" % process for process in range(8)]
     replies += ["", "Totals:", "    Hits: 1600", "    Entries: 8", "    Dropped: 0", ""]
-    want = Outcome(0, "\n".join(replies).encode() + stats_text(1600, 0, 1, 1600), b"")
-    return case_of("eight threads", want, ["-"], script=b"".join(lines))
+    return b"".join(lines), "\n".join(replies).encode() + stats_text(1600, 0, 1, 1600)
 
 
-STACK = 1 << 30  # the address space for a thread's stack, where its limit says so
+def eight_threads():
+    script, written = eight_thread_script()
+    return case_of("eight threads", Outcome(0, written, b""), ["-"], script=script)
 
 
-def room_for(threads):
-    """Leaves address space for the stacks of so many threads, and half of one more for all else, of which a short script takes 16 MiB."""
+def limit_threads(most):
+    """Lets the process and its threads be so many. A superuser is not held to that, so the process becomes another user's."""
 
     def limit():
-        space = threads * STACK + STACK // 2
-        resource.setrlimit(resource.RLIMIT_STACK, (STACK, resource.getrlimit(resource.RLIMIT_STACK)[1]))
-        resource.setrlimit(resource.RLIMIT_AS, (space, space))
+        if os.geteuid() == 0:
+            os.setuid(NOBODY)
+        resource.setrlimit(resource.RLIMIT_NPROC, (most, most))
 
     return limit
+
+
+def run_as_nobody(program, words, **how):
+    """Runs a copy of the program that each user may read."""
+    with tempfile.TemporaryDirectory() as folder:
+        os.chmod(folder, 0o755)
+        copy = shutil.copy(str(program), folder)
+        os.chmod(copy, 0o755)
+        return run([copy] + words, **how)
 
 
 TWO_THREADS = b"""\
@@ -60,18 +75,33 @@ cat options/overwrite
 
 
 def refused_threads():
-    """Where the system refuses a thread of a part, the session ends and nothing of the part is written; where it gives all of them, there is memory for
-    everything else, too."""
+    """Where the system refuses a thread of a part, the session ends and nothing of the part is written."""
     done = Outcome(1, b"1\n-- thread 0\n1\n! 5: N1 NoSuchFile\n-- thread 1\n0\n", b"")
     refused = Outcome(3, b"1\n", OUT_OF_MEMORY)
     alone = TWO_THREADS.replace(b"parallel\n", b"").replace(b"thread\n", b"").replace(b"end\n", b"")
+
+    def case(name, want, words, script, before=None):
+        return Case(name, lambda program: differences(run_as_nobody(program, words, script=script, before=before), want))
+
+    none = limit_threads(1)
     return [
-        case_of("the same lines by themselves, with room for no stack", Outcome(1, b"1\n1\n! 3: N1 NoSuchFile\n0\n", b""), script=alone, before=room_for(0)),
-        case_of("two threads, with room for the stacks of both", done, script=TWO_THREADS, before=room_for(2)),
-        case_of("two threads, with room for the stack of one", refused, script=TWO_THREADS, before=room_for(1)),
-        case_of("two threads, with room for no stack", refused, script=TWO_THREADS, before=room_for(0)),
-        case_of("two threads, with room for no stack, explained", refused, ["--explain", "-"], script=TWO_THREADS, before=room_for(0)),
+        case("the same lines by themselves, with no thread", Outcome(1, b"1\n1\n! 3: N1 NoSuchFile\n0\n", b""), SMALL, alone, none),
+        case("two threads, with no limit", done, SMALL, TWO_THREADS),
+        case("two threads, which are refused", refused, SMALL, TWO_THREADS, none),
+        case("two threads, which are refused, explained", refused, ["--explain"] + SMALL, TWO_THREADS, none),
+        Case("eight threads, of which some are refused", some_threads_refused),
     ]
+
+
+def some_threads_refused(program):
+    """Of eight threads the first may have ended before the last is begun. So what is refused is not known; but all of the part is written, or nothing."""
+    script, written = eight_thread_script()
+    whole, nothing = Outcome(0, written, b""), Outcome(3, b"", OUT_OF_MEMORY)
+    found = []
+    for most in range(2, 9):
+        got = run_as_nobody(program, ["-"], script=script, before=limit_threads(most))
+        found += [] if got in (whole, nothing) else differences(got, nothing)
+    return found
 
 
 def part_cases():

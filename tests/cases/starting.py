@@ -1,6 +1,7 @@
 """The starter."""
 import os
 import re
+import resource
 import shutil
 import signal
 import subprocess
@@ -11,6 +12,7 @@ from contextlib import contextmanager
 from pathlib import Path
 
 from cases.drawn import DRAWN, LINES
+from cases.emitting import REFUSALS, REFUSED
 from cases.running import BAD_VALUE, FAILED, SECONDS, SMALL, TOP, Case, Outcome, differences, quoted, run
 from cases.scripts import wanted
 from cases.words import bad_configurations, named, refusing, unopened_scripts, versioned, word_cases, wrong_words
@@ -262,6 +264,18 @@ def where_it_is_started(program):
     return found
 
 
+def file_that_may_not_grow(program):
+    """The system's signal ends a program that writes to such a file. The starter has it ignored, so that the write fails."""
+
+    def limit_file():
+        resource.setrlimit(resource.RLIMIT_FSIZE, (30, 30))
+
+    with starter(program) as one, tempfile.TemporaryFile() as file:
+        got = one.start(SMALL, script=REFUSED, stdout=file, before=limit_file)
+        file.seek(0)
+        return differences(got._replace(stdout=file.read()), FAILED._replace(stdout=REFUSALS[:30]))
+
+
 def starter_cases():
     def start(program, words, **how):
         return started(words, **how)(program)
@@ -285,5 +299,6 @@ def starter_cases():
             Case("a build whose terminal is closed", stopped_build(signal.SIGHUP)),
             Case("a source that is dated in the future", source_of_the_future),
             Case("where the starter is started", where_it_is_started),
+            Case("./tracectl, into a file that may not grow", file_that_may_not_grow),
         ]
     )

@@ -25,6 +25,7 @@ use crate::fault::{BlockFault, first_of};
 use crate::gate::Gate;
 use crate::part::Part;
 use crate::thread::{Given, Returned, run_part};
+use core::thread::Stack;
 use std::alloc::Global;
 use std::snapshot::Snapshot;
 use std::sync::Wait;
@@ -34,6 +35,10 @@ use std::thread::{Scope, Threads};
 use ticket_lock::{Pass, TicketLock};
 use trace_book::Book;
 use trace_command::Command;
+
+/// The bytes of a thread's stack. A part of eight threads so asks for 4 MiB, and no setting of the system changes that. What a part does was seen to
+/// need less than a tenth of it.
+const STACK_BYTES: usize = 512 * 1024;
 
 // What some parts came to: their passes joined, what was asked of each, and the fault to be told.
 #[derive(Drop)]
@@ -90,7 +95,8 @@ fn run_parts<'s, E, R: Threads + Wait + Sync, G: Gate + Sync>(
         thread: Snapshot::of(&thread),
         gate: Snapshot::of(gate),
     };
-    let started = scope.spawn_with(
+    let started = Stack::new().stack_size(STACK_BYTES).spawn_scoped_with(
+        scope,
         given,
         move || -> Returned
             requires { IsOf lock.now upper × ((view_of upper).low < (view_of upper).end) }
