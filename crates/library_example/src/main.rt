@@ -1,13 +1,13 @@
 //! A tracer used as a library: a book, two writes, five emissions and two reads, whose replies are printed; and threads that share a book.
 #![tactic(auto)]
 
-ghost use Rattle.std.specs.Prelude.{◌≡◌, ◌<◌, All, IfOk, vec_len};
+ghost use Rattle.std.specs.Prelude.{◌≡◌, IfOk, vec_len};
 
 use std::alloc::{AllocError, Global};
 use std::process::ExitCode;
 use std::sync::Wait;
 use std::thread::Threads;
-use trace_book::{Book, Command, Config, Pairs, Refusal, Reply};
+use trace_book::{Command, Config, Pairs, Refusal, Reply, Tracer};
 use trace_workers::{BlockFault, OpenGate, history_of};
 
 const CONFIG: Config = Config {
@@ -17,28 +17,8 @@ const CONFIG: Config = Config {
     history_limit: 1_000,
 };
 
-/// The caller's number, under which its commands stand in the history.
-const CALLER: u32 = 0;
-
 /// The process that the emissions name.
 const PROCESS: i32 = 7;
-
-/// A book, and a ticket above those of its history: each command that is asked wants such a ticket.
-#[derive(Drop)]
-struct Tracer {
-    book: Book,
-    next: u64,
-    ghost tickets: { All (λ entry. entry.ticket < next) book.entries },
-}
-
-impl Tracer {
-    /// Does a command, or refuses it.
-    fn ask(&mut self, command: Command) -> Result<Reply, Refusal> {
-        let ticket = self.next;
-        self.next = ticket.checked_add(1).ok_or(Refusal::Worn)?;
-        self.book.ask(ticket, CALLER, command)
-    }
-}
 
 /// The command `emit 0 7 tick n=NUMBER`.
 fn tick(alloc: Global, number: u32) -> Result<Command, Refusal> {
@@ -50,10 +30,7 @@ fn tick(alloc: Global, number: u32) -> Result<Command, Refusal> {
 
 /// A tracer whose ring has taken five emissions.
 fn busy_tracer(alloc: Global) -> Result<Tracer, Refusal> {
-    let mut tracer = Tracer {
-        book: Book::new(alloc, CONFIG)?,
-        next: 0,
-    };
+    let mut tracer = Tracer::new(alloc, CONFIG)?;
     tracer.ask(Command::append(alloc, b"synthetic_events", b"tick u64 n")?)?;
     tracer.ask(Command::write(alloc, b"events/synthetic/tick/enable", b"1")?)?;
     for number in 1..6 {

@@ -34,6 +34,7 @@ pub mod Triggering
 pub mod Emitting
 pub mod Effects
 pub mod Filtering
+pub mod MadeNames
 pub mod Making
 pub mod Dispatch
 pub mod SameBases

@@ -1,5 +1,5 @@
--- A book as its configuration and its history.
-use Rattle.std.specs.Prelude.{List}
+-- A book as its configuration and its history, and a book with its next ticket.
+use Rattle.std.specs.Prelude.{ℕ, List}
 use Rattle.trace_command.specs.declared.command.Config.{Config}
 use Rattle.trace_command.specs.declared.command.Entry.{Entry}
 
@@ -7,3 +7,8 @@ use Rattle.trace_command.specs.declared.command.Entry.{Entry}
 pub record BookSeen : Type 0 where
   pub config : Config
   pub entries : List Entry
+
+-- a tracer as its book and its next ticket
+pub record TracerSeen : Type 0 where
+  pub book : BookSeen
+  pub next : ℕ

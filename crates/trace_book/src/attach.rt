@@ -1,4 +1,4 @@
-//! Trigger texts: what is changed by one that is written for an event (events.rst, "Event triggers"; histogram.rst, "hist triggers").
+//! Trigger strings: what is changed by one that is written for an event (events.rst, "Event triggers"; histogram.rst, "hist triggers").
 
 ghost use Rattle.std.specs.Prelude.{◌≡◌, ◌≢◌, ◌<◌, ◌≤◌, false, if◌then◌else◌, [], length, position, slice_index_or, None, Ok, option_copied, OnOk, IfErr};
 ghost use Rattle.trace_trigger.specs.TriggerTexts.{HasFilter, is_hist_text};
@@ -18,7 +18,7 @@ use trace_format::EventDef;
 use trace_hist::{Action, Hist, HistSpec};
 use trace_trigger::{SnapshotTrigger, TriggerText};
 
-/// The triggers that an event has in an instance, and the hist triggers of all events there, whose tables a text may name.
+/// The triggers that an event has in an instance, and the hist triggers of all events there, whose tables a string may name.
 #[derive(Clone, Copy)]
 pub(crate) struct EventTriggers<'a> {
     snapshot: Option<&'a Trigger>,
@@ -46,7 +46,7 @@ impl<'a> EventTriggers<'a> {
         }
     }
 
-    /// What a text changes that is written for the event.
+    /// What a string changes that is written for the event.
     pub(crate) fn written(
         self,
         alloc: Global,
@@ -107,7 +107,7 @@ impl<'a> EventTriggers<'a> {
         }
     }
 
-    // The first of the hist triggers of all events that are left whose table a text names.
+    // The first of the hist triggers of all events that are left whose table a string names.
     fn named_by(self, append: bool, spec: &HistSpec) -> Option<&'a AttachedHist>
         ensures { option_copied result ≡ attaching.named_in spec.now (attaching.left_of self.entry append) }
     {
@@ -222,7 +222,7 @@ fn made(
     Ok(TriggerChange::MakeHist(Box::new(alloc, made)?))
 }
 
-// Whether a text attaches a hist trigger where none says the same.
+// Whether a string attaches a hist trigger where none says the same.
 fn attaches(action: Action) -> bool
     ensures { result ≡ attaching.attaches action }
 {

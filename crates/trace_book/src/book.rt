@@ -15,15 +15,16 @@
 //! before what the command changes. Nothing is undone anywhere. What the two phases hand on is data (`Change`, `Delivery`), so `commit` never looks at
 //! the command again: it makes a step of the state, and `prepare` has shown that this is the step that the definitions give the command.
 
-ghost use Rattle.std.specs.Prelude.{◌≡◌, ℕ, ◌+◌, ◌^◌, ◌≤◌, ◌<◌, [], ◌∷◌, ◌++◌, All, map, is_none, is_some, IfOk, IfErr, IfSome, OnOk, OnErr, ◌≢◌, true, false};
-ghost use Rattle.std.specs.Option.{option_map};
+ghost use Rattle.std.specs.Prelude.{◌≡◌, ℕ, ◌+◌, ◌^◌, ◌≤◌, ◌<◌, [], ◌∷◌, ◌++◌, All, drop, length, map, is_none, is_some, IfOk, IfErr, IfSome, OnOk, OnErr, ◌≢◌, true, false};
+ghost use Rattle.std.specs.List.{slice_get};
+ghost use Rattle.std.specs.Option.{option_and_then, option_copied, option_map};
 ghost use Rattle.trace_command.specs.FileNames.{bytes_now};
 ghost use Rattle.trace_command.specs.Configs.{IsInRange};
 ghost use Rattle.trace_history.specs.History.{answer_to, past_of, IsLegal};
 ghost use Rattle.trace_history.specs.LateMemory.{TakesMemoryLate};
 ghost use Rattle.trace_command.specs.Refusals.{OrMemory, IsFoundEarly};
 ghost use Rattle.trace_command.specs.Requests.{request_of};
-ghost use Rattle.trace_history.specs.Settings.{is_there, now_of, ticks};
+ghost use Rattle.trace_history.specs.Settings.{declared_events, instance_names, is_there, now_of, ticks};
 ghost use Rattle.trace_book.specs.Instances.{InstanceStandsFor};
 ghost use Rattle.trace_book.specs.States.{StandsFor};
 ghost use Rattle.trace_command.specs.declared.refusal.Refusal.TheVariants as refusal;
@@ -31,11 +32,13 @@ ghost use Rattle.trace_command.specs.declared.refusal.Refusal.TheVariants as ref
 use crate::change::Delivery;
 use crate::instance::Instance;
 use crate::memory::EmissionMemory;
+use crate::resolve::event_at;
 use crate::state::{Named, Prepared, State};
 use std::alloc::{AllocError, Global};
 use std::marker::Model;
-use trace_command::{Command, Config, Refusal, Reply};
-use trace_format::Catalog;
+use std::slice;
+use trace_command::{BorrowedEmission, Command, Config, Refusal, Reply};
+use trace_format::{BorrowedPair, Catalog, EventDef, Pair, borrowed};
 use trace_log::{Entries, History};
 
 /// A tracer's book: what it was made with, the history of what was done, and what that has come to. It is worked through files as
@@ -109,25 +112,76 @@ impl Book {
         else {
             return self.ask_other(ticket, by, command);
         };
-        let delivery = match self.state.prepare_emission(
-            &mut self.memory,
-            &self.config,
-            event.as_bytes(),
-            *cpu,
-            *pid,
-            pairs.as_slice(),
-        ) {
+        let answer = self.ask_pairs(ticket, by, event.as_bytes(), *cpu, *pid, pairs.as_slice());
+        let_go(command);
+        answer
+    }
+
+    // Does an emission of these pairs, as `ask` says. One pair takes no list.
+    fn ask_pairs(
+        &mut self,
+        ticket: u64,
+        by: u32,
+        event: &[u8],
+        cpu: u32,
+        pid: i32,
+        pairs: &[Pair],
+    ) -> Result<Reply, Refusal>
+        requires { All (λ entry. entry.ticket < ticket) self.old.entries }
+        ensures reply { OrMemory result (answer_to self.old.config self.old.entries (Command.Emit event.now cpu pid pairs.now)) }
+        ensures early { IsFoundEarly (answer_to self.old.config self.old.entries (Command.Emit event.now cpu pid pairs.now))
+            → result ≡ answer_to self.old.config self.old.entries (Command.Emit event.now cpu pid pairs.now) }
+        ensures done { OnOk result (self.new.entries
+            ≡ self.old.entries ++ record { ticket = ticket; by = by; command = Command.Emit event.now cpu pid pairs.now } ∷ []) }
+        ensures refused { OnErr result (self.new.entries ≡ self.old.entries) }
+        ensures config { self.new.config ≡ self.old.config }
+        ensures legal { IsLegal self.new.config self.new.entries }
+    {
+        if let Some(pair) = single(pairs) {
+            let emission = BorrowedEmission::new(event, cpu, pid, slice::from_ref(&pair));
+            return self.ask_emission(ticket, by, &emission);
+        }
+        let Ok(pairs) = borrowed(self.alloc, pairs) else {
+            return Err(self.state.refusal_without_memory(&self.config, cpu, event));
+        };
+        self.ask_emission(ticket, by, &BorrowedEmission::new(event, cpu, pid, &pairs))
+    }
+
+    /// Does an emission whose strings lie elsewhere, or refuses it, as `ask` does the command that it is.
+    pub fn ask_emission(
+        &mut self,
+        ticket: u64,
+        by: u32,
+        emission: &BorrowedEmission<'_>,
+    ) -> Result<Reply, Refusal>
+        requires { All (λ entry. entry.ticket < ticket) self.old.entries }
+        ensures reply { OrMemory result (answer_to self.old.config self.old.entries emission.now) }
+        ensures early { IsFoundEarly (answer_to self.old.config self.old.entries emission.now)
+            → result ≡ answer_to self.old.config self.old.entries emission.now }
+        ensures late_memory { TakesMemoryLate (request_of emission.now)
+            → IfErr (answer_to self.old.config self.old.entries emission.now) (λ r. result ≡ Err r) }
+        ensures done { OnOk result (self.new.entries
+            ≡ self.old.entries ++ record { ticket = ticket; by = by; command = emission.now } ∷ []) }
+        ensures refused { OnErr result (self.new.entries ≡ self.old.entries) }
+        ensures config { self.new.config ≡ self.old.config }
+        ensures legal { IsLegal self.new.config self.new.entries }
+    {
+        let (event, cpu, pid, pairs) = emission.parts();
+        let delivery = match self
+            .state
+            .prepare_emission(&mut self.memory, &self.config, event, cpu, pid, pairs)
+        {
             Ok(delivery) => delivery,
-            Err(refusal) => return refused(command, refusal),
+            Err(refusal) => return Err(refusal),
         };
         if self.config.history_limit <= self.history.len() as u64 {
-            return refused_late(command, delivery, Refusal::HistoryFull);
+            return refused_late(delivery, Refusal::HistoryFull);
         }
         let Ok(()) = self
             .history
-            .write_emission_ahead(ticket, by, event.as_bytes(), *cpu, *pid, pairs.as_slice())
+            .write_emission_ahead(ticket, by, event, cpu, pid, pairs)
         else {
-            return refused_late(command, delivery, Refusal::Memory);
+            return refused_late(delivery, Refusal::Memory);
         };
         self.state.deliver(&self.config, &delivery);
         self.memory.keep(delivery);
@@ -180,6 +234,30 @@ impl Book {
         self.state.clock
     }
 
+    /// How many commands were done.
+    pub fn history_len(&self) -> usize
+        ensures { result ≡ length self.now.entries }
+    {
+        self.history.len()
+    }
+
+    /// The event that was declared at this index, from 0, if there is one.
+    pub fn event(&self, index: usize) -> Option<&EventDef>
+        ensures { option_copied result ≡ slice_get (declared_events (past_of self.now.entries)) index }
+    {
+        if index >= self.state.catalog.len() {
+            return None;
+        }
+        Some(event_at(&self.state.catalog, index))
+    }
+
+    /// The name of the instance at this index, from 0, in the order in which they were made; the top one has none and isn't counted.
+    pub fn instance_name(&self, index: usize) -> Option<&[u8]>
+        ensures { option_map bytes_now result ≡ slice_get (instance_names (past_of self.now.entries)) index }
+    {
+        made_name(&self.state.instances, index)
+    }
+
     /// The instance of this name, or the top one. It is there exactly where the history has it.
     pub fn instance(&self, name: Option<&[u8]>) -> Option<&Instance>
         ensures there { is_some result ≡ is_there (option_map bytes_now name.entry) (past_of self.now.entries) }
@@ -191,20 +269,45 @@ impl Book {
     }
 }
 
-// Lets a refused command go. Like the next one it is out of line: code that lets a command go takes much room, for which an emission that is
-// done would pay, too.
-#[cold]
-#[inline(never)]
-fn refused(_command: Command, refusal: Refusal) -> Result<Reply, Refusal>
-    ensures { result ≡ Err refusal }
+// The only pair of a list of one.
+fn single(pairs: &[Pair]) -> Option<BorrowedPair<'_>>
+    ensures { IfSome result (λ pair. pairs.now ≡ pair ∷ []) }
 {
-    Err(refusal)
+    match pairs {
+        [pair] => Some(BorrowedPair::of(pair)),
+        _ => None,
+    }
 }
 
-// Lets a refused command go, and the delivery that was prepared for it.
+// The name of an instance, if it has one.
+fn name_of(named: &Named) -> Option<&[u8]>
+    ensures { option_map bytes_now result ≡ named.now.name }
+{
+    match &named.name {
+        Some(name) => Some(name.as_bytes()),
+        None => None,
+    }
+}
+
+// The name of the instance at this index among those after the first.
+fn made_name(instances: &[Named], index: usize) -> Option<&[u8]>
+    ensures { option_map bytes_now result ≡ option_and_then (λ n. n.name) (slice_get (drop 1 instances.now) index) }
+{
+    let [_, made @ ..] = instances else {
+        return None;
+    };
+    name_of(made.get(index)?)
+}
+
+// Lets a command go, out of line.
+#[inline(never)]
+fn let_go(_command: Command) {}
+
+// Lets the delivery go that was prepared for an emission that is refused. It is out of line: code that lets values go takes much room, for which an
+// emission that is done would pay, too.
 #[cold]
 #[inline(never)]
-fn refused_late(_command: Command, _delivery: Delivery, refusal: Refusal) -> Result<Reply, Refusal>
+fn refused_late(_delivery: Delivery, refusal: Refusal) -> Result<Reply, Refusal>
     ensures { result ≡ Err refusal }
 {
     Err(refusal)

@@ -39,7 +39,7 @@ pub(crate) enum InstanceChange {
     SetFilters(Vec<FilterChange>),
     /// No event has a filter any more.
     ClearFilters,
-    /// An event's triggers are changed; its hist triggers are taken away first, but not where the text is appended.
+    /// An event's triggers are changed; its hist triggers are taken away first, but not where the string is appended.
     Triggers(usize, bool, TriggerChange),
     /// Records may overwrite older ones, or not.
     SetOverwrite(bool),
@@ -75,7 +75,7 @@ pub(crate) enum TriggerChange {
     MakeHist(Box<NewHist>),
     /// The hist trigger at this index, which says the same, is removed. The text is appended, since `>` leaves none.
     DetachHist(usize),
-    /// What a text asks for is done to the table of this number, that of the hist trigger that says the same.
+    /// What a string asks for is done to the table of this number, that of the hist trigger that says the same.
     AskTable(u64, Action),
 }
 

@@ -3,10 +3,13 @@
 ghost use Rattle.std.specs.Prelude.{◌≡◌, ℕ, ◌+◌, ◌<◌, ◌≤◌, ◌^◌, true, List, [], length, All, slice_index_or, Some, IfOk, OnOk};
 ghost use Rattle.trace_buffer.specs.Buffers as buffers;
 ghost use Rattle.trace_command.specs.Configs.{IsInRange};
+ghost use Rattle.trace_command.specs.Refusals.{IsRefusal};
 ghost use Rattle.trace_command.specs.Requests as requests;
 ghost use Rattle.trace_command.specs.Requests.{Request, Emission};
 ghost use Rattle.trace_command.specs.declared.command.Config.{Config};
 ghost use Rattle.trace_format.specs.Cells.{size_of_all};
+ghost use Rattle.trace_format.specs.declared.pair.Pair.{Pair as PairSeen};
+ghost use Rattle.trace_history.specs.History.{emission_answer};
 ghost use Rattle.trace_record.specs.Record.{record_size};
 ghost use Rattle.trace_book.specs.private.Emissions as emissions;
 ghost use Rattle.trace_book.specs.Instances.{IsAlike};
@@ -23,7 +26,7 @@ use crate::row::record;
 use crate::state::{Named, State};
 use std::alloc::AllocError;
 use trace_command::{Config, Refusal};
-use trace_format::{Pair, Row, payload_size};
+use trace_format::{BorrowedPair, Row, payload_size};
 
 impl State {
     /// Prepares an emission: its CPU, its event, its row, then what it does in each instance, then the memory of its hist triggers, and then its
@@ -36,7 +39,7 @@ impl State {
         name: &[u8],
         cpu: u32,
         pid: i32,
-        pairs: &[Pair],
+        pairs: &[BorrowedPair<'_>],
     ) -> Result<Delivery, Refusal>
         requires usable { IsUsable config.now self.old }
         requires in_range { IsInRange config.now }
@@ -66,6 +69,23 @@ impl State {
             passed,
             record: pending,
         })
+    }
+
+    /// Why an emission is refused for which no memory is left: a CPU or an event that isn't there is told all the same.
+    #[cold]
+    #[inline(never)]
+    #[tactic(auto, unfolding(trace_history::specs::History::emission_answer))]
+    pub(crate) fn refusal_without_memory(&self, config: &Config, cpu: u32, name: &[u8]) -> Refusal
+        ensures { (past : List Request) (pairs : List PairSeen) → StandsFor config.now self.now past
+            → IsRefusal result (emission_answer config.now past name.now cpu pairs) }
+    {
+        if cpu >= config.cpus {
+            return Refusal::NoSuchCpu;
+        }
+        if self.catalog.find(name).is_none() {
+            return Refusal::NoSuchEvent;
+        }
+        Refusal::Memory
     }
 
     // Asks the filters of the hist triggers of the event at this index about a row, in each instance, and takes the memory to count it for those

@@ -51,7 +51,7 @@ impl AttachedHist {
         spec.same(&self.spec)
     }
 
-    // Whether a text names its table.
+    // Whether a string names its table.
     fn is_named_by(&self, spec: &HistSpec) -> bool
         ensures { result ≡ kept.names_table_of spec.now self.now }
     {
@@ -106,7 +106,7 @@ impl EventHists {
             .position(|attached| attached.says_same(spec))
     }
 
-    /// The first whose table a text names.
+    /// The first whose table a string names.
     pub(crate) fn named_by(&self, spec: &HistSpec) -> Option<&AttachedHist>
         ensures { option_copied result ≡ find (kept.names_table_of spec.now) self.now }
     {
@@ -122,7 +122,7 @@ impl EventHists {
         self.hists.iter().any(|attached| attached.table == table)
     }
 
-    /// Takes them all away, but not where a text is appended.
+    /// Takes them all away, but not where a string is appended.
     pub(crate) fn keep(&mut self, append: bool)
         ensures { self.new ≡ (if append then self.old else []) }
     {

@@ -251,7 +251,7 @@ impl Instance {
         Ok(())
     }
 
-    // Changes the triggers of the event at this index. Its hist triggers are taken away first, but not where the text is appended. Tables in which no
+    // Changes the triggers of the event at this index. Its hist triggers are taken away first, but not where the string is appended. Tables in which no
     // trigger counts any more go.
     fn change_triggers(
         &mut self,

@@ -18,13 +18,15 @@ mod shown;
 mod state;
 mod tables;
 mod text;
+mod tracer;
 mod trigger;
 mod write;
 
 pub use book::Book;
 pub use instance::Instance;
-pub use trace_command::{Command, Config, Entry, Pairs, Refusal, Reply};
-pub use trace_format::Pair;
+pub use trace_command::{BorrowedEmission, Command, Config, Entry, Pairs, Refusal, Reply};
+pub use trace_format::{BorrowedPair, Pair};
 pub use trace_history::laws;
 pub use trace_lex::Text;
 pub use trace_log::Entries;
+pub use tracer::Tracer;

@@ -8,7 +8,7 @@ use crate::change::{Delivery, Pending};
 use std::alloc::{AllocError, Global};
 use std::marker::Model;
 use std::mem;
-use trace_format::{EventDef, Pair, Row, RowFault, RowMemory};
+use trace_format::{BorrowedPair, EventDef, Row, RowFault, RowMemory};
 
 /// Memory for the row and the record of an emission, which are those of an earlier one. It means nothing: no two are told apart by what they
 /// hold or how much room they have.
@@ -44,7 +44,11 @@ impl EmissionMemory {
     }
 
     /// The row that pairs give to an event.
-    pub(crate) fn row(&mut self, event: &EventDef, pairs: &[Pair]) -> Result<Row, RowFault>
+    pub(crate) fn row(
+        &mut self,
+        event: &EventDef,
+        pairs: &[BorrowedPair<'_>],
+    ) -> Result<Row, RowFault>
         ensures row { IfOk result (IsRowOf event.now) }
         ensures exact { IsBuilt result (row_of event.now pairs.now) }
     {

@@ -21,7 +21,7 @@ pub(crate) struct Table {
 }
 
 impl Table {
-    // Does what a text asks for.
+    // Does what a string asks for.
     fn ask(&mut self, action: Action)
         ensures number { self.new.number ≡ self.old.number }
         ensures asked { kept.kept_table self.new.hist ≡ kept.asked action (kept.kept_table self.old.hist) }
@@ -50,7 +50,7 @@ pub(crate) fn hist_of(tables: &[Table], number: u64) -> Option<&Hist>
     Some(&tables[index].hist)
 }
 
-/// Does what a text asks of the table of a number.
+/// Does what a string asks of the table of a number.
 pub(crate) fn ask(tables: &mut [Table], number: u64, action: Action)
     ensures { (other : ℕ) → kept_at other tables.new
         ≡ (if number == other then option_map (kept.asked action) (kept_at other tables.old) else kept_at other tables.old) }

@@ -22,7 +22,7 @@ pub(crate) struct Trigger {
 }
 
 impl Trigger {
-    /// The trigger that a text writes, as the request of this number.
+    /// The trigger that a string writes, as the request of this number.
     pub(crate) fn new(number: u64, written: SnapshotTrigger) -> Trigger
         ensures { result ≡ record { number = number; left = written.count; filter = written.filter } }
     {

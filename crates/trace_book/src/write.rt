@@ -222,7 +222,7 @@ fn written_filter(alloc: Global, text: &[u8], event: &EventDef) -> Result<Option
     Ok(Some(Filter::parse(alloc, text, event)?))
 }
 
-// A filter of all events: a text that clears, or a filter for those that can take it, of which there is at least one.
+// A filter of all events: a string that clears, or a filter for those that can take it, of which there is at least one.
 fn written_filters(alloc: Global, catalog: &Catalog, text: &[u8]) -> Result<InstanceChange, Refusal>
     requires { length catalog.now ≤ 64 }
     ensures change { (g : Config) (name : Option (List ℕ)) (past : List Request) (append : Bool) → catalog.now ≡ declared_events past → AreEvents [] catalog.now

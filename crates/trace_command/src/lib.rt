@@ -3,6 +3,7 @@
 
 mod address;
 mod command;
+mod emission;
 mod file_name;
 pub mod laws;
 mod pairs;
@@ -10,6 +11,7 @@ mod refusal;
 
 pub use address::{Address, address_of, instance_of};
 pub use command::{Command, Config, Entry, Reply};
+pub use emission::BorrowedEmission;
 pub use file_name::{CpuFile, EventFile, FileName, TopFile};
 pub use pairs::Pairs;
 pub use refusal::Refusal;

@@ -4,9 +4,9 @@ ghost use Rattle.std.specs.Prelude.{◌≡◌, [], None, map, filter_map, IfOk, 
 ghost use Rattle.trace_format.specs.Cells.{Datum, datum_of};
 ghost use Rattle.trace_format.specs.Rows.{field_named, pair_named, new_field as new_field_of, all_new, is_right, first_wrong, first_missing, given, IsBadRow};
 
+use crate::borrowed_pair::BorrowedPair;
 use crate::event::Field;
 use crate::fault::RowFault;
-use crate::pair::Pair;
 use crate::value::{Value, is_value, read_value};
 use std::alloc::{AllocError, Global};
 use trace_lex::Text;
@@ -19,24 +19,28 @@ fn field_of<'a>(fields: &'a [Field], name: &[u8]) -> Option<&'a Field>
 }
 
 /// The pair of a name.
-fn pair_of<'a>(pairs: &'a [Pair], name: &[u8]) -> Option<&'a Pair>
+fn pair_of<'a, 'b>(pairs: &'a [BorrowedPair<'b>], name: &[u8]) -> Option<&'a BorrowedPair<'b>>
     ensures { option_copied result ≡ pair_named pairs.now name.now }
 {
-    pairs.iter().find(|pair| pair.name.as_bytes() == name)
+    pairs.iter().find(|pair| pair.name() == name)
 }
 
 /// The field that a pair names, if no pair before it names it.
-fn new_field<'a>(fields: &'a [Field], before: &[Pair], pair: &Pair) -> Option<&'a Field>
+fn new_field<'a>(
+    fields: &'a [Field],
+    before: &[BorrowedPair<'_>],
+    pair: &BorrowedPair<'_>,
+) -> Option<&'a Field>
     ensures { option_copied result ≡ new_field_of fields.now before.now pair.now }
 {
-    if pair_of(before, pair.name.as_bytes()).is_some() {
+    if pair_of(before, pair.name()).is_some() {
         return None;
     }
-    field_of(fields, pair.name.as_bytes())
+    field_of(fields, pair.name())
 }
 
 /// Whether each pair names a field that no pair before it names.
-pub(crate) fn are_new(fields: &[Field], pairs: &[Pair]) -> bool
+pub(crate) fn are_new(fields: &[Field], pairs: &[BorrowedPair<'_>]) -> bool
     ensures { result ≡ all_new fields.now [] pairs.now }
 {
     for (i, pair) in pairs.iter().enumerate() {
@@ -48,39 +52,39 @@ pub(crate) fn are_new(fields: &[Field], pairs: &[Pair]) -> bool
 }
 
 /// Whether a pair may stand behind others.
-fn is_right_pair(fields: &[Field], before: &[Pair], pair: &Pair) -> bool
+fn is_right_pair(fields: &[Field], before: &[BorrowedPair<'_>], pair: &BorrowedPair<'_>) -> bool
     ensures { result ≡ is_right fields.now before.now pair.now }
 {
     match new_field(fields, before, pair) {
-        Some(field) => is_value(field.kind, pair.value.as_bytes()),
+        Some(field) => is_value(field.kind, pair.value()),
         None => false,
     }
 }
 
 /// The name of the first pair that is wrong.
-pub(crate) fn wrong_pair<'a>(fields: &[Field], pairs: &'a [Pair]) -> Option<&'a [u8]>
+pub(crate) fn wrong_pair<'a>(fields: &[Field], pairs: &'a [BorrowedPair<'_>]) -> Option<&'a [u8]>
     ensures { option_copied result ≡ first_wrong fields.now [] pairs.now }
 {
     for (i, pair) in pairs.iter().enumerate() {
         if !is_right_pair(fields, &pairs[..i], pair) {
-            return Some(pair.name.as_bytes());
+            return Some(pair.name());
         }
     }
     None
 }
 
 /// Whether the pairs give a value to a field.
-fn is_given(pairs: &[Pair], field: &Field) -> bool
+fn is_given(pairs: &[BorrowedPair<'_>], field: &Field) -> bool
     ensures { result ≡ is_some (given pairs.now field.now) }
 {
     match pair_of(pairs, field.name.as_bytes()) {
-        Some(pair) => is_value(field.kind, pair.value.as_bytes()),
+        Some(pair) => is_value(field.kind, pair.value()),
         None => false,
     }
 }
 
 /// The name of the first field that no pair gives a value.
-pub(crate) fn missing_field<'a>(fields: &'a [Field], pairs: &[Pair]) -> Option<&'a [u8]>
+pub(crate) fn missing_field<'a>(fields: &'a [Field], pairs: &[BorrowedPair<'_>]) -> Option<&'a [u8]>
     ensures { option_copied result ≡ first_missing fields.now pairs.now }
 {
     for field in fields {
@@ -92,11 +96,15 @@ pub(crate) fn missing_field<'a>(fields: &'a [Field], pairs: &[Pair]) -> Option<&
 }
 
 /// The value that the pairs give to a field.
-fn given_value(alloc: Global, pairs: &[Pair], field: &Field) -> Result<Option<Value>, AllocError>
+fn given_value(
+    alloc: Global,
+    pairs: &[BorrowedPair<'_>],
+    field: &Field,
+) -> Result<Option<Value>, AllocError>
     ensures { IfOk result (λ found. option_map datum_of found ≡ given pairs.now field.now) }
 {
     match pair_of(pairs, field.name.as_bytes()) {
-        Some(pair) => read_value(alloc, field.kind, pair.value.as_bytes()),
+        Some(pair) => read_value(alloc, field.kind, pair.value()),
         None => Ok(None),
     }
 }
@@ -105,7 +113,7 @@ fn given_value(alloc: Global, pairs: &[Pair], field: &Field) -> Result<Option<Va
 pub(crate) fn given_values(
     alloc: Global,
     fields: &[Field],
-    pairs: &[Pair],
+    pairs: &[BorrowedPair<'_>],
 ) -> Result<Option<Vec<Value>>, AllocError>
     ensures all { IfOk result (λ found. IfSome found (λ v. first_missing fields.now pairs.now ≡ None)) }
     ensures values { IfOk result (λ found. IfSome found (λ v. map datum_of v.items ≡ filter_map (given pairs.now) fields.now)) }

@@ -4,18 +4,22 @@ ghost use Rattle.std.specs.Prelude.{◌≡◌, true, map, IfOk, Some, option_map
 ghost use Rattle.trace_format.specs.Cells.{datum_of};
 ghost use Rattle.trace_format.specs.private.InOrder.{named_value as value_where_named, values_in_order};
 
+use crate::borrowed_pair::BorrowedPair;
 use crate::event::Field;
 use crate::kind::Kind;
-use crate::pair::Pair;
 use crate::value::{Value, read_value};
 use std::alloc::{AllocError, Global};
 
 /// The value that a pair gives to a field, if it names it.
-fn named_value(alloc: Global, field: &Field, pair: &Pair) -> Result<Option<Value>, AllocError>
+fn named_value(
+    alloc: Global,
+    field: &Field,
+    pair: &BorrowedPair<'_>,
+) -> Result<Option<Value>, AllocError>
     ensures { IfOk result (λ found. option_map datum_of found ≡ value_where_named field.now pair.now) }
 {
-    if field.name.as_bytes() == pair.name.as_bytes() {
-        read_value(alloc, field.kind, pair.value.as_bytes())
+    if field.name.as_bytes() == pair.name() {
+        read_value(alloc, field.kind, pair.value())
     } else {
         Ok(None)
     }
@@ -26,7 +30,7 @@ fn named_value(alloc: Global, field: &Field, pair: &Pair) -> Result<Option<Value
 pub(crate) fn read_in_order(
     alloc: Global,
     fields: &[Field],
-    pairs: &[Pair],
+    pairs: &[BorrowedPair<'_>],
     kinds: &mut Vec<Kind>,
     values: &mut Vec<Value>,
 ) -> Result<bool, AllocError>

@@ -4,6 +4,7 @@
 //! for each field of an event; its payload is the bytes that a record keeps of it. Texts are bytes.
 #![tactic(auto)]
 
+mod borrowed_pair;
 mod catalog;
 mod emission;
 mod event;
@@ -21,6 +22,7 @@ mod sizes;
 mod value;
 mod words;
 
+pub use borrowed_pair::{BorrowedPair, borrowed};
 pub use catalog::Catalog;
 pub use emission::Emission;
 pub use event::{EventDef, Field};

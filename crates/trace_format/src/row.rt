@@ -3,6 +3,7 @@
 ghost use Rattle.std.specs.Prelude.{◌≡◌, ◌≤◌, ◌↔◌, List, ℕ, [], IfOk, IfErr, IfSome, IsSome, OnErr, Some, None, Ok, Err, length, map};
 ghost use Rattle.trace_format.specs.Rows.{first_wrong, first_missing, row_of, IsBuilt};
 
+use crate::borrowed_pair::{BorrowedPair, borrowed};
 use crate::event::{EventDef, Field};
 use crate::fault::RowFault;
 use crate::given::{are_new, bad_row, given_values, missing_field, wrong_pair};
@@ -88,7 +89,8 @@ impl Row {
         // What is built, and each refusal, as one function of the pairs.
         ensures exact { IsBuilt result (row_of def.now pairs.now) }
     {
-        Row::build_in(alloc, &mut RowMemory::new(alloc), def, pairs)
+        let pairs = borrowed(alloc, pairs)?;
+        Row::build_in(alloc, &mut RowMemory::new(alloc), def, &pairs)
     }
 
     /// The row that `build` makes, in the memory of an earlier one, which is left without room. Pairs that name the fields in order take one
@@ -97,7 +99,7 @@ impl Row {
         alloc: Global,
         memory: &mut RowMemory,
         def: &EventDef,
-        pairs: &[Pair],
+        pairs: &[BorrowedPair<'_>],
     ) -> Result<Row, RowFault>
         ensures row { IfOk result (IsRowOf def.now) }
         ensures map { IfOk result (Give def.now.fields pairs.now) }
@@ -114,7 +116,7 @@ impl Row {
         alloc: Global,
         memory: &mut RowMemory,
         def: &EventDef,
-        pairs: &[Pair],
+        pairs: &[BorrowedPair<'_>],
     ) -> Result<Row, RowFault>
         ensures definition { IsDefinition def.now }
         ensures row { IfOk result (IsRowOf def.now) }
@@ -130,7 +132,7 @@ impl Row {
     }
 
     /// The row, field by field.
-    fn read(alloc: Global, def: &EventDef, pairs: &[Pair]) -> Result<Row, RowFault>
+    fn read(alloc: Global, def: &EventDef, pairs: &[BorrowedPair<'_>]) -> Result<Row, RowFault>
         ensures definition { IsDefinition def.now }
         ensures row { IfOk result (IsRowOf def.now) }
         ensures exact { IsBuilt result (row_of def.now pairs.now) }
@@ -198,7 +200,7 @@ impl Row {
 }
 
 /// Why pairs give no row of an event: the first that is wrong, else the first field that is missing.
-fn refusal(alloc: Global, def: &EventDef, pairs: &[Pair]) -> RowFault
+fn refusal(alloc: Global, def: &EventDef, pairs: &[BorrowedPair<'_>]) -> RowFault
     requires { first_wrong def.now.fields [] pairs.now ≡ None → IsSome (first_missing def.now.fields pairs.now) }
     ensures { IsBuilt (Err result) (row_of def.now pairs.now) }
 {

@@ -1,7 +1,10 @@
 -- The items of a script, read one after the other.
-use Rattle.std.proofs.Common.{◌≡◌, ℕ, suc, ◌+◌, ◌||◌, Bool, true, false, if◌then◌else◌, List, [], ◌∷◌, length, Result, Ok, Err, refl, ap, sym, ◌∙◌, arith}
+use Rattle.std.proofs.Common.{◌≡◌, ℕ, suc, ◌+◌, ◌||◌, Bool, true, false, if◌then◌else◌, List, [], ◌∷◌, length, Result, Ok, Err, IfOk, refl, ap, sym, ◌∙◌, arith}
 use Rattle.std.specs.List.{list_any, slice_get}
+use Rattle.trace_format.specs.declared.pair.Pair.{Pair}
 use Rattle.trace_script.specs.Lines.{line_of}
+use Rattle.trace_script.specs.PlainEmissions.{emission_said}
+use Rattle.trace_script.specs.declared.emission.EmissionHead.{EmissionHead}
 use Rattle.trace_script.specs.declared.fault.ScriptFault.{ScriptFault}
 use Rattle.trace_script.specs.declared.line.Line.{Line}
 use Rattle.trace_script.specs.declared.line.Line.TheVariants.{Blank, Ask, Parallel, Thread, End}
@@ -86,6 +89,16 @@ module _ (number : ℕ) (line : List ℕ) (all lines : List (List ℕ)) (read : 
       ∙ ap (λ (first : Item). first ∷ items_from next 0 (after_end lines)) part.1
       ∙ ap (λ (more : List (List ℕ)). item ∷ items_from next 0 more) part.3
       ∙ ap (λ (n : ℕ). item ∷ items_from n 0 rest) (omega (arith, part.2))
+
+-- an emission, which begins no part
+pub emission_next : (number : ℕ) (line : List ℕ) (all lines : List (List ℕ)) (head : EmissionHead) (pairs : List Pair) → all ≡ line ∷ lines
+    → line_of line ≡ emission_said head pairs → items_from number 0 all ≡ Single number line ∷ items_from (number + 1) 0 lines
+emission_next number line all lines head pairs is says = line_next number line all lines (emission_said head pairs) is (sym says) refl
+
+-- what holds of an item with any pairs holds with these
+pub at_each : {A E : Type 0} (r : Result A E) (P : List Pair → A → Type 0) (pairs : List Pair) → IfOk r (λ a. (pairs : List Pair) → P pairs a) → IfOk r (λ a. P pairs a)
+at_each (Ok a) P pairs h = h pairs
+at_each (Err e) P pairs h = tt
 
 -- ---- the line of a fault
 

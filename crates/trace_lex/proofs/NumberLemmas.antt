@@ -47,6 +47,9 @@ digits_after_is base n (b ∷ bs) low small =
 pub few_power : (i : ℕ) → i < 19 → 10 ^ i ≤ 10 ^ 18
 few_power i few = leb-true _ _ (agree_below_at (λ k. nat_le (10 ^ k) (10 ^ 18)) (λ _. true) 19 i refl few)
 
+pub fewer_power : (i : ℕ) → i < 17 → 10 ^ i ≤ 10 ^ 16
+fewer_power i few = leb-true _ _ (agree_below_at (λ k. nat_le (10 ^ k) (10 ^ 16)) (λ _. true) 17 i refl few)
+
 limited : (passes : Bool) (value : ℕ) → below (2 ^ 64) (if passes then Some value else None) ≡ (if passes && nat_lt value (2 ^ 64) then Some value else None)
 limited true value = refl
 limited false value = refl

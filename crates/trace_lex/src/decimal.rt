@@ -1,10 +1,11 @@
 //! Decimal numbers.
 
-ghost use Rattle.std.specs.Prelude.{◌≡◌};
+ghost use Rattle.std.specs.Prelude.{◌≡◌, ◌≤◌, length};
 ghost use Rattle.std.specs.List.{list_all};
 ghost use Rattle.trace_lex.specs.Decimals as decimals;
 
 use crate::blanks::trim;
+use crate::numeral::FITTING_DIGITS;
 
 /// Whether a byte is a digit from 0 to 9.
 fn is_digit(byte: u8) -> bool
@@ -20,18 +21,67 @@ pub fn all_digits(text: &[u8]) -> bool
     text.iter().all(|byte| is_digit(*byte))
 }
 
-/// The number that a string of decimal digits writes, if it is one of at most `most`. Leading zeros are allowed; the empty string writes none.
-pub fn decimal_number(text: &[u8], most: u64) -> Option<u64>
+/// The number that a few bytes write, if they are digits, one at least: so few always fit.
+fn few_digits(text: &[u8]) -> Option<u64>
+    requires few { length text.now ≤ FITTING_DIGITS }
+    ensures { result ≡ decimals.decimal_number text.now }
+{
+    if text.is_empty() {
+        return None;
+    }
+    let mut value: u64 = 0;
+    for byte in text {
+        if !is_digit(*byte) {
+            return None;
+        }
+        value = value * 10 + u64::from(*byte - b'0');
+    }
+    Some(value)
+}
+
+/// The number that `decimal_number` gives for a string of any length.
+#[inline(never)]
+fn any_digits(text: &[u8], most: u64) -> Option<u64>
     ensures { result ≡ decimals.up_to most (decimals.decimal_number text.now) }
 {
     if text.is_empty() || !all_digits(text) {
         return None;
     }
-    digits_value(text, most)
+    any_value(text, most)
 }
 
-/// The value of digits, the first of them the highest, if it is at most `most`.
-pub fn digits_value(digits: &[u8], most: u64) -> Option<u64>
+/// The number that a string of decimal digits writes, if it is one of at most `most`. Leading zeros are allowed; the empty string writes none.
+/// Up to 19 digits, which always fit, take one pass and no look for what is too much.
+pub fn decimal_number(text: &[u8], most: u64) -> Option<u64>
+    ensures { result ≡ decimals.up_to most (decimals.decimal_number text.now) }
+{
+    if text.len() > FITTING_DIGITS {
+        return any_digits(text, most);
+    }
+    match few_digits(text) {
+        Some(value) if value <= most => Some(value),
+        _ => None,
+    }
+}
+
+/// So many bytes fit as digits, even where each counts for as much as a byte can: 207.
+const FITTING_BYTES: usize = 17;
+
+/// The value of a few digits, the first of them the highest.
+fn few_value(digits: &[u8]) -> u64
+    requires few { length digits.now ≤ FITTING_BYTES }
+    ensures { result ≡ decimals.value_after 0 digits.now }
+{
+    let mut value: u64 = 0;
+    for digit in digits {
+        value = value * 10 + u64::from(digit.saturating_sub(b'0'));
+    }
+    value
+}
+
+/// The value of any number of digits, the first of them the highest, if it is at most `most`.
+#[inline(never)]
+fn any_value(digits: &[u8], most: u64) -> Option<u64>
     ensures { result ≡ decimals.up_to most (Some (decimals.value_after 0 digits.now)) }
 {
     let mut value: u64 = 0;
@@ -43,6 +93,17 @@ pub fn digits_value(digits: &[u8], most: u64) -> Option<u64>
         value = next as u64;
     }
     Some(value)
+}
+
+/// The value of digits, the first of them the highest, if it is at most `most`.
+pub fn digits_value(digits: &[u8], most: u64) -> Option<u64>
+    ensures { result ≡ decimals.up_to most (Some (decimals.value_after 0 digits.now)) }
+{
+    if digits.len() > FITTING_BYTES {
+        return any_value(digits, most);
+    }
+    let value = few_value(digits);
+    if value <= most { Some(value) } else { None }
 }
 
 /// Whether digits are more than one, the first of them a zero.

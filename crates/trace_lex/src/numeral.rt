@@ -32,7 +32,7 @@ fn digits(base: u32, text: &[u8]) -> Option<u64>
 }
 
 /// The greatest number of decimal digits that always fit in 64 bits.
-const FITTING_DIGITS: usize = 19;
+pub(crate) const FITTING_DIGITS: usize = 19;
 
 /// The value of one more decimal digit behind others, as [`push_digit`] gives it. That is so small that it always fits.
 fn push_decimal(value: u64, byte: u8) -> Option<u64>

@@ -7,9 +7,9 @@ ghost use Rattle.trace_log.specs.PackedEntries.{IsOneEntry};
 ghost use Rattle.trace_log.specs.EntryEncoding.{length_bytes, text_bytes, pairs_bytes, other_bytes, ArePairsShort};
 
 use crate::chunk::Chunk;
-use std::alloc::AllocError;
+use std::alloc::{AllocError, Global};
 use trace_command::Command;
-use trace_format::Pair;
+use trace_format::{BorrowedPair, borrowed};
 
 // Kinds of commands, as they are written.
 const EMIT: u8 = 0;
@@ -55,14 +55,14 @@ impl Chunk {
     }
 
     // Pairs, one after the other.
-    fn write_pairs(&mut self, pairs: &[Pair]) -> Result<(), AllocError>
+    fn write_pairs(&mut self, pairs: &[BorrowedPair<'_>]) -> Result<(), AllocError>
         ensures entries { self.new.entries ≡ self.old.entries }
         ensures ahead { OnOk result (self.new.ahead ≡ self.old.ahead ++ pairs_bytes pairs.now) }
         ensures short { OnOk result (ArePairsShort pairs.now) }
     {
         for pair in pairs {
-            self.write_text(pair.name.as_bytes())?;
-            self.write_text(pair.value.as_bytes())?;
+            self.write_text(pair.name())?;
+            self.write_text(pair.value())?;
         }
         Ok(())
     }
@@ -75,7 +75,7 @@ impl Chunk {
         event: &[u8],
         cpu: u32,
         pid: i32,
-        pairs: &[Pair],
+        pairs: &[BorrowedPair<'_>],
     ) -> Result<(), AllocError>
         requires { self.old.ahead ≡ [] }
         ensures entries { self.new.entries ≡ self.old.entries }
@@ -143,6 +143,7 @@ impl Chunk {
     /// Writes an entry ahead. Where memory is refused, a part of it may be written all the same.
     pub(crate) fn write_entry(
         &mut self,
+        alloc: Global,
         ticket: u64,
         by: u32,
         command: &Command,
@@ -157,7 +158,10 @@ impl Chunk {
                 cpu,
                 pid,
                 pairs,
-            } => self.write_emission(ticket, by, event.as_bytes(), *cpu, *pid, pairs.as_slice()),
+            } => {
+                let pairs = borrowed(alloc, pairs.as_slice())?;
+                self.write_emission(ticket, by, event.as_bytes(), *cpu, *pid, &pairs)
+            }
             Command::Mkdir(path) => self.write_other(ticket, by, MKDIR, 0, path.as_bytes(), &[]),
             Command::Rmdir(path) => self.write_other(ticket, by, RMDIR, 0, path.as_bytes(), &[]),
             Command::Write {

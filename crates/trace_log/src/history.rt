@@ -10,7 +10,7 @@ use std::alloc::{AllocError, Global};
 use std::marker::Model;
 use std::mem;
 use trace_command::Command;
-use trace_format::Pair;
+use trace_format::BorrowedPair;
 
 /// The entries of a history, seen as their list, and what is written ahead. An entry is written ahead first, which may be refused memory, and then
 /// appended, which can't fail. One that is never appended makes way for the next.
@@ -79,7 +79,7 @@ impl History {
         event: &[u8],
         cpu: u32,
         pid: i32,
-        pairs: &[Pair],
+        pairs: &[BorrowedPair<'_>],
     ) -> Result<(), AllocError>
         ensures written { OnOk result (self.new.ahead
             ≡ record { ticket = ticket; by = by; command = Command.Emit event.now cpu pid pairs.now } ∷ []) }
@@ -103,7 +103,7 @@ impl History {
         ensures entries { self.new.entries ≡ self.old.entries }
     {
         self.begin()?;
-        if let Err(error) = self.last.write_entry(ticket, by, command) {
+        if let Err(error) = self.last.write_entry(self.alloc, ticket, by, command) {
             self.last.discard();
             return Err(error);
         }

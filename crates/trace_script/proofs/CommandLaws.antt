@@ -77,7 +77,7 @@ pair_at word pair (Some at) f e =
     let is : ◌≡◌ {A = Pair} (record { name = take at word; value = drop (at + 1) word }) pair = cc in
     subst (λ (q : Pair). (word ≡ q.name ++ 61 ∷ q.value) × IsPair q) is (split_at word at f)
 
-pair_found : (word : List ℕ) (pair : Pair) → pair_of word ≡ Some pair → (word ≡ pair.name ++ 61 ∷ pair.value) × IsPair pair
+pub pair_found : (word : List ℕ) (pair : Pair) → pair_of word ≡ Some pair → (word ≡ pair.name ++ 61 ∷ pair.value) × IsPair pair
 unfolding pair_of
 pair_found word pair e = pair_at word pair (position (λ b. b == 61) word) refl e
 

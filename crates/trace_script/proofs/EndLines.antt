@@ -5,7 +5,6 @@ use Rattle.trace_script.specs.Commands.{AsksFor, Nothing, Something, IsAskedBy, 
 use Rattle.trace_script.specs.Grammar.{WordPiece, Plain, Quoted, IsWordPiece, piece_text, piece_value, LinePart, Gap, Redirection, Written, part_text, part_tokens, IsLine, IsWritten}
 use Rattle.trace_script.specs.Lines.{line_of}
 use Rattle.trace_script.specs.Tokens.{tokens_of}
-use Rattle.trace_script.specs.declared.line.Line.{Line}
 use Rattle.trace_script.specs.declared.line.Line.TheVariants.{End}
 use Rattle.trace_script.specs.declared.token.Token.{Token}
 use Rattle.trace_script.specs.declared.token.Token.TheVariants.{Word}

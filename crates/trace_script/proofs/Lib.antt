@@ -10,5 +10,7 @@ pub mod LineLaws
 pub mod EndLines
 pub mod EmissionLines
 pub mod BareLines
+pub mod BarePairs
+pub mod BareEmissions
 pub mod OnePair
 pub mod FaultOrder

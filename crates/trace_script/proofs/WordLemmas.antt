@@ -21,7 +21,7 @@ use Rattle.trace_script.proofs.TokenLemmas.{behind_append}
 pub drop_more : (n b : ℕ) (bs : List ℕ) → drop (1 + n) (b ∷ bs) ≡ drop n bs
 drop_more n b bs = let e : 1 + n ≡ suc n = omega arith in ap (λ (k : ℕ). drop k (b ∷ bs)) e
 
-take_more : (n b : ℕ) (bs : List ℕ) → take (1 + n) (b ∷ bs) ≡ b ∷ take n bs
+pub take_more : (n b : ℕ) (bs : List ℕ) → take (1 + n) (b ∷ bs) ≡ b ∷ take n bs
 take_more n b bs = let e : 1 + n ≡ suc n = omega arith in ap (λ (k : ℕ). take k (b ∷ bs)) e
 
 skip_step : (b : ℕ) (bs : List ℕ) (t : Bool) → is_blank b ≡ t → tokens_from Between [] (drop (prefix_len is_blank bs) bs) ≡ tokens_from Between [] bs
@@ -155,7 +155,7 @@ pub token_pushed : (items : List Token) (token : Token) (line rest after next : 
 token_pushed items token line rest after next e f g =
     ap (behind (items ++ token ∷ [])) g ∙ (behind_append items (token ∷ []) (tokens_of after) ∙ (ap (behind items) (sym f) ∙ e))
 
-is_nil : (xs : List ℕ) → (length xs == 0) ≡ true → xs ≡ []
+pub is_nil : (xs : List ℕ) → (length xs == 0) ≡ true → xs ≡ []
 is_nil [] e = refl
 is_nil (b ∷ bs) e = absurd (omega (arith, eqb-true (length (b ∷ bs)) 0 e))
 

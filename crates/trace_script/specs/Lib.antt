@@ -3,6 +3,7 @@ pub mod Tokens
 pub mod Grammar
 pub mod Lines
 pub mod Commands
+pub mod PlainEmissions
 pub mod Faults
 pub mod Rendering
 pub mod ScriptFaultTexts

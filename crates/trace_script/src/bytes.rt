@@ -1,8 +1,8 @@
 //! What kinds of bytes a line has.
 //!
-//! Each byte is looked at once, and many of them at a time: a line is taken in blocks of 16 bytes, or of 8 where it is shorter, for each of
-//! which the compiler tests all its bytes by the same few instructions. The last block overlaps the one before it, so that no byte is left
-//! over.
+//! Many bytes are looked at at a time: a line is taken in blocks of 16 bytes, or of 8 where it has fewer than 16, for each of which the compiler
+//! tests all its bytes by the same few instructions. The last block overlaps the one before it, so that no byte is left over; the bytes of the
+//! overlap are looked at twice. A line of fewer than 8 bytes is looked at byte by byte.
 
 ghost use Rattle.std.specs.Prelude.{◌≡◌, ◌<◌, ◌≤◌, length};
 ghost use Rattle.trace_script.specs.Lines.{is_line_byte};

@@ -1,34 +1,47 @@
-//! An emission of one pair, whose words are cut straight out of its line.
+//! Emissions whose words are read where they lie in their line.
 //!
-//! Most lines of a script are `emit CPU PID EVENT FIELD=VALUE`, with neither quotes nor `>` and one blank between each two words. The words
+//! Most lines of a script are `emit CPU PID EVENT FIELD=VALUE ..`, with neither quotes nor `>` and one blank between each two words. The words
 //! of such a line are slices of it: each ends at the first byte that is not above a space. Another line is left to be read by its tokens,
 //! which would give the same for these.
 
-ghost use Rattle.std.specs.Prelude.{◌≡◌, ◌≤◌, ◌∷◌, ◌++◌, [], length, nat_lt, true, false, Some, IfSome, OnSome, codes};
+ghost use Rattle.std.specs.Prelude.{◌≡◌, ◌≢◌, ◌≤◌, ◌<◌, ◌∷◌, ◌++◌, ◌==◌, ◌&&◌, not, ℕ, List, [], length, drop, nat_lt, true, false, Some, None, Ok, IsErr, IsSome, IfOk, IfSome, OnSome, IfNone, MatchOption, codes};
 ghost use Rattle.std.specs.List.{prefix_len};
-ghost use Rattle.trace_script.specs.Lines.{says_nothing};
+ghost use Rattle.std.specs.Option.{option_map};
+ghost use Rattle.trace_script.specs.Lines.{says_nothing, line_of};
 ghost use Rattle.trace_script.specs.Outcomes.{Gives};
+ghost use Rattle.trace_script.specs.PlainEmissions.{emission_said, is_spaced, IsPlainEmission};
 ghost use Rattle.trace_script.specs.Tokens.{behind, tokens_of};
 ghost use Rattle.trace_script.specs.private.Bytes.{highest_rank};
-ghost use Rattle.trace_script.specs.private.Emissions.{asked_by_emission, tokens_in};
+ghost use Rattle.trace_script.specs.private.Emissions.{asked_after_emit, asked_by_emission, emission_in, pairs_in, tokens_in};
 ghost use Rattle.trace_script.specs.declared.token.Token.TheVariants.{Word as IsWord};
 
+use crate::bytes::highest_rank;
 use crate::command::{emission_with, pair};
 use crate::fault::LineError;
-use crate::line::Line;
-use std::alloc::Global;
+use crate::line::{Line, MOST_BYTES};
+use crate::number::{cpu_number, process_id};
+use std::alloc::{AllocError, Global};
 use trace_command::Pairs;
+use trace_format::BorrowedPair;
 
 /// How many bytes `emit` and a space are.
 const EMIT_BYTES: usize = 5;
 
-/// The words of an emission of one pair, after its name.
+/// An emission's words but its pairs, as they lie in its line.
+#[derive(Clone, Copy)]
+pub struct EmissionHead<'a> {
+    pub event: &'a [u8],
+    pub cpu: u32,
+    pub pid: i32,
+}
+
+/// The words of an emission after its name, and the rest of its line, where its pairs are.
 #[derive(Clone, Copy)]
 pub(crate) struct EmissionWords<'a> {
     pub cpu: &'a [u8],
     pub pid: &'a [u8],
     pub event: &'a [u8],
-    pub pair: &'a [u8],
+    pub pairs: &'a [u8],
 }
 
 /// How many bytes a string begins with that are above a space.
@@ -39,12 +52,24 @@ fn word_len(text: &[u8]) -> usize
     text.iter().take_while(|byte| **byte > b' ').count()
 }
 
+/// How many bytes a string begins with that are above a space and no `=`.
+fn name_len(text: &[u8]) -> usize
+    ensures value { result ≡ prefix_len (λ b. nat_lt 32 b && not (b == 61)) text.now }
+    ensures bound { result ≤ length text.now }
+{
+    text.iter()
+        .take_while(|byte| **byte > b' ' && **byte != b'=')
+        .count()
+}
+
 /// The word that a line begins with, and what follows the blank after it; nothing, if it begins with a blank or no blank follows.
-#[tactic(auto, using(crate::proofs::BareLines::word_cut, crate::proofs::BareLines::rest_is_bare))]
+#[tactic(auto, using(crate::proofs::BareLines::word_cut, crate::proofs::BareLines::rest_is_bare, crate::proofs::BareLines::spaced_word, crate::proofs::BareLines::word_alone))]
 fn cut_word(line: &[u8]) -> Option<(&[u8], &[u8])>
     requires { highest_rank line.now ≡ 0 }
     ensures word { IfSome result (λ cut. tokens_of line.now ≡ behind (IsWord cut.0.now ∷ []) (tokens_of cut.1.now)) }
     ensures bare { IfSome result (λ cut. highest_rank cut.1.now ≡ 0) }
+    ensures spaced { IfSome result (λ cut. is_spaced true line.now ≡ true → is_spaced true cut.1.now ≡ true) }
+    ensures alone { IfNone result (is_spaced true line.now ≡ true → tokens_of line.now ≡ Some (IsWord line.now ∷ [])) }
 {
     let (word, rest) = line.split_at(word_len(line));
     if word.is_empty() || rest.is_empty() {
@@ -54,9 +79,55 @@ fn cut_word(line: &[u8]) -> Option<(&[u8], &[u8])>
     Some((word, rest))
 }
 
+/// What follows a `=` at the front of a string.
+fn after_equals(text: &[u8]) -> Option<&[u8]>
+    ensures { MatchOption result ((rest : List ℕ) → text.now ≢ 61 ∷ rest) (λ rest. text.now ≡ 61 ∷ rest.now) }
+{
+    match text {
+        [b'=', rest @ ..] => Some(rest),
+        _ => None,
+    }
+}
+
+/// The pair that a line begins with, and what follows it; nothing, if its first word is no pair or it begins with a blank.
+#[tactic(auto, using(crate::proofs::BarePairs::pair_taken, crate::proofs::BarePairs::pair_bare, crate::proofs::BarePairs::pair_shorter, crate::proofs::BarePairs::pair_spaced, crate::proofs::BarePairs::no_pair_taken))]
+fn cut_pair(line: &[u8]) -> Option<(BorrowedPair<'_>, &[u8])>
+    requires { highest_rank line.now ≡ 0 }
+    ensures pair { IfSome result (λ cut. pairs_in line.now ≡ option_map (λ more. cut.0 ∷ more) (pairs_in (drop 1 cut.1.now))) }
+    ensures bare { IfSome result (λ cut. highest_rank (drop 1 cut.1.now) ≡ 0) }
+    ensures shorter { IfSome result (λ cut. length cut.1.now < length line.now) }
+    ensures spaced { IfSome result (λ cut. is_spaced true line.now ≡ true → cut.1.now ≢ [] → is_spaced true (drop 1 cut.1.now) ≡ true) }
+    ensures none { IfNone result (is_spaced true line.now ≡ true → pairs_in line.now ≡ None) }
+{
+    let (name, rest) = line.split_at(name_len(line));
+    let rest = after_equals(rest)?;
+    let (value, rest) = rest.split_at(word_len(rest));
+    Some((BorrowedPair::new(name, value), rest))
+}
+
+/// Leaves in a list the pairs that a line is, with one blank between each two. Whether the line is such.
+#[tactic(auto, using(crate::proofs::BareEmissions::no_pairs_yet, crate::proofs::BareEmissions::pairs_more, crate::proofs::BareEmissions::pairs_all, crate::proofs::BareEmissions::pairs_wrong))]
+fn cut_pairs<'a>(line: &'a [u8], pairs: &mut Vec<BorrowedPair<'a>>) -> Result<bool, AllocError>
+    requires { highest_rank line.now ≡ 0 }
+    ensures whole { IfOk result (λ is_whole. is_whole ≡ true → pairs_in line.now ≡ Some pairs.new.items) }
+    ensures some { IfOk result (λ is_whole. is_whole ≡ true → pairs.new.items ≢ []) }
+    ensures wrong { IfOk result (λ is_whole. is_whole ≡ false → is_spaced true line.now ≡ true → pairs_in line.now ≡ None) }
+{
+    pairs.clear();
+    let mut rest = line;
+    while let Some((pair, after)) = cut_pair(rest) {
+        pairs.push(pair)?;
+        let [_, next @ ..] = after else {
+            return Ok(true);
+        };
+        rest = next;
+    }
+    Ok(false)
+}
+
 /// Whether a line is one word.
 #[tactic(auto, using(crate::proofs::BareLines::single_word))]
-fn is_word(line: &[u8]) -> bool
+pub(crate) fn is_word(line: &[u8]) -> bool
     requires { highest_rank line.now ≡ 0 }
     ensures { result ≡ true → tokens_of line.now ≡ Some (IsWord line.now ∷ []) }
 {
@@ -66,7 +137,8 @@ fn is_word(line: &[u8]) -> bool
 /// What follows `emit` and a space at the front of a line.
 #[tactic(auto, using(crate::proofs::BareLines::after_emit))]
 fn after_emit(line: &[u8]) -> Option<&[u8]>
-    ensures { IfSome result (λ rest. line.now ≡ codes "emit " ++ rest.now) }
+    ensures some { IfSome result (λ rest. line.now ≡ codes "emit " ++ rest.now) }
+    ensures none { IfNone result ((rest : List ℕ) → line.now ≢ codes "emit " ++ rest) }
 {
     if line.len() < EMIT_BYTES {
         return None;
@@ -79,32 +151,88 @@ fn after_emit(line: &[u8]) -> Option<&[u8]>
     }
 }
 
-/// The words of a line without quotes and `>`, if it is an emission of one pair with one blank between each two words.
-pub(crate) fn emission_words(line: &[u8]) -> Option<EmissionWords<'_>>
-    requires { highest_rank line.now ≡ 0 }
-    ensures tokens { IfSome result (λ words. tokens_of line.now ≡ Some (IsWord (codes "emit") ∷ tokens_in words)) }
-    ensures says { OnSome result (says_nothing line.now ≡ false) }
+/// The words of an emission, of which this follows `emit`, if one blank stands between each two before its pairs.
+#[tactic(auto, using(crate::proofs::BareEmissions::three_words, crate::proofs::BareEmissions::one_word, crate::proofs::BareEmissions::two_words, crate::proofs::BareEmissions::only_three_words))]
+fn words_after(rest: &[u8]) -> Option<EmissionWords<'_>>
+    requires { highest_rank rest.now ≡ 0 }
+    ensures tokens { IfSome result (λ words. tokens_of rest.now ≡ behind (tokens_in words []) (tokens_of words.pairs.now)) }
+    ensures bare { IfSome result (λ words. highest_rank words.pairs.now ≡ 0) }
+    ensures spaced { IfSome result (λ words. is_spaced true rest.now ≡ true → is_spaced true words.pairs.now ≡ true) }
+    ensures none { IfNone result (is_spaced true rest.now ≡ true → IsErr (emission_in rest.now)) }
 {
-    let rest = after_emit(line)?;
     let (cpu, rest) = cut_word(rest)?;
     let (pid, rest) = cut_word(rest)?;
-    let (event, pair) = cut_word(rest)?;
-    if !is_word(pair) {
-        return None;
-    }
+    let (event, pairs) = cut_word(rest)?;
     Some(EmissionWords {
         cpu,
         pid,
         event,
-        pair,
+        pairs,
     })
+}
+
+/// What follows `emit` and a space at the front of a line that has neither quotes nor `>`.
+#[tactic(auto, using(crate::proofs::BareEmissions::line_said, crate::proofs::BareEmissions::rest_is_bare, crate::proofs::BareEmissions::plain_bare, crate::proofs::BareEmissions::plain_short, crate::proofs::BareEmissions::plain_rest))]
+fn bare_after_emit(line: &[u8]) -> Option<&[u8]>
+    ensures bare { IfSome result (λ rest. highest_rank rest.now ≡ 0) }
+    ensures said { IfSome result (λ rest. line_of line.now ≡ asked_after_emit rest.now) }
+    ensures spaced { IfSome result (λ rest. IsPlainEmission line.now → is_spaced true rest.now ≡ true) }
+    ensures none { IfNone result (IsPlainEmission line.now → ⊥) }
+{
+    let rest = after_emit(line)?;
+    if line.len() > MOST_BYTES || highest_rank(line) > 0 {
+        return None;
+    }
+    Some(rest)
+}
+
+/// The emission that a line is, if it has no quotes and no `>` and one blank between each two words. Its pairs are left in a list, which keeps
+/// its room from line to line. Every other line, and one that has a fault, is left to [`crate::prepare`].
+#[tactic(auto, using(crate::proofs::BareEmissions::plain_read, crate::proofs::BareEmissions::wrong_pairs, crate::proofs::BareEmissions::no_cpu, crate::proofs::BareEmissions::no_pid, crate::proofs::BareEmissions::not_found))]
+pub fn plain_emission<'a>(
+    line: &'a [u8],
+    pairs: &mut Vec<BorrowedPair<'a>>,
+) -> Result<Option<EmissionHead<'a>>, AllocError>
+    ensures read { IfOk result (λ found. IfSome found (λ head. line_of line.now ≡ emission_said head pairs.new.items)) }
+    ensures found { IfOk result (λ found. IsPlainEmission line.now → IsSome found) }
+{
+    let Some(rest) = bare_after_emit(line) else {
+        return Ok(None);
+    };
+    let Some(words) = words_after(rest) else {
+        return Ok(None);
+    };
+    let (Some(cpu), Some(pid)) = (cpu_number(words.cpu), process_id(words.pid)) else {
+        return Ok(None);
+    };
+    if !cut_pairs(words.pairs, pairs)? {
+        return Ok(None);
+    }
+    Ok(Some(EmissionHead {
+        event: words.event,
+        cpu,
+        pid,
+    }))
+}
+
+/// The words of a line without quotes and `>`, if it is an emission of one pair with one blank between each two words.
+pub(crate) fn emission_words(line: &[u8]) -> Option<EmissionWords<'_>>
+    requires { highest_rank line.now ≡ 0 }
+    ensures tokens { IfSome result (λ words. tokens_of line.now ≡ Some (IsWord (codes "emit") ∷ tokens_in words (IsWord words.pairs.now ∷ []))) }
+    ensures says { OnSome result (says_nothing line.now ≡ false) }
+{
+    let words = words_after(after_emit(line)?)?;
+    if !is_word(words.pairs) {
+        return None;
+    }
+    Some(words)
 }
 
 /// The line of an emission of these words.
 pub(crate) fn emission_line(alloc: Global, words: EmissionWords<'_>) -> Result<Line, LineError>
-    ensures { Gives (λ line. line) result (asked_by_emission (tokens_in words.entry)) }
+    ensures { Gives (λ line. line) result (asked_by_emission (tokens_in words.entry (IsWord words.entry.pairs.now ∷ []))) }
 {
-    let pair = pair(alloc, words.pair)?;
+    let pair = pair(alloc, words.pairs)?;
     let command = emission_with(alloc, words.cpu, words.pid, words.event, Pairs::from(pair))?;
     Ok(Line::Ask(command))
 }

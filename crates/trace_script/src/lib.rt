@@ -14,6 +14,7 @@ mod tokens;
 mod word;
 
 pub use command::writes_are_as_written;
+pub use emission::{EmissionHead, plain_emission};
 pub use fault::{LineError, ScriptFault};
 pub use line::{
     Line, commands_are_as_written, faults_come_in_order, lines_are_as_written, may_end, prepare,

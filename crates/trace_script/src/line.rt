@@ -25,7 +25,7 @@ use trace_command::Command;
 use trace_lex::is_blank;
 
 /// The most bytes that a line may have.
-const MOST_BYTES: usize = 4096;
+pub(crate) const MOST_BYTES: usize = 4096;
 
 /// What a line of a script asks for.
 #[derive(Clone, PartialEq, Eq, Drop)]

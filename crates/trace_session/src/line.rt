@@ -5,16 +5,18 @@ ghost use Rattle.ticket_lock.specs.Calls.{view_of, IsOf, IsWorn};
 ghost use Rattle.trace_command.specs.declared.command.Config.{Config};
 ghost use Rattle.trace_history.specs.History.{answer_to};
 ghost use Rattle.trace_script.specs.Lines.{line_of};
+ghost use Rattle.trace_script.specs.PlainEmissions.{emission_said};
 ghost use Rattle.trace_session.specs.Passes.{IsSessionPass, IsRefusedEarly, progress_of};
 ghost use Rattle.trace_session.specs.Sessions.{Progress, answered, turn_of};
 
 use std::sync::Wait;
 use ticket_lock::{Pass, TicketLock};
 use trace_book::Book;
-use trace_command::{Command, Refusal};
+use trace_command::{BorrowedEmission, Command, Refusal};
+use trace_format::BorrowedPair;
 use trace_items::Stop;
-use trace_script::{Line, Outcome, ScriptFault};
-use trace_workers::ask;
+use trace_script::{EmissionHead, Line, Outcome, ScriptFault};
+use trace_workers::{ask, ask_emission};
 
 /// Asks a command. That all tickets are drawn no script comes to; it stops the session as refused memory does. A refusal that is found before any
 /// memory is taken is the outcome though memory was refused.
@@ -40,6 +42,33 @@ fn ask_command<R: Wait>(
     match answer {
         Ok(reply) => (pass, Ok(Some(Outcome::Replied(reply)))),
         Err(Refusal::Memory | Refusal::Worn) => (pass, Err(Stop::Memory)),
+        Err(refusal) => (pass, Ok(Some(Outcome::Refused(refusal)))),
+    }
+}
+
+/// Asks for an emission whose strings lie elsewhere, as `ask_command` does for the command that it is.
+#[tactic(auto, using(crate::proofs::EarlyRefusals::memory_is_late, crate::proofs::EarlyRefusals::all_drawn))]
+fn ask_borrowed<R: Wait>(
+    rt: &R,
+    lock: &TicketLock<Book>,
+    pass: Pass<Book>,
+    emission: &BorrowedEmission<'_>,
+) -> (Pass<Book>, Result<Option<Outcome>, Stop>)
+    requires { IsOf lock.now pass }
+    ensures of { IsOf lock.now result.0 }
+    ensures session { (g : Config) → IsSessionPass g (view_of pass) → IsSessionPass g (view_of result.0) }
+    ensures turn { IfOk result.1 (λ outcome. (g : Config) → IsSessionPass g (view_of pass)
+        → answered (progress_of (view_of pass)) emission.now (answer_to g (view_of pass).seen emission.now)
+        ≡ record { outcome = outcome; progress = progress_of (view_of result.0) }) }
+    ensures early { IsErrOf result.1 Stop.Memory → (g : Config) → IsSessionPass g (view_of pass)
+        → IsRefusedEarly g (view_of pass) emission.now → IsWorn (view_of pass) (view_of result.0) }
+    ensures device { IsErrOf result.1 Stop.Device → ⊥ }
+    ensures stopped { IsErrOf result.1 Stop.Stopped → ⊥ }
+{
+    let (pass, answer) = ask_emission(rt, lock, pass, emission);
+    match answer {
+        Ok(reply) => (pass, Ok(Some(Outcome::Replied(reply)))),
+        Err(Refusal::Worn | Refusal::Memory) => (pass, Err(Stop::Memory)),
         Err(refusal) => (pass, Ok(Some(Outcome::Refused(refusal)))),
     }
 }
@@ -83,4 +112,30 @@ pub(crate) fn ask_line<R: Wait>(
         Ok(Line::Ask(command)) => ask_command(rt, lock, pass, command),
         said => (pass, Ok(unasked(said))),
     }
+}
+
+/// Asks for the emission that a line is, whose words and pairs these are, as `ask_line` does. No command is made of it.
+#[tactic(auto, unfolding(crate::specs::Sessions::turn_of))]
+pub(crate) fn ask_emission_line<R: Wait>(
+    rt: &R,
+    lock: &TicketLock<Book>,
+    pass: Pass<Book>,
+    head: EmissionHead<'_>,
+    pairs: &[BorrowedPair<'_>],
+) -> (Pass<Book>, Result<Option<Outcome>, Stop>)
+    requires { IsOf lock.now pass }
+    ensures of { IsOf lock.now result.0 }
+    ensures session { (g : Config) → IsSessionPass g (view_of pass) → IsSessionPass g (view_of result.0) }
+    ensures turn { IfOk result.1 (λ outcome. (g : Config) (text : List ℕ) → IsSessionPass g (view_of pass)
+        → line_of text ≡ emission_said head.entry pairs.now
+        → turn_of g (progress_of (view_of pass)) text
+        ≡ record { outcome = outcome; progress = progress_of (view_of result.0) }) }
+    ensures early { IsErrOf result.1 Stop.Memory → (g : Config) (command : Command) → IsSessionPass g (view_of pass)
+        → emission_said head.entry pairs.now ≡ Ok (Line.Ask command) → IsRefusedEarly g (view_of pass) command
+        → IsWorn (view_of pass) (view_of result.0) }
+    ensures device { IsErrOf result.1 Stop.Device → ⊥ }
+    ensures stopped { IsErrOf result.1 Stop.Stopped → ⊥ }
+{
+    let emission = BorrowedEmission::new(head.event, head.cpu, head.pid, pairs);
+    ask_borrowed(rt, lock, pass, &emission)
 }

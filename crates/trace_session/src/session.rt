@@ -70,11 +70,20 @@ fn do_items<R: Threads + Wait + Sync, W: Sink, G: Gate + Sync>(
     let mut rest = Some(script);
     let mut number = 1;
     let mut status = Status::Done;
+    let mut pairs = Vec::new(env.alloc);
     while let Some(text) = rest {
-        let Ok(next) = next_item(env.alloc, number, text) else {
+        let Ok(next) = next_item(env.alloc, number, text, &mut pairs) else {
             return Err(Stop::Memory);
         };
-        let (back, done) = do_item(env, pass, number, next.item, replies, writer);
+        let (back, done) = do_item(
+            env,
+            pass,
+            number,
+            next.item,
+            pairs.as_slice(),
+            replies,
+            writer,
+        );
         pass = back;
         match done? {
             Status::Fault => return Ok(Status::Fault),

@@ -10,6 +10,7 @@ ghost use Rattle.trace_items.specs.PartReads.{commands_in};
 ghost use Rattle.trace_items.specs.ScriptLines.{lines_of};
 ghost use Rattle.trace_items.specs.Sources.{HasRisen};
 ghost use Rattle.trace_script.specs.Lines.{line_of};
+ghost use Rattle.trace_script.specs.PlainEmissions.{emission_said};
 ghost use Rattle.trace_session.specs.Devices.{Passes};
 ghost use Rattle.trace_session.specs.Fronts.{PassesItem, AppendsItem, IsThreads};
 ghost use Rattle.trace_session.specs.Heard.{Hears, HearsPart, HearsItem, AreInOrder, HasItsLines, heard_of, numbers_in};
@@ -18,7 +19,7 @@ ghost use Rattle.trace_session.specs.Sessions.{Progress, turn_of};
 
 use crate::device::Sink;
 use crate::environment::Environment;
-use crate::line::ask_line;
+use crate::line::{ask_emission_line, ask_line};
 use crate::part_run::run_part;
 use crate::replies::Replies;
 use crate::status::Status;
@@ -28,10 +29,11 @@ use std::sync::Wait;
 use std::thread;
 use ticket_lock::Pass;
 use trace_book::Book;
+use trace_format::BorrowedPair;
 use trace_items::Stop;
 use trace_items::item::ItemRead;
 use trace_items::part::{FaultAt, Numbered};
-use trace_script::{Line, Outcome, ScriptFault};
+use trace_script::{EmissionHead, Line, Outcome, ScriptFault};
 use trace_workers::Gate;
 
 /// Asks for what a line by itself asks for, and writes what it gives.
@@ -70,6 +72,47 @@ fn do_line<R: Wait, W: Sink, G>(
             pass,
             give(env.alloc, number, line, &outcome, replies, writer),
         ),
+        Err(stop) => (pass, Err(stop)),
+    }
+}
+
+/// Asks for the emission that a line by itself is, whose words and pairs these are, and writes what it gives.
+fn do_emission<R: Wait, W: Sink, G>(
+    env: &Environment<'_, R, G>,
+    pass: Pass<Book>,
+    number: usize,
+    line: &[u8],
+    head: EmissionHead<'_>,
+    pairs: &[BorrowedPair<'_>],
+    replies: &mut Replies,
+    writer: &mut W,
+) -> (Pass<Book>, Result<Status, Stop>)
+    requires of { IsOf env.now.lock.now pass }
+    requires session { (g : Config) × IsSessionPass g (view_of pass) }
+    requires said { line_of line.now ≡ emission_said head pairs.now }
+    ensures of { IsOf env.now.lock.now result.0 }
+    ensures session { (g : Config) → IsSessionPass g (view_of pass) → IsSessionPass g (view_of result.0) }
+    ensures done { IfOk result.1 (λ status. (g : Config) → IsSessionPass g (view_of pass)
+        → PassesItem g (Single number line.now) (progress_of (view_of pass)) (progress_of (view_of result.0)) status
+        (W.contents writer.old) replies.old (W.contents writer.new) replies.new) }
+    ensures failures { OnOk result.1 (W.failures writer.new ≡ W.failures writer.old) }
+    ensures memory { IsErrOf result.1 Stop.Memory
+        → Passes (W.contents writer.old) replies.old (W.contents writer.new) replies.new [] }
+    ensures unfailed { IsErrOf result.1 Stop.Memory → W.failures writer.new ≡ W.failures writer.old }
+    ensures stopped { IsErrOf result.1 Stop.Stopped → ⊥ }
+    ensures risen { IsErrOf result.1 Stop.Device → HasRisen (W.failures writer.old) (W.failures writer.new) }
+    ensures device { IsErrOf result.1 Stop.Device → (g : Config) → IsSessionPass g (view_of pass)
+        → AppendsItem g (Single number line.now) (progress_of (view_of pass)) (progress_of (view_of result.0))
+        (W.contents writer.old) replies.old (W.contents writer.new) }
+    ensures heard { (g : Config) → IsSessionPass g (view_of pass) → OnOk result.1 (Hears (W.heard writer.old) (W.heard writer.new)
+        (heard_of number line.now (turn_of g (progress_of (view_of pass)) line.now).outcome (W.contents writer.new) ∷ [])) }
+{
+    let (pass, asked) = ask_emission_line(env.rt, env.lock, pass, head, pairs);
+    match asked {
+        Ok(outcome) => {
+            let given = give(env.alloc, number, line, &outcome, replies, writer);
+            (pass, given)
+        }
         Err(stop) => (pass, Err(stop)),
     }
 }
@@ -142,18 +185,20 @@ fn do_fault<W: Sink>(
 }
 
 /// Does an item whose first line has this number: adds what it gives to the replies, and gives its own status. Of a part nothing is added before
-/// all its commands were asked. A writer that hears is told of each line by itself, of a fault with its line, and of each command of a part.
+/// all its commands were asked. A writer that hears is told of each line by itself, of a fault with its line, and of each command of a part. An
+/// emission's pairs are these.
 pub(crate) fn do_item<R: thread::Threads + Wait + Sync, W: Sink, G: Gate + Sync>(
     env: &Environment<'_, R, G>,
     pass: Pass<Book>,
     number: usize,
     item: ItemRead<'_>,
+    pairs: &[BorrowedPair<'_>],
     replies: &mut Replies,
     writer: &mut W,
 ) -> (Pass<Book>, Result<Status, Stop>)
     requires of { IsOf env.now.lock.now pass }
     requires session { (g : Config) × IsSessionPass g (view_of pass) }
-    requires said { IsSaid item }
+    requires said { IsSaid pairs.now item }
     requires few { HasFewThreads (item_read number item) }
     requires lines { HasItsLines number item }
     ensures of { IsOf env.now.lock.now result.0 }
@@ -178,6 +223,9 @@ pub(crate) fn do_item<R: thread::Threads + Wait + Sync, W: Sink, G: Gate + Sync>
         (progress_of (view_of pass)) (progress_of (view_of result.0)) (W.contents writer.new) (W.heard writer.old) (W.heard writer.new)) }
 {
     match item {
+        ItemRead::Emission { line, head } => {
+            do_emission(env, pass, number, line, head, pairs, replies, writer)
+        }
         ItemRead::Line { line, said } => { do_line(env, pass, number, line, said, replies, writer) }
         ItemRead::Threads { text, threads } => {
             do_part(env, pass, number, text, threads, replies, writer)

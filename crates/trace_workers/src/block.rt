@@ -36,7 +36,7 @@ use ticket_lock::{Pass, TicketLock};
 use trace_book::Book;
 use trace_command::Command;
 
-/// The bytes of a thread's stack. A part of eight threads so asks for 4 MiB, and no setting of the system changes that. What a part does was seen to
+/// The bytes of a thread's stack. So a block of eight parts asks for 4 MiB, and no setting of the system changes that. What a part does was seen to
 /// need less than a tenth of it.
 const STACK_BYTES: usize = 512 * 1024;
 

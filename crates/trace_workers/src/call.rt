@@ -10,7 +10,7 @@ ghost use Rattle.trace_command.specs.declared.command.Config.{Config};
 use std::sync::Wait;
 use ticket_lock::{Pass, TicketLock, Worn};
 use trace_book::Book;
-use trace_command::{Command, Refusal, Reply};
+use trace_command::{BorrowedEmission, Command, Refusal, Reply};
 
 /// The answer where no ticket is left. It drops the command out of line, so that a call that draws a ticket goes through none of that.
 #[cold]
@@ -48,5 +48,30 @@ pub fn ask<R: Wait>(
             (lock.release(held), answer)
         }
         Err(worn) => worn_out(worn, command),
+    }
+}
+
+/// Asks the book for an emission whose strings lie elsewhere, as `ask` does for the command that it is. No command is made of it.
+pub fn ask_emission<R: Wait>(
+    rt: &R,
+    lock: &TicketLock<Book>,
+    pass: Pass<Book>,
+    emission: &BorrowedEmission<'_>,
+) -> (Pass<Book>, Result<Reply, Refusal>)
+    requires { IsOf lock.now pass }
+    ensures of { IsOf lock.now result.0 }
+    ensures goes_on { GoesOn (view_of pass) (view_of result.0) }
+    ensures done { IfOk result.1 (IsDone (view_of pass) (view_of result.0) emission.now) }
+    ensures refused { IfErr result.1 (IsRefused (view_of pass) (view_of result.0) emission.now) }
+    ensures legal { (g : Config) → numbers_of g ≡ (view_of pass).base → IsLegal g (view_of pass).seen → IsLegal g (view_of result.0).seen }
+{
+    match lock.acquire(rt, pass) {
+        Ok(mut held) => {
+            let ticket = held.ticket();
+            let by = held.by();
+            let reply = held.value().ask_emission(ticket, by, emission);
+            (lock.release(held), reply)
+        }
+        Err(worn) => (worn.pass, Err(Refusal::Worn)),
     }
 }

@@ -11,7 +11,7 @@ mod thread;
 mod worker;
 
 pub use block::run_block;
-pub use call::ask;
+pub use call::{ask, ask_emission};
 pub use fault::BlockFault;
 pub use gate::{Gate, OpenGate, Point};
 pub use history::history_of;

@@ -1,4 +1,4 @@
-use Rattle.std.proofs.Common.{◌≡◌, ◌≢◌, ℕ, ◌<◌, [], List, Bool, get_or, length, length-set, get_or-set_other, refl, sym, ap, ◌∙◌, arith, to_z, of_z, w32, rules}
+use Rattle.std.proofs.Common.{◌≡◌, ◌≢◌, ◌<◌, [], get_or, length, length-set, get_or-set_other, refl, ◌∙◌, arith, to_z, of_z, w32}
 use Rattle.std.proofs.lemmas.List.{get_or_default}
 use Rattle.trace_format.specs.Operands.{Emission}
 use Rattle.trace_book.specs.Instances.{IsAlike, passed_in}

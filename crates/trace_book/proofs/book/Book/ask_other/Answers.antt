@@ -1,4 +1,4 @@
-use Rattle.std.proofs.Common.{List, [], ◌∷◌, ◌++◌, All, subst, ◌≡◌, ◌<◌, Ok, Err, arith, rules, refl, ap, sym, ◌∙◌, length-append}
+use Rattle.std.proofs.Common.{[], ◌∷◌, ◌++◌, All, subst, ◌≡◌, ◌<◌, Ok, Err, arith, rules, refl, ap, sym, ◌∙◌, length-append}
 use Rattle.trace_command.specs.Requests.{request_of}
 use Rattle.trace_history.specs.History.{past_of}
 use Rattle.trace_log.specs.HistorySeen.{HistorySeen}

@@ -1,6 +1,6 @@
 use Rattle.std.proofs.Common.{arith, refl}
 use Rattle.trace_lex.proofs.DecimalLemmas.{too_much}
-use Rattle.trace_lex.proofs.decimal.digits_value.Goals as goal
+use Rattle.trace_lex.proofs.decimal.any_value.Goals as goal
 
 pub returns-then-next-from : goal.returns-then-next-from
 returns-then-next-from c =

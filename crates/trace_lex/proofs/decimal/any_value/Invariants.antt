@@ -1,6 +1,6 @@
 use Rattle.std.proofs.Common.{◌≡◌, ◌≤◌, drop}
 use Rattle.trace_lex.specs.Decimals.{value_after}
-use Rattle.trace_lex.proofs.decimal.digits_value.Given as goal
+use Rattle.trace_lex.proofs.decimal.any_value.Given as goal
 
 abbrev pub invariant-loop-digit : goal.invariant-loop-digit
 invariant-loop-digit l =

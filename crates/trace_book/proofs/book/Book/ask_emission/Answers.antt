@@ -1,4 +1,4 @@
-use Rattle.std.proofs.Common.{List, [], ◌∷◌, ◌++◌, All, subst, ◌≡◌, ◌<◌, ◌≤◌, ◌^◌, length, Ok, Err, arith, rules, refl, ap, sym, ◌∙◌, length-append, to_z, of_z, w32}
+use Rattle.std.proofs.Common.{[], ◌∷◌, ◌++◌, All, subst, ◌≡◌, ◌<◌, ◌≤◌, ◌^◌, length, Ok, Err, arith, rules, refl, ap, sym, ◌∙◌, length-append, to_z, of_z, w32}
 use Rattle.std.proofs.lemmas.Int.{to_z-of_z}
 use Rattle.trace_command.specs.Requests.{request_of}
 use Rattle.trace_history.specs.History.{past_of}
@@ -11,7 +11,7 @@ use Rattle.trace_book.proofs.Alike.{state_alike-stands}
 use Rattle.trace_book.proofs.Usable.{few_from_stands, few_rows_from_stands, usable_from_stands}
 use Rattle.trace_book.proofs.Histories.{length-past_of, past_of-push, answer-done, answer-full, refused-reply, refused-early, late-done, IsLegal-push}
 use Rattle.trace_book.proofs.Stands.{stands_after_emission}
-use Rattle.trace_book.proofs.book.Book.ask.Goals as goal
+use Rattle.trace_book.proofs.book.Book.ask_emission.Goals as goal
 
 pub prepare_emission-requires-clause-usable : goal.prepare_emission-requires-clause-usable
 prepare_emission-requires-clause-usable c =
@@ -31,17 +31,17 @@ pub returns-in-Err-clause-reply : goal.returns-in-Err-clause-reply
 returns-in-Err-clause-reply c =
     let book = c.self.inside in
     let past = past_of book.history.entries in
-    let prepared : IsPreparedEmission book.config past (request_of c.args.command) c.prepare_emission.new.self (Err c.in-Err.refusal) =
-    rw (c.in-Emit.is, ← c.as_bytes.ensures, ← c.as_slice.ensures) (c.in-Err.ensures.prepared past c.self.invariant.stands) in
-    rw (← c.self.view_is, c.refused.ensures) (refused-reply book.config past (request_of c.args.command) c.prepare_emission.new.self c.in-Err.refusal prepared)
+    let prepared : IsPreparedEmission book.config past (request_of c.args.emission.now) c.prepare_emission.new.self (Err c.in-Err.refusal) =
+    rw c.parts-cpu.ensures (c.in-Err.ensures.prepared past c.self.invariant.stands) in
+    rw (← c.self.view_is) (refused-reply book.config past (request_of c.args.emission.now) c.prepare_emission.new.self c.in-Err.refusal prepared)
 
 pub returns-in-Err-clause-early : goal.returns-in-Err-clause-early
 returns-in-Err-clause-early c =
     let book = c.self.inside in
     let past = past_of book.history.entries in
-    let prepared : IsPreparedEmission book.config past (request_of c.args.command) c.prepare_emission.new.self (Err c.in-Err.refusal) =
-    rw (c.in-Emit.is, ← c.as_bytes.ensures, ← c.as_slice.ensures) (c.in-Err.ensures.prepared past c.self.invariant.stands) in
-    rw (← c.self.view_is, c.refused.ensures) (λ early. sym (refused-early book.config past (request_of c.args.command) c.prepare_emission.new.self c.in-Err.refusal prepared early))
+    let prepared : IsPreparedEmission book.config past (request_of c.args.emission.now) c.prepare_emission.new.self (Err c.in-Err.refusal) =
+    rw c.parts-cpu.ensures (c.in-Err.ensures.prepared past c.self.invariant.stands) in
+    rw (← c.self.view_is) (λ early. sym (refused-early book.config past (request_of c.args.emission.now) c.prepare_emission.new.self c.in-Err.refusal prepared early))
 
 pub invariant_of-self-then-self-len : goal.invariant_of-self-then-self-len
 invariant_of-self-then-self-len c = record {
@@ -57,10 +57,10 @@ returns-then-self-len-clause-reply c =
     let past = past_of book.history.entries in
     let full : book.config.history_limit ≤ length past =
     omega (arith, length-past_of book.history.entries, c.len.ensures) in
-    let pid : to_z w32 (of_z w32 c.in-Emit.pid) ≡ c.in-Emit.pid = to_z-of_z w32 c.in-Emit.pid (search rules) in
-    let prepared : IsPreparedEmission book.config past (request_of c.args.command) c.prepare_emission.new.self (Ok c.in-Ok.delivery) =
-    rw (c.in-Emit.is, ← c.as_bytes.ensures, ← c.as_slice.ensures) (rw pid at c.in-Ok.ensures.prepared past c.self.invariant.stands) in
-    rw (← c.self.view_is, c.refused_late.ensures) (λ other. answer-full book.config past (request_of c.args.command) Done prepared.0 full)
+    let pid : to_z w32 (of_z w32 c.parts-cpu.result.2) ≡ c.parts-cpu.result.2 = to_z-of_z w32 c.parts-cpu.result.2 (search rules) in
+    let prepared : IsPreparedEmission book.config past (request_of c.args.emission.now) c.prepare_emission.new.self (Ok c.in-Ok.delivery) =
+    rw c.parts-cpu.ensures (rw pid at c.in-Ok.ensures.prepared past c.self.invariant.stands) in
+    rw (← c.self.view_is, c.refused_late.ensures) (λ other. answer-full book.config past (request_of c.args.emission.now) Done prepared.0 full)
 
 pub returns-then-self-len-clause-early : goal.returns-then-self-len-clause-early
 returns-then-self-len-clause-early c =
@@ -68,22 +68,22 @@ returns-then-self-len-clause-early c =
     let past = past_of book.history.entries in
     let full : book.config.history_limit ≤ length past =
     omega (arith, length-past_of book.history.entries, c.len.ensures) in
-    let pid : to_z w32 (of_z w32 c.in-Emit.pid) ≡ c.in-Emit.pid = to_z-of_z w32 c.in-Emit.pid (search rules) in
-    let prepared : IsPreparedEmission book.config past (request_of c.args.command) c.prepare_emission.new.self (Ok c.in-Ok.delivery) =
-    rw (c.in-Emit.is, ← c.as_bytes.ensures, ← c.as_slice.ensures) (rw pid at c.in-Ok.ensures.prepared past c.self.invariant.stands) in
-    rw (← c.self.view_is, c.refused_late.ensures) (λ early. sym (answer-full book.config past (request_of c.args.command) Done prepared.0 full))
+    let pid : to_z w32 (of_z w32 c.parts-cpu.result.2) ≡ c.parts-cpu.result.2 = to_z-of_z w32 c.parts-cpu.result.2 (search rules) in
+    let prepared : IsPreparedEmission book.config past (request_of c.args.emission.now) c.prepare_emission.new.self (Ok c.in-Ok.delivery) =
+    rw c.parts-cpu.ensures (rw pid at c.in-Ok.ensures.prepared past c.self.invariant.stands) in
+    rw (← c.self.view_is, c.refused_late.ensures) (λ early. sym (answer-full book.config past (request_of c.args.emission.now) Done prepared.0 full))
 
-pub returns-in_default-write_emission_ahead-clause-early : goal.returns-in_default-write_emission_ahead-clause-early
-returns-in_default-write_emission_ahead-clause-early c =
+pub returns-in_default-clause-early : goal.returns-in_default-clause-early
+returns-in_default-clause-early c =
     let book = c.self.inside in
     let past = past_of book.history.entries in
-    let pid : to_z w32 (of_z w32 c.in-Emit.pid) ≡ c.in-Emit.pid = to_z-of_z w32 c.in-Emit.pid (search rules) in
-    let prepared : IsPreparedEmission book.config past (request_of c.args.command) c.prepare_emission.new.self (Ok c.in-Ok.delivery) =
-    rw (c.in-Emit.is, ← c.as_bytes.ensures, ← c.as_slice.ensures) (rw pid at c.in-Ok.ensures.prepared past c.self.invariant.stands) in
-    rw (← c.self.view_is) (λ early. absurd (late-done book.config past (request_of c.args.command) Done prepared.0 early))
+    let pid : to_z w32 (of_z w32 c.parts-cpu.result.2) ≡ c.parts-cpu.result.2 = to_z-of_z w32 c.parts-cpu.result.2 (search rules) in
+    let prepared : IsPreparedEmission book.config past (request_of c.args.emission.now) c.prepare_emission.new.self (Ok c.in-Ok.delivery) =
+    rw c.parts-cpu.ensures (rw pid at c.in-Ok.ensures.prepared past c.self.invariant.stands) in
+    rw (← c.self.view_is) (λ early. absurd (late-done book.config past (request_of c.args.emission.now) Done prepared.0 early))
 
-pub invariant_of-self-in_default-write_emission_ahead : goal.invariant_of-self-in_default-write_emission_ahead
-invariant_of-self-in_default-write_emission_ahead c = record {
+pub invariant_of-self-in_default : goal.invariant_of-self-in_default
+invariant_of-self-in_default c = record {
   in_range = c.self.invariant.in_range;
   few = rw c.write_emission_ahead.ensures.entries c.self.invariant.few;
   legal = rw c.write_emission_ahead.ensures.entries c.self.invariant.legal;
@@ -115,8 +115,8 @@ invariant_of-self-2 c =
     let book = c.self.inside in
     let g = book.config in
     let past = past_of book.history.entries in
-    let request = request_of c.args.command in
-    let entry : Entry = record { ticket = c.args.ticket; by = c.args.by; command = c.args.command } in
+    let request = request_of c.args.emission.now in
+    let entry : Entry = record { ticket = c.args.ticket; by = c.args.by; command = c.args.emission.now } in
     let written : c.write_emission_ahead.new.self.ahead ≡ entry ∷ [] = search rules in
     let items : c.append_written.new.self.entries ≡ book.history.entries ++ entry ∷ [] =
     ap (λ (h : HistorySeen). h.entries) c.append_written.ensures ∙ rw (c.write_emission_ahead.ensures.entries, written) refl in
@@ -124,9 +124,9 @@ invariant_of-self-2 c =
     omega (arith, length-past_of book.history.entries, c.len.ensures) in
     let few : length (book.history.entries ++ entry ∷ []) ≤ 2 ^ 32 =
     omega (arith, length-append book.history.entries (entry ∷ []), c.len.ensures, c.self.invariant.in_range.few_entries) in
-    let pid : to_z w32 (of_z w32 c.in-Emit.pid) ≡ c.in-Emit.pid = to_z-of_z w32 c.in-Emit.pid (search rules) in
-    let prepared : IsPreparedEmission book.config past (request_of c.args.command) c.prepare_emission.new.self (Ok c.in-Ok.delivery) =
-    rw (c.in-Emit.is, ← c.as_bytes.ensures, ← c.as_slice.ensures) (rw pid at c.in-Ok.ensures.prepared past c.self.invariant.stands) in
+    let pid : to_z w32 (of_z w32 c.parts-cpu.result.2) ≡ c.parts-cpu.result.2 = to_z-of_z w32 c.parts-cpu.result.2 (search rules) in
+    let prepared : IsPreparedEmission book.config past (request_of c.args.emission.now) c.prepare_emission.new.self (Ok c.in-Ok.delivery) =
+    rw c.parts-cpu.ensures (rw pid at c.in-Ok.ensures.prepared past c.self.invariant.stands) in
     let done = answer-done g past request Done prepared.0 room in
     let Below : BookSeen → Type 0 = λ seen. All (λ (e : Entry). e.ticket < c.args.ticket) seen.entries in
     let below : All (λ (e : Entry). e.ticket < c.args.ticket) book.history.entries = subst Below (sym c.self.view_is) c.requires in
@@ -134,7 +134,7 @@ invariant_of-self-2 c =
     record {
       in_range = c.self.invariant.in_range;
       few = rw items few;
-      legal = rw items (IsLegal-push g book.history.entries entry c.self.invariant.legal (c.ranges.ticket.fits, c.ranges.by.fits, rw c.in-Emit.is (rw pid at c.in-Ok.ensures.fits)) below (rw done refl));
+      legal = rw items (IsLegal-push g book.history.entries entry c.self.invariant.legal (c.ranges.ticket.fits, c.ranges.by.fits, rw c.parts-cpu.ensures (rw pid at c.in-Ok.ensures.fits)) below (rw done refl));
       stands = rw (items, past_of-push) (stands_after_emission g c.prepare_emission.new.self c.deliver.new.self past request c.in-Ok.delivery stands prepared c.deliver.ensures);
     }
 
@@ -144,19 +144,19 @@ returns-clause-reply c =
     let past = past_of book.history.entries in
     let room : length past < book.config.history_limit =
     omega (arith, length-past_of book.history.entries, c.len.ensures) in
-    let pid : to_z w32 (of_z w32 c.in-Emit.pid) ≡ c.in-Emit.pid = to_z-of_z w32 c.in-Emit.pid (search rules) in
-    let prepared : IsPreparedEmission book.config past (request_of c.args.command) c.prepare_emission.new.self (Ok c.in-Ok.delivery) =
-    rw (c.in-Emit.is, ← c.as_bytes.ensures, ← c.as_slice.ensures) (rw pid at c.in-Ok.ensures.prepared past c.self.invariant.stands) in
-    rw (← c.self.view_is) (answer-done book.config past (request_of c.args.command) Done prepared.0 room)
+    let pid : to_z w32 (of_z w32 c.parts-cpu.result.2) ≡ c.parts-cpu.result.2 = to_z-of_z w32 c.parts-cpu.result.2 (search rules) in
+    let prepared : IsPreparedEmission book.config past (request_of c.args.emission.now) c.prepare_emission.new.self (Ok c.in-Ok.delivery) =
+    rw c.parts-cpu.ensures (rw pid at c.in-Ok.ensures.prepared past c.self.invariant.stands) in
+    rw (← c.self.view_is) (answer-done book.config past (request_of c.args.emission.now) Done prepared.0 room)
 
 pub returns-clause-early : goal.returns-clause-early
 returns-clause-early c =
     let book = c.self.inside in
     let past = past_of book.history.entries in
-    let pid : to_z w32 (of_z w32 c.in-Emit.pid) ≡ c.in-Emit.pid = to_z-of_z w32 c.in-Emit.pid (search rules) in
-    let prepared : IsPreparedEmission book.config past (request_of c.args.command) c.prepare_emission.new.self (Ok c.in-Ok.delivery) =
-    rw (c.in-Emit.is, ← c.as_bytes.ensures, ← c.as_slice.ensures) (rw pid at c.in-Ok.ensures.prepared past c.self.invariant.stands) in
-    rw (← c.self.view_is) (λ early. absurd (late-done book.config past (request_of c.args.command) Done prepared.0 early))
+    let pid : to_z w32 (of_z w32 c.parts-cpu.result.2) ≡ c.parts-cpu.result.2 = to_z-of_z w32 c.parts-cpu.result.2 (search rules) in
+    let prepared : IsPreparedEmission book.config past (request_of c.args.emission.now) c.prepare_emission.new.self (Ok c.in-Ok.delivery) =
+    rw c.parts-cpu.ensures (rw pid at c.in-Ok.ensures.prepared past c.self.invariant.stands) in
+    rw (← c.self.view_is) (λ early. absurd (late-done book.config past (request_of c.args.emission.now) Done prepared.0 early))
 
 pub deliver-requires-clause-usable : goal.deliver-requires-clause-usable
 deliver-requires-clause-usable c =
