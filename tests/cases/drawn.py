@@ -65,7 +65,8 @@ def mingled_cases():
     wants = shown(FEW) + bars(FEW) + ["1"] + shown(more) + [""] + bars(more) + ["1"]
     part = SETUP + emissions(FEW) + ["parallel", "thread", READ, "cat tracing_on", "thread", "thread", READ, "end"]
     part_wants = ["-- thread 0"] + shown(FEW) + ["1", "-- thread 1", "-- thread 2"] + shown(FEW) + bars(FEW) + [""] + bars(FEW)
-    refused = ["! %d: N1 NoSuchFile" % (len(part) + 1), "  cat nothing", "  no file has this path"]
+    number = len(part) + 1
+    refused = ["! %d: N1 NoSuchFile" % number, "<stdin>:%d:5: NoSuchFile: no file has this path" % number, "  cat nothing", "      ^"]
     return [
         both_in_one("--bars, and both go one way", ["--bars"], LINES + again, 0, wants),
         both_in_one("--bars and a part, and both go one way", ["--bars"], part + ["cat tracing_on"], 0, part_wants + ["1"]),

@@ -1,5 +1,6 @@
 """What is explained, and lines that have a fault."""
 import os
+import re
 import subprocess
 
 from cases.emitting import REFUSED
@@ -8,18 +9,18 @@ from cases.scripts import scripts_of, wanted, words_of
 
 WRITTEN = "echo 'n == 1 || z == 2' > events/synthetic/tick/filter"
 
-EXPLAINED = [  # the lines of a script, what each one gives, and what is told of it
-    ("echo 'tick u64 n; s8 d; char who[4]' > synthetic_events", "", ""),
-    ("# a comment", "", ""),
-    ("emit 0 7 tick n=1 d=2 who=me m=3", "! 3: N21 BadRow m", "m: the event has no field of this name"),
-    ("emit 0 7 tick n=1 d=2 who=me n=1", "! 4: N21 BadRow n", "n: the field is repeated"),
-    ("emit 0 7 tick n=1 d=2", "! 5: N21 BadRow who", "who: the field is missing"),
-    ("emit 0 7 tick n=1 d=200 who=me", "! 6: N21 BadRow d", "d: its value is out of the range of its type"),
-    ("cat tracing_on", "1", ""),
-    (WRITTEN, "! 8: N10 NoSuchField at 10", " " * WRITTEN.index("z") + "^ the event has no field of this name"),
-    ("emit 0 7 tock n=1", "! 9: N5 NoSuchEvent", "no such event is declared"),
-    ("cat nothing", "! 10: N1 NoSuchFile", "no file has this path"),
-    ("cat 'trace", "! 11: script UnclosedQuote", "    ^ this quote is not closed"),
+EXPLAINED = [  # the lines of a script, what each one gives, and what is told of it: the bytes before the caret, the name, and the words
+    ("echo 'tick u64 n; s8 d; char who[4]' > synthetic_events", "", None),
+    ("# a comment", "", None),
+    ("emit 0 7 tick n=1 d=2 who=me m=3", "! 3: N21 BadRow m", ("emit 0 7 tick n=1 d=2 who=me ", "BadRow", "m: the event has no field of this name")),
+    ("emit 0 7 tick n=1 d=2 who=me n=1", "! 4: N21 BadRow n", ("emit 0 7 tick n=1 d=2 who=me ", "BadRow", "n: the field is repeated")),
+    ("emit 0 7 tick n=1 d=2", "! 5: N21 BadRow who", ("emit 0 7 ", "BadRow", "who: the field is missing")),
+    ("emit 0 7 tick n=1 d=200 who=me", "! 6: N21 BadRow d", ("emit 0 7 tick n=1 ", "BadRow", "d: its value is out of the range of its type")),
+    ("cat tracing_on", "1", None),
+    (WRITTEN, "! 8: N10 NoSuchField at 10", (WRITTEN[: WRITTEN.index("z")], "NoSuchField", "the event has no field of this name")),
+    ("emit 0 7 tock n=1", "! 9: N5 NoSuchEvent", ("emit 0 7 ", "NoSuchEvent", "no event of this name is declared", "tick")),
+    ("cat nothing", "! 10: N1 NoSuchFile", ("cat ", "NoSuchFile", "no file has this path")),
+    ("cat 'trace", "! 11: script UnclosedQuote", ("cat ", "UnclosedQuote", "this quote is not closed")),
 ]
 
 
@@ -27,9 +28,13 @@ def text_of(lines):
     return "".join(line + "\n" for line in lines if line).encode()
 
 
-def told(line, words):
-    """What is told of a line, if anything is."""
-    return ["  " + line, "  " + words] if words else []
+def told(number, line, why, script="<stdin>"):
+    """What is told of a line of this number, if anything is."""
+    if why is None:
+        return []
+    before, name, words, *meant = why
+    heading = "%s:%d:%d: %s: %s" % (script, number, len(before) + 1, name, words)
+    return [heading, "  " + line, "  " + " " * len(before) + "^"] + ["  did you mean `%s`?" % name for name in meant]
 
 
 def script_of(lines):
@@ -40,44 +45,48 @@ def replies_of(lines):
     return text_of(reply for _, reply, _ in lines)
 
 
-def explanations_of(lines):
-    return text_of(text for line, _, words in lines for text in told(line, words))
+def explanations_of(lines, first=1):
+    return text_of(text for number, (line, _, why) in enumerate(lines, first) for text in told(number, line, why))
+
+
+NO_FILE = ("cat ", "NoSuchFile", "no file has this path")
 
 
 PART = [  # a part, whose commands are told of once all that the part writes is written
-    ("parallel", "", ""),
-    ("thread", "-- thread 0", ""),
-    ("emit 0 7 tick n=1 m=3", "! 4: N21 BadRow m", "m: the event has no field of this name"),
-    ("emit 0 7 tick n=1", "", ""),
-    ("# a comment", "", ""),
-    ("cat nothing", "! 7: N1 NoSuchFile", "no file has this path"),
-    ("thread", "-- thread 1", ""),
-    ("", "", ""),
-    ("emit 0 7 tock n=1", "! 10: N5 NoSuchEvent", "no such event is declared"),
-    ("end", "", ""),
+    ("parallel", "", None),
+    ("thread", "-- thread 0", None),
+    ("emit 0 7 tick n=1 m=3", "! 4: N21 BadRow m", ("emit 0 7 tick n=1 ", "BadRow", "m: the event has no field of this name")),
+    ("emit 0 7 tick n=1", "", None),
+    ("# a comment", "", None),
+    ("cat nothing", "! 7: N1 NoSuchFile", NO_FILE),
+    ("thread", "-- thread 1", None),
+    ("", "", None),
+    ("emit 0 7 tock n=1", "! 10: N5 NoSuchEvent", ("emit 0 7 ", "NoSuchEvent", "no event of this name is declared", "tick")),
+    ("end", "", None),
 ]
-BEFORE_PART = [("echo 'tick u64 n' > synthetic_events", "", "")]
-AFTER_PART = [("cat tracing_on", "1", ""), ("cat nothing", "! 13: N1 NoSuchFile", "no file has this path")]
+BEFORE_PART = [("echo 'tick u64 n' > synthetic_events", "", None)]
+AFTER_PART = [("cat tracing_on", "1", None), ("cat nothing", "! 13: N1 NoSuchFile", NO_FILE)]
 EXPLAINED_PART = BEFORE_PART + PART + AFTER_PART
 
 
-def mingled_of(lines):
+def mingled_of(lines, first=1):
     """What lines by themselves give where both streams are one: each explanation stands right after its own reply."""
-    return text_of(text for line, reply, words in lines for text in [reply] + told(line, words))
+    return text_of(text for number, (line, reply, why) in enumerate(lines, first) for text in [reply] + told(number, line, why))
 
 
 def mingled_part(before, part, after):
     """Likewise of a part between two lists of lines: its explanations stand after all of its replies."""
-    return mingled_of(before) + replies_of(part) + explanations_of(part) + mingled_of(after)
+    end = len(before) + len(part) + 1
+    return mingled_of(before) + replies_of(part) + explanations_of(part, len(before) + 1) + mingled_of(after, end)
 
 
 # What a part declares is known behind it: a `Sink` hears of the commands that are done, too.
 DECLARING_PART = [
-    ("parallel", "", ""),
-    ("thread", "-- thread 0", ""),
-    ("echo 'tock u64 n' > synthetic_events", "", ""),
-    ("end", "", ""),
-    ("emit 0 7 tock n=1 m=3", "! 5: N21 BadRow m", "m: the event has no field of this name"),
+    ("parallel", "", None),
+    ("thread", "-- thread 0", None),
+    ("echo 'tock u64 n' > synthetic_events", "", None),
+    ("end", "", None),
+    ("emit 0 7 tock n=1 m=3", "! 5: N21 BadRow m", ("emit 0 7 tock n=1 ", "BadRow", "m: the event has no field of this name")),
 ]
 
 # Scripts of 1,200 lines, with refused ones where the numbers of lines become longer, and elsewhere. Each refused line is another one.
@@ -92,10 +101,14 @@ def line_at(number):
     if number in REFUSED_AT or number % 67 == 0:
         unknown = "n%d" % number
         return [
-            ("cat %s" % unknown, "! %d: N1 NoSuchFile" % number, "no file has this path"),
-            ("emit 0 7 tick n=1 %s=1" % unknown, "! %d: N21 BadRow %s" % (number, unknown), "%s: the event has no field of this name" % unknown),
+            ("cat %s" % unknown, "! %d: N1 NoSuchFile" % number, NO_FILE),
+            (
+                "emit 0 7 tick n=1 %s=1" % unknown,
+                "! %d: N21 BadRow %s" % (number, unknown),
+                ("emit 0 7 tick n=1 ", "BadRow", "%s: the event has no field of this name" % unknown),
+            ),
         ][number % 2]
-    return [("emit 0 7 tick n=%d" % number, "", ""), ("# a comment", "", ""), ("", "", ""), ("cat tracing_on", "1", "")][number % 4]
+    return [("emit 0 7 tick n=%d" % number, "", None), ("# a comment", "", None), ("", "", None), ("cat tracing_on", "1", None)][number % 4]
 
 
 def lines_at(first, end):
@@ -105,11 +118,11 @@ def lines_at(first, end):
 MANY = lines_at(1, 1201)
 BEFORE_LONG_PART = lines_at(1, PART_FROM)
 LONG_PART = (
-    [("parallel", "", ""), ("thread", "-- thread 0", "")]
+    [("parallel", "", None), ("thread", "-- thread 0", None)]
     + lines_at(PART_FROM + 2, NEXT_THREAD)
-    + [("thread", "-- thread 1", "")]
+    + [("thread", "-- thread 1", None)]
     + lines_at(NEXT_THREAD + 1, PART_END)
-    + [("end", "", "")]
+    + [("end", "", None)]
 )
 AFTER_LONG_PART = lines_at(PART_END + 1, 1201)
 MANY_AND_PART = BEFORE_LONG_PART + LONG_PART + AFTER_LONG_PART
@@ -126,8 +139,8 @@ def both_in_one(name, script, want):
 
 
 def explained_script(script):
-    """That a script has the output and the status that lie beside it, and the explanations that do; where none do, two lines for each line that was
-    refused or has a fault."""
+    """That a script has the output and the status that lie beside it, and the explanations that do; where none do, one that begins with its number
+    for each line that was refused or has a fault."""
     beside = script.with_name(script.name + ".explained")
 
     def explained(program):
@@ -135,10 +148,12 @@ def explained_script(script):
         got = run([program, "--explain"] + words_of(script), script=script.read_bytes())
         if beside.exists():
             return differences(got, want._replace(stderr=beside.read_bytes()))
-        count = sum(line.startswith(b"! ") for line in want.stdout.splitlines())
+        numbers = re.findall(rb"^! (\d+): (?:N\d+|script) (\w+)", want.stdout, re.MULTILINE)
         lines = got.stderr.splitlines()
+        headings = [line for line in lines if not line.startswith(b"  ")]
+        right = [re.match(rb"<stdin>:%s:(\d+:)? %s: " % number, line) for number, line in zip(numbers, headings)]
         found = differences(got._replace(stderr=b""), want)
-        return found + ([] if len(lines) == 2 * count and all(line.startswith(b"  ") for line in lines) else ["standard error is %s" % quoted(got.stderr)])
+        return found + ([] if len(headings) == len(numbers) and all(right) else ["standard error is %s" % quoted(got.stderr)])
 
     return Case("--explain %s" % script.relative_to(TOP), explained)
 
@@ -214,11 +229,29 @@ FAULTS = [  # lines, each with its fault
     ("emit 0 -2147483649 tick n=1", "BadNumber"),
 ]
 
-TOLD_FAULTS = [  # lines, each with its fault, how it is shown, and what is told of it
-    ("cat 'a' \"b'", "UnclosedQuote", "cat 'a' \"b'", "        ^ this quote is not closed"),
-    ("cat \u00e9", "BadByte", "cat ??", "    ^ this byte is neither a tab nor one from 0x20 to 0x7e"),
-    ("\tls", "UnknownCommand", "\tls", "\t^ no command is called so"),
-    ("end", "BlockOutOfPlace", "end", "a line of a parallel part can't be here"),
+TOLD_FAULTS = [  # lines, each with its fault, how it is shown, the bytes before the caret, and the words
+    ("cat 'a' \"b'", "UnclosedQuote", "cat 'a' \"b'", "cat 'a' ", "this quote is not closed"),
+    ("cat \u00e9", "BadByte", "cat ??", "cat ", "this byte is neither a tab nor one from 0x20 to 0x7e"),
+    ("\tls", "UnknownCommand", "\tls", "\t", "unknown command"),
+    ("end", "BlockOutOfPlace", "end", "", "no parallel part is open here"),
+    ("parallel x", "WrongWords", "parallel x", "parallel ", "expected nothing more"),
+    ("cat", "WrongWords", "cat", "cat", "expected `cat PATH`"),
+    ("cat a b", "WrongWords", "cat a b", "cat a ", "expected `cat PATH`"),
+    ("cat a>b", "WrongWords", "cat a>b", "cat a", "expected `cat PATH`"),
+    ("mkdir a > b", "WrongWords", "mkdir a > b", "mkdir a ", "expected `mkdir PATH`"),
+    ("rmdir", "WrongWords", "rmdir", "rmdir", "expected `rmdir PATH`"),
+    ("take 1", "WrongWords", "take 1", "take 1", "expected `take N PATH`"),
+    ("take x a b", "WrongWords", "take x a b", "take x a ", "expected `take N PATH`"),
+    ("take x trace_pipe", "BadNumber", "take x trace_pipe", "take ", "expected a number in its range"),
+    ("echo a", "WrongWords", "echo a", "echo a", "expected `echo WORD .. > PATH`, or `>>`"),
+    ("echo a >", "WrongWords", "echo a >", "echo a >", "expected `echo WORD .. > PATH`, or `>>`"),
+    ("echo a > b c", "WrongWords", "echo a > b c", "echo a > b ", "expected `echo WORD .. > PATH`, or `>>`"),
+    ("echo a > b > c", "WrongWords", "echo a > b > c", "echo a > b ", "expected `echo WORD .. > PATH`, or `>>`"),
+    ("echo a >>> b", "WrongWords", "echo a >>> b", "echo a >>", "expected `echo WORD .. > PATH`, or `>>`"),
+    ("emit 0 7 tick", "WrongWords", "emit 0 7 tick", "emit 0 7 tick", "expected `emit CPU PID EVENT FIELD=VALUE ..`"),
+    ("emit 0 7 tick n=1 m", "WrongWords", "emit 0 7 tick n=1 m", "emit 0 7 tick n=1 ", "expected `emit CPU PID EVENT FIELD=VALUE ..`"),
+    ("emit x 7 tick n=1", "BadNumber", "emit x 7 tick n=1", "emit ", "expected a number in its range"),
+    ("emit '0' +1 tick n=1", "BadNumber", "emit '0' +1 tick n=1", "emit '0' ", "expected a number in its range"),
 ]
 
 
@@ -227,5 +260,9 @@ def fault_cases():
         script = b"cat options/overwrite\n" + line.encode() + b"\ncat options/overwrite\n"
         return case_of("the line %s" % quoted(line.encode()), Outcome(2, b"1\n! 2: script %s\n" % fault.encode(), told.encode()), words, script=script)
 
+    def told(fault, shown, before, words):
+        under = "".join("\t" if byte == "\t" else " " for byte in before)
+        return "<stdin>:2:%d: %s: %s\n  %s\n  %s^\n" % (len(before) + 1, fault, words, shown, under)
+
     plain = [case(line, fault, ["-"], "") for line, fault in FAULTS]
-    return plain + [case(line, fault, ["--explain", "-"], "  %s\n  %s\n" % (shown, words)) for line, fault, shown, words in TOLD_FAULTS]
+    return plain + [case(line, fault, ["--explain", "-"], told(fault, *rest)) for line, fault, *rest in TOLD_FAULTS]

@@ -6,7 +6,7 @@ BESIDE = (".args", ".stdout", ".status", ".explained", ".bars")
 
 
 def scripts_of(folder):
-    scripts = sorted(path for path in folder.iterdir() if path.suffix not in BESIDE)
+    scripts = sorted(path for path in folder.iterdir() if path.is_file() and path.suffix not in BESIDE)
     if not scripts:
         raise FileNotFoundError("no script in %s" % folder)
     return scripts

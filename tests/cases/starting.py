@@ -13,14 +13,11 @@ from pathlib import Path
 
 from cases.drawn import DRAWN, LINES
 from cases.emitting import REFUSALS, REFUSED
+from cases.helping import HELP
+from cases.listed import CHANGED, REPLIES, listed, text_of
 from cases.running import BAD_VALUE, FAILED, SECONDS, SMALL, TOP, Case, Outcome, differences, quoted, run
 from cases.scripts import wanted
 from cases.words import bad_configurations, named, refusing, unopened_scripts, versioned, word_cases, wrong_words
-
-USAGE = b"""\
-usage: ./tracectl [--try] [--explain] [--bars] [--cpus N] [--pages N] [--page-bytes N] SCRIPT
-       ./tracectl [--try] [--explain] [--bars] [--cpus N] [--pages N] [--page-bytes N] -c LINE ..
-"""
 
 # What stands where `rt` is looked for. It runs in a crate's folder, two below the top.
 FAILING = "echo 'rt was called' >&2; exit 9"
@@ -28,9 +25,11 @@ LINKING = '[ "$1" != run ] || cp ../../kept out/tracectl'
 NOTING = 'echo "$PWD" >> ../../calls; sleep 0.1; ' + LINKING  # that was called
 HANGING = 'echo $$ >> ../../calls; exec sleep 100'
 TRYING = r'''[ "$*" = "try --steps 1" ] && ! grep -q clap ../../crates.txt || exit 1
-words=$(sed -nE 's/^ *(cpus|pages|page_bytes): ([0-9]+),$/--\1 \2/p; s/^use explained::.*/--explain/p; s/^use drawn::.*/--bars/p' src/main.rt | tr _ -)
-"${0%/*}/../kept" $words -
+words=$(sed -nE 's/^ *(cpus|pages|page_bytes): ([0-9]+),$/--\1 \2/p; s/^use explained::.*/--explain/p; s/^use drawn::.*/--bars/p; s/^use listed::.*/--list/p' src/main.rt | tr _ -)
+name=$(sed -nE 's/^ *let name = "(.*)";$/\1/p' src/main.rt)
+"${0%/*}/../kept" $words - 2> ../../told
 status=$?
+sed "s|^<stdin>:|$name:|" ../../told >&2
 echo "run=ended status=$status proved=no" >&2
 exit $status'''  # as `rt try` does with the program that the starter writes
 
@@ -46,10 +45,11 @@ class Starter:
         self.built = self.top / "crates" / "tracectl" / "out" / "tracectl"
         self.source = self.top / "crates" / "trace_words" / "src" / "words.rt"
         sources = self.top / "crates" / "tracectl" / "src"
-        for place in (self.built.parent, self.source.parent, sources, self.top / "commands"):
+        for place in (self.built.parent, self.source.parent, sources, self.top / "commands", self.top / "docs"):
             place.mkdir(parents=True)
         shutil.copy(str(TOP / "crates" / "trace_words" / "src" / "words.rt"), str(self.source))
-        for name in ("bars.rt", "drawn.rt", "explained.rt"):
+        shutil.copy(str(HELP), str(self.top / "docs"))
+        for name in ("bars.rt", "drawn.rt", "explained.rt", "listed.rt"):
             shutil.copy(str(TOP / "crates" / "tracectl" / "src" / name), str(sources))
         shutil.copy(str(TOP / "tracectl"), top)
         shutil.copy(str(TOP / "crates.txt"), top)
@@ -101,13 +101,11 @@ def started(words, rt=FAILING, is_built=True, **how):
 
 
 def naming(words):
-    """That the starter tells of wrong words what the program tells, before it builds one."""
+    """That the starter tells before there is a program what the program tells, but for tips on other words."""
 
     def named_alike(program):
-        got = started(words, is_built=False)(program)
-        told = run([program] + words).stderr.split(b"\n\n")[0] + b"\n\n" + USAGE
-        found = differences(got._replace(stderr=b""), Outcome(2, b"", b""))
-        return found + ([] if got.stderr.startswith(told) else ["standard error is %s, expected %s" % (quoted(got.stderr), quoted(told))])
+        want = run([program] + words)
+        return differences(started(words, is_built=False)(program), want._replace(stderr=re.sub(rb"  tip: .*\n\n", b"", want.stderr)))
 
     return named_alike
 
@@ -144,7 +142,7 @@ def unbuilt_cases():
         want = want._replace(stderr=TRIED + want.stderr)
         return Case("unbuilt: ./tracectl " + named(words), lambda program: differences(started(words, rt=TRYING, is_built=False)(program), want))
 
-    refused, told = b"! %d: N1 NoSuchFile\n" % (len(LINES) + 1), b"  cat nothing\n  no file has this path\n"
+    refused, told = b"! %d: N1 NoSuchFile\n" % (len(LINES) + 1), b"-c:%d:5: NoSuchFile: no file has this path\n  cat nothing\n      ^\n" % (len(LINES) + 1)
     both = Outcome(1, DRAWN.stdout + refused, DRAWN.stderr + told)
     wrong = [words for words, _ in wrong_words()] + [["--pages", "--try", "2", "-"], ["-c", "--try", "cat trace"], ["--cpus", "-1", "-"], ["--nonsense=1", "-"]]
     return (
@@ -152,7 +150,8 @@ def unbuilt_cases():
         + [case(words, Outcome(2, b"", BAD_VALUE)) for words in bad_configurations() + [["--try", "--pages", "1", "-"]]]
         + [case(words, FAILED) for words in unopened_scripts() + [["--try", str(TOP)], ["--", "--try"]]]
         + [
-            Case("unbuilt: ./tracectl --help", lambda program: helps(started(["--help"], is_built=False)(program))),
+            Case("unbuilt: ./tracectl --help", naming(["--help"])),
+            Case("unbuilt: ./tracectl -h", naming(["-h"])),
             Case("unbuilt: ./tracectl --version", lambda program: versioned(started(["--version"], is_built=False)(program))),
             Case("unbuilt: wrong words after --try", lambda program: refusing(started(["--try", "--nonsense"], is_built=False)(program), "'--nonsense' found")),
             Case("unbuilt: --try twice", lambda program: refusing(started(["--try", "-", "--try"], is_built=False)(program), "'--try' cannot be used multiple times")),
@@ -166,9 +165,11 @@ def unbuilt_cases():
         + [
             tried(["--cpus=3", "--try", "-c", "emit 3 7 tick n=1"], Outcome(1, b"! 1: N20 NoSuchCpu\n", b"")),
             tried(["--try", "-c", "emit 2 7 tick n=1", "--cpus", "3"], Outcome(1, b"! 1: N5 NoSuchEvent\n", b"")),
-            tried(["-c", "cat nothing", "--explain", "--try"], Outcome(1, b"! 1: N1 NoSuchFile\n", b"  cat nothing\n  no file has this path\n")),
+            tried(["-c", "cat nothing", "--explain", "--try"], Outcome(1, b"! 1: N1 NoSuchFile\n", b"-c:1:5: NoSuchFile: no file has this path\n  cat nothing\n      ^\n")),
             tried(["--bars", "-c"] + LINES + ["--try"], DRAWN),
             tried(["--try", "--explain", "-c"] + LINES + ["cat nothing", "--bars"], both),
+            tried(["--list", "--try", "-c"] + CHANGED, Outcome(1, text_of(REPLIES) + listed(1, ["tick", "tock"], ["b", "slow"]), b"")),
+            tried(["--list", "--explain", "--try", "--bars", "-c"] + LINES + ["cat nothing"], both._replace(stdout=both.stdout + listed(1, ["tick"]))),
             Case("--try runs the session as the program does", session_of_the_first_look),
         ]
     )
@@ -178,15 +179,9 @@ def session_of_the_first_look(_):
     """The program that the starter writes for --try, which nothing checks, calls what the main function of crates/tracectl calls."""
     main, first_look = (TOP / "crates" / "tracectl" / "src" / "main.rt").read_text(), (TOP / "tracectl").read_text()
     calls = [set(re.findall(r"run_session\((?:&rt|threads), (.*?),? ?\)", " ".join(text.split()).replace("( ", "("))) for text in (main, first_look)]
-    made = [set(re.findall(r"(?:Drawn|Explained|Output)::new\([a-z.(), ]*\)", text.replace("$", ""))) for text in (main, first_look)]
+    made = [set(re.findall(r"(?:Drawn|Explained|Listed|Output)::new\([a-z.(), ]*\)", text.replace("$", ""))) for text in (main, first_look.replace("true", "lists"))]
+    made = [found | set(re.findall(r"output\.end\(.*?\)", text)) for found, text in zip(made, (main, first_look))]
     return [] if calls[0] == calls[1] and made[0] == made[1] and calls[0] else ["other calls: %s %s" % (calls, made)]
-
-
-def helps(got):
-    """What is wrong with the help of a starter that has no program yet."""
-    found = differences(got._replace(stdout=b""), Outcome(0, b"", b""))
-    wants = (b"--try", b"emit CPU PID EVENT", b"  5  the program could not be built")
-    return found + ([] if got.stdout.startswith(USAGE) and all(part in got.stdout for part in wants) else ["no help on standard output"])
 
 
 def two_builds(program):

@@ -27,10 +27,10 @@ def helping(got, program):
     """What is wrong with a help that was asked for: the three lines that it shows do what it says."""
     found = differences(got._replace(stdout=b""), Outcome(0, b"", b""))
     text = got.stdout.decode()
-    found += ["help lacks %s" % quoted(part) for part in ("--cpus <N>", "--page-bytes <N>", "[default: 4080]", "--explain ", "--bars ", "-c <LINE>...", "Exit status:") if part not in text]
+    found += ["help lacks %s" % quoted(part) for part in ("--cpus <N>", "--page-bytes <N>", "[default: 4080]", "--explain ", "--bars ", "--list ", "--try ", "-c <LINE>...", "Exit status:") if part not in text]
     lines, shown = [], None
     for line in text.splitlines():
-        if line.startswith("These three lines"):
+        if line.strip().startswith("These three lines"):
             shown = line.split("shows as ")[1].rstrip(":")
         elif shown and len(lines) < 3:
             lines.append(line.strip())
@@ -69,6 +69,11 @@ def wrong_words():
         (["--bars", "--explain", "-", "--bars"], "cannot be used multiple times"),
         (["--bars=#", "-"], "unexpected value '#' for '--bars' found"),
         (["-c", "--bars"], "a value is required for '-c <LINE>...'"),
+        (["--list"], "required arguments were not provided"),
+        (["--list", "-", "--list"], "cannot be used multiple times"),
+        (["--list=r", "-"], "unexpected value 'r' for '--list' found"),
+        (["--try=no", "-"], "unexpected value 'no' for '--try' found"),
+        (["--pages", "--list", "2", "-"], "a value is required for '--pages <N>'"),
         (["--pages", "1", "--nonsense", "-"], "unexpected argument '--nonsense' found"),
         (["--pages", "1", "missing", "extra"], "unexpected argument 'extra' found"),
     ]
@@ -102,7 +107,7 @@ def line_words():
         (["-c", "cat \u00e9"], Outcome(2, b"! 1: script BadByte\n", b"")),
         (["--pages", "1", "-c", "ls"], Outcome(2, b"", BAD_VALUE)),
         (["--pages", "1", "--explain", "-c", "ls"], Outcome(2, b"", BAD_VALUE)),
-        (["-c", "cat nothing", "--explain"], Outcome(1, b"! 1: N1 NoSuchFile\n", b"  cat nothing\n  no file has this path\n")),
+        (["-c", "cat nothing", "--explain"], Outcome(1, b"! 1: N1 NoSuchFile\n", b"-c:1:5: NoSuchFile: no file has this path\n  cat nothing\n      ^\n")),
     ]
 
 

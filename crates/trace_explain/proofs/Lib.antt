@@ -1,1 +1,3 @@
 pub mod CaretLemmas
+pub mod HistLemmas
+pub mod NearLemmas

@@ -1,12 +1,7 @@
--- Under which byte of a script's line a caret stands: the one that `at` of a refusal names in what the line writes, or where a fault begins.
+-- Which byte of a script's line is a byte of what it writes, and where a quote begins that is not closed.
 use Rattle.std.specs.Prelude.{ℕ, ◌+◌, Bool, not, ◌||◌, ◌==◌, if◌then◌else◌, List, [], ◌∷◌, ◌++◌, drop, position, slice_get, Option, Some, None, option_map}
 use Rattle.trace_lex.specs.Blanks.{is_blank}
-use Rattle.trace_command.specs.declared.refusal.Refusal.TheVariants.{BadDefinition, FilterSyntax, NoSuchField, WrongOperator, HistSyntax}
-use Rattle.trace_script.specs.Lines.{is_line_byte}
 use Rattle.trace_script.specs.Tokens.{is_end, is_quote}
-use Rattle.trace_script.specs.declared.fault.ScriptFault.TheVariants.{BadByte, UnclosedQuote, UnknownCommand}
-use Rattle.trace_script.specs.declared.outcome.Outcome.{Outcome}
-use Rattle.trace_script.specs.declared.outcome.Outcome.TheVariants.{Replied, Refused, Fault}
 use Rattle.trace_explain.specs.declared.caret.Stand.{Stand}
 use Rattle.trace_explain.specs.declared.caret.Stand.TheVariants.{Between, InWord, InQuotes}
 
@@ -45,7 +40,7 @@ offsets_of line = offsets_from Between 0 0 line
 abbrev pub written_offset : List ℕ → ℕ → Option ℕ
 written_offset line at = slice_get (drop 5 (offsets_of line)) at
 
--- ---- faults
+-- ---- quotes
 
 -- which quote is open after a byte, and where it stands
 abbrev pub quote_after : Option (ℕ × ℕ) → ℕ → ℕ → Option (ℕ × ℕ)
@@ -60,17 +55,3 @@ quote_from before at (b ∷ bs) = quote_from (quote_after before at b) (at + 1) 
 -- where the quote stands that a line doesn't close
 unfoldable pub open_quote : List ℕ → Option ℕ
 open_quote line = option_map (λ quote. quote.1) (quote_from None 0 line)
-
--- ---- carets
-
--- under which byte of a line the caret stands
-abbrev pub caret_of : List ℕ → Outcome → Option ℕ
-caret_of line (Refused (BadDefinition at)) = written_offset line at
-caret_of line (Refused (FilterSyntax at)) = written_offset line at
-caret_of line (Refused (NoSuchField at)) = written_offset line at
-caret_of line (Refused (WrongOperator at)) = written_offset line at
-caret_of line (Refused (HistSyntax at)) = written_offset line at
-caret_of line (Fault BadByte) = position (λ b. not (is_line_byte b)) line
-caret_of line (Fault UnclosedQuote) = open_quote line
-caret_of line (Fault UnknownCommand) = position (λ b. not (is_blank b)) line
-caret_of line _ = None

@@ -1,5 +1,6 @@
--- A line with a caret under one of its bytes, and words beside it.
-use Rattle.std.specs.Prelude.{ℕ, nat_lt, ◌==◌, if◌then◌else◌, List, [], ◌∷◌, ◌++◌, length, map, take, Option, Some, None, codes}
+-- What is wrong, and under it the line with a caret under one of its bytes.
+use Rattle.std.specs.Prelude.{ℕ, ◌+◌, nat_lt, ◌==◌, if◌then◌else◌, List, [], ◌∷◌, ◌++◌, length, map, take, Option, Some, None, codes}
+use Rattle.std.specs.Fmt.{decimal}
 use Rattle.trace_script.specs.Lines.{is_line_byte}
 
 -- a byte as it is shown: one that no line has is a `?` (63)
@@ -17,11 +18,26 @@ shown_line line = if nat_lt 4096 (length line) then shown_bytes (take 72 line) +
 abbrev pub pad_byte : ℕ → ℕ
 pad_byte b = if b == 9 then 9 else 32
 
--- the caret under a byte of the line, and a blank after it
+-- the caret under a byte of the line, two bytes from the left as the line is
 unfoldable pub pointer : List ℕ → Option ℕ → List ℕ
 pointer line None = []
-pointer line (Some at) = map pad_byte (take at line) ++ codes "^ "
+pointer line (Some at) = codes "  " ++ map pad_byte (take at line) ++ codes "^\n"
 
--- the line, and under it the caret and the words; both two bytes from the left
-unfoldable pub shown : List ℕ → Option ℕ → List ℕ → List ℕ
-shown line caret words = codes "  " ++ shown_line line ++ codes "\n  " ++ pointer line caret ++ words ++ codes "\n"
+-- the column of the byte above the caret, from 1: one more than the bytes before it
+unfoldable pub column : List ℕ → Option ℕ → List ℕ
+column line None = []
+column line (Some at) = codes ":" ++ decimal (length (take at line) + 1)
+
+-- what was meant, if anything was
+unfoldable pub meant_line : List ℕ → List ℕ
+meant_line [] = []
+meant_line (b ∷ bs) = codes "  did you mean `" ++ shown_bytes (b ∷ bs) ++ codes "`?\n"
+
+-- `SCRIPT:LINE:COLUMN: NAME: words`
+unfoldable pub heading : List ℕ → ℕ → List ℕ → List ℕ → List ℕ → List ℕ
+heading script number column name words = shown_bytes script ++ codes ":" ++ decimal number ++ column ++ codes ": " ++ name ++ codes ": " ++ words ++ codes "\n"
+
+-- the heading, the line, the caret, and what was meant
+unfoldable pub shown : List ℕ → ℕ → List ℕ → Option ℕ → List ℕ → List ℕ → List ℕ → List ℕ
+shown script number line caret name words meant =
+    heading script number (column line caret) name words ++ codes "  " ++ shown_line line ++ codes "\n" ++ pointer line caret ++ meant_line meant

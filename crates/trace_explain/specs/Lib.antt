@@ -1,5 +1,14 @@
+pub mod Bytes
 pub mod Carets
+pub mod Starts
 pub mod Causes
-pub mod Layout
+pub mod FilterDue
+pub mod DeclarationDue
+pub mod HistDue
+pub mod Near
 pub mod Wording
+pub mod Events
+pub mod Places
+pub mod Hints
+pub mod Layout
 pub mod Explanations

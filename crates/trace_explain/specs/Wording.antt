@@ -1,6 +1,17 @@
 -- What is wrong, in words.
-use Rattle.std.specs.Prelude.{ℕ, if◌then◌else◌, List, Result, Ok, Err, codes, Option, Some, None}
-use Rattle.trace_command.specs.Paths.{File, SyntheticEvents, address_of}
+use Rattle.std.specs.Prelude.{ℕ, ◌+◌, Bool, true, false, nat_lt, not, ◌&&◌, ◌||◌, ◌==◌, if◌then◌else◌, List, [], ◌∷◌, length, take, drop, Result, Ok, Err, codes, Option, Some, None}
+use Rattle.std.specs.List.{count_by, prefix_len}
+use Rattle.std.specs.Option.{is_some}
+use Rattle.std.specs.Str.{bytes_eq}
+use Rattle.trace_lex.specs.Blanks.{is_blank, trimmed, without_end}
+use Rattle.trace_command.specs.Paths.{File, SyntheticEvents, OfInstance, OfCpu, OfEvent, address_of}
+use Rattle.trace_command.specs.declared.file_name.EventFile.{EventFile}
+use Rattle.trace_command.specs.declared.file_name.EventFile.TheVariants as per_event
+use Rattle.trace_command.specs.declared.file_name.TopFile.{TopFile}
+use Rattle.trace_command.specs.declared.file_name.TopFile.TheVariants as top
+use Rattle.trace_trigger.specs.Frames.{is_unblank}
+use Rattle.trace_trigger.specs.TriggerTexts.{begins}
+use Rattle.trace_script.specs.Tokens.{is_end}
 use Rattle.trace_command.specs.declared.command.Command.{Command}
 use Rattle.trace_command.specs.declared.command.Command.TheVariants.{Emit, Mkdir, Rmdir, Write, Read}
 use Rattle.trace_command.specs.declared.refusal.Refusal.{Refusal}
@@ -9,14 +20,38 @@ use Rattle.trace_script.specs.declared.fault.ScriptFault.{ScriptFault}
 use Rattle.trace_script.specs.declared.fault.ScriptFault.TheVariants.{LineTooLong, BadByte, UnclosedQuote, UnknownCommand, WrongWords, BadNumber, BlockOutOfPlace, TooManyThreads}
 use Rattle.trace_script.specs.declared.line.Line.{Line}
 use Rattle.trace_script.specs.declared.line.Line.TheVariants.{Ask}
+use Rattle.trace_explain.specs.Bytes.{has_blank}
+use Rattle.trace_explain.specs.FilterDue.{due_from, filter_due_words}
+use Rattle.trace_explain.specs.DeclarationDue.{due_from as declared_from, declaration_due_words}
+use Rattle.trace_explain.specs.HistDue.{ends_with, attribute_at, items_of, values_of, hist_due_words, field_words as hist_field_words}
+use Rattle.trace_explain.specs.declared.filter_due.FilterDue.{FilterDue}
+use Rattle.trace_explain.specs.declared.filter_due.FilterDue.TheVariants.{Operand}
+use Rattle.trace_explain.specs.declared.declaration_due.DeclarationDue.TheVariants.{Event}
 use Rattle.trace_explain.specs.declared.cause.Cause.{Cause}
 use Rattle.trace_explain.specs.declared.cause.Cause.TheVariants as cause
 use Rattle.trace_explain.specs.declared.wording.Subject.{Subject}
 use Rattle.trace_explain.specs.declared.wording.Subject.TheVariants as subject
 
--- a write is of a declaration, or of something else
+abbrev pub subject_of_event_file : EventFile → Subject
+subject_of_event_file per_event.Enable = subject.Switch
+subject_of_event_file per_event.Filter = subject.Filter
+subject_of_event_file per_event.Trigger = subject.Trigger
+subject_of_event_file _ = subject.Write
+
+abbrev pub subject_of_top_file : TopFile → Subject
+subject_of_top_file top.TracingOn = subject.Switch
+subject_of_top_file top.Overwrite = subject.Switch
+subject_of_top_file top.EventsEnable = subject.Switch
+subject_of_top_file top.TraceOptions = subject.Options
+subject_of_top_file top.Snapshot = subject.Snapshot
+subject_of_top_file top.EventsFilter = subject.AllFilters
+subject_of_top_file _ = subject.Write
+
+-- what is written to a file
 abbrev pub written_subject : Option File → Subject
 written_subject (Some SyntheticEvents) = subject.Declaration
+written_subject (Some (OfEvent name file)) = subject_of_event_file file
+written_subject (Some (OfInstance file)) = subject_of_top_file file
 written_subject _ = subject.Write
 
 -- what a command is about
@@ -27,49 +62,139 @@ command_subject (Rmdir path) = subject.Instance
 command_subject (Write path append text) = written_subject (address_of path).file
 command_subject (Read path limit) = subject.Read
 
+-- N1
+abbrev pub path_words : Subject → List ℕ
+path_words subject.Instance = codes "expected `instances/` and a name"
+path_words _ = codes "no file has this path"
+
 -- N4
 unfoldable pub value_words : Subject → List ℕ
-value_words subject.Instance = codes "this is no name of an instance"
-value_words subject.Read = codes "only a pipe is read by take"
+value_words subject.Instance = codes "an instance can't have this name"
+value_words subject.Read = codes "only a pipe is read by `take`"
+value_words subject.Switch = codes "expected `0` or `1`"
+value_words subject.Options = codes "expected `overwrite` or `nooverwrite`"
+value_words subject.Snapshot = codes "expected a number"
+value_words subject.Trigger = codes "expected `hist:` or `snapshot`"
 value_words _ = codes "the file doesn't take what is written"
 
+-- N5
+abbrev pub event_words : Subject → List ℕ
+event_words subject.AllFilters = codes "no event is declared"
+event_words _ = codes "no event of this name is declared"
+
+-- N9, N11: where the filter of a trigger begins: after the first word, `if` and the blanks between
+abbrev pub condition_start : List ℕ → ℕ
+condition_start text = prefix_len is_unblank text + prefix_len is_blank (drop (prefix_len is_unblank text) text) + 2
+
+abbrev pub filter_start : Subject → List ℕ → ℕ
+filter_start subject.Trigger text = condition_start text
+filter_start _ text = 0
+
+-- what a filter may go on with at an offset
+abbrev pub filter_due_at : Subject → List ℕ → ℕ → FilterDue
+filter_due_at subject text at = due_from Operand (drop (filter_start subject text) (take at text))
+
+-- N9
+abbrev pub filter_words : Subject → List ℕ → ℕ → List ℕ
+filter_words subject text at = filter_due_words (filter_due_at subject text at) (drop at text)
+
+-- N11, in a filter
+abbrev pub operator_words : List ℕ → List ℕ
+operator_words [] = codes "a string takes no operator but `==`, `!=` and `~`"
+operator_words (b ∷ bs) = if b == 126 then codes "a number doesn't take `~`" else codes "a string takes no operator but `==`, `!=` and `~`"
+
+-- N11: the word of a hist trigger has no blank
+abbrev pub wrong_operator_words : Subject → List ℕ → ℕ → List ℕ
+wrong_operator_words subject.Trigger text at =
+    if has_blank (take at text) then operator_words (drop at text) else hist_field_words (take at text)
+wrong_operator_words _ text at = operator_words (drop at text)
+
+-- N7
+abbrev pub declaration_words : List ℕ → ℕ → List ℕ
+declaration_words text at = declaration_due_words (declared_from Event (take at text)) (drop at text)
+
+-- N14
+abbrev pub exists_words : List ℕ → List ℕ
+exists_words text =
+    if begins (codes "snapshot") text then codes "the event has a snapshot trigger already"
+    else (if is_some (attribute_at (codes ":name=") text) then codes "the event has this trigger already, or it doesn't fit the table of its name"
+    else codes "the event has this trigger already")
+
+-- N16, of a declaration: its `;` say how many fields there are
+abbrev pub is_semicolon : ℕ → Bool
+is_semicolon b = b == 59
+
+abbrev pub has_many_fields : List ℕ → Bool
+has_many_fields text = nat_lt (if ends_with 59 text then 16 else 15) (count_by is_semicolon text)
+
+abbrev pub declaration_most_words : List ℕ → List ℕ
+declaration_most_words text = if has_many_fields (without_end text) then codes "an event has at most 16 fields" else codes "there are 64 events already"
+
+-- N16, of a filter
+abbrev pub filter_most_words : List ℕ → List ℕ
+filter_most_words filter =
+    if nat_lt 1024 (length (trimmed filter)) then codes "a filter has at most 1,024 bytes" else codes "at most 16 `!` and `(` may be open"
+
+-- N16, of a trigger: a list of it, its filter, or how many there are
+abbrev pub has_over : ℕ → List ℕ → List ℕ → Bool
+has_over most attribute text = nat_lt most (items_of attribute text)
+
+abbrev pub has_values : List ℕ → List ℕ → Bool
+has_values attribute text = nat_lt 3 (values_of attribute text)
+
+abbrev pub is_opening : ℕ → Bool
+is_opening b = b == 33 || b == 40
+
+abbrev pub condition_most_words : List ℕ → List ℕ
+condition_most_words filter =
+    if nat_lt 1024 (length (trimmed filter)) then codes "a filter has at most 1,024 bytes"
+    else (if nat_lt 16 (count_by is_opening filter) then codes "at most 16 `!` and `(` may be open" else codes "the event has four triggers already")
+
+unfoldable pub trigger_most_words : List ℕ → List ℕ
+trigger_most_words text =
+    if has_over 3 (codes ":keys=") text || has_over 3 (codes ":key=") text then codes "a hist trigger has at most three keys"
+    else (if has_values (codes ":values=") text || (has_values (codes ":vals=") text || has_values (codes ":val=") text) then codes "a hist trigger has at most three values"
+    else (if has_over 2 (codes ":sort=") text then codes "a hist trigger is sorted by at most two names"
+    else condition_most_words (drop (condition_start text) text)))
+
 -- N16
-unfoldable pub most_words : Subject → List ℕ
-most_words subject.Declaration = codes "an event has 16 fields at most, and there are 64 events at most"
-most_words subject.Instance = codes "there are eight instances at most, the top one among them"
-most_words _ = codes "a filter has 1,024 bytes and 16 open ! and ( at most, a hist trigger three keys, three values and two names to sort by, an event four triggers"
+unfoldable pub most_words : Subject → List ℕ → List ℕ
+most_words subject.Declaration text = declaration_most_words text
+most_words subject.Instance text = codes "there are eight instances already"
+most_words subject.Trigger text = trigger_most_words text
+most_words _ text = filter_most_words text
 
 -- N19
 unfoldable pub busy_words : Subject → List ℕ
-busy_words subject.Declaration = codes "an event is declared already, and more are declared by >>"
+busy_words subject.Declaration = codes "an event is declared already; declare more by `>>`"
 busy_words _ = codes "an event of the instance has a snapshot trigger"
 
--- what is wrong with a command about this; that of a row is told by its field
-unfoldable pub refusal_words : Subject → Refusal → List ℕ
-refusal_words subject NoSuchFile = codes "no file has this path"
-refusal_words subject NotReadable = codes "the file can't be read"
-refusal_words subject NotWritable = codes "the file can't be written"
-refusal_words subject BadValue = value_words subject
-refusal_words subject NoSuchEvent = codes "no such event is declared"
-refusal_words subject EventExists = codes "an event of this name is declared already"
-refusal_words subject (BadDefinition at) = codes "no declaration goes on, or ends, like this"
-refusal_words subject TooBig = codes "a record of the event would be longer than a page"
-refusal_words subject (FilterSyntax at) = codes "no filter goes on, or ends, like this, or it needs a number here"
-refusal_words subject (NoSuchField at) = codes "the event has no field of this name"
-refusal_words subject (WrongOperator at) = codes "the field doesn't take this operator, or it is a string, which has no sum and takes no modifier"
-refusal_words subject (HistSyntax at) = codes "no hist trigger goes on, or ends, like this"
-refusal_words subject BadSize = codes "a size is from 128 to 131,072, once it is rounded up to a power of two"
-refusal_words subject TriggerExists = codes "the event has such a trigger already, or the one that is written doesn't fit the table that it names"
-refusal_words subject NoSuchTrigger = codes "the event has no such trigger"
-refusal_words subject TooMany = most_words subject
-refusal_words subject InstanceExists = codes "an instance of this name is there already"
-refusal_words subject NoSuchInstance = codes "no instance of this name is there"
-refusal_words subject Busy = busy_words subject
-refusal_words subject NoSuchCpu = codes "there are not so many CPUs"
-refusal_words subject (BadRow field) = codes "the pairs are no row of the event"
-refusal_words subject HistoryFull = codes "the history is full"
-refusal_words subject Memory = codes "out of memory"
-refusal_words subject Worn = codes "all tickets are drawn"
+-- what is wrong with a command about this that writes this; that of a row is told by its field
+unfoldable pub refusal_words : Subject → List ℕ → Refusal → List ℕ
+refusal_words subject text NoSuchFile = path_words subject
+refusal_words subject text NotReadable = codes "the file can't be read"
+refusal_words subject text NotWritable = codes "the file can't be written"
+refusal_words subject text BadValue = value_words subject
+refusal_words subject text NoSuchEvent = event_words subject
+refusal_words subject text EventExists = codes "an event of this name is declared already"
+refusal_words subject text (BadDefinition at) = declaration_words text at
+refusal_words subject text TooBig = codes "a record of the event would be longer than a page"
+refusal_words subject text (FilterSyntax at) = filter_words subject text at
+refusal_words subject text (NoSuchField at) = codes "the event has no field of this name"
+refusal_words subject text (WrongOperator at) = wrong_operator_words subject text at
+refusal_words subject text (HistSyntax at) = hist_due_words (take at text) (drop at text)
+refusal_words subject text BadSize = codes "expected a size from 65 to 131072"
+refusal_words subject text TriggerExists = exists_words text
+refusal_words subject text NoSuchTrigger = codes "the event has no such trigger"
+refusal_words subject text TooMany = most_words subject text
+refusal_words subject text InstanceExists = codes "there is an instance of this name already"
+refusal_words subject text NoSuchInstance = codes "there is no instance of this name"
+refusal_words subject text Busy = busy_words subject
+refusal_words subject text NoSuchCpu = codes "no CPU has this number"
+refusal_words subject text (BadRow field) = codes "the pairs are no row of the event"
+refusal_words subject text HistoryFull = codes "the history is full"
+refusal_words subject text Memory = codes "out of memory"
+refusal_words subject text Worn = codes "all tickets are drawn"
 
 -- what is wrong with a field
 unfoldable pub cause_words : Cause → List ℕ
@@ -82,13 +207,42 @@ cause_words cause.OutOfRange = codes "its value is out of the range of its type"
 cause_words cause.TooLong = codes "its value is too long"
 cause_words cause.NotPrintable = codes "its value has a byte that is not from 0x20 to 0x7e"
 
+-- the first word of a line, as it is written
+abbrev pub is_in_word : ℕ → Bool
+is_in_word b = not (is_end b)
+
+abbrev pub word_of : List ℕ → List ℕ
+word_of text = take (prefix_len is_in_word text) text
+
+abbrev pub name_of : List ℕ → List ℕ
+name_of line = word_of (drop (prefix_len is_blank line) line)
+
+-- how a line of this name is written
+unfoldable pub usage_words : List ℕ → List ℕ
+usage_words name =
+    if bytes_eq name (codes "emit") then codes "expected `emit CPU PID EVENT FIELD=VALUE ..`"
+    else (if bytes_eq name (codes "echo") then codes "expected `echo WORD .. > PATH`, or `>>`"
+    else (if bytes_eq name (codes "cat") then codes "expected `cat PATH`"
+    else (if bytes_eq name (codes "take") then codes "expected `take N PATH`"
+    else (if bytes_eq name (codes "mkdir") then codes "expected `mkdir PATH`"
+    else (if bytes_eq name (codes "rmdir") then codes "expected `rmdir PATH`"
+    else codes "expected nothing more")))))
+
+-- what a line of this name can't do where it is
+unfoldable pub block_words : List ℕ → List ℕ
+block_words name =
+    if bytes_eq name (codes "thread") then codes "no parallel part is open here"
+    else (if bytes_eq name (codes "end") then codes "no parallel part is open here"
+    else (if bytes_eq name (codes "parallel") then codes "this is in a parallel part, or has no `end`"
+    else codes "expected `thread` before the first command of a part"))
+
 -- what is wrong with a line that is no command
-unfoldable pub fault_words : ScriptFault → List ℕ
-fault_words LineTooLong = codes "the line has over 4,096 bytes"
-fault_words BadByte = codes "this byte is neither a tab nor one from 0x20 to 0x7e"
-fault_words UnclosedQuote = codes "this quote is not closed"
-fault_words UnknownCommand = codes "no command is called so"
-fault_words WrongWords = codes "too few or too many words, a redirection where none belongs, or a pair without ="
-fault_words BadNumber = codes "a CPU, a PID or an N is no decimal number in its range"
-fault_words BlockOutOfPlace = codes "a line of a parallel part can't be here"
-fault_words TooManyThreads = codes "a parallel part has eight threads at most"
+unfoldable pub fault_words : List ℕ → ScriptFault → List ℕ
+fault_words line LineTooLong = codes "the line has over 4,096 bytes"
+fault_words line BadByte = codes "this byte is neither a tab nor one from 0x20 to 0x7e"
+fault_words line UnclosedQuote = codes "this quote is not closed"
+fault_words line UnknownCommand = codes "unknown command"
+fault_words line WrongWords = usage_words (name_of line)
+fault_words line BadNumber = codes "expected a number in its range"
+fault_words line BlockOutOfPlace = block_words (name_of line)
+fault_words line TooManyThreads = codes "a parallel part has at most eight threads"

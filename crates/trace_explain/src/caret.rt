@@ -1,16 +1,11 @@
-//! The byte of a line under which a caret stands.
+//! Which byte of a line is a byte of what it writes, and where a quote begins that is not closed.
 
-ghost use Rattle.std.specs.Prelude.{◌≡◌, ◌+◌, ◌-◌, ◌^◌, ◌<◌, ◌∷◌, [], ◌++◌, List, ℕ, IfOk, OnOk, drop, position, slice_get};
-ghost use Rattle.trace_lex.specs.Blanks.{is_blank};
-ghost use Rattle.trace_script.specs.Lines.{is_line_byte};
-ghost use Rattle.std.specs.Prelude.{not};
+ghost use Rattle.std.specs.Prelude.{◌≡◌, ◌+◌, ◌-◌, ◌^◌, ◌<◌, ◌∷◌, [], ◌++◌, List, ℕ, IfOk, OnOk, drop, slice_get};
 ghost use Rattle.trace_script.specs.Tokens.{is_end};
-ghost use Rattle.trace_explain.specs.Carets.{stand_after, end_after, offset_of_byte, offsets_from, offsets_of, written_offset, quote_after, open_quote, caret_of};
+ghost use Rattle.trace_explain.specs.Carets.{stand_after, end_after, offset_of_byte, offsets_from, offsets_of, written_offset, quote_after, open_quote};
 
 use std::alloc::{AllocError, Global};
-use trace_command::Refusal;
 use trace_lex::is_blank;
-use trace_script::{Outcome, ScriptFault};
 
 /// How many offsets of a line come before what an `echo` writes: those of the four bytes of its name, and of their end.
 const ECHO_PLACES: usize = 5;
@@ -27,10 +22,23 @@ pub(crate) enum Stand {
 }
 
 /// A byte at which a word ends.
-fn is_end(byte: u8) -> bool
+pub(crate) fn is_end(byte: u8) -> bool
     ensures { result ≡ is_end byte }
 {
     is_blank(byte) || byte == b'>'
+}
+
+/// Where a byte outside quotes leads.
+pub(crate) fn stand_after(byte: u8) -> Stand
+    ensures { result ≡ stand_after byte }
+{
+    if is_end(byte) {
+        Stand::Between
+    } else if byte == b'\'' || byte == b'"' {
+        Stand::InQuotes(byte)
+    } else {
+        Stand::InWord
+    }
 }
 
 /// The offsets of a line that were found, and where its reader stands.
@@ -160,7 +168,11 @@ fn offsets(alloc: Global, line: &[u8]) -> Result<Vec<usize>, AllocError>
 }
 
 /// Where the byte of this offset in what an `echo` writes stands in its line.
-fn written_offset(alloc: Global, line: &[u8], at: usize) -> Result<Option<usize>, AllocError>
+pub(crate) fn written_offset(
+    alloc: Global,
+    line: &[u8],
+    at: usize,
+) -> Result<Option<usize>, AllocError>
     ensures { IfOk result (λ offset. offset ≡ written_offset line.now at) }
 {
     let offsets = offsets(alloc, line)?;
@@ -188,7 +200,7 @@ fn quote_after(before: Option<(u8, usize)>, at: usize, byte: u8) -> Option<(u8, 
 
 /// Where the quote stands that a line doesn't close.
 #[tactic(auto, unfolding(crate::specs::Carets::open_quote))]
-fn open_quote(line: &[u8]) -> Option<usize>
+pub(crate) fn open_quote(line: &[u8]) -> Option<usize>
     ensures { result ≡ open_quote line.now }
 {
     let mut quote = None;
@@ -198,43 +210,5 @@ fn open_quote(line: &[u8]) -> Option<usize>
     match quote {
         Some((_, at)) => Some(at),
         None => None,
-    }
-}
-
-/// Where the first byte is that no line has.
-fn bad_byte(line: &[u8]) -> Option<usize>
-    ensures { result ≡ position (λ b. not (is_line_byte b)) line.now }
-{
-    line.iter()
-        .position(|byte| !matches!(*byte, b'\t' | b' '..=b'~'))
-}
-
-/// Where the first byte is that is no blank.
-fn first_word(line: &[u8]) -> Option<usize>
-    ensures { result ≡ position (λ b. not (is_blank b)) line.now }
-{
-    line.iter().position(|byte| !is_blank(*byte))
-}
-
-/// Under which byte of a line the caret stands, if it stands under one.
-pub(crate) fn caret(
-    alloc: Global,
-    line: &[u8],
-    outcome: &Outcome,
-) -> Result<Option<usize>, AllocError>
-    ensures { IfOk result (λ offset. offset ≡ caret_of line.now outcome.now) }
-{
-    match outcome {
-        Outcome::Refused(
-            Refusal::BadDefinition { at }
-            | Refusal::FilterSyntax { at }
-            | Refusal::NoSuchField { at }
-            | Refusal::WrongOperator { at }
-            | Refusal::HistSyntax { at },
-        ) => written_offset(alloc, line, *at),
-        Outcome::Fault(ScriptFault::BadByte) => Ok(bad_byte(line)),
-        Outcome::Fault(ScriptFault::UnclosedQuote) => Ok(open_quote(line)),
-        Outcome::Fault(ScriptFault::UnknownCommand) => Ok(first_word(line)),
-        _ => Ok(None),
     }
 }

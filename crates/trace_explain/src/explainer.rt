@@ -1,22 +1,25 @@
 //! What is told of the lines of a script, one after the other.
 
-ghost use Rattle.std.specs.Prelude.{◌≡◌, ◌++◌, ◌∷◌, [], None, Some, Ok, Err, List, Option, IfOk, OnOk, OnErr, option_map};
-ghost use Rattle.std.specs.Option.{option_copied};
+ghost use Rattle.std.specs.Prelude.{◌≡◌, ◌++◌, [], IfOk, OnOk, OnErr};
 ghost use Rattle.trace_format.specs.Definitions.{Definition};
-ghost use Rattle.trace_command.specs.declared.command.Command.{Command as CommandValue};
-ghost use Rattle.trace_script.specs.Lines.{line_of};
-ghost use Rattle.trace_script.specs.Outcomes.{Gives};
-ghost use Rattle.trace_explain.specs.Explanations.{event_named, declared_in, declared_by, command_of, row_cause, command_words, words_of, explanation};
+ghost use Rattle.trace_script.specs.Rendering as rendering;
+ghost use Rattle.trace_explain.specs.Events as events_of;
+ghost use Rattle.trace_explain.specs.Events.{declared_by};
+ghost use Rattle.trace_explain.specs.Explanations as told;
 
-use crate::caret::caret;
 use crate::cause::{Cause, cause_at_name};
+use crate::event::{command_of, declared, event_named};
+use crate::fault_place::fault_offset;
+use crate::hint::{command_meant, line_meant, written_in};
 use crate::layout::{shown, shown_bytes};
-use crate::wording::{Subject, cause_words, command_subject, fault_words, refusal_words};
+use crate::place::{Place, offset_of, refusal_place, row_place};
+use crate::script_line::ScriptLine;
+use crate::wording::{cause_words, command_subject, fault_words, refusal_words};
 use std::alloc::{AllocError, Global};
 use std::marker::Model;
 use trace_command::{Command, Refusal};
-use trace_format::{DefinitionFault, EventDef};
-use trace_script::{Line, LineError, Outcome, prepare};
+use trace_format::{EventDef, Pair};
+use trace_script::{Outcome, ScriptFault};
 
 /// Tells people what is wrong with the lines of a script, and remembers for that the events that were declared.
 #[derive(Drop)]
@@ -34,51 +37,25 @@ impl Model for Explainer {
     ghost view = { λ explainer. explainer.events.items };
 }
 
-/// The event of a name.
-fn event_of<'a>(events: &'a [EventDef], name: &[u8]) -> Option<&'a EventDef>
-    ensures { option_copied result ≡ event_named events.now name.now }
+/// What is wrong with pairs at a field.
+fn cause_in(events: &[EventDef], event: &[u8], pairs: &[Pair], field: &[u8]) -> Cause
+    ensures { result ≡ told.cause_in (events_of.event_named events.now event.now) pairs.now field.now }
 {
-    events.iter().find(|event| event.name() == name)
-}
-
-/// The command that a line asks for, if it asks for one.
-fn command_of(alloc: Global, line: &[u8]) -> Result<Option<Command>, AllocError>
-    ensures { IfOk result (λ found. found ≡ command_of line.now) }
-{
-    match prepare(alloc, line) {
-        Ok(Line::Ask(command)) => Ok(Some(command)),
-        Err(LineError::Memory) => Err(AllocError),
-        _ => Ok(None),
-    }
-}
-
-/// The event that a command declares, if it declares one.
-fn declared(alloc: Global, command: &Command) -> Result<Option<EventDef>, AllocError>
-    ensures { IfOk result (λ found. found ≡ declared_in command.now) }
-{
-    if command_subject(command) != Subject::Declaration {
-        return Ok(None);
-    }
-    let Command::Write { text, .. } = command else {
-        return Ok(None);
-    };
-    match EventDef::parse(alloc, text.as_bytes()) {
-        Ok(event) => Ok(Some(event)),
-        Err(DefinitionFault::BadDefinition { .. }) => Ok(None),
-        Err(DefinitionFault::Memory) => Err(AllocError),
+    match event_named(events, event) {
+        Some(event) => cause_at_name(event.fields(), pairs, field),
+        None => Cause::NotKnown,
     }
 }
 
 /// What is wrong at a field of a row.
 fn row_cause(events: &[EventDef], command: &Command, field: &[u8]) -> Cause
-    ensures { result ≡ row_cause events.now command.now field.now }
+    ensures { result ≡ told.row_cause events.now command.now field.now }
 {
-    let Command::Emit { event, pairs, .. } = command else {
-        return Cause::NotKnown;
-    };
-    match event_of(events, event.as_bytes()) {
-        Some(event) => cause_at_name(event.fields(), pairs.as_slice(), field),
-        None => Cause::NotKnown,
+    match command {
+        Command::Emit { event, pairs, .. } => {
+            cause_in(events, event.as_bytes(), pairs.as_slice(), field)
+        }
+        _ => Cause::NotKnown,
     }
 }
 
@@ -90,7 +67,7 @@ fn command_words(
     command: &Command,
     refusal: &Refusal,
 ) -> Result<Vec<u8>, AllocError>
-    ensures { IfOk result (λ words. words.items ≡ command_words events.now command.now refusal.now) }
+    ensures { IfOk result (λ words. words.items ≡ told.command_words events.now command.now refusal.now) }
 {
     match refusal {
         Refusal::BadRow { field } => {
@@ -101,10 +78,90 @@ fn command_words(
             Ok(words)
         }
         _ => {
-            let words = refusal_words(command_subject(command), refusal);
+            let words = refusal_words(command_subject(command), written_in(command), refusal);
             Vec::from_slice(alloc, words.as_bytes())
         }
     }
+}
+
+/// Where a row is wrong at a field.
+fn place_in_row(events: &[EventDef], command: &Command, field: &[u8]) -> Place
+    ensures { result ≡ told.place_in_row events.now command.now field.now }
+{
+    match command {
+        Command::Emit { event, pairs, .. } => {
+            let cause = cause_in(events, event.as_bytes(), pairs.as_slice(), field);
+            row_place(cause, pairs.as_slice(), field)
+        }
+        _ => Place::Nowhere,
+    }
+}
+
+/// Where a refused command is wrong.
+#[tactic(auto, unfolding(crate::specs::Explanations::command_place))]
+fn command_place(events: &[EventDef], command: &Command, refusal: &Refusal) -> Place
+    ensures { result ≡ told.command_place events.now command.now refusal.now }
+{
+    match refusal {
+        Refusal::BadRow { field } => place_in_row(events, command, field.as_bytes()),
+        _ => refusal_place(command_subject(command), written_in(command), refusal),
+    }
+}
+
+/// What is told of a refused command.
+#[tactic(auto, unfolding(crate::specs::Explanations::told_of_command))]
+fn told_of_command(
+    alloc: Global,
+    events: &[EventDef],
+    line: ScriptLine<'_>,
+    command: &Command,
+    refusal: &Refusal,
+) -> Result<Vec<u8>, AllocError>
+    ensures { IfOk result (λ text. text.items ≡ told.told_of_command line.entry.script.now line.entry.number events.now line.entry.text.now command.now refusal.now) }
+{
+    let caret = offset_of(alloc, line.text, command_place(events, command, refusal))?;
+    let words = command_words(alloc, events, command, refusal)?;
+    let meant = command_meant(alloc, events, command, refusal)?;
+    shown(alloc, line, caret, refusal.name(), &words, &meant)
+}
+
+/// A script fault's name.
+#[tactic(auto, unfolding(trace_script::specs::Rendering::fault_name))]
+fn fault_name(fault: ScriptFault) -> &'static str
+    ensures { result.now ≡ rendering.fault_name fault }
+{
+    match fault {
+        ScriptFault::LineTooLong => "LineTooLong",
+        ScriptFault::BadByte => "BadByte",
+        ScriptFault::UnclosedQuote => "UnclosedQuote",
+        ScriptFault::UnknownCommand => "UnknownCommand",
+        ScriptFault::WrongWords => "WrongWords",
+        ScriptFault::BadNumber => "BadNumber",
+        ScriptFault::BlockOutOfPlace => "BlockOutOfPlace",
+        ScriptFault::TooManyThreads => "TooManyThreads",
+    }
+}
+
+/// What is told of a line that is no command.
+#[tactic(auto, unfolding(crate::specs::Explanations::told_of_fault))]
+fn told_of_fault(
+    alloc: Global,
+    line: ScriptLine<'_>,
+    fault: ScriptFault,
+) -> Result<Vec<u8>, AllocError>
+    ensures { IfOk result (λ text. text.items ≡ told.told_of_fault line.entry.script.now line.entry.number line.entry.text.now fault) }
+{
+    let caret = fault_offset(alloc, line.text, fault)?;
+    let words = fault_words(line.text, fault);
+    let meant = line_meant(line.text, fault);
+    shown(
+        alloc,
+        line,
+        caret,
+        fault_name(fault),
+        words.as_bytes(),
+        meant.as_bytes(),
+    )
 }
 
 impl Explainer {
@@ -135,35 +192,20 @@ impl Explainer {
         Ok(())
     }
 
-    /// The words for what is wrong with a line, if anything is.
-    fn words(&self, line: &[u8], outcome: &Outcome) -> Result<Option<Vec<u8>>, AllocError>
-        ensures { IfOk result (λ words. option_map (λ text. text.items) words ≡ words_of self.now line.now outcome.now) }
+    /// What is told of a line: where it is, what is wrong with it, the line with a caret under the byte where it is wrong, if there is one, and
+    /// what was meant, if something is near. Nothing is told of a line that is done.
+    pub fn explain(&self, line: ScriptLine<'_>, outcome: &Outcome) -> Result<Vec<u8>, AllocError>
+        ensures { IfOk result (λ text. text.items ≡ told.explanation line.entry.script.now line.entry.number self.now line.entry.text.now outcome.now) }
     {
         match outcome {
-            Outcome::Replied(_) => Ok(None),
-            Outcome::Fault(fault) => {
-                Ok(Some(Vec::from_slice(self.alloc, fault_words(*fault).as_bytes())?))
-            }
-            Outcome::Refused(refusal) => match command_of(self.alloc, line)? {
+            Outcome::Replied(_) => Ok(Vec::new(self.alloc)),
+            Outcome::Fault(fault) => told_of_fault(self.alloc, line, *fault),
+            Outcome::Refused(refusal) => match command_of(self.alloc, line.text)? {
                 Some(command) => {
-                    Ok(Some(command_words(self.alloc, &self.events, &command, refusal)?))
+                    told_of_command(self.alloc, &self.events, line, &command, refusal)
                 }
-                None => Ok(None),
+                None => Ok(Vec::new(self.alloc)),
             },
-        }
-    }
-
-    /// What is told of a line: the line with a caret under the byte where it is wrong, if there is one, and what is wrong in words. Nothing is
-    /// told of a line that is done.
-    pub fn explain(&self, line: &[u8], outcome: &Outcome) -> Result<Vec<u8>, AllocError>
-        ensures { IfOk result (λ text. text.items ≡ explanation self.now line.now outcome.now) }
-    {
-        match self.words(line, outcome)? {
-            Some(words) => {
-                let caret = caret(self.alloc, line, outcome)?;
-                shown(self.alloc, line, caret, &words)
-            }
-            None => Ok(Vec::new(self.alloc)),
         }
     }
 }

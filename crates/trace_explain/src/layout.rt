@@ -1,8 +1,10 @@
-//! A line with a caret under one of its bytes, and words beside it.
+//! What is wrong, and under it the line with a caret under one of its bytes.
 
 ghost use Rattle.std.specs.Prelude.{◌≡◌, ◌++◌, ◌≤◌, IfOk, map, take, length, codes};
-ghost use Rattle.trace_explain.specs.Layout.{shown_byte, pad_byte, shown_bytes, shown_line, pointer, shown};
+ghost use Rattle.trace_explain.specs.Layout.{shown_byte, pad_byte, shown_bytes, shown_line, pointer, column, meant_line, heading, shown};
 
+use crate::cut::up_to;
+use crate::script_line::ScriptLine;
 use std::alloc::{AllocError, Global};
 
 /// The most bytes that the line of a command has. Of a longer one only so many bytes are shown that it fits a row of a terminal.
@@ -60,11 +62,13 @@ fn shown_line(alloc: Global, line: &[u8]) -> Result<Vec<u8>, AllocError>
 fn padding(alloc: Global, line: &[u8], at: usize) -> Result<Vec<u8>, AllocError>
     ensures { IfOk result (λ text. text.items ≡ map pad_byte (take at line.now)) }
 {
-    let before = line.get(..at).unwrap_or(line);
-    before.iter().map(|byte| pad_byte(*byte)).collect(alloc)
+    up_to(at, line)
+        .iter()
+        .map(|byte| pad_byte(*byte))
+        .collect(alloc)
 }
 
-/// The caret under a byte of a line, with a blank after it; nothing, if it stands under none.
+/// The caret under a byte of a line; nothing, if it stands under none.
 #[tactic(auto, unfolding(crate::specs::Layout::pointer))]
 fn pointer(alloc: Global, line: &[u8], caret: Option<usize>) -> Result<Vec<u8>, AllocError>
     ensures { IfOk result (λ text. text.items ≡ pointer line.now caret) }
@@ -72,28 +76,80 @@ fn pointer(alloc: Global, line: &[u8], caret: Option<usize>) -> Result<Vec<u8>, 
     let Some(at) = caret else {
         return Ok(Vec::new(alloc));
     };
-    let mut text = padding(alloc, line, at)?;
-    text.extend_from_slice(b"^ ".as_slice())?;
+    let mut text = Vec::from_slice(alloc, b"  ".as_slice())?;
+    text.extend_from_slice(&padding(alloc, line, at)?)?;
+    text.extend_from_slice(b"^\n".as_slice())?;
     Ok(text)
 }
 
-/// A line, and under it the caret and the words.
+/// The column of the byte above the caret, after a `:`.
+#[tactic(auto, unfolding(crate::specs::Layout::column))]
+fn column(alloc: Global, line: &[u8], caret: Option<usize>) -> Result<Vec<u8>, AllocError>
+    ensures { IfOk result (λ text. text.items ≡ column line.now caret) }
+{
+    let Some(at) = caret else {
+        return Ok(Vec::new(alloc));
+    };
+    let column = up_to(at, line).len() + 1;
+    Ok(format!(in alloc; ":{column}")?.into_bytes())
+}
+
+/// What was meant, if anything was.
+#[tactic(auto, unfolding(crate::specs::Layout::meant_line))]
+fn meant_line(alloc: Global, meant: &[u8]) -> Result<Vec<u8>, AllocError>
+    ensures { IfOk result (λ text. text.items ≡ meant_line meant.now) }
+{
+    if meant.is_empty() {
+        return Ok(Vec::new(alloc));
+    }
+    let mut text = Vec::from_slice(alloc, b"  did you mean `".as_slice())?;
+    text.extend_from_slice(&shown_bytes(alloc, meant)?)?;
+    text.extend_from_slice(b"`?\n".as_slice())?;
+    Ok(text)
+}
+
+/// `SCRIPT:LINE:COLUMN: NAME: words`, where the column has its `:` already.
+#[tactic(auto, unfolding(crate::specs::Layout::heading))]
+fn heading(
+    alloc: Global,
+    at: ScriptLine<'_>,
+    column: &[u8],
+    name: &str,
+    words: &[u8],
+) -> Result<Vec<u8>, AllocError>
+    ensures { IfOk result (λ text. text.items ≡ heading at.entry.script.now at.entry.number column.now name.now words.now) }
+{
+    let number = at.number;
+    let number = format!(in alloc; ":{number}")?.into_bytes();
+    let mut text = shown_bytes(alloc, at.script)?;
+    text.extend_from_slice(&number)?;
+    text.extend_from_slice(column)?;
+    text.extend_from_slice(b": ".as_slice())?;
+    text.extend_from_slice(name.as_bytes())?;
+    text.extend_from_slice(b": ".as_slice())?;
+    text.extend_from_slice(words)?;
+    text.push(b'\n')?;
+    Ok(text)
+}
+
+/// What is wrong, the line, the caret under it, and what was meant.
 #[tactic(auto, unfolding(crate::specs::Layout::shown))]
 pub(crate) fn shown(
     alloc: Global,
-    line: &[u8],
+    at: ScriptLine<'_>,
     caret: Option<usize>,
+    name: &str,
     words: &[u8],
+    meant: &[u8],
 ) -> Result<Vec<u8>, AllocError>
-    ensures { IfOk result (λ text. text.items ≡ shown line.now caret words.now) }
+    ensures { IfOk result (λ text. text.items ≡ shown at.entry.script.now at.entry.number at.entry.text.now caret name.now words.now meant.now) }
 {
-    let line_text = shown_line(alloc, line)?;
-    let pointer = pointer(alloc, line, caret)?;
-    let mut text = Vec::from_slice(alloc, b"  ".as_slice())?;
-    text.extend_from_slice(&line_text)?;
-    text.extend_from_slice(b"\n  ".as_slice())?;
-    text.extend_from_slice(&pointer)?;
-    text.extend_from_slice(words)?;
+    let column = column(alloc, at.text, caret)?;
+    let mut text = heading(alloc, at, &column, name, words)?;
+    text.extend_from_slice(b"  ".as_slice())?;
+    text.extend_from_slice(&shown_line(alloc, at.text)?)?;
     text.push(b'\n')?;
+    text.extend_from_slice(&pointer(alloc, at.text, caret)?)?;
+    text.extend_from_slice(&meant_line(alloc, meant)?)?;
     Ok(text)
 }

@@ -1,12 +1,24 @@
-//! What people are told of a line of a script that was refused or has a fault: the line, a caret under the byte where it is wrong, and what is
-//! wrong in words.
+//! What people are told of a line of a script that was refused or has a fault: where it is, what is wrong in words, the line with a caret under
+//! the byte where it is wrong, and what was meant, if something near is there.
 #![tactic(auto)]
 
 mod caret;
 mod cause;
+mod cut;
+mod declaration_due;
+mod event;
 mod explainer;
+mod fault_place;
+mod filter_due;
+mod hint;
+mod hist_due;
 mod layout;
+mod near;
+mod place;
+mod script_line;
+mod starts;
 mod wording;
 
 pub use cause::Cause;
 pub use explainer::Explainer;
+pub use script_line::ScriptLine;

@@ -1,10 +1,21 @@
 //! What is wrong, in words.
 
-ghost use Rattle.std.specs.Prelude.{◌≡◌};
-ghost use Rattle.trace_explain.specs.Wording.{command_subject, value_words, most_words, busy_words, refusal_words, cause_words, fault_words};
+ghost use Rattle.std.specs.Prelude.{◌≡◌, ◌≤◌, length, drop};
+ghost use Rattle.std.specs.List.{count_by, prefix_len};
+ghost use Rattle.trace_lex.specs.Blanks as blanks;
+ghost use Rattle.trace_command.specs.Paths as paths;
+ghost use Rattle.trace_trigger.specs.Frames as frames;
+ghost use Rattle.trace_explain.specs.Wording as wording;
 
 use crate::cause::Cause;
-use trace_command::{Command, FileName, Refusal, address_of};
+use crate::cut::{after, has_blank, up_to};
+use crate::declaration_due::{declaration_due, declaration_due_words};
+use crate::filter_due::{FilterDue, filter_due, filter_due_words};
+use crate::hist_due::{
+    attribute_at, begins, ends_with, hist_due_words, hist_field_words, items_of, values_of,
+};
+use trace_command::{Command, EventFile, FileName, Refusal, TopFile, address_of};
+use trace_lex::{blanks_len, is_blank, rest_of, trim, trim_end};
 use trace_script::ScriptFault;
 
 /// What a command is about, as far as the words depend on it.
@@ -12,6 +23,18 @@ use trace_script::ScriptFault;
 pub(crate) enum Subject {
     /// A declaration is written.
     Declaration,
+    /// An event's filter is written.
+    Filter,
+    /// The filter of all events is written.
+    AllFilters,
+    /// A trigger is written.
+    Trigger,
+    /// A `snapshot` file is written.
+    Snapshot,
+    /// A file that takes `0` and `1` is written.
+    Switch,
+    /// `trace_options` is written.
+    Options,
     /// Another file is written.
     Write,
     /// A file is read.
@@ -22,89 +45,313 @@ pub(crate) enum Subject {
     Emission,
 }
 
+fn subject_of_event_file(file: EventFile) -> Subject
+    ensures { result ≡ wording.subject_of_event_file file }
+{
+    match file {
+        EventFile::Enable => Subject::Switch,
+        EventFile::Filter => Subject::Filter,
+        EventFile::Trigger => Subject::Trigger,
+        _ => Subject::Write,
+    }
+}
+
+fn subject_of_top_file(file: TopFile) -> Subject
+    ensures { result ≡ wording.subject_of_top_file file }
+{
+    match file {
+        TopFile::TracingOn | TopFile::Overwrite | TopFile::EventsEnable => Subject::Switch,
+        TopFile::TraceOptions => Subject::Options,
+        TopFile::Snapshot => Subject::Snapshot,
+        TopFile::EventsFilter => Subject::AllFilters,
+        _ => Subject::Write,
+    }
+}
+
+/// What is written to the file of a path.
+fn written_subject(path: &[u8]) -> Subject
+    ensures { result ≡ wording.written_subject (paths.address_of path.now).file }
+{
+    match address_of(path).file {
+        Some(FileName::SyntheticEvents) => Subject::Declaration,
+        Some(FileName::OfEvent(_, file)) => subject_of_event_file(file),
+        Some(FileName::OfInstance(file)) => subject_of_top_file(file),
+        _ => Subject::Write,
+    }
+}
+
 /// What a command is about.
 pub(crate) fn command_subject(command: &Command) -> Subject
-    ensures { result ≡ command_subject command.now }
+    ensures { result ≡ wording.command_subject command.now }
 {
     match command {
         Command::Emit { .. } => Subject::Emission,
         Command::Mkdir(_) | Command::Rmdir(_) => Subject::Instance,
-        Command::Write { path, .. } => match address_of(path.as_bytes()).file {
-            Some(FileName::SyntheticEvents) => Subject::Declaration,
-            _ => Subject::Write,
-        },
+        Command::Write { path, .. } => written_subject(path.as_bytes()),
         Command::Read { .. } => Subject::Read,
+    }
+}
+
+fn path_words(subject: Subject) -> &'static str
+    ensures { result.now ≡ wording.path_words subject }
+{
+    match subject {
+        Subject::Instance => "expected `instances/` and a name",
+        _ => "no file has this path",
     }
 }
 
 #[tactic(auto, unfolding(crate::specs::Wording::value_words))]
 fn value_words(subject: Subject) -> &'static str
-    ensures { result.now ≡ value_words subject }
+    ensures { result.now ≡ wording.value_words subject }
 {
     match subject {
-        Subject::Instance => "this is no name of an instance",
-        Subject::Read => "only a pipe is read by take",
+        Subject::Instance => "an instance can't have this name",
+        Subject::Read => "only a pipe is read by `take`",
+        Subject::Switch => "expected `0` or `1`",
+        Subject::Options => "expected `overwrite` or `nooverwrite`",
+        Subject::Snapshot => "expected a number",
+        Subject::Trigger => "expected `hist:` or `snapshot`",
         _ => "the file doesn't take what is written",
     }
 }
 
-#[tactic(auto, unfolding(crate::specs::Wording::most_words))]
-fn most_words(subject: Subject) -> &'static str
-    ensures { result.now ≡ most_words subject }
+fn event_words(subject: Subject) -> &'static str
+    ensures { result.now ≡ wording.event_words subject }
 {
     match subject {
-        Subject::Declaration => "an event has 16 fields at most, and there are 64 events at most",
-        Subject::Instance => "there are eight instances at most, the top one among them",
-        _ => {
-            "a filter has 1,024 bytes and 16 open ! and ( at most, a hist trigger three keys, three values and two names to sort by, an event four triggers"
-        }
+        Subject::AllFilters => "no event is declared",
+        _ => "no event of this name is declared",
+    }
+}
+
+/// How many bytes come before the first blank.
+fn word_len(text: &[u8]) -> usize
+    ensures value { result ≡ prefix_len frames.is_unblank text.now }
+    ensures bound { result ≤ length text.now }
+{
+    text.iter().take_while(|byte| !is_blank(**byte)).count()
+}
+
+/// The filter of a trigger, if it has one: what follows its first word, `if` and the blanks between.
+fn condition(text: &[u8]) -> &[u8]
+    ensures { result.now ≡ drop (wording.condition_start text.now) text.now }
+{
+    after(condition_start(text), text)
+}
+
+/// Where the filter of a trigger begins, if it has one.
+fn condition_start(text: &[u8]) -> usize
+    ensures { result ≡ wording.condition_start text.now }
+{
+    let word = word_len(text);
+    word + blanks_len(rest_of(text, word)) + 2
+}
+
+/// Where a filter begins in what is written.
+fn filter_start(subject: Subject, text: &[u8]) -> usize
+    ensures { result ≡ wording.filter_start subject text.now }
+{
+    match subject {
+        Subject::Trigger => condition_start(text),
+        _ => 0,
+    }
+}
+
+/// What a filter may go on with at an offset of what is written.
+pub(crate) fn filter_due_at(subject: Subject, text: &[u8], at: usize) -> FilterDue
+    ensures { result ≡ wording.filter_due_at subject text.now at }
+{
+    filter_due(after(filter_start(subject, text), up_to(at, text)))
+}
+
+fn filter_words(subject: Subject, text: &[u8], at: usize) -> &'static str
+    ensures { result.now ≡ wording.filter_words subject text.now at }
+{
+    filter_due_words(filter_due_at(subject, text, at), after(at, text))
+}
+
+fn operator_words(rest: &[u8]) -> &'static str
+    ensures { result.now ≡ wording.operator_words rest.now }
+{
+    match rest {
+        [b'~', ..] => "a number doesn't take `~`",
+        _ => "a string takes no operator but `==`, `!=` and `~`",
+    }
+}
+
+/// What is wrong with a field of a trigger: before the first blank it is no filter's.
+fn trigger_operator_words(text: &[u8], at: usize) -> &'static str
+    ensures { result.now ≡ wording.wrong_operator_words Subject.Trigger text.now at }
+{
+    let front = up_to(at, text);
+    if has_blank(front) {
+        operator_words(after(at, text))
+    } else {
+        hist_field_words(front)
+    }
+}
+
+fn wrong_operator_words(subject: Subject, text: &[u8], at: usize) -> &'static str
+    ensures { result.now ≡ wording.wrong_operator_words subject text.now at }
+{
+    match subject {
+        Subject::Trigger => trigger_operator_words(text, at),
+        _ => operator_words(after(at, text)),
+    }
+}
+
+fn exists_words(text: &[u8]) -> &'static str
+    ensures { result.now ≡ wording.exists_words text.now }
+{
+    if begins(b"snapshot", text) {
+        "the event has a snapshot trigger already"
+    } else if attribute_at(b":name=", text).is_some() {
+        "the event has this trigger already, or it doesn't fit the table of its name"
+    } else {
+        "the event has this trigger already"
+    }
+}
+
+fn semicolons(text: &[u8]) -> usize
+    ensures { result ≡ count_by wording.is_semicolon text.now }
+{
+    text.iter().filter(|byte| **byte == b';').count()
+}
+
+/// Whether a declaration has over 16 fields.
+fn has_many_fields(text: &[u8]) -> bool
+    ensures { result ≡ wording.has_many_fields text.now }
+{
+    let most = if ends_with(b';', text) { 16 } else { 15 };
+    semicolons(text) > most
+}
+
+fn declaration_most_words(text: &[u8]) -> &'static str
+    ensures { result.now ≡ wording.declaration_most_words text.now }
+{
+    if has_many_fields(trim_end(text)) {
+        "an event has at most 16 fields"
+    } else {
+        "there are 64 events already"
+    }
+}
+
+fn filter_most_words(filter: &[u8]) -> &'static str
+    ensures { result.now ≡ wording.filter_most_words filter.now }
+{
+    if trim(filter).len() > 1024 {
+        "a filter has at most 1,024 bytes"
+    } else {
+        "at most 16 `!` and `(` may be open"
+    }
+}
+
+fn openings(filter: &[u8]) -> usize
+    ensures { result ≡ count_by wording.is_opening filter.now }
+{
+    filter
+        .iter()
+        .filter(|byte| matches!(**byte, b'!' | b'('))
+        .count()
+}
+
+fn condition_most_words(filter: &[u8]) -> &'static str
+    ensures { result.now ≡ wording.condition_most_words filter.now }
+{
+    if trim(filter).len() > 1024 {
+        "a filter has at most 1,024 bytes"
+    } else if openings(filter) > 16 {
+        "at most 16 `!` and `(` may be open"
+    } else {
+        "the event has four triggers already"
+    }
+}
+
+fn has_over(most: usize, attribute: &[u8], text: &[u8]) -> bool
+    ensures { result ≡ wording.has_over most attribute.now text.now }
+{
+    items_of(attribute, text) > most
+}
+
+fn has_values(attribute: &[u8], text: &[u8]) -> bool
+    ensures { result ≡ wording.has_values attribute.now text.now }
+{
+    values_of(attribute, text) > 3
+}
+
+#[tactic(auto, unfolding(crate::specs::Wording::trigger_most_words))]
+fn trigger_most_words(text: &[u8]) -> &'static str
+    ensures { result.now ≡ wording.trigger_most_words text.now }
+{
+    if has_over(3, b":keys=", text) || has_over(3, b":key=", text) {
+        "a hist trigger has at most three keys"
+    } else if has_values(b":values=", text)
+        || has_values(b":vals=", text)
+        || has_values(b":val=", text)
+    {
+        "a hist trigger has at most three values"
+    } else if has_over(2, b":sort=", text) {
+        "a hist trigger is sorted by at most two names"
+    } else {
+        condition_most_words(condition(text))
+    }
+}
+
+#[tactic(auto, unfolding(crate::specs::Wording::most_words))]
+fn most_words(subject: Subject, text: &[u8]) -> &'static str
+    ensures { result.now ≡ wording.most_words subject text.now }
+{
+    match subject {
+        Subject::Declaration => declaration_most_words(text),
+        Subject::Instance => "there are eight instances already",
+        Subject::Trigger => trigger_most_words(text),
+        _ => filter_most_words(text),
     }
 }
 
 #[tactic(auto, unfolding(crate::specs::Wording::busy_words))]
 fn busy_words(subject: Subject) -> &'static str
-    ensures { result.now ≡ busy_words subject }
+    ensures { result.now ≡ wording.busy_words subject }
 {
     match subject {
-        Subject::Declaration => "an event is declared already, and more are declared by >>",
+        Subject::Declaration => "an event is declared already; declare more by `>>`",
         _ => "an event of the instance has a snapshot trigger",
     }
 }
 
-/// What is wrong with a command about this.
+fn declaration_words(text: &[u8], at: usize) -> &'static str
+    ensures { result.now ≡ wording.declaration_words text.now at }
+{
+    declaration_due_words(declaration_due(up_to(at, text)), after(at, text))
+}
+
+/// What is wrong with a command about this that writes this.
 #[tactic(auto, unfolding(crate::specs::Wording::refusal_words))]
-pub(crate) fn refusal_words(subject: Subject, refusal: &Refusal) -> &'static str
-    ensures { result.now ≡ refusal_words subject refusal.now }
+pub(crate) fn refusal_words(subject: Subject, text: &[u8], refusal: &Refusal) -> &'static str
+    ensures { result.now ≡ wording.refusal_words subject text.now refusal.now }
 {
     match refusal {
-        Refusal::NoSuchFile => "no file has this path",
+        Refusal::NoSuchFile => path_words(subject),
         Refusal::NotReadable => "the file can't be read",
         Refusal::NotWritable => "the file can't be written",
         Refusal::BadValue => value_words(subject),
-        Refusal::NoSuchEvent => "no such event is declared",
+        Refusal::NoSuchEvent => event_words(subject),
         Refusal::EventExists => "an event of this name is declared already",
-        Refusal::BadDefinition { .. } => "no declaration goes on, or ends, like this",
+        Refusal::BadDefinition { at } => declaration_words(text, *at),
         Refusal::TooBig => "a record of the event would be longer than a page",
-        Refusal::FilterSyntax { .. } => {
-            "no filter goes on, or ends, like this, or it needs a number here"
-        }
+        Refusal::FilterSyntax { at } => filter_words(subject, text, *at),
         Refusal::NoSuchField { .. } => "the event has no field of this name",
-        Refusal::WrongOperator { .. } => {
-            "the field doesn't take this operator, or it is a string, which has no sum and takes no modifier"
-        }
-        Refusal::HistSyntax { .. } => "no hist trigger goes on, or ends, like this",
-        Refusal::BadSize => {
-            "a size is from 128 to 131,072, once it is rounded up to a power of two"
-        }
-        Refusal::TriggerExists => {
-            "the event has such a trigger already, or the one that is written doesn't fit the table that it names"
-        }
+        Refusal::WrongOperator { at } => wrong_operator_words(subject, text, *at),
+        Refusal::HistSyntax { at } => hist_due_words(up_to(*at, text), after(*at, text)),
+        Refusal::BadSize => "expected a size from 65 to 131072",
+        Refusal::TriggerExists => exists_words(text),
         Refusal::NoSuchTrigger => "the event has no such trigger",
-        Refusal::TooMany => most_words(subject),
-        Refusal::InstanceExists => "an instance of this name is there already",
-        Refusal::NoSuchInstance => "no instance of this name is there",
+        Refusal::TooMany => most_words(subject, text),
+        Refusal::InstanceExists => "there is an instance of this name already",
+        Refusal::NoSuchInstance => "there is no instance of this name",
         Refusal::Busy => busy_words(subject),
-        Refusal::NoSuchCpu => "there are not so many CPUs",
+        Refusal::NoSuchCpu => "no CPU has this number",
         Refusal::BadRow { .. } => "the pairs are no row of the event",
         Refusal::HistoryFull => "the history is full",
         Refusal::Memory => "out of memory",
@@ -115,7 +362,7 @@ pub(crate) fn refusal_words(subject: Subject, refusal: &Refusal) -> &'static str
 /// What is wrong with a field.
 #[tactic(auto, unfolding(crate::specs::Wording::cause_words))]
 pub(crate) fn cause_words(cause: Cause) -> &'static str
-    ensures { result.now ≡ cause_words cause }
+    ensures { result.now ≡ wording.cause_words cause }
 {
     match cause {
         Cause::NotKnown => "it is unknown, repeated or missing, or its value is wrong",
@@ -129,21 +376,78 @@ pub(crate) fn cause_words(cause: Cause) -> &'static str
     }
 }
 
+/// How many bytes come before the end of a word.
+fn written_word_len(text: &[u8]) -> usize
+    ensures value { result ≡ prefix_len wording.is_in_word text.now }
+    ensures bound { result ≤ length text.now }
+{
+    text.iter()
+        .take_while(|byte| !(is_blank(**byte) || **byte == b'>'))
+        .count()
+}
+
+/// The first word, as it is written.
+pub(crate) fn word_of(text: &[u8]) -> &[u8]
+    ensures { result.now ≡ wording.word_of text.now }
+{
+    &text[..written_word_len(text)]
+}
+
+/// The first word of a line, as it is written.
+pub(crate) fn name_of(line: &[u8]) -> &[u8]
+    ensures { result.now ≡ wording.name_of line.now }
+{
+    word_of(rest_of(line, blanks_len(line)))
+}
+
+/// How a line of this name is written.
+#[tactic(auto, unfolding(crate::specs::Wording::usage_words))]
+fn usage_words(name: &[u8]) -> &'static str
+    ensures { result.now ≡ wording.usage_words name.now }
+{
+    if name == b"emit".as_slice() {
+        "expected `emit CPU PID EVENT FIELD=VALUE ..`"
+    } else if name == b"echo".as_slice() {
+        "expected `echo WORD .. > PATH`, or `>>`"
+    } else if name == b"cat".as_slice() {
+        "expected `cat PATH`"
+    } else if name == b"take".as_slice() {
+        "expected `take N PATH`"
+    } else if name == b"mkdir".as_slice() {
+        "expected `mkdir PATH`"
+    } else if name == b"rmdir".as_slice() {
+        "expected `rmdir PATH`"
+    } else {
+        "expected nothing more"
+    }
+}
+
+#[tactic(auto, unfolding(crate::specs::Wording::block_words))]
+fn block_words(name: &[u8]) -> &'static str
+    ensures { result.now ≡ wording.block_words name.now }
+{
+    if name == b"thread".as_slice() || name == b"end".as_slice() {
+        "no parallel part is open here"
+    } else if name == b"parallel".as_slice() {
+        "this is in a parallel part, or has no `end`"
+    } else {
+        "expected `thread` before the first command of a part"
+    }
+}
+
 /// What is wrong with a line that is no command.
 #[tactic(auto, unfolding(crate::specs::Wording::fault_words))]
-pub(crate) fn fault_words(fault: ScriptFault) -> &'static str
-    ensures { result.now ≡ fault_words fault }
+pub(crate) fn fault_words(line: &[u8], fault: ScriptFault) -> &'static str
+    ensures { result.now ≡ wording.fault_words line.now fault }
 {
     match fault {
         ScriptFault::LineTooLong => "the line has over 4,096 bytes",
         ScriptFault::BadByte => "this byte is neither a tab nor one from 0x20 to 0x7e",
         ScriptFault::UnclosedQuote => "this quote is not closed",
-        ScriptFault::UnknownCommand => "no command is called so",
-        ScriptFault::WrongWords => {
-            "too few or too many words, a redirection where none belongs, or a pair without ="
-        }
-        ScriptFault::BadNumber => "a CPU, a PID or an N is no decimal number in its range",
-        ScriptFault::BlockOutOfPlace => "a line of a parallel part can't be here",
-        ScriptFault::TooManyThreads => "a parallel part has eight threads at most",
+        ScriptFault::UnknownCommand => "unknown command",
+        ScriptFault::WrongWords => usage_words(name_of(line)),
+        ScriptFault::BadNumber => "expected a number in its range",
+        ScriptFault::BlockOutOfPlace => block_words(name_of(line)),
+        ScriptFault::TooManyThreads => "a parallel part has at most eight threads",
     }
 }

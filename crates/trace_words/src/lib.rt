@@ -1,6 +1,7 @@
 //! The command line of tracectl: what its words ask for, and what is told of words that are wrong.
 #![tactic(auto)]
 
+mod help;
 mod stop;
 mod words;
 

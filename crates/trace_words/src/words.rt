@@ -4,6 +4,7 @@ ghost use Rattle.std.specs.Prelude.{◌≡◌, ◌++◌, ◌∷◌, ◌^◌, [],
 ghost use Rattle.std.specs.List.{flat_map};
 ghost use Rattle.trace_command.specs.Configs.{IsInRange};
 
+use crate::help::{ABOUT, MORE, USAGE};
 use crate::stop::{Stop, told};
 use clap::error::ErrorKind;
 use clap::{Arg, ArgAction, Command, Error, value_parser};
@@ -21,51 +22,19 @@ const EXPLAIN: &str = "explain";
 
 const BARS: &str = "bars";
 
+const LIST: &str = "list";
+
+/// For `./tracectl`, which then builds no program. Here it does nothing.
+const TRY: &str = "try";
+
 const SCRIPT: &str = "SCRIPT";
 
 const LINE: &str = "LINE";
-
-const USAGE: &str = "tracectl [OPTIONS] SCRIPT
-       tracectl [OPTIONS] -c LINE ..";
 
 /// More entries than a script has room for.
 const HISTORY_LIMIT: u64 = 1 << 32;
 
 const VERSION: &str = "0.1.0";
-
-const ABOUT: &str =
-    "The control side of a tracer, without a kernel: does the commands of a script, and prints what they read.";
-
-/// What `--help` says of scripts.
-const SCRIPTS: &str = "\
-A script has one command on each line. A line that begins with # is a comment. After -c each word is a line, up to the next option.
-  emit CPU PID EVENT FIELD=VALUE ..  an event happens on a CPU, in a process
-  echo WORD .. > PATH                writes to a file, as does >>
-  cat PATH                           reads a file
-  take N PATH                        reads at most N records of a pipe
-  mkdir PATH, rmdir PATH             make and remove an instance
-  parallel, thread, end              threads of commands that are done side by side
-
-Files, as in Linux tracefs:
-  synthetic_events                   declarations of events
-  events/synthetic/EVENT/..          enable, filter, trigger, hist and format of an event
-  events/enable                      the switches of all events
-  trace, trace_pipe                  records of all CPUs: to look at, to consume
-  per_cpu/cpuN/..                    trace, trace_pipe and stats of one CPU
-  snapshot, tracing_on, options/overwrite
-  instances/NAME/..                  the same files of an instance
-
-These three lines record an event, which cat trace then shows as 7 [000] 1: tick: n=5:
-  echo 'tick u64 n' > synthetic_events
-  echo 1 > events/synthetic/tick/enable
-  emit 0 7 tick n=5
-
-Exit status:
-  0  every command was done
-  1  a command was refused, which a line of the output tells; the others were done
-  2  the command line is wrong, a number is out of range, or the script has a fault
-  3  out of memory
-  4  reading or writing failed, or SCRIPT can't be opened";
 
 /// Where the script comes from.
 #[derive(Drop)]
@@ -77,13 +46,15 @@ pub enum Script<'a> {
     Lines(Vec<u8>),
 }
 
-/// What is told on standard error beside a session.
+/// What is told beside a session.
 #[derive(Clone, Copy)]
 pub struct Notes {
-    /// What is wrong with a line.
+    /// What is wrong with a line, on standard error.
     pub explains: bool,
-    /// The histograms that are read, as bars.
+    /// The histograms that are read, as bars on standard error.
     pub draws: bool,
+    /// The files that there are after the script, on standard output.
+    pub lists: bool,
 }
 
 /// What the command line asks for.
@@ -130,19 +101,33 @@ fn with_config<'a>(alloc: Global, command: Command<'a>) -> Result<Command<'a>, A
     command.arg(cpus)?.arg(pages)?.arg(page_bytes)
 }
 
-/// A command with the options that have something told on standard error too.
+/// A command with the options that have something told too.
 fn with_notes<'a>(alloc: Global, command: Command<'a>) -> Result<Command<'a>, AllocError> {
     let explain = flag(
         alloc,
         EXPLAIN,
-        "After a refusal or a fault, tell on standard error what is wrong and where",
+        "Explain on standard error what is wrong with a line that is refused or has a fault",
     );
     let bars = flag(
         alloc,
         BARS,
-        "After each cat of a hist file, draw its counts as bars on standard error",
+        "Draw on standard error each histogram that is read",
     );
-    command.arg(explain)?.arg(bars)
+    let list = flag(
+        alloc,
+        LIST,
+        "After the script, print the files that there are, each after r, w or rw",
+    );
+    command.arg(explain)?.arg(bars)?.arg(list)
+}
+
+/// A command with the option of a first look too.
+fn with_try<'a>(alloc: Global, command: Command<'a>) -> Result<Command<'a>, AllocError> {
+    command.arg(flag(
+        alloc,
+        TRY,
+        "Without a built program, run SCRIPT unproved: at most 60 seconds and 1 MiB of output",
+    ))
 }
 
 /// A command with the words that say which lines are to be done too: either the script that has them, or the lines themselves.
@@ -165,9 +150,10 @@ fn command<'a>(alloc: Global) -> Result<Command<'a>, AllocError> {
         .version(VERSION)
         .about(ABOUT)
         .override_usage(USAGE)
-        .after_help(SCRIPTS);
+        .after_help(MORE);
     let command = with_config(alloc, command)?;
     let command = with_notes(alloc, command)?;
+    let command = with_try(alloc, command)?;
     with_script(alloc, command)
 }
 
@@ -228,6 +214,7 @@ fn parsed<'a>(alloc: Global, words: &'a [String]) -> Result<Words<'a>, Error>
     let notes = Notes {
         explains: matches.get_flag(EXPLAIN),
         draws: matches.get_flag(BARS),
+        lists: matches.get_flag(LIST),
     };
     Ok(Words {
         config,

@@ -2,27 +2,30 @@
 
 ghost use Rattle.std.specs.Prelude.{◌≡◌, ◌++◌, None, OnOk};
 ghost use Rattle.std.specs.Io.KnownBytes.{Appends};
-ghost use Rattle.trace_explain.specs.Explanations.{declared_by, explanation};
+ghost use Rattle.trace_explain.specs.Events.{declared_by};
+ghost use Rattle.trace_explain.specs.Explanations.{explanation};
 
 use std::alloc::Global;
 use std::io;
 use std::io::Write;
-use trace_explain::Explainer;
+use trace_explain::{Explainer, ScriptLine};
 use trace_script::Outcome;
 use trace_session::{Output, Sink};
 
 /// The output of a session, and a second writer, to which it is told what is wrong with a line that was refused or has a fault.
 #[derive(Drop)]
-pub struct Explained<W, E> {
+pub struct Explained<'a, W, E> {
+    script: &'a str,
     output: Output<W>,
     errors: E,
     explainer: Explainer,
 }
 
-impl<W: Write, E: Write> Explained<W, E> {
-    /// The two writers, before the first line.
-    pub fn new(alloc: Global, output: W, errors: E) -> Explained<W, E> {
+impl<'a, W: Write, E: Write> Explained<'a, W, E> {
+    /// The name of the script, and the two writers, before the first line.
+    pub fn new(alloc: Global, script: &'a str, output: W, errors: E) -> Explained<'a, W, E> {
         Explained {
+            script,
             output: Output::new(output),
             errors,
             explainer: Explainer::new(alloc),
@@ -30,20 +33,26 @@ impl<W: Write, E: Write> Explained<W, E> {
     }
 
     /// Tells what is wrong with a line, if anything is, and remembers an event that it declared.
-    fn explain(&mut self, line: &[u8], outcome: &Outcome) -> io::Result<()>
+    fn explain(&mut self, number: usize, line: &[u8], outcome: &Outcome) -> io::Result<()>
         ensures told { OnOk result (Appends (E.contents self.old.errors) (E.contents self.new.errors)
-            (explanation self.old.explainer line.now outcome.now)) }
+            (explanation self.old.script.now number self.old.explainer line.now outcome.now)) }
         ensures heard { OnOk result (self.new.explainer ≡ self.old.explainer ++ declared_by line.now outcome.now) }
         ensures output { self.new.output ≡ self.old.output }
     {
-        let text = self.explainer.explain(line, outcome)?;
+        let script = self.script.as_bytes();
+        let at = ScriptLine {
+            script,
+            number,
+            text: line,
+        };
+        let text = self.explainer.explain(at, outcome)?;
         self.errors.write_all(&text)?;
         self.explainer.hear(line, outcome)?;
         Ok(())
     }
 }
 
-impl<W: Write, E: Write> Sink for Explained<W, E> {
+impl<'a, W: Write, E: Write> Sink for Explained<'a, W, E> {
     ghost contents = { λ explained. W.contents explained.output.device };
 
     ghost failures = { λ explained. explained.output.failures };
@@ -58,10 +67,10 @@ impl<W: Write, E: Write> Sink for Explained<W, E> {
         true
     }
 
-    fn hear(&mut self, _number: usize, line: &[u8], outcome: &Option<Outcome>) {
+    fn hear(&mut self, number: usize, line: &[u8], outcome: &Option<Outcome>) {
         if let Some(outcome) = outcome {
             // What can't be told stops nothing: the session is its output.
-            let _ = self.explain(line, outcome);
+            let _ = self.explain(number, line, outcome);
         }
     }
 }

@@ -4,12 +4,14 @@
 mod bars;
 mod drawn;
 mod explained;
+mod listed;
 mod stop;
 
 ghost use Rattle.trace_command.specs.Configs.{IsInRange};
 
 use drawn::Drawn;
 use explained::Explained;
+use listed::Listed;
 use std::fs::File;
 use std::io::Read;
 use std::process::ExitCode;
@@ -20,33 +22,37 @@ use trace_command::Config;
 use trace_session::{Input, OpenGate, Output, Sink, Status, run_session};
 use trace_words::{Notes, Script, Stop, Words, words_of};
 
-/// Does the session of a script with this output, its parts on these threads.
+/// Does the session of a script with this output, its parts on these threads, and lists the files after it, if that was asked for.
 fn session_to<R: Read + Drop, W: Sink + Drop>(
     rt: &HostRuntime,
     threads: &(impl Threads + Wait + Sync),
     config: Config,
+    lists: bool,
     script: R,
-    mut output: W,
+    output: W,
 ) -> Status
     requires { IsInRange config }
 {
     let mut input = Input::new(script);
-    run_session(
+    let mut output = Listed::new(rt.alloc(), output, lists);
+    let status = run_session(
         threads,
         rt.alloc(),
         config,
         &mut input,
         &mut output,
         &OpenGate,
-    )
+    );
+    output.end(config.cpus, status, rt.stdout())
 }
 
-/// Does the session of a script, its parts on these threads, and tells on standard error what is asked for beside it.
+/// Does the session of a script, its parts on these threads, and tells what is asked for beside it.
 fn session<R: Read + Drop>(
     rt: &HostRuntime,
     threads: &(impl Threads + Wait + Sync),
     config: Config,
     notes: Notes,
+    name: &str,
     script: R,
 ) -> Status
     requires { IsInRange config }
@@ -54,21 +60,21 @@ fn session<R: Read + Drop>(
     match (notes.explains, notes.draws) {
         (false, false) => {
             let output = Output::new(rt.stdout());
-            session_to(rt, threads, config, script, output)
+            session_to(rt, threads, config, notes.lists, script, output)
         }
         (true, false) => {
-            let output = Explained::new(rt.alloc(), rt.stdout(), rt.stderr());
-            session_to(rt, threads, config, script, output)
+            let output = Explained::new(rt.alloc(), name, rt.stdout(), rt.stderr());
+            session_to(rt, threads, config, notes.lists, script, output)
         }
         (false, true) => {
             let output = Output::new(rt.stdout());
             let output = Drawn::new(rt.alloc(), output, rt.stderr());
-            session_to(rt, threads, config, script, output)
+            session_to(rt, threads, config, notes.lists, script, output)
         }
         (true, true) => {
-            let output = Explained::new(rt.alloc(), rt.stdout(), rt.stderr());
+            let output = Explained::new(rt.alloc(), name, rt.stdout(), rt.stderr());
             let output = Drawn::new(rt.alloc(), output, rt.stderr());
-            session_to(rt, threads, config, script, output)
+            session_to(rt, threads, config, notes.lists, script, output)
         }
     }
 }
@@ -84,10 +90,10 @@ fn run(rt: &HostRuntime, threads: &(impl Threads + Wait + Sync)) -> Result<Statu
     let status = match script {
         Script::File(name) => {
             let file = File::open(rt, name).map_err(|_| Stop::Device)?;
-            session(rt, threads, config, notes, file)
+            session(rt, threads, config, notes, name, file)
         }
-        Script::Input => session(rt, threads, config, notes, rt.stdin()),
-        Script::Lines(lines) => session(rt, threads, config, notes, lines.as_slice()),
+        Script::Input => session(rt, threads, config, notes, "<stdin>", rt.stdin()),
+        Script::Lines(lines) => session(rt, threads, config, notes, "-c", lines.as_slice()),
     };
     Ok(status)
 }

@@ -1,0 +1,111 @@
+-- What a hist trigger may go on with, by the bytes before.
+use Rattle.std.specs.Prelude.{ℕ, ◌+◌, ◌-◌, Bool, false, not, Option, Some, None, slice_get, ◌||◌, ◌==◌, if◌then◌else◌, List, [], ◌∷◌, length, take, drop, reverse, codes}
+use Rattle.std.specs.List.{count_by, prefix_len}
+use Rattle.std.specs.Option.{is_some}
+use Rattle.std.specs.Str.{bytes_eq}
+use Rattle.trace_lex.specs.Blanks.{is_blank}
+use Rattle.trace_lex.specs.Prefixes.{is_not}
+use Rattle.trace_trigger.specs.TriggerTexts.{begins}
+use Rattle.trace_explain.specs.Bytes.{has_blank}
+
+-- what follows the last `:`
+abbrev pub last_part : List ℕ → List ℕ
+last_part front = drop (length front - prefix_len (is_not 58) (reverse front)) front
+
+-- the attribute that some bytes begin with
+abbrev pub is_in_attribute : ℕ → Bool
+is_in_attribute b = not (is_blank b || b == 58)
+
+abbrev pub first_part : List ℕ → List ℕ
+first_part rest = take (prefix_len is_in_attribute rest) rest
+
+abbrev pub is_byte : ℕ → Option ℕ → Bool
+is_byte byte None = false
+is_byte byte (Some b) = b == byte
+
+-- whether a part ends with a byte
+abbrev pub ends_with : ℕ → List ℕ → Bool
+ends_with byte part = is_byte byte (slice_get part (length part - 1))
+
+abbrev pub is_keys : List ℕ → Bool
+is_keys part = begins (codes "keys=") part || begins (codes "key=") part
+
+abbrev pub is_values : List ℕ → Bool
+is_values part = begins (codes "values=") part || (begins (codes "vals=") part || begins (codes "val=") part)
+
+abbrev pub is_action : List ℕ → Bool
+is_action part = (bytes_eq part (codes "pause") || bytes_eq part (codes "continue")) || (bytes_eq part (codes "cont") || bytes_eq part (codes "clear"))
+
+-- what is wrong with this attribute
+unfoldable pub attribute_words : List ℕ → List ℕ
+attribute_words part =
+    if begins (codes "size=") part then codes "expected one `size=` and its digits"
+    else (if is_action part then codes "there is an action already"
+    else (if (is_keys part || is_values part) || (begins (codes "sort=") part || begins (codes "name=") part) then codes "this attribute is there already"
+    else codes "expected an attribute, as `keys=`"))
+
+-- a key is due
+abbrev pub key_words : List ℕ → List ℕ
+key_words part =
+    if ends_with 44 part then codes "expected another field, alone or with `.hex`, `.log2` or `.buckets=N`"
+    else codes "expected a field, alone or with `.hex`, `.log2` or `.buckets=N`"
+
+-- a value is due
+abbrev pub value_words : List ℕ → List ℕ
+value_words part = if ends_with 44 part then codes "expected another field" else codes "expected a field"
+
+-- what is wrong after this beginning of an attribute, where an item is due
+unfoldable pub item_words : List ℕ → List ℕ
+item_words part =
+    if is_keys part then key_words part
+    else (if is_values part then value_words part
+    else (if begins (codes "sort=") part then codes "expected `hitcount`, a key or a value, alone or with `.ascending` or `.descending`"
+    else codes "expected a table's name"))
+
+-- after these bytes, the last of which are of this attribute, and before these
+abbrev pub part_words : List ℕ → List ℕ → List ℕ
+part_words [] rest = attribute_words (first_part rest)
+part_words (b ∷ bs) rest =
+    if ends_with 61 (b ∷ bs) || ends_with 44 (b ∷ bs) then item_words (b ∷ bs) else codes "expected `:keys=` and a field"
+
+-- where a hist trigger is wrong: after these bytes, and before these
+abbrev pub hist_due_words : List ℕ → List ℕ → List ℕ
+hist_due_words front rest =
+    if has_blank front then codes "expected `if` and a filter" else part_words (last_part front) rest
+
+-- what is wrong with a field that a hist trigger names after these bytes, if it is not in the filter
+abbrev pub field_words : List ℕ → List ℕ
+field_words front = if is_keys (last_part front) then codes "a string takes no modifier" else codes "a string has no sum"
+
+-- whether an attribute, given with the `:` before it, begins here
+unfoldable pub is_attribute : List ℕ → List ℕ → Bool
+is_attribute attribute text = begins attribute text
+
+-- where it is in the rest of a trigger, which begins at `at`
+abbrev pub attribute_from : List ℕ → ℕ → List ℕ → Option ℕ
+attribute_from attribute at [] = None
+attribute_from attribute at (b ∷ bs) = if is_attribute attribute (b ∷ bs) then Some at else attribute_from attribute (at + 1) bs
+
+unfoldable pub attribute_at : List ℕ → List ℕ → Option ℕ
+attribute_at attribute text = attribute_from attribute 0 text
+
+abbrev pub is_comma : ℕ → Bool
+is_comma b = b == 44
+
+abbrev pub items_in : Option ℕ → List ℕ → ℕ
+items_in None text = 0
+items_in (Some at) text = count_by is_comma (first_part (drop (at + 1) text)) + 1
+
+-- how many items an attribute has, 0 if it is not there
+abbrev pub items_of : List ℕ → List ℕ → ℕ
+items_of attribute text = items_in (attribute_at attribute text) text
+
+-- how many values it has besides `hitcount`
+abbrev pub values_in : Option ℕ → List ℕ → ℕ
+values_in None text = 0
+values_in (Some at) text =
+    if is_some (attribute_at (codes "hitcount") (first_part (drop (at + 1) text))) then count_by is_comma (first_part (drop (at + 1) text))
+    else count_by is_comma (first_part (drop (at + 1) text)) + 1
+
+abbrev pub values_of : List ℕ → List ℕ → ℕ
+values_of attribute text = values_in (attribute_at attribute text) text

@@ -1,0 +1,123 @@
+-- Names that are near another one, for `did you mean ..?`.
+use Rattle.std.specs.Prelude.{ℕ, ◌+◌, ◌-◌, Bool, false, not, nat_le, ◌&&◌, ◌||◌, ◌==◌, if◌then◌else◌, List, [], ◌∷◌, ◌++◌, length, drop, Option, Some, None, find, option_map, codes}
+use Rattle.std.specs.Str.{bytes_eq}
+use Rattle.trace_format.specs.Definitions.{Definition}
+use Rattle.trace_format.specs.declared.event.Field.{Field}
+
+-- how many bytes two strings begin with alike
+abbrev pub common_len : List ℕ → List ℕ → ℕ
+common_len [] bs = 0
+common_len (a ∷ more) [] = 0
+common_len (a ∷ more) (b ∷ bs) = if a == b then common_len more bs + 1 else 0
+
+-- alike without so many bytes at the beginning of each
+abbrev pub is_alike : ℕ → ℕ → List ℕ → List ℕ → Bool
+is_alike i j a b = bytes_eq (drop i a) (drop j b)
+
+-- the first two bytes are exchanged
+abbrev pub swapped_pair : ℕ → ℕ → List ℕ → List ℕ → Bool
+swapped_pair first second rest [] = false
+swapped_pair first second rest (b ∷ []) = false
+swapped_pair first second rest (b ∷ c ∷ bs) = (first == c && second == b) && bytes_eq rest bs
+
+abbrev pub is_swapped : List ℕ → List ℕ → Bool
+is_swapped [] name = false
+is_swapped (first ∷ []) name = false
+is_swapped (first ∷ second ∷ rest) name = swapped_pair first second rest name
+
+-- a byte is another one, is there too much, or is left out, or two are exchanged
+abbrev pub is_one_off : List ℕ → List ℕ → Bool
+is_one_off a b = (is_alike 1 1 a b || (is_alike 1 0 a b || is_alike 0 1 a b)) || is_swapped a b
+
+-- two bytes in a row are others, there too much, or left out
+abbrev pub is_two_off : List ℕ → List ℕ → Bool
+is_two_off a b = is_alike 2 2 a b || (is_alike 2 0 a b || is_alike 0 2 a b)
+
+-- one string ends with another
+abbrev pub ends_so : List ℕ → List ℕ → Bool
+ends_so end text = nat_le (length end) (length text) && bytes_eq (drop (length text - length end) text) end
+
+-- what is left of strings without what they begin with alike: of three bytes one may be wrong, of six bytes two
+abbrev pub is_near_end : ℕ → List ℕ → List ℕ → Bool
+is_near_end len a b = (nat_le 3 len && is_one_off a b) || (nat_le 6 len && is_two_off a b)
+
+unfoldable pub is_near : List ℕ → List ℕ → Bool
+is_near given name =
+    not (bytes_eq given name) && is_near_end (length given) (drop (common_len given name) given) (drop (common_len given name) name)
+
+-- or the given string is the name without some bytes in a row
+unfoldable pub is_near_path : List ℕ → List ℕ → Bool
+is_near_path given name =
+    is_near given name
+    || ((not (bytes_eq given name) && nat_le 4 (length given)) && ends_so (drop (common_len given name) given) (drop (common_len given name) name))
+
+-- the first of these events whose name is near
+abbrev pub near_event : List ℕ → List Definition → Option (List ℕ)
+near_event given events = option_map (λ event. event.name) (find (λ event. is_near given event.name) events)
+
+-- the first of these fields whose name is near
+abbrev pub near_field : List ℕ → List Field → Option (List ℕ)
+near_field given fields = option_map (λ field. field.name) (find (λ field. is_near given field.name) fields)
+
+-- ---- names that are always there
+
+abbrev pub or_near : List ℕ → List ℕ → List ℕ → List ℕ
+or_near given name other = if is_near given name then name else other
+
+abbrev pub or_near_path : List ℕ → List ℕ → List ℕ → List ℕ
+or_near_path given name other = if is_near_path given name then name else other
+
+-- the first line of a script whose name is near; nothing, if none is
+unfoldable pub near_command : List ℕ → List ℕ
+near_command given =
+    or_near given (codes "emit") (or_near given (codes "echo") (or_near given (codes "cat") (or_near given (codes "take") (or_near given (codes "mkdir")
+    (or_near given (codes "rmdir") (or_near given (codes "parallel") (or_near given (codes "thread") (or_near given (codes "end") []))))))))
+
+-- the first file of a CPU whose path is near; nothing, if none is
+unfoldable pub near_cpu_file : List ℕ → List ℕ
+near_cpu_file given =
+    or_near_path given (codes "per_cpu/cpu0/stats") (or_near_path given (codes "per_cpu/cpu0/trace")
+    (or_near_path given (codes "per_cpu/cpu0/trace_pipe") []))
+
+-- or else, before these, of all events below their system
+unfoldable pub near_system_file : List ℕ → List ℕ
+near_system_file given =
+    or_near_path given (codes "events/synthetic/enable") (or_near_path given (codes "events/synthetic/filter") (near_cpu_file given))
+
+-- or else, before these, of an option or of all events
+unfoldable pub near_lower_file : List ℕ → List ℕ
+near_lower_file given = or_near_path given (codes "options/overwrite") (or_near_path given (codes "events/enable") (near_system_file given))
+
+-- the first file of no event whose path is near; nothing, if none is
+unfoldable pub near_file : List ℕ → List ℕ
+near_file given =
+    or_near_path given (codes "trace") (or_near_path given (codes "trace_pipe") (or_near_path given (codes "tracing_on")
+    (or_near_path given (codes "trace_options") (or_near_path given (codes "snapshot") (or_near_path given (codes "synthetic_events")
+    (near_lower_file given))))))
+
+-- ---- files of events
+
+-- the path of an event's file
+unfoldable pub event_path : List ℕ → List ℕ → List ℕ
+event_path event file = codes "events/synthetic/" ++ event ++ codes "/" ++ file
+
+-- a first choice, or else a second
+abbrev pub or_else : Option (List ℕ) → Option (List ℕ) → Option (List ℕ)
+or_else None other = other
+or_else (Some path) other = Some path
+
+-- the path of an event's file, if it is near
+abbrev pub near_event_path : List ℕ → List ℕ → List ℕ → Option (List ℕ)
+near_event_path given event file = if is_near_path given (event_path event file) then Some (event_path event file) else None
+
+-- the first file of an event whose path is near
+abbrev pub near_file_of : List ℕ → List ℕ → Option (List ℕ)
+near_file_of given event =
+    or_else (near_event_path given event (codes "enable")) (or_else (near_event_path given event (codes "filter"))
+    (or_else (near_event_path given event (codes "trigger")) (or_else (near_event_path given event (codes "hist"))
+    (near_event_path given event (codes "format")))))
+
+-- the first file of one of these events whose path is near
+abbrev pub near_event_file : List ℕ → List Definition → Option (List ℕ)
+near_event_file given [] = None
+near_event_file given (event ∷ events) = or_else (near_file_of given event.name) (near_event_file given events)

@@ -1,0 +1,175 @@
+//! What a filter may go on with.
+
+ghost use Rattle.std.specs.Prelude.{◌≡◌};
+ghost use Rattle.trace_script.specs.Tokens as tokens;
+ghost use Rattle.trace_explain.specs.FilterDue.{takes_equal, after_operator, after_value, due_after, due_from, quoted_words, value_due_words, joint_words, filter_due_words, operator_meant_at, operator_meant};
+
+use crate::cut::has_byte;
+use trace_lex::{is_blank, is_name_byte};
+
+/// What comes next, after bytes with which a filter can begin.
+#[derive(Clone, Copy, PartialEq, Eq)]
+pub(crate) enum FilterDue {
+    /// A field's name, `!` or `(`.
+    Operand,
+    /// More of a name, or an operator.
+    Name,
+    Operator,
+    /// More of an operator that begins with this byte, or a value.
+    Compared(u8),
+    Value,
+    /// More of a value without quotes, or what may follow it.
+    Bare,
+    /// More of a value in these quotes.
+    Quoted(u8),
+    /// `&&`, `||` or `)`.
+    Joint,
+    /// The second byte of `&&` or `||`.
+    Joined,
+}
+
+fn is_quote(byte: u8) -> bool
+    ensures { result ≡ tokens.is_quote byte }
+{
+    byte == b'\'' || byte == b'"'
+}
+
+/// Whether an `=` can be the second byte of an operator that begins with this one.
+fn takes_equal(first: u8) -> bool
+    ensures { result ≡ takes_equal first }
+{
+    matches!(first, b'=' | b'!' | b'<' | b'>')
+}
+
+fn after_operator(byte: u8) -> FilterDue
+    ensures { result ≡ after_operator byte }
+{
+    if is_blank(byte) {
+        FilterDue::Value
+    } else if is_quote(byte) {
+        FilterDue::Quoted(byte)
+    } else {
+        FilterDue::Bare
+    }
+}
+
+fn after_value(byte: u8) -> FilterDue
+    ensures { result ≡ after_value byte }
+{
+    if is_blank(byte) || byte == b')' {
+        FilterDue::Joint
+    } else {
+        FilterDue::Joined
+    }
+}
+
+fn after_name(byte: u8) -> FilterDue
+    ensures { result ≡ due_after FilterDue.Name byte }
+{
+    if is_blank(byte) {
+        FilterDue::Operator
+    } else if is_name_byte(byte) {
+        FilterDue::Name
+    } else {
+        FilterDue::Compared(byte)
+    }
+}
+
+/// What comes next, after one more byte.
+fn due_after(due: FilterDue, byte: u8) -> FilterDue
+    ensures { result ≡ due_after due byte }
+{
+    match due {
+        FilterDue::Operand if is_blank(byte) || byte == b'(' || byte == b'!' => due,
+        FilterDue::Operand => FilterDue::Name,
+        FilterDue::Name => after_name(byte),
+        FilterDue::Operator if is_blank(byte) => due,
+        FilterDue::Operator => FilterDue::Compared(byte),
+        FilterDue::Compared(first) if byte == b'=' && takes_equal(first) => FilterDue::Value,
+        FilterDue::Compared(_) | FilterDue::Value => after_operator(byte),
+        FilterDue::Bare if is_blank(byte) || matches!(byte, b')' | b'&' | b'|') => after_value(
+            byte,
+        ),
+        FilterDue::Bare => due,
+        FilterDue::Quoted(quote) if byte == quote => FilterDue::Joint,
+        FilterDue::Quoted(_) => due,
+        FilterDue::Joint => after_value(byte),
+        FilterDue::Joined => FilterDue::Operand,
+    }
+}
+
+/// What comes next after these bytes of a filter.
+pub(crate) fn filter_due(bytes: &[u8]) -> FilterDue
+    ensures { result ≡ due_from FilterDue.Operand bytes.now }
+{
+    let mut due = FilterDue::Operand;
+    for byte in bytes {
+        due = due_after(due, *byte);
+    }
+    due
+}
+
+/// What is wrong with a quoted value.
+fn quoted_words(quote: u8, rest: &[u8]) -> &'static str
+    ensures { result.now ≡ quoted_words quote rest.now }
+{
+    if has_byte(quote, rest) {
+        "expected a number, without quotes"
+    } else {
+        "this quote is not closed"
+    }
+}
+
+fn value_due_words(rest: &[u8]) -> &'static str
+    ensures { result.now ≡ value_due_words rest.now }
+{
+    match rest {
+        [] => "expected a value",
+        [quote, rest @ ..] if is_quote(*quote) => quoted_words(*quote, rest),
+        [b'(' | b')' | b'&' | b'|', ..] => "expected a value",
+        _ => "expected a number",
+    }
+}
+
+fn joint_words(rest: &[u8]) -> &'static str
+    ensures { result.now ≡ joint_words rest.now }
+{
+    match rest {
+        [] => "expected `)`",
+        [b')', ..] => "no `(` is open before this `)`",
+        _ => "expected `&&` or `||`",
+    }
+}
+
+/// What is wrong with a filter where these bytes follow.
+pub(crate) fn filter_due_words(due: FilterDue, rest: &[u8]) -> &'static str
+    ensures { result.now ≡ filter_due_words due rest.now }
+{
+    match due {
+        FilterDue::Operand | FilterDue::Joined => "expected a field, `!` or `(`",
+        FilterDue::Name | FilterDue::Operator => "expected an operator",
+        FilterDue::Compared(_) | FilterDue::Value => value_due_words(rest),
+        FilterDue::Bare | FilterDue::Quoted(_) | FilterDue::Joint => joint_words(rest),
+    }
+}
+
+fn operator_meant_at(due: FilterDue, byte: u8) -> &'static str
+    ensures { result.now ≡ operator_meant_at due byte }
+{
+    match (due, byte) {
+        (FilterDue::Name | FilterDue::Operator, b'=') => "==",
+        (FilterDue::Bare | FilterDue::Joint, b'&') => "&&",
+        (FilterDue::Bare | FilterDue::Joint, b'|') => "||",
+        _ => "",
+    }
+}
+
+/// The operator that is meant where half of one is written; empty, if none is.
+pub(crate) fn operator_meant(due: FilterDue, rest: &[u8]) -> &'static str
+    ensures { result.now ≡ operator_meant due rest.now }
+{
+    match rest {
+        [] => "",
+        [byte, ..] => operator_meant_at(due, *byte),
+    }
+}

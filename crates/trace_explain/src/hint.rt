@@ -1,0 +1,206 @@
+//! What was meant, if something that is near is there.
+
+ghost use Rattle.std.specs.Prelude.{◌≡◌, ◌≤◌, Some, IfOk, length, option_map};
+ghost use Rattle.std.specs.List.{prefix_len};
+ghost use Rattle.trace_lex.specs.Names as names;
+ghost use Rattle.trace_command.specs.FileNames.{bytes_now};
+ghost use Rattle.trace_explain.specs.Hints as hints;
+
+use crate::cut::{after, up_to};
+use crate::event::event_named;
+use crate::filter_due::operator_meant;
+use crate::hist_due::begins;
+use crate::near::{near_command, near_event, near_event_file, near_field, near_file};
+use crate::wording::{command_subject, filter_due_at, name_of};
+use std::alloc::{AllocError, Global};
+use trace_command::{Command, FileName, Refusal, address_of};
+use trace_format::EventDef;
+use trace_lex::{is_name_byte, len_before};
+use trace_script::ScriptFault;
+
+/// How many bytes `instances/NAME/` has, where this follows its first `/`; 0, if it is no such path.
+fn below_instance(rest: &[u8]) -> usize
+    ensures { result ≡ hints.below_instance rest.now }
+{
+    let len = len_before(b'/', rest);
+    if 0 < len && len < rest.len() {
+        10 + len + 1
+    } else {
+        0
+    }
+}
+
+/// How many bytes of a path are before what it names in an instance.
+fn instance_len(path: &[u8]) -> usize
+    ensures { result ≡ hints.instance_len path.now }
+{
+    if begins(b"instances/", path) {
+        below_instance(after(10, path))
+    } else {
+        0
+    }
+}
+
+/// The first file whose path, without that of an instance, is near; empty, if none is.
+fn near_rest(alloc: Global, events: &[EventDef], given: &[u8]) -> Result<Vec<u8>, AllocError>
+    ensures { IfOk result (λ found. found.items ≡ hints.near_rest events.now given.now) }
+{
+    let file = near_file(given);
+    if !file.is_empty() {
+        return Vec::from_slice(alloc, file.as_bytes());
+    }
+    match near_event_file(alloc, given, events)? {
+        Some(path) => Ok(path),
+        None => Ok(Vec::new(alloc)),
+    }
+}
+
+fn with_front(alloc: Global, front: &[u8], rest: &[u8]) -> Result<Vec<u8>, AllocError>
+    ensures { IfOk result (λ text. text.items ≡ hints.with_front front.now rest.now) }
+{
+    if rest.is_empty() {
+        return Ok(Vec::new(alloc));
+    }
+    let mut text = Vec::from_slice(alloc, front)?;
+    text.extend_from_slice(rest)?;
+    Ok(text)
+}
+
+/// The first file whose path is near; empty, if none is.
+#[tactic(auto, unfolding(crate::specs::Hints::near_path))]
+fn near_path(alloc: Global, events: &[EventDef], path: &[u8]) -> Result<Vec<u8>, AllocError>
+    ensures { IfOk result (λ found. found.items ≡ hints.near_path events.now path.now) }
+{
+    let len = instance_len(path);
+    let rest = near_rest(alloc, events, after(len, path))?;
+    with_front(alloc, up_to(len, path), &rest)
+}
+
+/// The event that a path names, if it names one.
+fn event_in_path(path: &[u8]) -> Option<&[u8]>
+    ensures { option_map bytes_now result ≡ hints.event_in_path path.now }
+{
+    match address_of(path).file {
+        Some(FileName::OfEvent(name, _)) => Some(name),
+        _ => None,
+    }
+}
+
+/// The event that a command names, if it names one.
+fn event_of(command: &Command) -> Option<&[u8]>
+    ensures { option_map bytes_now result ≡ hints.event_of command.now }
+{
+    match command {
+        Command::Emit { event, .. } => Some(event.as_bytes()),
+        Command::Write { path, .. } | Command::Read { path, .. } => event_in_path(path.as_bytes()),
+        _ => None,
+    }
+}
+
+/// The event whose name is near that of an event; empty, if none is.
+fn event_meant<'a>(events: &'a [EventDef], name: Option<&[u8]>) -> &'a [u8]
+    ensures { result.now ≡ hints.event_meant events.now (option_map bytes_now name.entry) }
+{
+    match name {
+        Some(name) => near_event(name, events).unwrap_or(b""),
+        None => b"",
+    }
+}
+
+fn field_of_event<'a>(event: &'a EventDef, field: &[u8]) -> &'a [u8]
+    ensures { result.now ≡ hints.field_of_event (Some event.now) field.now }
+{
+    near_field(field, event.fields()).unwrap_or(b"")
+}
+
+/// The field whose name is near; empty, if none is.
+fn field_meant<'a>(events: &'a [EventDef], event: Option<&[u8]>, field: &[u8]) -> &'a [u8]
+    ensures { result.now ≡ hints.field_meant events.now (option_map bytes_now event.entry) field.now }
+{
+    let Some(name) = event else {
+        return b"";
+    };
+    match event_named(events, name) {
+        Some(event) => field_of_event(event, field),
+        None => b"",
+    }
+}
+
+fn name_len(rest: &[u8]) -> usize
+    ensures value { result ≡ prefix_len names.is_name_byte rest.now }
+    ensures bound { result ≤ length rest.now }
+{
+    rest.iter().take_while(|byte| is_name_byte(**byte)).count()
+}
+
+/// The name that some bytes begin with.
+fn name_at(rest: &[u8]) -> &[u8]
+    ensures { result.now ≡ hints.name_at rest.now }
+{
+    &rest[..name_len(rest)]
+}
+
+/// What a command writes.
+pub(crate) fn written_in(command: &Command) -> &[u8]
+    ensures { result.now ≡ hints.written_in command.now }
+{
+    match command {
+        Command::Write { text, .. } => text.as_bytes(),
+        _ => b"",
+    }
+}
+
+fn path_meant(alloc: Global, events: &[EventDef], command: &Command) -> Result<Vec<u8>, AllocError>
+    ensures { IfOk result (λ found. found.items ≡ hints.path_meant events.now command.now) }
+{
+    match command {
+        Command::Write { path, .. } | Command::Read { path, .. } => {
+            near_path(alloc, events, path.as_bytes())
+        }
+        _ => Ok(Vec::new(alloc)),
+    }
+}
+
+fn operator_of(command: &Command, at: usize) -> &'static str
+    ensures { result.now ≡ hints.operator_of command.now at }
+{
+    let text = written_in(command);
+    operator_meant(
+        filter_due_at(command_subject(command), text, at),
+        after(at, text),
+    )
+}
+
+/// What was meant by a refused command; empty, if nothing is near.
+#[tactic(auto, unfolding(crate::specs::Hints::command_meant))]
+pub(crate) fn command_meant(
+    alloc: Global,
+    events: &[EventDef],
+    command: &Command,
+    refusal: &Refusal,
+) -> Result<Vec<u8>, AllocError>
+    ensures { IfOk result (λ text. text.items ≡ hints.command_meant events.now command.now refusal.now) }
+{
+    let meant = match refusal {
+        Refusal::NoSuchFile => return path_meant(alloc, events, command),
+        Refusal::NoSuchEvent => event_meant(events, event_of(command)),
+        Refusal::NoSuchField { at } => {
+            let field = name_at(after(*at, written_in(command)));
+            field_meant(events, event_of(command), field)
+        }
+        Refusal::BadRow { field } => field_meant(events, event_of(command), field.as_bytes()),
+        Refusal::FilterSyntax { at } => operator_of(command, *at).as_bytes(),
+        _ => b"",
+    };
+    Vec::from_slice(alloc, meant)
+}
+
+/// What was meant by a line that is no command; empty, if nothing is near.
+pub(crate) fn line_meant(line: &[u8], fault: ScriptFault) -> &'static str
+    ensures { result.now ≡ hints.line_meant line.now fault }
+{
+    match fault {
+        ScriptFault::UnknownCommand => near_command(name_of(line)),
+        _ => "",
+    }
+}

@@ -1,0 +1,218 @@
+//! What a hist trigger may go on with.
+
+ghost use Rattle.std.specs.Prelude.{◌≡◌, ◌≤◌, ◌<◌, IfSome, length, reverse};
+ghost use Rattle.std.specs.List.{prefix_len, count_by};
+ghost use Rattle.trace_lex.specs.Prefixes as prefixes;
+ghost use Rattle.trace_trigger.specs.TriggerTexts as texts;
+ghost use Rattle.trace_explain.specs.HistDue as due;
+
+use crate::cut::has_blank;
+use trace_lex::{is_blank, rest_of};
+
+/// Whether a string begins so.
+pub(crate) fn begins(beginning: &[u8], text: &[u8]) -> bool
+    ensures { result ≡ texts.begins beginning.now text.now }
+{
+    text.starts_with(beginning)
+}
+
+/// How many bytes come after the last `:`.
+fn last_part_len(front: &[u8]) -> usize
+    ensures value { result ≡ prefix_len (prefixes.is_not 58) (reverse front.now) }
+    ensures bound { result ≤ length front.now }
+{
+    front.iter().rev().take_while(|byte| **byte != b':').count()
+}
+
+/// What follows the last `:`.
+fn last_part(front: &[u8]) -> &[u8]
+    ensures { result.now ≡ due.last_part front.now }
+{
+    &front[front.len() - last_part_len(front)..]
+}
+
+/// How many bytes come before the first blank or `:`.
+fn first_part_len(rest: &[u8]) -> usize
+    ensures value { result ≡ prefix_len due.is_in_attribute rest.now }
+    ensures bound { result ≤ length rest.now }
+{
+    rest.iter()
+        .take_while(|byte| !(is_blank(**byte) || **byte == b':'))
+        .count()
+}
+
+/// The attribute that some bytes begin with.
+pub(crate) fn first_part(rest: &[u8]) -> &[u8]
+    ensures { result.now ≡ due.first_part rest.now }
+{
+    &rest[..first_part_len(rest)]
+}
+
+/// Whether a part ends with a byte.
+pub(crate) fn ends_with(byte: u8, part: &[u8]) -> bool
+    ensures { result ≡ due.ends_with byte part.now }
+{
+    match part.last() {
+        Some(last) => *last == byte,
+        None => false,
+    }
+}
+
+fn is_keys(part: &[u8]) -> bool
+    ensures { result ≡ due.is_keys part.now }
+{
+    begins(b"keys=", part) || begins(b"key=", part)
+}
+
+fn is_values(part: &[u8]) -> bool
+    ensures { result ≡ due.is_values part.now }
+{
+    begins(b"values=", part) || begins(b"vals=", part) || begins(b"val=", part)
+}
+
+fn is_action(part: &[u8]) -> bool
+    ensures { result ≡ due.is_action part.now }
+{
+    part == b"pause".as_slice()
+        || part == b"continue".as_slice()
+        || part == b"cont".as_slice()
+        || part == b"clear".as_slice()
+}
+
+/// What is wrong with an attribute.
+#[tactic(auto, unfolding(crate::specs::HistDue::attribute_words))]
+fn attribute_words(part: &[u8]) -> &'static str
+    ensures { result.now ≡ due.attribute_words part.now }
+{
+    if begins(b"size=", part) {
+        "expected one `size=` and its digits"
+    } else if is_action(part) {
+        "there is an action already"
+    } else if is_keys(part) || is_values(part) || begins(b"sort=", part) || begins(b"name=", part) {
+        "this attribute is there already"
+    } else {
+        "expected an attribute, as `keys=`"
+    }
+}
+
+fn key_words(part: &[u8]) -> &'static str
+    ensures { result.now ≡ due.key_words part.now }
+{
+    if ends_with(b',', part) {
+        "expected another field, alone or with `.hex`, `.log2` or `.buckets=N`"
+    } else {
+        "expected a field, alone or with `.hex`, `.log2` or `.buckets=N`"
+    }
+}
+
+fn value_words(part: &[u8]) -> &'static str
+    ensures { result.now ≡ due.value_words part.now }
+{
+    if ends_with(b',', part) {
+        "expected another field"
+    } else {
+        "expected a field"
+    }
+}
+
+/// What is wrong after this beginning of an attribute.
+#[tactic(auto, unfolding(crate::specs::HistDue::item_words))]
+fn item_words(part: &[u8]) -> &'static str
+    ensures { result.now ≡ due.item_words part.now }
+{
+    if is_keys(part) {
+        key_words(part)
+    } else if is_values(part) {
+        value_words(part)
+    } else if begins(b"sort=", part) {
+        "expected `hitcount`, a key or a value, alone or with `.ascending` or `.descending`"
+    } else {
+        "expected a table's name"
+    }
+}
+
+fn part_words(part: &[u8], rest: &[u8]) -> &'static str
+    ensures { result.now ≡ due.part_words part.now rest.now }
+{
+    match part {
+        [] => attribute_words(first_part(rest)),
+        _ if ends_with(b'=', part) || ends_with(b',', part) => item_words(part),
+        _ => "expected `:keys=` and a field",
+    }
+}
+
+/// What is wrong with a hist trigger after these bytes, and before these.
+pub(crate) fn hist_due_words(front: &[u8], rest: &[u8]) -> &'static str
+    ensures { result.now ≡ due.hist_due_words front.now rest.now }
+{
+    if has_blank(front) {
+        "expected `if` and a filter"
+    } else {
+        part_words(last_part(front), rest)
+    }
+}
+
+/// What is wrong with a string field that a hist trigger names after these bytes.
+pub(crate) fn hist_field_words(front: &[u8]) -> &'static str
+    ensures { result.now ≡ due.field_words front.now }
+{
+    if is_keys(last_part(front)) {
+        "a string takes no modifier"
+    } else {
+        "a string has no sum"
+    }
+}
+
+/// Whether an attribute, given with the `:` before it, begins here.
+#[tactic(auto, unfolding(crate::specs::HistDue::is_attribute))]
+fn is_attribute(attribute: &[u8], text: &[u8]) -> bool
+    ensures { result ≡ due.is_attribute attribute.now text.now }
+{
+    begins(attribute, text)
+}
+
+/// Where an attribute, given with the `:` before it, is in a hist trigger, if it is there.
+#[tactic(auto, using(crate::proofs::HistLemmas::attribute_here, crate::proofs::HistLemmas::attribute_later), unfolding(crate::specs::HistDue::attribute_at))]
+pub(crate) fn attribute_at(attribute: &[u8], text: &[u8]) -> Option<usize>
+    ensures value { result ≡ due.attribute_at attribute.now text.now }
+    ensures bound { IfSome result (λ at. at < length text.now) }
+{
+    for (at, _) in text.iter().enumerate() {
+        if is_attribute(attribute, rest_of(text, at)) {
+            return Some(at);
+        }
+    }
+    None
+}
+
+fn commas(text: &[u8]) -> usize
+    ensures value { result ≡ count_by due.is_comma text.now }
+    ensures bound { result ≤ length text.now }
+{
+    text.iter().filter(|byte| **byte == b',').count()
+}
+
+/// How many items an attribute has, 0 if it is not there.
+pub(crate) fn items_of(attribute: &[u8], text: &[u8]) -> usize
+    ensures { result ≡ due.items_of attribute.now text.now }
+{
+    match attribute_at(attribute, text) {
+        Some(at) => commas(first_part(&text[at + 1..])) + 1,
+        None => 0,
+    }
+}
+
+/// How many values it has besides `hitcount`.
+pub(crate) fn values_of(attribute: &[u8], text: &[u8]) -> usize
+    ensures { result ≡ due.values_of attribute.now text.now }
+{
+    let Some(at) = attribute_at(attribute, text) else {
+        return 0;
+    };
+    let list = first_part(&text[at + 1..]);
+    if attribute_at(b"hitcount", list).is_some() {
+        commas(list)
+    } else {
+        commas(list) + 1
+    }
+}

@@ -1,0 +1,281 @@
+//! Names that are near another one, for `did you mean ..?`.
+
+ghost use Rattle.std.specs.Prelude.{◌≡◌, IfOk, option_map};
+ghost use Rattle.std.specs.Option.{option_copied};
+ghost use Rattle.trace_explain.specs.Near as near;
+
+use crate::cut::after;
+use std::alloc::{AllocError, Global};
+use trace_format::{EventDef, Field};
+
+/// How many bytes two strings begin with alike.
+#[tactic(auto, using(crate::proofs::NearLemmas::common_with_none))]
+fn common_len(a: &[u8], b: &[u8]) -> usize
+    ensures { result ≡ near.common_len a.now b.now }
+{
+    let mut len = 0;
+    let mut rest = b;
+    for byte in a {
+        match rest {
+            [] => return len,
+            [first, ..] if *first != *byte => return len,
+            [_, tail @ ..] => {
+                len += 1;
+                rest = tail;
+            }
+        }
+    }
+    len
+}
+
+fn is_alike(i: usize, j: usize, a: &[u8], b: &[u8]) -> bool
+    ensures { result ≡ near.is_alike i j a.now b.now }
+{
+    after(i, a) == after(j, b)
+}
+
+/// Whether a name begins with two bytes in the other order, and then is the rest.
+fn swapped_pair(first: u8, second: u8, rest: &[u8], name: &[u8]) -> bool
+    ensures { result ≡ near.swapped_pair first second rest.now name.now }
+{
+    match name {
+        [b, c, tail @ ..] => first == *c && second == *b && rest == tail,
+        _ => false,
+    }
+}
+
+/// Whether the first two bytes are exchanged.
+fn is_swapped(a: &[u8], b: &[u8]) -> bool
+    ensures { result ≡ near.is_swapped a.now b.now }
+{
+    match a {
+        [first, second, rest @ ..] => swapped_pair(*first, *second, rest, b),
+        _ => false,
+    }
+}
+
+/// Whether one byte is another one, is there too much, or is left out, or two are exchanged.
+fn is_one_off(a: &[u8], b: &[u8]) -> bool
+    ensures { result ≡ near.is_one_off a.now b.now }
+{
+    is_alike(1, 1, a, b) || is_alike(1, 0, a, b) || is_alike(0, 1, a, b) || is_swapped(a, b)
+}
+
+/// Whether two bytes in a row are others, there too much, or left out.
+fn is_two_off(a: &[u8], b: &[u8]) -> bool
+    ensures { result ≡ near.is_two_off a.now b.now }
+{
+    is_alike(2, 2, a, b) || is_alike(2, 0, a, b) || is_alike(0, 2, a, b)
+}
+
+/// Whether a string ends so.
+fn ends_so(end: &[u8], text: &[u8]) -> bool
+    ensures { result ≡ near.ends_so end.now text.now }
+{
+    end.len() <= text.len() && after(text.len() - end.len(), text) == end
+}
+
+/// Whether a string is a name but for a byte, or, if it is longer, two in a row.
+#[tactic(auto, unfolding(crate::specs::Near::is_near))]
+fn is_near(given: &[u8], name: &[u8]) -> bool
+    ensures { result ≡ near.is_near given.now name.now }
+{
+    if given == name {
+        return false;
+    }
+    let common = common_len(given, name);
+    let a = after(common, given);
+    let b = after(common, name);
+    (given.len() >= 3 && is_one_off(a, b)) || (given.len() >= 6 && is_two_off(a, b))
+}
+
+/// Whether a string is near a path, or is the path without some bytes in a row.
+#[tactic(auto, unfolding(crate::specs::Near::is_near_path))]
+fn is_near_path(given: &[u8], name: &[u8]) -> bool
+    ensures { result ≡ near.is_near_path given.now name.now }
+{
+    if is_near(given, name) {
+        return true;
+    }
+    if given == name || given.len() < 4 {
+        return false;
+    }
+    let common = common_len(given, name);
+    ends_so(after(common, given), after(common, name))
+}
+
+/// The first of these events whose name is near.
+pub(crate) fn near_event<'a>(given: &[u8], events: &'a [EventDef]) -> Option<&'a [u8]>
+    ensures { option_copied result ≡ near.near_event given.now events.now }
+{
+    let event = events.iter().find(|event| is_near(given, event.name()))?;
+    Some(event.name())
+}
+
+/// The first of these fields whose name is near.
+pub(crate) fn near_field<'a>(given: &[u8], fields: &'a [Field]) -> Option<&'a [u8]>
+    ensures { option_copied result ≡ near.near_field given.now fields.now }
+{
+    let field = fields
+        .iter()
+        .find(|field| is_near(given, field.name.as_bytes()))?;
+    Some(field.name.as_bytes())
+}
+
+/// The first line of a script whose name is near; empty, if none is.
+#[tactic(auto, unfolding(crate::specs::Near::near_command))]
+pub(crate) fn near_command(given: &[u8]) -> &'static str
+    ensures { result.now ≡ near.near_command given.now }
+{
+    if is_near(given, b"emit") {
+        "emit"
+    } else if is_near(given, b"echo") {
+        "echo"
+    } else if is_near(given, b"cat") {
+        "cat"
+    } else if is_near(given, b"take") {
+        "take"
+    } else if is_near(given, b"mkdir") {
+        "mkdir"
+    } else if is_near(given, b"rmdir") {
+        "rmdir"
+    } else if is_near(given, b"parallel") {
+        "parallel"
+    } else if is_near(given, b"thread") {
+        "thread"
+    } else if is_near(given, b"end") {
+        "end"
+    } else {
+        ""
+    }
+}
+
+/// The first file of a CPU whose path is near; empty, if none is.
+#[tactic(auto, unfolding(crate::specs::Near::near_cpu_file))]
+fn near_cpu_file(given: &[u8]) -> &'static str
+    ensures { result.now ≡ near.near_cpu_file given.now }
+{
+    if is_near_path(given, b"per_cpu/cpu0/stats") {
+        "per_cpu/cpu0/stats"
+    } else if is_near_path(given, b"per_cpu/cpu0/trace") {
+        "per_cpu/cpu0/trace"
+    } else if is_near_path(given, b"per_cpu/cpu0/trace_pipe") {
+        "per_cpu/cpu0/trace_pipe"
+    } else {
+        ""
+    }
+}
+
+/// The first file of all events below their system whose path is near, or else of a CPU; empty, if none is.
+#[tactic(auto, unfolding(crate::specs::Near::near_system_file))]
+fn near_system_file(given: &[u8]) -> &'static str
+    ensures { result.now ≡ near.near_system_file given.now }
+{
+    if is_near_path(given, b"events/synthetic/enable") {
+        "events/synthetic/enable"
+    } else if is_near_path(given, b"events/synthetic/filter") {
+        "events/synthetic/filter"
+    } else {
+        near_cpu_file(given)
+    }
+}
+
+/// The first file below `options` or `events`, or else of a CPU, whose path is near, if it is of no event; empty, if none is.
+#[tactic(auto, unfolding(crate::specs::Near::near_lower_file))]
+fn near_lower_file(given: &[u8]) -> &'static str
+    ensures { result.now ≡ near.near_lower_file given.now }
+{
+    if is_near_path(given, b"options/overwrite") {
+        "options/overwrite"
+    } else if is_near_path(given, b"events/enable") {
+        "events/enable"
+    } else {
+        near_system_file(given)
+    }
+}
+
+/// The first file of no event whose path is near; empty, if none is.
+#[tactic(auto, unfolding(crate::specs::Near::near_file))]
+pub(crate) fn near_file(given: &[u8]) -> &'static str
+    ensures { result.now ≡ near.near_file given.now }
+{
+    if is_near_path(given, b"trace") {
+        "trace"
+    } else if is_near_path(given, b"trace_pipe") {
+        "trace_pipe"
+    } else if is_near_path(given, b"tracing_on") {
+        "tracing_on"
+    } else if is_near_path(given, b"trace_options") {
+        "trace_options"
+    } else if is_near_path(given, b"snapshot") {
+        "snapshot"
+    } else if is_near_path(given, b"synthetic_events") {
+        "synthetic_events"
+    } else {
+        near_lower_file(given)
+    }
+}
+
+/// The path of an event's file.
+#[tactic(auto, unfolding(crate::specs::Near::event_path))]
+fn event_path(alloc: Global, event: &[u8], file: &[u8]) -> Result<Vec<u8>, AllocError>
+    ensures { IfOk result (λ path. path.items ≡ near.event_path event.now file.now) }
+{
+    let mut path = Vec::from_slice(alloc, b"events/synthetic/".as_slice())?;
+    path.extend_from_slice(event)?;
+    path.push(b'/')?;
+    path.extend_from_slice(file)?;
+    Ok(path)
+}
+
+/// The path of an event's file, if it is near.
+fn near_event_path(
+    alloc: Global,
+    given: &[u8],
+    event: &[u8],
+    file: &[u8],
+) -> Result<Option<Vec<u8>>, AllocError>
+    ensures { IfOk result (λ found. option_map (λ path. path.items) found ≡ near.near_event_path given.now event.now file.now) }
+{
+    let path = event_path(alloc, event, file)?;
+    if is_near_path(given, &path) {
+        Ok(Some(path))
+    } else {
+        Ok(None)
+    }
+}
+
+/// The first file of an event whose path is near.
+fn near_file_of(alloc: Global, given: &[u8], event: &[u8]) -> Result<Option<Vec<u8>>, AllocError>
+    ensures { IfOk result (λ found. option_map (λ path. path.items) found ≡ near.near_file_of given.now event.now) }
+{
+    if let Some(path) = near_event_path(alloc, given, event, b"enable")? {
+        return Ok(Some(path));
+    }
+    if let Some(path) = near_event_path(alloc, given, event, b"filter")? {
+        return Ok(Some(path));
+    }
+    if let Some(path) = near_event_path(alloc, given, event, b"trigger")? {
+        return Ok(Some(path));
+    }
+    if let Some(path) = near_event_path(alloc, given, event, b"hist")? {
+        return Ok(Some(path));
+    }
+    near_event_path(alloc, given, event, b"format")
+}
+
+/// The first file of one of these events whose path is near.
+pub(crate) fn near_event_file(
+    alloc: Global,
+    given: &[u8],
+    events: &[EventDef],
+) -> Result<Option<Vec<u8>>, AllocError>
+    ensures { IfOk result (λ found. option_map (λ path. path.items) found ≡ near.near_event_file given.now events.now) }
+{
+    for event in events {
+        if let Some(path) = near_file_of(alloc, given, event.name())? {
+            return Ok(Some(path));
+        }
+    }
+    Ok(None)
+}

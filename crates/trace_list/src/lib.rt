@@ -1,0 +1,9 @@
+//! The files that there are after the lines of a script (`tracectl --list`).
+#![tactic(auto)]
+
+mod access;
+mod listing;
+mod names;
+
+pub use access::Access;
+pub use names::Names;
