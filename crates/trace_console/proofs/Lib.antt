@@ -1,0 +1,2 @@
+pub mod ConsoleLemmas
+pub mod FieldLemmas

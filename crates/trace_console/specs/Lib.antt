@@ -1,0 +1,4 @@
+pub mod Consoles
+pub mod ConsolesSeen
+pub mod Fields
+pub mod Statuses

@@ -1,0 +1,263 @@
+//! tracectl for C: a static library whose exports are the calls of a console. `tracectl.h` declares them and says what C must uphold.
+#![tactic(auto)]
+
+ghost use Rattle.std.specs.Prelude.{◌≡◌, ◌≢◌, None, Some, false, true, length, min, take, drop, ◌++◌, IfOk, IfErr, OnOk};
+ghost use Rattle.trace_command.specs.Configs.{IsInRange};
+ghost use Rattle.trace_command.specs.declared.command.Command.{Command as CommandValue};
+ghost use Rattle.trace_command.specs.declared.command.Command.TheVariants as commands;
+ghost use Rattle.trace_console.specs.Consoles.{after_command, after_emission, after_line};
+ghost use Rattle.tracectl_c.specs.Handles.{console_of};
+ghost use Rattle.tracectl_c.specs.Calls.{Does, config_of, entries_read, offset_read, opened, reply_read};
+
+mod handle;
+mod opening;
+mod parts;
+mod sealed;
+
+use handle::Handle;
+use std::alloc::Global;
+use trace_command::{Config, Refusal};
+use trace_console::Console;
+
+/// The status of a call whose handle is not open.
+const NOT_OPEN: u32 = 200;
+
+/// The status of `tracectl_open` where the handle is open already.
+const ALREADY_OPEN: u32 = 201;
+
+/// What a tracer is made with.
+#[repr(C)]
+pub struct Settings {
+    pub cpus: u32,
+    pub pages: u32,
+    pub page_bytes: u32,
+    pub history_limit: u64,
+}
+
+/// A console of its own on the heap.
+fn boxed(alloc: Global, config: Config) -> Result<Box<Console, Global>, Refusal>
+    ensures made { IfOk result (λ console. console.value ≡ opened config) }
+    ensures in_range { OnOk result (IsInRange config) }
+    ensures out_of_range { ¬ IsInRange config → IfErr result (λ r. r ≡ Refusal.BadValue) }
+{
+    Ok(Box::new(alloc, Console::new(alloc, config)?)?)
+}
+
+/// Opens a handle: a tracer with no history. A handle that is open stays as it is.
+#[unsafe(no_mangle)]
+pub extern "C" fn tracectl_open(alloc: Global, handle: &mut Handle, settings: &Settings) -> u32
+    ensures open { console_of handle.old ≢ None → (result ≡ 201) × (console_of handle.new ≡ console_of handle.old) }
+    ensures made { result ≡ 0 → (console_of handle.new ≡ Some (opened (config_of settings.now))) × IsInRange (config_of settings.now) }
+    ensures refused { result ≢ 0 → console_of handle.new ≡ console_of handle.old }
+    ensures out_of_range { console_of handle.old ≡ None → ¬ IsInRange (config_of settings.now) → result ≡ 4 }
+{
+    if handle.is_open() {
+        return ALREADY_OPEN;
+    }
+    let config = Config {
+        cpus: settings.cpus,
+        pages: settings.pages,
+        page_bytes: settings.page_bytes,
+        history_limit: settings.history_limit,
+    };
+    match boxed(alloc, config) {
+        Ok(console) => {
+            handle.keep(console);
+            0
+        }
+        Err(refusal) => u32::from(refusal.number()),
+    }
+}
+
+/// Does a line of a script.
+#[unsafe(no_mangle)]
+pub extern "C" fn tracectl_line(alloc: Global, handle: &mut Handle, line: &[u8]) -> u32
+    ensures { Does (after_line line.now) (console_of handle.old) (console_of handle.new) result }
+{
+    let Some(mut console) = handle.take(alloc) else {
+        return NOT_OPEN;
+    };
+    let status = console.line(line);
+    handle.keep(console);
+    status
+}
+
+/// Does an emission. Its fields are one string: `NAME=VALUE` for each, with a byte 0 between each two.
+#[unsafe(no_mangle)]
+pub extern "C" fn tracectl_emit(
+    alloc: Global,
+    handle: &mut Handle,
+    event: &[u8],
+    cpu: u32,
+    process: i32,
+    fields: &[u8],
+) -> u32
+    ensures { Does (after_emission event.now cpu process fields.now) (console_of handle.old) (console_of handle.new) result }
+{
+    let Some(mut console) = handle.take(alloc) else {
+        return NOT_OPEN;
+    };
+    let status = console.emit(event, cpu, process, fields);
+    handle.keep(console);
+    status
+}
+
+/// Writes a string to a file, as `echo TEXT > PATH` does.
+#[unsafe(no_mangle)]
+pub extern "C" fn tracectl_write(
+    alloc: Global,
+    handle: &mut Handle,
+    path: &[u8],
+    text: &[u8],
+) -> u32
+    ensures { Does (after_command (commands.Write path.now false text.now)) (console_of handle.old) (console_of handle.new) result }
+{
+    let Some(mut console) = handle.take(alloc) else {
+        return NOT_OPEN;
+    };
+    let status = console.write(path, text);
+    handle.keep(console);
+    status
+}
+
+/// Appends a string to a file, as `echo TEXT >> PATH` does.
+#[unsafe(no_mangle)]
+pub extern "C" fn tracectl_append(
+    alloc: Global,
+    handle: &mut Handle,
+    path: &[u8],
+    text: &[u8],
+) -> u32
+    ensures { Does (after_command (commands.Write path.now true text.now)) (console_of handle.old) (console_of handle.new) result }
+{
+    let Some(mut console) = handle.take(alloc) else {
+        return NOT_OPEN;
+    };
+    let status = console.append(path, text);
+    handle.keep(console);
+    status
+}
+
+/// Reads a file to its end, as `cat PATH` does.
+#[unsafe(no_mangle)]
+pub extern "C" fn tracectl_read(alloc: Global, handle: &mut Handle, path: &[u8]) -> u32
+    ensures { Does (after_command (commands.Read path.now None)) (console_of handle.old) (console_of handle.new) result }
+{
+    let Some(mut console) = handle.take(alloc) else {
+        return NOT_OPEN;
+    };
+    let status = console.read(path);
+    handle.keep(console);
+    status
+}
+
+/// Reads at most so many records of a pipe, as `take LIMIT PATH` does.
+#[unsafe(no_mangle)]
+pub extern "C" fn tracectl_take(alloc: Global, handle: &mut Handle, path: &[u8], limit: u64) -> u32
+    ensures { Does (after_command (commands.Read path.now (Some limit))) (console_of handle.old) (console_of handle.new) result }
+{
+    let Some(mut console) = handle.take(alloc) else {
+        return NOT_OPEN;
+    };
+    let status = console.take(path, limit);
+    handle.keep(console);
+    status
+}
+
+/// How many bytes the last call replied; 0 where the handle is not open.
+#[unsafe(no_mangle)]
+pub extern "C" fn tracectl_reply_length(alloc: Global, handle: &mut Handle) -> usize
+    ensures length { result ≡ length (reply_read (console_of handle.old)) }
+    ensures same { console_of handle.new ≡ console_of handle.old }
+{
+    let Some(console) = handle.take(alloc) else {
+        return 0;
+    };
+    let count = console.reply().len();
+    handle.keep(console);
+    count
+}
+
+/// Copies the front of a string, as far as there is room.
+fn copy_front(text: &[u8], room: &mut [u8]) -> usize
+    ensures count { result ≡ min (length text.now) (length room.old) }
+    ensures copied { room.new ≡ take result text.now ++ drop result room.old }
+{
+    let count = text.len().min(room.len());
+    room[..count].copy_from_slice(&text[..count]);
+    count
+}
+
+/// A string from a place on; nothing, where it has fewer bytes.
+#[tactic(auto, using(crate::proofs::ReplyLemmas::none_left))]
+fn rest_of(text: &[u8], from: usize) -> &[u8]
+    ensures { result.now ≡ drop from text.now }
+{
+    if from > text.len() {
+        return &[];
+    }
+    &text[from..]
+}
+
+/// Copies what the last call replied, from this byte on and as far as there is room, and tells how many bytes.
+#[unsafe(no_mangle)]
+pub extern "C" fn tracectl_reply(
+    alloc: Global,
+    handle: &mut Handle,
+    from: usize,
+    room: &mut [u8],
+) -> usize
+    ensures count { result ≡ min (length (drop from (reply_read (console_of handle.old)))) (length room.old) }
+    ensures copied { room.new ≡ take result (drop from (reply_read (console_of handle.old))) ++ drop result room.old }
+    ensures same { console_of handle.new ≡ console_of handle.old }
+{
+    let Some(console) = handle.take(alloc) else {
+        return 0;
+    };
+    let count = copy_front(rest_of(console.reply(), from), room);
+    handle.keep(console);
+    count
+}
+
+/// Where the string of the last call is wrong, as how many bytes stand before that; the greatest number if its refusal has no such offset, or the
+/// handle is not open.
+#[unsafe(no_mangle)]
+pub extern "C" fn tracectl_offset(alloc: Global, handle: &mut Handle) -> usize
+    ensures offset { result ≡ offset_read (console_of handle.old) }
+    ensures same { console_of handle.new ≡ console_of handle.old }
+{
+    let Some(console) = handle.take(alloc) else {
+        return usize::MAX;
+    };
+    let offset = console.offset().unwrap_or(usize::MAX);
+    handle.keep(console);
+    offset
+}
+
+/// How many entries the history has; 0 where the handle is not open.
+#[unsafe(no_mangle)]
+pub extern "C" fn tracectl_entries(alloc: Global, handle: &mut Handle) -> u64
+    ensures entries { result ≡ entries_read (console_of handle.old) }
+    ensures same { console_of handle.new ≡ console_of handle.old }
+{
+    let Some(console) = handle.take(alloc) else {
+        return 0;
+    };
+    let count = console.entries();
+    handle.keep(console);
+    count
+}
+
+/// Closes a handle.
+#[unsafe(no_mangle)]
+pub extern "C" fn tracectl_close(alloc: Global, handle: &mut Handle) -> u32
+    ensures closed { console_of handle.new ≡ None }
+    ensures was_open { console_of handle.old ≢ None → result ≡ 0 }
+    ensures was_closed { console_of handle.old ≡ None → result ≡ 200 }
+{
+    let Some(console) = handle.take(alloc) else {
+        return NOT_OPEN;
+    };
+    drop(console);
+    0
+}

@@ -1,0 +1,99 @@
+/* tracectl as a C library: a tracer with ftrace's synthetic events, ring buffers, filters, snapshots and histograms, each call a function.
+ *
+ * What each call leaves, and its status, is proved for every history (crates/tracectl_c/src/lib.rt). Nothing checks the C side, so the proof
+ * holds only if the caller upholds this:
+ *
+ *  - A handle is zero bytes (TRACECTL_CLOSED) before it is opened first. Only these functions change it, and it is not copied.
+ *  - One call at a time works on a handle, on the thread that opened it. Each thread may have handles of its own.
+ *  - No pointer is null. A string is a pointer to bytes that nobody writes during the call, and how many they are, below 2^63; its last byte
+ *    need not be 0. A string of no bytes has a pointer too. What a call writes to lies apart from all else that it is given.
+ *  - No call comes from a signal handler, nor from the child of a fork in a process with threads.
+ *  - malloc, realloc and free come from one allocator, and align blocks to 16 bytes. They may refuse memory: the call is then refused
+ *    (TRACECTL_MEMORY), and has changed nothing.
+ */
+#ifndef TRACECTL_H
+#define TRACECTL_H
+
+#include <stddef.h>
+#include <stdint.h>
+
+#ifdef __cplusplus
+extern "C" {
+#endif
+
+/* A tracer. Its fields belong to the library. */
+typedef struct tracectl {
+    uint64_t state;
+    void *console;
+} tracectl;
+
+#define TRACECTL_CLOSED {0, 0}
+
+/* What a tracer is made with. A history that is full refuses every further command. */
+typedef struct tracectl_settings {
+    uint32_t cpus;          /* from 1 to 8 */
+    uint32_t pages;         /* of each CPU's ring, from 2 to 1,024 */
+    uint32_t page_bytes;    /* from 64 to 4,080, a multiple of 8 */
+    uint64_t history_limit; /* the most entries that the history may have, from 1 to 2^32 */
+} tracectl_settings;
+
+/* The status of a call: one of these, the number of a refusal (docs/REFUSALS.md), or 100 and the number of a line's fault. */
+enum {
+    TRACECTL_DONE = 0,
+    TRACECTL_BAD_VALUE = 4,
+    TRACECTL_HISTORY_FULL = 22,
+    TRACECTL_MEMORY = 23,
+    TRACECTL_LINE_TOO_LONG = 101,
+    TRACECTL_BAD_BYTE = 102,
+    TRACECTL_UNCLOSED_QUOTE = 103,
+    TRACECTL_UNKNOWN_COMMAND = 104,
+    TRACECTL_WRONG_WORDS = 105, /* of a line; and the fields of an emission are no pairs */
+    TRACECTL_BAD_NUMBER = 106,
+    TRACECTL_BLOCK_OUT_OF_PLACE = 107, /* parallel, thread and end */
+    TRACECTL_NOT_OPEN = 200,
+    TRACECTL_ALREADY_OPEN = 201
+};
+
+/* Opens a handle: a tracer with no history. TRACECTL_BAD_VALUE: a setting is out of range. */
+uint32_t tracectl_open(tracectl *handle, const tracectl_settings *settings);
+
+/* Closes a handle and gives its memory back. */
+uint32_t tracectl_close(tracectl *handle);
+
+/* ---- Commands. One that is done becomes the next entry of the history; one that is refused changes nothing but the reply. ---- */
+
+/* A line of a script (docs/SCRIPTS.md), without its newline. A blank line and a comment do nothing. */
+uint32_t tracectl_line(tracectl *handle, const char *line, size_t line_length);
+
+/* An event happens on a CPU, in a process. Its fields are NAME=VALUE each, with a byte 0 between each two: "prev=1\0next=2". A value is
+ * written as in a script, but without quotes, and may have any bytes but 0. */
+uint32_t tracectl_emit(tracectl *handle, const char *event, size_t event_length, uint32_t cpu, int32_t process, const char *fields,
+                       size_t fields_length);
+
+/* Writes a string to a file (docs/FILES.md), as `echo TEXT > PATH` does, and appends it, as `echo TEXT >> PATH`. */
+uint32_t tracectl_write(tracectl *handle, const char *path, size_t path_length, const char *text, size_t text_length);
+uint32_t tracectl_append(tracectl *handle, const char *path, size_t path_length, const char *text, size_t text_length);
+
+/* Reads a file to its end, as `cat PATH` does, and at most so many records of a pipe, as `take LIMIT PATH`. What was read is the reply. */
+uint32_t tracectl_read(tracectl *handle, const char *path, size_t path_length);
+uint32_t tracectl_take(tracectl *handle, const char *path, size_t path_length, uint64_t limit);
+
+/* ---- What there is to tell. None of these is a command, and none changes the reply. ---- */
+
+/* How many bytes the last command replied: what it read, or the name of the field whose value is wrong (N21 BadRow); else 0. */
+size_t tracectl_reply_length(tracectl *handle);
+
+/* Copies the reply from this byte on, as far as there is room, and returns how many bytes. */
+size_t tracectl_reply(tracectl *handle, size_t from, char *room, size_t room_length);
+
+/* Where the string of the last command is wrong, as how many bytes stand before that; SIZE_MAX if its refusal has no such offset. */
+size_t tracectl_offset(tracectl *handle);
+
+/* How many entries the history has. */
+uint64_t tracectl_entries(tracectl *handle);
+
+#ifdef __cplusplus
+}
+#endif
+
+#endif

@@ -1,0 +1,45 @@
+/* Declares an event, emits it a million times, and reads how a CPU's ring and a histogram stand. examples/c/build says how it is built. */
+#include <stdio.h>
+#include <string.h>
+
+#include "tracectl.h"
+
+/* Does a line, and tells it if it was refused. */
+static int line(tracectl *tracer, const char *text) {
+    uint32_t status = tracectl_line(tracer, text, strlen(text));
+    if (status) fprintf(stderr, "%s: refused, status %u\n", text, (unsigned)status);
+    return status == TRACECTL_DONE;
+}
+
+/* Prints the file of this path. */
+static int show(tracectl *tracer, const char *path) {
+    char text[4096];
+    size_t from = 0, count;
+    if (tracectl_read(tracer, path, strlen(path))) return 0;
+    while ((count = tracectl_reply(tracer, from, text, sizeof text))) {
+        fwrite(text, 1, count, stdout);
+        from += count;
+    }
+    return 1;
+}
+
+/* Emits `tick`, with a field n below eight, so many times. */
+static int emit(tracectl *tracer, unsigned count) {
+    char fields[] = "n=0";
+    for (unsigned i = 0; i < count; i++) {
+        fields[2] = (char)('0' + i % 8);
+        if (tracectl_emit(tracer, "tick", 4, i % 2, 7, fields, 3)) return 0;
+    }
+    return 1;
+}
+
+int main(void) {
+    tracectl tracer = TRACECTL_CLOSED;
+    tracectl_settings settings = {.cpus = 2, .pages = 16, .page_bytes = 4080, .history_limit = 2000000};
+    if (tracectl_open(&tracer, &settings)) return 1;
+    int done = line(&tracer, "echo tick u64 n >> synthetic_events") && line(&tracer, "echo 1 > events/synthetic/tick/enable")
+        && line(&tracer, "echo hist:keys=n > events/synthetic/tick/trigger") && emit(&tracer, 1000000)
+        && show(&tracer, "per_cpu/cpu0/stats") && show(&tracer, "events/synthetic/tick/hist");
+    printf("entries: %llu\n", (unsigned long long)tracectl_entries(&tracer));
+    return tracectl_close(&tracer) || !done;
+}

@@ -1,0 +1,16 @@
+"""Declares an event, emits it a few times, and shows what became of that."""
+from tracectl import Refused, Tracer
+
+with Tracer(pages=2, page_bytes=64) as tracer:
+    tracer.append("synthetic_events", "tick u64 n; char who[16]")
+    tracer.write("events/synthetic/tick/enable", "1")
+    tracer.write("events/synthetic/tick/filter", "n > 2")
+    for n in range(5):
+        tracer.emit("tick", process=7, n=n, who="two words")
+    print(tracer.take("trace_pipe", 1).decode(), end="")
+    try:
+        tracer.write("events/synthetic/tick/filter", "n > and")
+    except Refused as refused:
+        print("refused: %s" % refused)
+    print(tracer.read("per_cpu/cpu0/stats").decode(), end="")
+    print("entries: %d" % tracer.entries())

@@ -1,0 +1,61 @@
+/* Each call while memory is refused: its first allocation, its second and so on, until the call is done. A call that was refused has changed
+ * nothing, and the next one may be done. Linked with --wrap=malloc and --wrap=realloc. */
+#include <stdio.h>
+#include <string.h>
+
+#include "tracectl.h"
+
+void *__real_malloc(size_t size);
+void *__real_realloc(void *block, size_t size);
+
+/* How many allocations succeed before one is refused; below 0, none is. */
+static long left = -1;
+
+static int is_refused(void) { return left >= 0 && left-- == 0; }
+
+void *__wrap_malloc(size_t size) { return is_refused() ? 0 : __real_malloc(size); }
+
+void *__wrap_realloc(void *block, size_t size) { return is_refused() ? 0 : __real_realloc(block, size); }
+
+static tracectl tracer = TRACECTL_CLOSED;
+
+#define TEXT(text) (text), sizeof(text) - 1
+
+static uint32_t opened(void) {
+    tracectl_settings settings = {.cpus = 2, .pages = 4, .page_bytes = 64, .history_limit = 1000};
+    return tracectl_open(&tracer, &settings);
+}
+
+static uint32_t declared(void) { return tracectl_append(&tracer, TEXT("synthetic_events"), TEXT("long_named_event u64 n; char who[16]")); }
+
+static uint32_t enabled(void) { return tracectl_line(&tracer, TEXT("echo 1 > events/synthetic/long_named_event/enable")); }
+
+static uint32_t filtered(void) { return tracectl_write(&tracer, TEXT("events/synthetic/long_named_event/filter"), TEXT("n > 2 && who ~ \"a*\"")); }
+
+static uint32_t counted(void) { return tracectl_write(&tracer, TEXT("events/synthetic/long_named_event/trigger"), TEXT("hist:keys=who,n:vals=n")); }
+
+static uint32_t emitted(void) { return tracectl_emit(&tracer, TEXT("long_named_event"), 1, 7, TEXT("n=3\0who=a value of 15")); }
+
+static uint32_t taken(void) { return tracectl_take(&tracer, TEXT("per_cpu/cpu1/trace_pipe"), 1); }
+
+static uint32_t read_hist(void) { return tracectl_read(&tracer, TEXT("events/synthetic/long_named_event/hist")); }
+
+/* Makes a call until it is done. Tells whether each refusal was one of memory, and left the history as it was. */
+static int is_done(const char *name, uint32_t (*call)(void)) {
+    uint64_t entries = tracectl_entries(&tracer);
+    for (long count = 0;; count++) {
+        left = count;
+        uint32_t status = call();
+        left = -1;
+        if (status == TRACECTL_DONE) return printf("%s: done\n", name) > 0;
+        if (status != TRACECTL_MEMORY || tracectl_entries(&tracer) != entries) return printf("%s: status %u\n", name, (unsigned)status) < 0;
+    }
+}
+
+int main(void) {
+    int done = enabled() == TRACECTL_NOT_OPEN && tracectl_close(&tracer) == TRACECTL_NOT_OPEN && is_done("open", opened)
+        && opened() == TRACECTL_ALREADY_OPEN && is_done("append", declared) && is_done("line", enabled) && is_done("write", filtered)
+        && is_done("trigger", counted) && is_done("emit", emitted) && is_done("take", taken) && is_done("read", read_hist);
+    printf("entries: %llu\n", (unsigned long long)tracectl_entries(&tracer));
+    return tracectl_close(&tracer) || !done;
+}
