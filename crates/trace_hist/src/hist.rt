@@ -23,8 +23,9 @@
 //! The entry of a key is found by a hint, mostly (hints.rt): the entry that a hint names is compared with the row, and only if the key is not its own is
 //! the key looked up by its hash.
 //!
-//! `next` stays after a hit, so that it counts another row with the same key, which another trigger reads. If a row is not counted after all (the emission was refused), the reserved entry is left at the end and not shown. The next
-//! `reserve_hit` of another key takes it out, unless it is refused or the histogram is paused, and so does `clear`. A paused histogram reserves nothing.
+//! `next` stays after a hit, so that it counts another row with the same key, which another trigger reads. If a row is not counted after all (the emission
+//! was refused), the reserved entry is left at the end and not shown. The next `reserve_hit` of another key takes it out, unless it is refused or the
+//! histogram is paused, and so does `clear`. A paused histogram reserves nothing.
 //!
 //! Several triggers may count in one table, also triggers of several events: each call has a form that says which trigger reads the row
 //! (`reserve_hit_as`, `hit_as`). Two of one event, with the same keys, read the same key of a row, so it is reserved once and counted twice.

@@ -1,10 +1,10 @@
 //! Where the next row is counted.
 
-ghost use Rattle.std.specs.Prelude.{◌≡◌, ℕ, ◌<◌, ◌≤◌, false, length, take, drop, slice_get, Some, IfOk, IfSome, IfNone, OnErr};
+ghost use Rattle.std.specs.Prelude.{◌≡◌, ℕ, ◌<◌, ◌≤◌, false, length, take, drop, IfOk, OnErr};
 ghost use Rattle.trace_hist.specs.Groups.{is_among};
 ghost use Rattle.trace_hist.specs.Hists.{IsPlaceOf, entry_keys};
 ghost use Rattle.trace_hist.specs.Stored.{entries_in, place_in, IsEnd, AreCounted};
-ghost use Rattle.trace_hist.specs.private.Steps.{key_of};
+ghost use Rattle.trace_hist.specs.private.Steps.{key_of, IsIndexOf};
 
 use crate::cell::key_cell;
 use crate::entries::{Entries, has_cell_at, has_key_at, index_of, keep_first, reserve_entry};
@@ -33,8 +33,7 @@ fn index_of_key(
     emission: &Emission,
 ) -> Option<usize>
     requires { length keys.now ≤ 3 }
-    ensures known { IfSome result (λ index. slice_get (entry_keys (entries_in entries.now.entries)) index ≡ Some (key_of keys.now emission.now)) }
-    ensures new { IfNone result (is_among (entry_keys (entries_in entries.now.entries)) (key_of keys.now emission.now) ≡ false) }
+    ensures { IsIndexOf result (key_of keys.now emission.now) (entry_keys (entries_in entries.now.entries)) }
 {
     let [key] = keys else {
         return index_of_cells(entries, hints, keys, emission);
@@ -56,8 +55,7 @@ fn index_of_cells(
     emission: &Emission,
 ) -> Option<usize>
     requires { length keys.now ≤ 3 }
-    ensures known { IfSome result (λ index. slice_get (entry_keys (entries_in entries.now.entries)) index ≡ Some (key_of keys.now emission.now)) }
-    ensures new { IfNone result (is_among (entry_keys (entries_in entries.now.entries)) (key_of keys.now emission.now) ≡ false) }
+    ensures { IsIndexOf result (key_of keys.now emission.now) (entry_keys (entries_in entries.now.entries)) }
 {
     let fingerprint = fingerprint_of(keys, emission);
     match hints.get(fingerprint) {
@@ -76,8 +74,7 @@ fn look_up(
     emission: &Emission,
 ) -> Option<usize>
     requires { length keys.now ≤ 3 }
-    ensures known { IfSome result (λ index. slice_get (entry_keys (entries_in entries.now.entries)) index ≡ Some (key_of keys.now emission.now)) }
-    ensures new { IfNone result (is_among (entry_keys (entries_in entries.now.entries)) (key_of keys.now emission.now) ≡ false) }
+    ensures { IsIndexOf result (key_of keys.now emission.now) (entry_keys (entries_in entries.now.entries)) }
 {
     let index = index_of(entries, keys, emission)?;
     hints.set(fingerprint, index);

@@ -1,6 +1,6 @@
 -- What one more row does to a histogram: the way in which it is kept. That this agrees with the grouping of all rows is proved in
 -- proofs/GroupLaws.antt.
-use Rattle.std.specs.Prelude.{◌≡◌, ℕ, zero, suc, ℤ, pos, ◌+◌, Bool, true, false, nat_lt, if◌then◌else◌, List, [], ◌∷◌, ◌++◌, length, map, replicate}
+use Rattle.std.specs.Prelude.{◌≡◌, ℕ, zero, suc, ℤ, pos, ◌+◌, Bool, true, false, nat_lt, if◌then◌else◌, List, [], ◌∷◌, ◌++◌, length, map, replicate, Option, Some, MatchOption, slice_get}
 use Rattle.trace_format.specs.Cells.{Datum}
 use Rattle.trace_format.specs.Operands.{Emission}
 use Rattle.trace_trigger.specs.declared.key.Key.{Key}
@@ -13,6 +13,10 @@ use Rattle.trace_hist.specs.Hists.{Unknown, entry_keys}
 -- the key that a trigger reads of an emission
 abbrev pub key_of : List Key → Emission → List Datum
 key_of keys emission = map (key_cell emission) keys
+
+-- where a key stands among those of the entries: at this index, or nowhere
+abbrev pub IsIndexOf : Option ℕ → List Datum → List (List Datum) → Type 0
+IsIndexOf found key keys = MatchOption found (is_among keys key ≡ false) (λ index. slice_get keys index ≡ Some key)
 
 -- an entry with a row more, whose numbers are these
 abbrev pub counted_once : List ℤ → Entry → Entry
