@@ -4,3 +4,4 @@ pub mod WrittenEntries
 pub mod ChunkFacts
 pub mod PairReads
 pub mod HistoryFacts
+pub mod ShortEntries

@@ -1,5 +1,5 @@
 -- What was written of an entry is that entry.
-use Rattle.std.proofs.Common.{◌≡◌, ℕ, ℤ, ◌<◌, ◌^◌, List, [], ◌∷◌, ◌++◌, length, get_or, refl, sym, subst, ◌∙◌, append_assoc}
+use Rattle.std.proofs.Common.{◌≡◌, ℕ, ℤ, ◌<◌, ◌^◌, List, [], ◌∷◌, ◌++◌, length, get_or, Result, Ok, Err, OnOk, refl, sym, subst, ◌∙◌, append_assoc}
 use Rattle.std.specs.Int.{w32, w64, to_le_bytes, cast_unsigned}
 use Rattle.trace_format.specs.declared.pair.Pair.{Pair}
 use Rattle.trace_command.specs.declared.command.Command.TheVariants.{Emit}
@@ -8,7 +8,11 @@ use Rattle.trace_log.specs.EntryEncoding.{length_bytes, text_bytes, pairs_bytes,
 use Rattle.trace_log.specs.PackedEntries.{IsOneEntry}
 use Rattle.trace_log.proofs.PackedLemmas.{one_entry}
 
--- the first bytes of an emission, one by one
+-- the first bytes of an emission
+abbrev pub head_bytes : ℕ → ℕ → ℕ → ℤ → List ℕ
+head_bytes ticket by cpu pid = to_le_bytes w64 ticket ++ to_le_bytes w32 by ++ 0 ∷ [] ++ to_le_bytes w32 cpu ++ to_le_bytes w32 (cast_unsigned w32 pid)
+
+-- the same, one by one
 pub emission_head : (ticket by cpu : ℕ) (pid : ℤ) (t b c p : List ℕ) → t ≡ to_le_bytes w64 ticket → b ≡ to_le_bytes w32 by → c ≡ to_le_bytes w32 cpu → p ≡ to_le_bytes w32 (cast_unsigned w32 pid) → get_or t 0 0 ∷ get_or t 1 0 ∷ get_or t 2 0 ∷ get_or t 3 0 ∷ get_or t 4 0 ∷ get_or t 5 0 ∷ get_or t 6 0 ∷ get_or t 7 0 ∷ get_or b 0 0 ∷ get_or b 1 0 ∷ get_or b 2 0 ∷ get_or b 3 0 ∷ 0 ∷ get_or c 0 0 ∷ get_or c 1 0 ∷ get_or c 2 0 ∷ get_or c 3 0 ∷ get_or p 0 0 ∷ get_or p 1 0 ∷ get_or p 2 0 ∷ get_or p 3 0 ∷ [] ≡ to_le_bytes w64 ticket ++ to_le_bytes w32 by ++ 0 ∷ [] ++ to_le_bytes w32 cpu ++ to_le_bytes w32 (cast_unsigned w32 pid)
 emission_head ticket by cpu pid t b c p et eb ec ep = rw (et, eb, ec, ep) refl
 
@@ -16,8 +20,15 @@ joined : (t b k c p x l s : List ℕ) → (((((t ++ b) ++ k) ++ c) ++ p) ++ x) +
 joined t b k c p x l s = simp append_assoc
 
 -- one write after another
-pub four_writes : (a0 a1 a2 a3 a4 h x l s : List ℕ) → a0 ≡ [] → a1 ≡ a0 ++ h → a2 ≡ a1 ++ x → a3 ≡ a2 ++ l → a4 ≡ a3 ++ s → a4 ≡ h ++ x ++ l ++ s
-four_writes a0 a1 a2 a3 a4 h x l s e0 e1 e2 e3 e4 = rw (e4, e3, e2, e1, e0) refl
+pub both_on_ok : {T E : Type 0} (P Q : Type 0) (r : Result T E) → OnOk r P → OnOk r Q → OnOk r (P × Q)
+both_on_ok P Q (Ok t) p q = (p, q)
+both_on_ok P Q (Err e) p q = tt
+
+pub pieces_written : (a0 a1 g h x l s : List ℕ) → a0 ≡ [] → a1 ≡ a0 ++ g ++ x ++ l ++ s → g ≡ h → a1 ≡ h ++ x ++ l ++ s
+pieces_written a0 a1 g h x l s e0 e1 eg = rw (e1, e0, eg) refl
+
+pub one_write : (a0 a1 b g h x l s : List ℕ) → a0 ≡ [] → a1 ≡ a0 ++ b → b ≡ g ++ x ++ l ++ s → g ≡ h → a1 ≡ h ++ x ++ l ++ s
+one_write a0 a1 b g h x l s e0 e1 eb eg = rw (e1, e0, eb, eg) refl
 
 pub six_writes : (a0 a1 a2 a3 a4 a5 a6 t b k l x y : List ℕ) → a0 ≡ [] → a1 ≡ a0 ++ t → a2 ≡ a1 ++ b → a3 ≡ a2 ++ k → a4 ≡ a3 ++ l → a5 ≡ a4 ++ x → a6 ≡ a5 ++ y → a6 ≡ t ++ b ++ (k ++ l ++ x ++ y)
 six_writes a0 a1 a2 a3 a4 a5 a6 t b k l x y e0 e1 e2 e3 e4 e5 e6 = rw (e6, e5, e4, e3, e2, e1, e0) (grouped t b k l x y)

@@ -1,14 +1,15 @@
 //! How entries are written as bytes: `specs/EntryEncoding.antt` says it part by part.
 
 ghost use Rattle.std.specs.Prelude.{◌≡◌, ◌<◌, ◌^◌, [], ◌∷◌, ◌++◌, length, OnOk};
-ghost use Rattle.std.specs.Int.{w32, w64, to_le_bytes};
+ghost use Rattle.std.specs.Int.{w32, w64, to_le_bytes, cast_unsigned};
 ghost use Rattle.trace_command.specs.declared.command.Command.{Command};
 ghost use Rattle.trace_log.specs.PackedEntries.{IsOneEntry};
 ghost use Rattle.trace_log.specs.EntryEncoding.{length_bytes, text_bytes, pairs_bytes, other_bytes, ArePairsShort};
 
 use crate::chunk::Chunk;
+use crate::short::{SHORT_BYTES, put_emission};
 use std::alloc::{AllocError, Global};
-use trace_command::Command;
+use trace_command::{BorrowedEmission, Command};
 use trace_format::{BorrowedPair, borrowed};
 
 // Kinds of commands, as they are written.
@@ -28,6 +29,21 @@ const TAKE: u8 = 6;
 
 // A length of 255 or more is written as this byte and eight more.
 const LONG: u8 = 255;
+
+// What the entry of an emission begins with.
+#[inline(always)]
+fn emission_head(ticket: u64, by: u32, cpu: u32, pid: i32) -> [u8; 21]
+    ensures { result ≡ to_le_bytes w64 ticket ++ to_le_bytes w32 by ++ 0 ∷ [] ++ to_le_bytes w32 cpu ++ to_le_bytes w32 (cast_unsigned w32 pid) }
+{
+    let t = ticket.to_le_bytes();
+    let b = by.to_le_bytes();
+    let c = cpu.to_le_bytes();
+    let p = pid.to_le_bytes();
+    [
+        t[0], t[1], t[2], t[3], t[4], t[5], t[6], t[7], b[0], b[1], b[2], b[3], EMIT, c[0], c[1],
+        c[2], c[3], p[0], p[1], p[2], p[3],
+    ]
+}
 
 impl Chunk {
     // A length.
@@ -67,33 +83,44 @@ impl Chunk {
         Ok(())
     }
 
+    // Writes the entry of an emission with this head ahead, piece by piece. Where memory is refused, a part of it may be written all the same.
+    #[cold]
+    #[inline(never)]
+    fn write_pieces(
+        &mut self,
+        head: &[u8],
+        event: &[u8],
+        pairs: &[BorrowedPair<'_>],
+    ) -> Result<(), AllocError>
+        ensures entries { self.new.entries ≡ self.old.entries }
+        ensures ahead { OnOk result (self.new.ahead
+            ≡ self.old.ahead ++ head.now ++ text_bytes event.now ++ length_bytes (length pairs.now) ++ pairs_bytes pairs.now) }
+        ensures short { OnOk result ((length event.now < 2 ^ 64) × (length pairs.now < 2 ^ 64) × ArePairsShort pairs.now) }
+    {
+        self.write(head)?;
+        self.write_text(event)?;
+        self.write_length(pairs.len())?;
+        self.write_pairs(pairs)
+    }
+
     /// Writes the entry of an emission ahead. Where memory is refused, a part of it may be written all the same.
     pub(crate) fn write_emission(
         &mut self,
         ticket: u64,
         by: u32,
-        event: &[u8],
-        cpu: u32,
-        pid: i32,
-        pairs: &[BorrowedPair<'_>],
+        emission: &BorrowedEmission<'_>,
     ) -> Result<(), AllocError>
         requires { self.old.ahead ≡ [] }
         ensures entries { self.new.entries ≡ self.old.entries }
-        ensures entry { OnOk result (IsOneEntry self.new.ahead
-            (record { ticket = ticket; by = by; command = Command.Emit event.now cpu pid pairs.now })) }
+        ensures entry { OnOk result (IsOneEntry self.new.ahead (record { ticket = ticket; by = by; command = emission.now })) }
     {
-        let t = ticket.to_le_bytes();
-        let b = by.to_le_bytes();
-        let c = cpu.to_le_bytes();
-        let p = pid.to_le_bytes();
-        self.write(&[
-            t[0], t[1], t[2], t[3], t[4], t[5], t[6], t[7], b[0], b[1], b[2], b[3], EMIT, c[0],
-            c[1], c[2], c[3], p[0], p[1], p[2], p[3],
-        ])?;
-        self.write_text(event)?;
-        self.write_length(pairs.len())?;
-        self.write_pairs(pairs)?;
-        Ok(())
+        let (event, cpu, pid, pairs) = emission.parts();
+        let mut bytes = [0; SHORT_BYTES];
+        let head = emission_head(ticket, by, cpu, pid);
+        match put_emission(&mut bytes, &head, event, pairs) {
+            Some(end) => self.write(&bytes[..end]),
+            None => self.write_pieces(&head, event, pairs),
+        }
     }
 
     // Writes the entry of any other command ahead: kind, limit, path and text. Where memory is refused, a part may be written all the same.
@@ -160,7 +187,8 @@ impl Chunk {
                 pairs,
             } => {
                 let pairs = borrowed(alloc, pairs.as_slice())?;
-                self.write_emission(ticket, by, event.as_bytes(), *cpu, *pid, &pairs)
+                let emission = BorrowedEmission::new(event.as_bytes(), *cpu, *pid, &pairs);
+                self.write_emission(ticket, by, &emission)
             }
             Command::Mkdir(path) => self.write_other(ticket, by, MKDIR, 0, path.as_bytes(), &[]),
             Command::Rmdir(path) => self.write_other(ticket, by, RMDIR, 0, path.as_bytes(), &[]),

@@ -9,7 +9,7 @@ use crate::entries::Entries;
 use std::alloc::{AllocError, Global};
 use std::marker::Model;
 use std::mem;
-use trace_command::Command;
+use trace_command::{BorrowedEmission, Command};
 use trace_format::BorrowedPair;
 
 /// The entries of a history, seen as their list, and what is written ahead. An entry is written ahead first, which may be refused memory, and then
@@ -87,7 +87,8 @@ impl History {
         ensures entries { self.new.entries ≡ self.old.entries }
     {
         self.begin()?;
-        if let Err(error) = self.last.write_emission(ticket, by, event, cpu, pid, pairs) {
+        let emission = BorrowedEmission::new(event, cpu, pid, pairs);
+        if let Err(error) = self.last.write_emission(ticket, by, &emission) {
             self.last.discard();
             return Err(error);
         }

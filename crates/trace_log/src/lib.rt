@@ -6,6 +6,7 @@ mod decode;
 mod encode;
 mod entries;
 mod history;
+mod short;
 
 pub use entries::Entries;
 pub use history::History;
