@@ -20,7 +20,8 @@ use Rattle.trace_history.proofs.Members.{IsIn, in-contains}
 use Rattle.trace_history.proofs.NamedTables.{fit-fewer, fit-new, left-old}
 use Rattle.trace_history.proofs.SharedTables.{said-alike}
 use Rattle.trace_history.proofs.Tables.{found-in}
-use Rattle.trace_book.specs.private.Attaching.{AreKept, IsAsked, IsJoinedChange, IsMadeChange, attaches, kept_count, left_of, named_in}
+use Rattle.trace_book.specs.private.Attaching.{AreKept, IsAsked, IsJoinedChange, IsMadeChange, attaches, kept_count}
+use Rattle.trace_book.specs.private.SharedTables.{left_of, named_in}
 use Rattle.trace_book.specs.Changes.{IsAsked as IsAskedOf, Joins}
 use Rattle.trace_book.specs.Instances.{TablesFit}
 use Rattle.trace_book.specs.KeptHists.{attached_as, kept_hists}

@@ -16,8 +16,9 @@ use Rattle.trace_history.proofs.NamedTables.{AllFit, one-table}
 use Rattle.trace_history.proofs.OwnFiles.{all-named}
 use Rattle.trace_history.proofs.Tables.{AreApart, IsFound, found-in, name-same, none-found}
 use Rattle.trace_book.specs.KeptHists.{attached_as, kept_hists}
-use Rattle.trace_book.specs.KeptHists as kept
-use Rattle.trace_book.specs.private.Attaching.{AreKept, left_of, named_in}
+use Rattle.trace_book.specs.private.Attaching.{AreKept}
+use Rattle.trace_book.specs.private.SharedTables as sharing
+use Rattle.trace_book.specs.private.SharedTables.{left_of, named_in}
 use Rattle.trace_book.specs.declared.attach.EventTriggers.{EventTriggers}
 use Rattle.trace_book.specs.declared.hists.AttachedHist.{AttachedHist}
 use Rattle.trace_book.proofs.BookLists.{flat, event_lists, lists_left, lists-left, left-lists}
@@ -64,8 +65,8 @@ pub found-as : (name : Option (List ℕ)) (past : List Request) (event : Definit
     → named_in spec (left_of triggers append) ≡ option_map attached_as (named_by spec (book_left name past triggers append))
 found-as name past event triggers append spec are =
     ap (λ (lists : List (List AttachedHist)). named_in spec lists) (left-as name past event triggers append are)
-    ∙ ap (find (kept.names_table_of spec)) (flat-as (lists_left (hist_triggers name past) (declared_events past) triggers.event append))
-    ∙ find-map (kept.names_table_of spec) attached_as (book_left name past triggers append)
+    ∙ ap (find (sharing.names_table_of spec)) (flat-as (lists_left (hist_triggers name past) (declared_events past) triggers.event append))
+    ∙ find-map (sharing.names_table_of spec) attached_as (book_left name past triggers append)
 
 -- ---- the table that a text names
 

@@ -6,8 +6,7 @@ use Rattle.std.proofs.Math.Seq.{drop-cons, drop-length}
 use Rattle.std.proofs.lemmas.List.{get_or-set_other, get_or-set_same, length-set}
 use Rattle.std.proofs.lemmas.List.Folds.{find-append}
 use Rattle.trace_trigger.specs.HistSpecs.{SpecSeen}
-use Rattle.trace_book.specs.KeptHists.{names_table_of}
-use Rattle.trace_book.specs.private.Attaching.{left_of, named_in}
+use Rattle.trace_book.specs.private.SharedTables.{left_of, named_in, names_table_of}
 use Rattle.trace_book.specs.declared.attach.EventTriggers.{EventTriggers}
 use Rattle.trace_book.specs.declared.hists.AttachedHist.{AttachedHist}
 use Rattle.trace_book.proofs.Snapshotting.{same-at}

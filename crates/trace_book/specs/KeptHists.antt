@@ -11,7 +11,7 @@ use Rattle.trace_hist.specs.Hists.{IsReservedAs, Seen, counted, most_rows}
 use Rattle.trace_trigger.specs.SameSpecs.{is_same, is_passed}
 use Rattle.trace_trigger.specs.declared.spec.Action.{Action}
 use Rattle.trace_command.specs.Requests.{Request}
-use Rattle.trace_history.specs.HistTriggers.{HistTrigger, empties, hists_of, hits_of, is_name_of, is_paused, paused_after}
+use Rattle.trace_history.specs.HistTriggers.{HistTrigger, empties, hists_of, hits_of, is_paused, paused_after}
 use Rattle.trace_book.specs.declared.hists.AttachedHist.{AttachedHist}
 use Rattle.trace_book.specs.declared.tables.Table.{Table}
 
@@ -19,10 +19,6 @@ use Rattle.trace_book.specs.declared.tables.Table.{Table}
 
 abbrev pub says_same : SpecSeen → AttachedHist → Bool
 says_same spec attached = is_same spec attached.spec
-
--- whether a string names its table
-abbrev pub names_table_of : SpecSeen → AttachedHist → Bool
-names_table_of spec attached = is_name_of spec.name attached.spec.name
 
 -- a hist trigger as the requests have it
 abbrev pub attached_as : HistTrigger → AttachedHist

@@ -6,3 +6,4 @@ pub mod Files
 pub mod Found
 pub mod Rows
 pub mod Tables
+pub mod SharedTables

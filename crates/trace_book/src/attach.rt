@@ -1,8 +1,10 @@
-//! Trigger strings: what is changed by one that is written for an event (events.rst, "Event triggers"; histogram.rst, "hist triggers").
+//! Trigger strings: the change that a string written to an event's `trigger` file makes (events.rst, "Event triggers"; histogram.rst, "hist
+//! triggers").
 
 ghost use Rattle.std.specs.Prelude.{◌≡◌, ◌≢◌, ◌<◌, ◌≤◌, false, if◌then◌else◌, [], length, position, slice_index_or, None, Ok, option_copied, OnOk, IfErr};
 ghost use Rattle.trace_trigger.specs.TriggerTexts.{HasFilter, is_hist_text};
 ghost use Rattle.trace_book.specs.private.Attaching as attaching;
+ghost use Rattle.trace_book.specs.private.SharedTables as sharing;
 ghost use Rattle.trace_book.specs.KeptHists.{says_same};
 ghost use Rattle.trace_trigger.specs.TriggerTexts.{said_of};
 ghost use Rattle.trace_trigger.specs.declared.trigger.TriggerText.TheVariants as said;
@@ -29,7 +31,7 @@ pub(crate) struct EventTriggers<'a> {
 }
 
 impl<'a> EventTriggers<'a> {
-    /// Those of the event at this index.
+    /// The triggers of the event at this index.
     pub(crate) fn of(instance: &'a Instance, event: usize) -> EventTriggers<'a>
         requires triggers { event < length instance.now.triggers }
         requires hists { event < length instance.now.hists }
@@ -46,7 +48,7 @@ impl<'a> EventTriggers<'a> {
         }
     }
 
-    /// What a string changes that is written for the event.
+    /// The change that a string written for the event makes.
     pub(crate) fn written(
         self,
         alloc: Global,
@@ -67,7 +69,7 @@ impl<'a> EventTriggers<'a> {
         }
     }
 
-    // A trigger for snapshots, of which an event has at most one.
+    // A snapshot trigger, of which an event has at most one.
     fn attached(
         self,
         written: WrittenText<'_>,
@@ -83,7 +85,7 @@ impl<'a> EventTriggers<'a> {
         Ok(TriggerChange::Attach(Trigger::new(written.number, trigger)))
     }
 
-    // A hist trigger: the table of the same one that is attached is asked, or a new one is attached.
+    // A hist trigger: the string's action on the table of the matching one, or a new one if none matches.
     fn asked(
         self,
         alloc: Global,
@@ -107,9 +109,9 @@ impl<'a> EventTriggers<'a> {
         }
     }
 
-    // The first of the hist triggers of all events that are left whose table a string names.
+    // The first of the remaining hist triggers of all events whose table a string names.
     fn named_by(self, append: bool, spec: &HistSpec) -> Option<&'a AttachedHist>
-        ensures { option_copied result ≡ attaching.named_in spec.now (attaching.left_of self.entry append) }
+        ensures { option_copied result ≡ sharing.named_in spec.now (sharing.left_of self.entry append) }
     {
         for i in 0..self.all.len() {
             if append || i != self.event {
@@ -122,7 +124,7 @@ impl<'a> EventTriggers<'a> {
         None
     }
 
-    // A hist trigger that is removed: the same one, but by `>`, which takes all of them away, nothing more.
+    // Removes the matching hist trigger. With `>` there is nothing more to do, since it removes all of the event's hist triggers.
     fn removed(self, written: WrittenText<'_>, spec: &HistSpec) -> Result<TriggerChange, Refusal>
         ensures change { attaching.IsRemovedHist spec.now self.entry written.entry result }
         ensures memory { IfErr result (λ r. r ≢ Refusal.Memory) }
@@ -136,7 +138,7 @@ impl<'a> EventTriggers<'a> {
         }
     }
 
-    // The index of the one that says the same, of those that are left.
+    // The index of the matching hist trigger, among those that remain.
     fn position(self, append: bool, spec: &HistSpec) -> Option<usize>
         ensures { result ≡ (if append then position (says_same spec.now) self.entry.hists.now else None) }
     {
@@ -147,7 +149,7 @@ impl<'a> EventTriggers<'a> {
         }
     }
 
-    // Whether there is room for one more trigger.
+    // `TooMany` if the triggers that remain leave no room for one more.
     fn check_room(self, append: bool) -> Result<(), Refusal>
         ensures room { OnOk result (attaching.kept_count self.entry append < 4) }
         ensures full { IfErr result (λ refusal. (refusal ≡ Refusal.TooMany) × (4 ≤ attaching.kept_count self.entry append)) }
@@ -166,7 +168,7 @@ impl<'a> EventTriggers<'a> {
     }
 }
 
-// What is asked of the table of a hist trigger that is attached.
+// The action of a string whose hist trigger is attached already. It can't be attached again.
 fn asked_again(table: u64, action: Action) -> Result<TriggerChange, Refusal>
     ensures { result ≡ attaching.asked_change table action }
 {
@@ -178,7 +180,7 @@ fn asked_again(table: u64, action: Action) -> Result<TriggerChange, Refusal>
     }
 }
 
-// A hist trigger that counts in the table of another one, which it names, if it fits.
+// A hist trigger that shares the table of another one, which it names, if it fits.
 fn joined(
     alloc: Global,
     written: WrittenText<'_>,
@@ -198,7 +200,7 @@ fn joined(
     Ok(TriggerChange::AttachHist(Box::new(alloc, attached)?))
 }
 
-// A hist trigger with a table of its own, which keeps what the string says too, and so reads it once more.
+// A hist trigger with a table of its own. The table keeps the specification as well, so the string is parsed once more.
 fn made(
     alloc: Global,
     event: &EventDef,
@@ -222,7 +224,7 @@ fn made(
     Ok(TriggerChange::MakeHist(Box::new(alloc, made)?))
 }
 
-// Whether a string attaches a hist trigger where none says the same.
+// Whether a string attaches a hist trigger if none matches.
 fn attaches(action: Action) -> bool
     ensures { result ≡ attaching.attaches action }
 {

@@ -1,6 +1,6 @@
-//! The book: a history of commands, and what it has come to.
+//! The book: a history of commands, and the state that it leads to.
 //!
-//! A command is done in two phases, so that one that is refused changes nothing, wherever the refusal is found and whichever allocation fails:
+//! A command runs in two phases, so that a refused one changes nothing, wherever the refusal is found and whichever allocation fails:
 //!
 //! ```text
 //!                        emission                       any other command
@@ -11,9 +11,9 @@
 //!             records    the entry counts               the entry counts
 //! ```
 //!
-//! `commit` can be refused memory for a spare side, a hist trigger and its table, an event or an instance alone: all growth of such a command comes
-//! before what the command changes. Nothing is undone anywhere. What the two phases hand on is data (`Change`, `Delivery`), so `commit` never looks at
-//! the command again: it makes a step of the state, and `prepare` has shown that this is the step that the definitions give the command.
+//! `commit` can be refused memory only for a spare side, a hist trigger and its table, an event or an instance, and it allocates all of that before
+//! it changes anything. Nothing is ever undone. The two phases pass on data (`Change`, `Delivery`), so `commit` never looks at the command again: it
+//! makes a step of the state, and `prepare` has shown that this is the step that the definitions give the command.
 
 ghost use Rattle.std.specs.Prelude.{◌≡◌, ℕ, ◌+◌, ◌^◌, ◌≤◌, ◌<◌, [], ◌∷◌, ◌++◌, All, drop, length, map, is_none, is_some, IfOk, IfErr, IfSome, OnOk, OnErr, ◌≢◌, true, false};
 ghost use Rattle.std.specs.List.{slice_get};
@@ -41,8 +41,8 @@ use trace_command::{BorrowedEmission, Command, Config, Refusal, Reply};
 use trace_format::{BorrowedPair, Catalog, EventDef, Pair, borrowed};
 use trace_log::{Entries, History};
 
-/// A tracer's book: what it was made with, the history of what was done, and what that has come to. It is worked through files as
-/// ftrace.rst describes them, one command at a time.
+/// A tracer: its configuration, the history of the commands done, and the state that they led to. Commands name files as in ftrace.rst and run one at
+/// a time.
 #[derive(Drop)]
 pub struct Book {
     alloc: Global,
@@ -65,7 +65,7 @@ impl Model for Book {
 }
 
 impl Book {
-    /// A book with no history. `BadValue` comes exactly where a number of the configuration is out of range.
+    /// A book with no history. Refused with `BadValue` exactly if a number of the configuration is out of range, otherwise only with `Memory`.
     pub fn new(alloc: Global, config: Config) -> Result<Book, Refusal>
         ensures made { IfOk result (λ book. (book.config ≡ config) × (book.entries ≡ [])) }
         ensures in_range { OnOk result (IsInRange config) }
@@ -84,12 +84,12 @@ impl Book {
         })
     }
 
-    /// Does a command, or refuses it. The answer is the one that the history gives: a command that is done is the next entry of the
-    /// history, under this ticket and the number of this caller; one that is refused changes nothing. The history stays legal.
-    /// `Memory` may come in place of the answer, where an allocation was refused; but that no such file, instance, CPU or event is
-    /// there, that an instance is there already, that a file can't be read or written, and that a value is wrong is always told. And
-    /// every refusal is told of a command that takes memory late (`TakesMemoryLate`): an instance is removed, or a file is written, but
-    /// for a declaration, a filter that doesn't clear, and a trigger text with a filter or of a hist trigger.
+    /// Runs a command, or refuses it. The answer is the one that the history gives. A command that is done becomes the history's next entry, under
+    /// this ticket and caller's number; a refused one changes nothing. The history stays legal.
+    ///
+    /// If an allocation is refused, `Memory` may replace the answer, but never `NoSuchFile`, `NotReadable`, `NotWritable`, `BadValue`, `NoSuchEvent`,
+    /// `InstanceExists`, `NoSuchInstance` or `NoSuchCpu`, and never a refusal of a command that allocates late (`TakesMemoryLate`): `rmdir`, or a
+    /// write of anything but a declaration, a filter that doesn't clear, a trigger with a filter, or a hist trigger.
     pub fn ask(&mut self, ticket: u64, by: u32, command: Command) -> Result<Reply, Refusal>
         requires { All (λ entry. entry.ticket < ticket) self.old.entries }
         ensures reply { OrMemory result (answer_to self.old.config self.old.entries command) }
@@ -117,7 +117,7 @@ impl Book {
         answer
     }
 
-    // Does an emission of these pairs, as `ask` says. One pair takes no list.
+    // As `ask`, for an emission of these pairs. For a single pair no list is allocated.
     fn ask_pairs(
         &mut self,
         ticket: u64,
@@ -147,7 +147,7 @@ impl Book {
         self.ask_emission(ticket, by, &BorrowedEmission::new(event, cpu, pid, &pairs))
     }
 
-    /// Does an emission whose strings lie elsewhere, or refuses it, as `ask` does the command that it is.
+    /// As `ask`, for an emission whose strings are borrowed.
     pub fn ask_emission(
         &mut self,
         ticket: u64,
@@ -189,7 +189,7 @@ impl Book {
         Ok(Reply::Done)
     }
 
-    // Does a command that is no emission, as `ask` says. The limit of the history is looked at before memory is taken for one more entry.
+    // As `ask`, for a command other than an emission. The limit of the history is checked before memory is allocated for one more entry.
     fn ask_other(&mut self, ticket: u64, by: u32, command: Command) -> Result<Reply, Refusal>
         requires rises { All (λ entry. entry.ticket < ticket) self.old.entries }
         requires other { ticks (request_of command) ≡ 0 }
@@ -227,21 +227,21 @@ impl Book {
         self.history.entries()
     }
 
-    /// The clock: how many emissions were done.
+    /// The clock: the number of emissions done.
     pub fn now(&self) -> u64
         ensures { result ≡ now_of (past_of self.now.entries) }
     {
         self.state.clock
     }
 
-    /// How many commands were done.
+    /// The number of commands done.
     pub fn history_len(&self) -> usize
         ensures { result ≡ length self.now.entries }
     {
         self.history.len()
     }
 
-    /// The event that was declared at this index, from 0, if there is one.
+    /// The event at this index, from 0, in order of declaration; `None` beyond the last one.
     pub fn event(&self, index: usize) -> Option<&EventDef>
         ensures { option_copied result ≡ slice_get (declared_events (past_of self.now.entries)) index }
     {
@@ -251,14 +251,14 @@ impl Book {
         Some(event_at(&self.state.catalog, index))
     }
 
-    /// The name of the instance at this index, from 0, in the order in which they were made; the top one has none and isn't counted.
+    /// The name of the instance at this index, from 0, in order of creation, not counting the top one; `None` beyond the last one.
     pub fn instance_name(&self, index: usize) -> Option<&[u8]>
         ensures { option_map bytes_now result ≡ slice_get (instance_names (past_of self.now.entries)) index }
     {
         made_name(&self.state.instances, index)
     }
 
-    /// The instance of this name, or the top one. It is there exactly where the history has it.
+    /// The instance with this name, or the top one if no name is given. `Some` exactly if the history has it.
     pub fn instance(&self, name: Option<&[u8]>) -> Option<&Instance>
         ensures there { is_some result ≡ is_there (option_map bytes_now name.entry) (past_of self.now.entries) }
         ensures stands { IfSome result (λ instance.
@@ -269,7 +269,7 @@ impl Book {
     }
 }
 
-// The only pair of a list of one.
+// The pair, if the list has exactly one.
 fn single(pairs: &[Pair]) -> Option<BorrowedPair<'_>>
     ensures { IfSome result (λ pair. pairs.now ≡ pair ∷ []) }
 {
@@ -299,12 +299,11 @@ fn made_name(instances: &[Named], index: usize) -> Option<&[u8]>
     name_of(made.get(index)?)
 }
 
-// Lets a command go, out of line.
+// Drops a command, out of line.
 #[inline(never)]
 fn let_go(_command: Command) {}
 
-// Lets the delivery go that was prepared for an emission that is refused. It is out of line: code that lets values go takes much room, for which an
-// emission that is done would pay, too.
+// Drops the delivery prepared for an emission that is refused. Out of line, so that emissions that are done don't pay for the code that drops it.
 #[cold]
 #[inline(never)]
 fn refused_late(_delivery: Delivery, refusal: Refusal) -> Result<Reply, Refusal>
@@ -313,7 +312,7 @@ fn refused_late(_delivery: Delivery, refusal: Refusal) -> Result<Reply, Refusal>
     Err(refusal)
 }
 
-// What no request has come to yet: no event, and the top instance.
+// The state before any request: no event, and the top instance.
 fn new_state(alloc: Global, config: &Config) -> Result<State, AllocError>
     requires { IsInRange config.now }
     ensures { IfOk result (λ state. StandsFor config.now state []) }

@@ -1,4 +1,4 @@
-//! What a command that is done changes.
+//! Changes: what a command does to the state.
 
 ghost use Rattle.std.specs.Prelude.{◌≡◌};
 ghost use Rattle.trace_book.specs.Changes as changes;
@@ -12,70 +12,70 @@ use trace_filter::Filter;
 use trace_format::{EventDef, Row};
 use trace_hist::{Action, Hist};
 
-/// What a command changes that is no emission. It is moved from function to function whatever it is, so what needs much room lies in a box.
+/// What a command other than an emission changes. Every change is moved from function to function, so large parts are boxed.
 #[derive(Drop)]
 pub(crate) enum Change {
-    /// One more event is declared.
+    /// Declares an event.
     Declare(EventDef),
-    /// One more instance is there.
+    /// Makes an instance.
     Make(Box<Named>),
-    /// The instance at this index is there no more.
+    /// Removes the instance at this index.
     Remove(usize),
-    /// The instance at this index is changed.
+    /// Changes the instance at this index.
     Instance(usize, InstanceChange),
 }
 
-/// What is changed of an instance. An event is known by its index among the declared ones.
+/// A change to one instance. Events are named by their index among the declared ones.
 #[derive(Drop)]
 pub(crate) enum InstanceChange {
     Keep,
-    /// An event is switched.
+    /// Enables or disables an event.
     Switch(usize, bool),
-    /// All events are switched.
+    /// Enables or disables all events.
     SwitchAll(bool),
-    /// An event gets this filter, or none.
+    /// Sets or clears an event's filter.
     SetFilter(usize, Option<Filter>),
-    /// Each event's filter is changed.
+    /// Changes each event's filter.
     SetFilters(Vec<FilterChange>),
-    /// No event has a filter any more.
+    /// Clears all filters.
     ClearFilters,
-    /// An event's triggers are changed; its hist triggers are taken away first, but not where the string is appended.
+    /// Changes an event's triggers, first removing its hist triggers unless the string is appended.
     Triggers(usize, bool, TriggerChange),
-    /// Records may overwrite older ones, or not.
+    /// Turns overwriting on or off.
     SetOverwrite(bool),
-    /// Emissions are recorded, or not.
+    /// Turns recording on or off.
     SetTracing(bool),
-    /// All rings of the live side are emptied.
+    /// Empties all rings of the live side.
     Clear,
-    /// A CPU's ring of the live side is emptied.
+    /// Empties one CPU's ring of the live side.
     ClearCpu(u32),
-    /// So many records of each CPU are consumed.
+    /// Consumes this many records of each CPU.
     Take([u64; CPUS]),
-    /// So many records of a CPU are consumed.
+    /// Consumes up to this many records of one CPU.
     TakeCpu(u32, u64),
-    /// The sides are exchanged, where a spare one is made if there is none.
+    /// Swaps the sides, making a spare first if there is none.
     TakeSnapshot,
-    /// The spare side is freed.
+    /// Frees the spare side.
     FreeSpare,
-    /// The spare side is emptied, if there is one.
+    /// Empties the spare side, if there is one.
     ClearSpare,
 }
 
-/// What becomes of an event's triggers.
+/// A change to an event's triggers.
 #[derive(Drop)]
 pub(crate) enum TriggerChange {
     Keep,
-    /// The event gets this trigger for snapshots, and the instance a spare side if it has none.
+    /// Attaches this snapshot trigger, making a spare side if there is none.
     Attach(Trigger),
-    /// The event's trigger for snapshots is removed.
+    /// Removes the snapshot trigger.
     Detach,
-    /// The event gets one more hist trigger, which counts in a table that is there.
+    /// Attaches a hist trigger to an existing table.
     AttachHist(Box<AttachedHist>),
-    /// The event gets one more hist trigger, and the instance a table, in which it counts.
+    /// Attaches a hist trigger with a table of its own.
     MakeHist(Box<NewHist>),
-    /// The hist trigger at this index, which says the same, is removed. The text is appended, since `>` leaves none.
+    /// Removes the matching hist trigger, which has this index. Only for `>>`, since `>` leaves none.
     DetachHist(usize),
-    /// What a string asks for is done to the table of this number, that of the hist trigger that says the same.
+    /// Applies an action to the table with this number, that of the matching hist trigger.
     AskTable(u64, Action),
 }
 
@@ -86,7 +86,7 @@ pub(crate) struct NewHist {
     pub hist: Hist,
 }
 
-/// What becomes of an event's filter.
+/// A change to an event's filter.
 #[derive(Drop)]
 pub(crate) enum FilterChange {
     Keep,
@@ -94,14 +94,14 @@ pub(crate) enum FilterChange {
 }
 
 impl FilterChange {
-    /// Whether the event gets a filter.
+    /// Whether it sets a filter.
     pub(crate) fn sets(&self) -> bool
         ensures { result ≡ changes.is_set self.now }
     {
         matches!(self, FilterChange::Set(_))
     }
 
-    /// Makes the change.
+    /// Applies the change.
     pub(crate) fn apply(self, filter: &mut Option<Filter>)
         ensures { filter.new ≡ changes.changed_filter self filter.old }
     {
@@ -112,24 +112,24 @@ impl FilterChange {
     }
 }
 
-/// What an emission does in an instance, but for its hist triggers.
+/// What an emission does in an instance, apart from hist triggers.
 #[derive(Clone, Copy)]
 pub(crate) struct Reach {
     /// Whether its record is written.
     pub records: bool,
-    /// Whether it makes the event's trigger for snapshots act.
+    /// Whether it makes the event's snapshot trigger act.
     pub fires: bool,
 }
 
-/// What an emission does in each instance, in their order, and whether some instance records it.
+/// What an emission does in each instance, in their order, and whether any instance records it.
 #[derive(Clone, Copy)]
 pub(crate) struct Reaches {
     pub each: [Reach; INSTANCES],
     pub recorded: bool,
 }
 
-/// What an emission brings to the instances: the index of its event; its row, which the event's hist triggers are offered, with its CPU and its
-/// process; what it does in each of them; the filters of which hist triggers of each it passes; and its record, if one records it.
+/// A prepared emission: the index of its event; its row, with CPU and process; what it does in each instance; which hist triggers' filters it passes
+/// there; and its record, if an instance records it.
 #[derive(Drop)]
 pub(crate) struct Delivery {
     pub event: usize,

@@ -1,4 +1,5 @@
-//! Emissions: a row is built once, each filter is asked once, and each table that counts the row has memory, before any instance is written to.
+//! Emissions: a row is built once, each filter is evaluated once, and each table that counts the row has its memory reserved, before any instance is
+//! written to.
 
 ghost use Rattle.std.specs.Prelude.{◌≡◌, ℕ, ◌+◌, ◌<◌, ◌≤◌, ◌^◌, true, List, [], length, All, slice_index_or, Some, IfOk, OnOk};
 ghost use Rattle.trace_buffer.specs.Buffers as buffers;
@@ -29,7 +30,7 @@ use trace_command::{Config, Refusal};
 use trace_format::{BorrowedPair, Row, payload_size};
 
 impl State {
-    /// Prepares an emission: its CPU, its event, its row, then what it does in each instance, then the memory of its hist triggers, and then its
+    /// Prepares an emission, in this order: its CPU, its event, its row, what it does in each instance, the memory of its hist triggers, and its
     /// record, if an instance records it.
     #[tactic(auto, unfolding(trace_history::specs::History::emission_answer))]
     pub(crate) fn prepare_emission(
@@ -71,7 +72,7 @@ impl State {
         })
     }
 
-    /// Why an emission is refused for which no memory is left: a CPU or an event that isn't there is told all the same.
+    /// The refusal of an emission that ran out of memory: a missing CPU or event is reported even so.
     #[cold]
     #[inline(never)]
     #[tactic(auto, unfolding(trace_history::specs::History::emission_answer))]
@@ -88,8 +89,8 @@ impl State {
         Refusal::Memory
     }
 
-    // Asks the filters of the hist triggers of the event at this index about a row, in each instance, and takes the memory to count it for those
-    // which it passes.
+    // Evaluates the filters of the hist triggers of the event at this index for a row, in each instance, and reserves memory to count it for those
+    // that it passes.
     fn reserve_hits(
         &mut self,
         index: usize,
@@ -135,7 +136,7 @@ impl State {
     }
 }
 
-// What an emission of the event at this index does in each instance, but for its hist triggers.
+// What an emission of the event at this index does in each instance, apart from hist triggers.
 fn reach_each(instances: &[Named], event: usize, row: &Row, cpu: u32, pid: i32) -> Reaches
     requires few { length instances.now ≤ 8 }
     requires enabled { All (λ n. event < length n.instance.enabled) instances.now }
@@ -157,7 +158,7 @@ fn reach_each(instances: &[Named], event: usize, row: &Row, cpu: u32, pid: i32) 
     Reaches { each, recorded }
 }
 
-// Asks the filters of the hist triggers of the event at this index about a row, in each instance, and takes the memory to count it for those which
+// Evaluates the filters of the hist triggers of the event at this index for a row, in each instance, and reserves memory to count it for those that
 // it passes.
 fn reserve_each(
     instances: &mut [Named],

@@ -3,6 +3,7 @@
 ghost use Rattle.std.specs.Prelude.{◌≡◌, ℕ, ◌+◌, ◌<◌, ◌≤◌, ◌^◌, true, if◌then◌else◌, [], ◌∷◌, ◌++◌, length, position, All, IfOk, IfSome, OnOk, OnErr, option_copied, is_some};
 ghost use Rattle.std.specs.List.{find, remove};
 ghost use Rattle.trace_book.specs.private.Commands.{shown_attached};
+ghost use Rattle.trace_book.specs.private.SharedTables as sharing;
 ghost use Rattle.trace_book.specs.KeptHists as kept;
 ghost use Rattle.trace_book.specs.KeptHists.{kept_at, table_numbered};
 ghost use Rattle.trace_text.specs.ShownTriggers.{shown_trigger};
@@ -16,13 +17,13 @@ use trace_format::Row;
 use trace_hist::HistSpec;
 use trace_text::Shown;
 
-/// How many triggers an event may have in an instance, of all kinds.
+/// The most triggers, of all kinds, that an event may have in an instance.
 pub(crate) const MOST_TRIGGERS: usize = 4;
 
-/// Of each hist trigger of an event, by its index, whether an emission passes its filter; `false` where there is none.
+/// Whether an emission passes each hist trigger's filter, by index; `false` beyond the last one.
 pub(crate) type Passed = [bool; MOST_TRIGGERS];
 
-/// A hist trigger that is attached.
+/// An attached hist trigger.
 #[derive(Drop)]
 pub(crate) struct AttachedHist {
     /// How many requests had been done before the one that attached it.
@@ -44,7 +45,7 @@ impl AttachedHist {
         }
     }
 
-    // Whether it says the same as another trigger of its event.
+    // Whether it matches: the same name, keys, values, sort keys and filter.
     fn says_same(&self, spec: &HistSpec) -> bool
         ensures { result ≡ kept.says_same spec.now self.now }
     {
@@ -53,7 +54,7 @@ impl AttachedHist {
 
     // Whether a string names its table.
     fn is_named_by(&self, spec: &HistSpec) -> bool
-        ensures { result ≡ kept.names_table_of spec.now self.now }
+        ensures { result ≡ sharing.names_table_of spec.now self.now }
     {
         match (spec.name(), self.spec.name()) {
             (Some(name), Some(other)) => name == other,
@@ -82,7 +83,7 @@ impl Model for EventHists {
 }
 
 impl EventHists {
-    /// None.
+    /// No hist triggers.
     pub(crate) fn new(alloc: Global) -> EventHists
         ensures { result ≡ [] }
     {
@@ -97,7 +98,7 @@ impl EventHists {
         &self.hists
     }
 
-    /// The index of the one that says the same as another trigger of the event.
+    /// The index of the trigger that matches.
     pub(crate) fn position(&self, spec: &HistSpec) -> Option<usize>
         ensures { result ≡ position (kept.says_same spec.now) self.now }
     {
@@ -106,23 +107,23 @@ impl EventHists {
             .position(|attached| attached.says_same(spec))
     }
 
-    /// The first whose table a string names.
+    /// The first trigger whose table a string names.
     pub(crate) fn named_by(&self, spec: &HistSpec) -> Option<&AttachedHist>
-        ensures { option_copied result ≡ find (kept.names_table_of spec.now) self.now }
+        ensures { option_copied result ≡ find (sharing.names_table_of spec.now) self.now }
     {
         self.hists
             .iter()
             .find(|attached| attached.is_named_by(spec))
     }
 
-    /// Whether one of them counts in the table of a number.
+    /// Whether any of them counts in the table with this number.
     pub(crate) fn uses(&self, table: u64) -> bool
         ensures { result ≡ kept.uses_table table self.now }
     {
         self.hists.iter().any(|attached| attached.table == table)
     }
 
-    /// Takes them all away, but not where a string is appended.
+    /// Removes all of them, unless the string is appended.
     pub(crate) fn keep(&mut self, append: bool)
         ensures { self.new ≡ (if append then self.old else []) }
     {
@@ -131,7 +132,7 @@ impl EventHists {
         }
     }
 
-    /// Attaches one more; the others are taken away first, but not where its text is appended.
+    /// Attaches a trigger, first removing the others unless its string is appended.
     pub(crate) fn attach(&mut self, append: bool, attached: AttachedHist) -> Result<(), AllocError>
         requires { length (if append then self.old else []) < 4 }
         ensures attached { OnOk result (self.new ≡ (if append then self.old else []) ++ attached ∷ []) }
@@ -145,7 +146,7 @@ impl EventHists {
         Ok(())
     }
 
-    /// Removes the one at an index.
+    /// Removes the trigger at this index.
     pub(crate) fn remove(&mut self, index: usize)
         requires { index < length self.old }
         ensures { self.new ≡ remove self.old index }
@@ -153,7 +154,7 @@ impl EventHists {
         let _removed = self.hists.remove(index);
     }
 
-    // The filters of which of them a row passes.
+    // Which triggers' filters a row passes.
     fn passed(&self, row: &Row, cpu: u32, pid: i32) -> Passed
         ensures { result ≡ kept.passed (record { values = row.now.values; cpu = cpu; pid = pid }) self.now }
     {
@@ -165,7 +166,7 @@ impl EventHists {
         ]
     }
 
-    // Whether there is one at an index and a row passes its filter.
+    // Whether a trigger has this index and a row passes its filter.
     fn is_passed(&self, index: usize, row: &Row, cpu: u32, pid: i32) -> bool
         ensures { result ≡ kept.is_passed_at (record { values = row.now.values; cpu = cpu; pid = pid }) self.now index }
     {
@@ -175,7 +176,7 @@ impl EventHists {
         self.hists[index].spec.passes(row, cpu, pid)
     }
 
-    /// Asks the filter of each about a row, and takes the memory to count it in the tables of those whose filter it passes. It tells which these are.
+    /// Evaluates each trigger's filter for a row, reserves memory to count it in the tables of those that it passes, and returns which these are.
     pub(crate) fn reserve(
         &self,
         tables: &mut [Table],
@@ -198,7 +199,7 @@ impl EventHists {
         Ok(passed)
     }
 
-    /// Counts a row in the table of each whose filter it passes, unless that is paused.
+    /// Counts a row in the table of each trigger whose filter it passes, unless that table is paused.
     pub(crate) fn hit(&self, tables: &mut [Table], passed: &Passed, row: &Row, cpu: u32, pid: i32)
         requires agree { kept.KeysAgree self.now }
         requires passed { passed.now ≡ kept.passed (record { values = row.now.values; cpu = cpu; pid = pid }) self.now }

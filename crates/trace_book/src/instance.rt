@@ -27,7 +27,7 @@ use trace_buffer::Buffer;
 use trace_filter::Filter;
 use trace_snapshot::Sides;
 
-/// How many events there may ever be.
+/// The most events that may be declared.
 pub(crate) const EVENTS: usize = 64;
 
 /// A trace instance, as in ftrace.rst, "Instances": each has switches, filters, triggers, options and rings of its own.
@@ -38,7 +38,7 @@ pub struct Instance {
     filters: Vec<Option<Filter>>,
     triggers: Vec<Option<Trigger>>,
     hists: Vec<EventHists>,
-    // The tables of hist triggers, the newest first. Each is that of some trigger.
+    // The tables of hist triggers, newest first. Each is used by some trigger.
     tables: Vec<Table>,
     overwrite: bool,
     tracing: bool,
@@ -60,7 +60,7 @@ impl Model for Instance {
 }
 
 impl Instance {
-    /// An instance with so many events, all disabled and without a filter or a trigger, and empty rings of this shape, without a spare side.
+    /// An instance with this many events, all disabled and without filters or triggers, with empty rings of this shape and no spare side.
     pub(crate) fn new(
         alloc: Global,
         events: usize,
@@ -117,7 +117,7 @@ impl Instance {
         self.enabled.iter().all(|flag| !*flag)
     }
 
-    /// Whether some event is not enabled.
+    /// Whether any event is disabled.
     pub(crate) fn some_off(&self) -> bool
         ensures { result ≡ list_any not self.now.enabled }
     {
@@ -162,7 +162,7 @@ impl Instance {
         &self.hists[event]
     }
 
-    /// Whether some event has a trigger for snapshots.
+    /// Whether any event has a snapshot trigger.
     pub(crate) fn has_trigger(&self) -> bool
         ensures { result ≡ list_any is_some self.now.triggers }
     {
@@ -206,7 +206,7 @@ impl Instance {
         self.sides.live().stats(cpu)
     }
 
-    /// Takes in one more event, which is disabled and has no filter and no trigger.
+    /// Adds an event, disabled, without filter or triggers.
     pub(crate) fn add_event(&mut self)
         requires enabled { length self.old.enabled < 64 }
         requires filters { length self.old.filters < 64 }
@@ -220,7 +220,7 @@ impl Instance {
         self.hists.push_reserved(EventHists::new(self.alloc));
     }
 
-    /// Makes a change. The only error is that memory for a spare side or for one more hist trigger is refused, and then nothing is changed.
+    /// Applies a change. Fails only if memory for a spare side or a hist trigger is refused, and then changes nothing.
     pub(crate) fn apply(&mut self, change: InstanceChange) -> Result<(), AllocError>
         requires { changes.IsLawful self.old change }
         ensures applied { OnOk result (changes.IsApplied change self.old self.new) }
@@ -251,8 +251,8 @@ impl Instance {
         Ok(())
     }
 
-    // Changes the triggers of the event at this index. Its hist triggers are taken away first, but not where the string is appended. Tables in which no
-    // trigger counts any more go.
+    // Changes the triggers of the event at this index, first removing its hist triggers unless the string is appended. Drops the tables that no
+    // trigger uses any more.
     fn change_triggers(
         &mut self,
         event: usize,
@@ -270,7 +270,7 @@ impl Instance {
         Ok(())
     }
 
-    // The same, and no table goes.
+    // Likewise, but drops no table.
     fn set_triggers(
         &mut self,
         event: usize,
@@ -305,7 +305,7 @@ impl Instance {
         Ok(())
     }
 
-    // Attaches a hist trigger that counts in a table that is there, and asks of that what the trigger's text asks for.
+    // Attaches a hist trigger to an existing table, and applies the string's action to that table.
     fn join(
         &mut self,
         event: usize,
@@ -324,7 +324,7 @@ impl Instance {
         Ok(())
     }
 
-    // Attaches a hist trigger, with a table for it.
+    // Attaches a hist trigger with a table of its own.
     fn make(&mut self, event: usize, append: bool, made: Box<NewHist>) -> Result<(), AllocError>
         requires hists { event < length self.old.hists }
         requires few { length (if append then slice_index_or self.old.hists event [] else []) < 4 }
@@ -340,7 +340,7 @@ impl Instance {
     }
 }
 
-// Changes each filter.
+// Changes each event's filter.
 fn change_all(filters: &mut [Option<Filter>], changes: Vec<FilterChange>)
     requires { length changes.items ≡ length filters.old }
     ensures { filters.new ≡ changed_filters changes.items filters.old }
@@ -352,7 +352,7 @@ fn change_all(filters: &mut [Option<Filter>], changes: Vec<FilterChange>)
     }
 }
 
-// Takes each filter away.
+// Clears each event's filter.
 fn clear_all(filters: &mut [Option<Filter>])
     ensures { filters.new ≡ replicate (length filters.old) None }
 {

@@ -1,4 +1,4 @@
-//! The book: it does a tracer's commands, and keeps their history and what that has come to.
+//! The book: it runs a tracer's commands, and keeps their history and the state that it leads to.
 #![tactic(auto)]
 
 mod attach;

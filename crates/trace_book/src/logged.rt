@@ -5,7 +5,7 @@ ghost use Rattle.trace_book.specs.Bases.{numbers_of};
 use crate::book::Book;
 use ticket_lock::Logged;
 
-/// A lock sees of a book its history, and, as what no call changes, its configuration.
+/// A lock sees a book's history, and as its base, which no call changes, the configuration.
 impl Logged for Book {
     type Entry = trace_command::Entry;
 

@@ -1,4 +1,4 @@
-//! Instances are made and removed (ftrace.rst, "Instances").
+//! Making and removing instances (ftrace.rst, "Instances").
 
 ghost use Rattle.std.specs.Prelude.{◌≡◌, ◌≢◌, ◌≤◌, Some, List, ◌∷◌, length, IfOk, IfErr};
 ghost use Rattle.trace_command.specs.Configs.{IsInRange};
@@ -16,11 +16,11 @@ use std::alloc::{AllocError, Global};
 use trace_command::{Config, Refusal, Reply, instance_of};
 use trace_lex::{Text, is_name};
 
-/// How many instances there may be, with the top one.
+/// The most instances that there may be, counting the top one.
 pub(crate) const INSTANCES: usize = 8;
 
 impl State {
-    /// Prepares that an instance is made: first its path, then its name, then whether it is there, then how many there are.
+    /// Prepares `mkdir`. Checked in this order: the path, the name, whether the instance exists, how many there are.
     pub(crate) fn prepare_make(
         &self,
         alloc: Global,
@@ -52,7 +52,7 @@ impl State {
         })
     }
 
-    /// Prepares that an instance is removed: first its path, then whether it is there.
+    /// Prepares `rmdir`. Checked in this order: the path, whether the instance exists.
     pub(crate) fn prepare_remove(&self, path: &[u8]) -> Result<Prepared, Refusal>
         ensures prepared { (g : Config) (past : List Request) → StandsFor g self.now past
             → IsPrepared g past (RemoveInstance (paths.instance_of path.now)) self.now result }
@@ -71,7 +71,7 @@ impl State {
     }
 }
 
-// An instance of this name, with so many events, as new.
+// A new instance with this name and this many events.
 fn new_instance(
     alloc: Global,
     config: &Config,

@@ -1,4 +1,4 @@
-//! The memory in which emissions are prepared: kept from one to the next, so that most of them take none anew.
+//! The memory in which emissions are prepared, kept from one emission to the next, so that most allocate nothing.
 
 ghost use Rattle.std.specs.Prelude.{◌≡◌, IfOk, replicate};
 ghost use Rattle.trace_format.specs.Cells.{IsRowOf};
@@ -10,8 +10,8 @@ use std::marker::Model;
 use std::mem;
 use trace_format::{BorrowedPair, EventDef, Row, RowFault, RowMemory};
 
-/// Memory for the row and the record of an emission, which are those of an earlier one. It means nothing: no two are told apart by what they
-/// hold or how much room they have.
+/// Memory for the row and the record of an emission, taken over from an earlier one. It is no part of the state: in contracts all values of this type
+/// are equal, whatever they hold.
 #[derive(Drop)]
 pub(crate) struct EmissionMemory {
     alloc: Global,
@@ -28,7 +28,7 @@ impl Model for EmissionMemory {
 }
 
 impl EmissionMemory {
-    /// Memory without room.
+    /// Empty memory.
     pub(crate) fn new(alloc: Global) -> EmissionMemory {
         EmissionMemory {
             alloc,
@@ -43,7 +43,7 @@ impl EmissionMemory {
         self.event
     }
 
-    /// The row that pairs give to an event.
+    /// The row that these pairs give for an event.
     pub(crate) fn row(
         &mut self,
         event: &EventDef,
@@ -55,7 +55,7 @@ impl EmissionMemory {
         Row::build_in(self.alloc, &mut self.row, event, pairs)
     }
 
-    /// So many zeros, for a record.
+    /// This many zero bytes, for a record.
     pub(crate) fn zeros(&mut self, len: usize) -> Result<Vec<u8>, AllocError>
         ensures { IfOk result (λ bytes. bytes.items ≡ replicate len 0) }
     {
@@ -65,7 +65,7 @@ impl EmissionMemory {
         Ok(bytes)
     }
 
-    /// Takes the row and the record of an emission that is done, for the next one.
+    /// Keeps the memory of a finished emission's row and record for the next one.
     pub(crate) fn keep(&mut self, delivery: Delivery) {
         let Delivery {
             event,

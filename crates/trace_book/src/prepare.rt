@@ -1,5 +1,5 @@
-//! Commands are prepared before anything changes: all memory that they need is taken here, but for the lists of events, of instances, of hist
-//! triggers and of entries, and for a spare side.
+//! Preparing commands, before anything changes: all their memory is allocated here, except that of the lists of events, instances, hist triggers,
+//! their tables and history entries, and that of a spare side.
 
 ghost use Rattle.std.specs.Prelude.{◌≡◌, ◌≢◌, ℕ, ◌^◌, ◌<◌, ◌≤◌, true, List, length, Option, Some, OnOk, IfErr};
 ghost use Rattle.trace_command.specs.Configs.{IsInRange};
@@ -21,7 +21,7 @@ use trace_command::{Command, Config, Refusal, Reply};
 use trace_format::EventDef;
 
 impl State {
-    /// Takes the memory that a command needs which is no emission, and tells what it will change and its reply.
+    /// Allocates what a command other than an emission needs, and returns its change and its reply.
     pub(crate) fn prepare(
         &self,
         alloc: Global,
@@ -96,7 +96,7 @@ impl State {
         }
     }
 
-    // A declaration: its text, whether it may begin anew, and whether the catalog can take it.
+    // A declaration. Checked in this order: its text, that it is appended unless it is the first, whether the catalog can take it.
     #[tactic(auto, unfolding(trace_history::specs::History::declaration_answer))]
     fn prepare_declaration(
         &self,

@@ -32,14 +32,14 @@ use trace_text::{
     format_text, hist_text, pipe_text, snapshot_text, stats_text, trace_text, trigger_text,
 };
 
-/// What a read shows, and what it changes of the instance: only a pipe consumes.
+/// What a read shows, and the change that it makes to the instance: only reads of a pipe consume records.
 #[derive(Drop)]
 pub(crate) struct Shown {
     pub change: InstanceChange,
     pub reply: Reply,
 }
 
-/// What all files are read from: the declared events, the clock, and an instance.
+/// What a read of any file may use: the declared events, the clock, and an instance.
 #[derive(Clone, Copy)]
 pub(crate) struct FileSource<'a> {
     pub catalog: &'a Catalog,
@@ -80,7 +80,7 @@ pub(crate) fn read_file(
     })
 }
 
-// What a file of the instance itself shows that is read whole. Of one that isn't, nothing.
+// The text of a file of the instance itself that is read whole; empty for the others.
 fn text_of_instance(
     alloc: Global,
     source: FileSource<'_>,
@@ -186,7 +186,7 @@ fn format(alloc: Global, catalog: &Catalog, event: usize) -> Result<Text, AllocE
     Ok(Text::from(out))
 }
 
-// What the spare side keeps.
+// What the spare side holds.
 #[tactic(auto, unfolding(trace_history::specs::FileTexts::shown_snapshot))]
 fn snapshot(alloc: Global, source: FileSource<'_>) -> Result<Text, AllocError>
     ensures { (g : Config) (name : Option (List ℕ)) (past : List Request)
@@ -242,18 +242,18 @@ pub(crate) fn declarations(alloc: Global, catalog: &Catalog) -> Result<Text, All
     Ok(Text::from(out))
 }
 
-// What the pipe of all CPUs gives, up to a limit. The string is built before anything is consumed. Which records these are is found once: the
-// change only says how many of each CPU they are.
+// A read of the pipe of all CPUs, up to a limit. The string is built before anything is consumed. The records are looked for once: the change only
+// says how many of each CPU they are.
 #[tactic(auto, unfolding(trace_history::specs::FileTexts::shown_pipe))]
 fn read_pipe(alloc: Global, source: FileSource<'_>, limit: Option<u64>) -> Result<Shown, Refusal>
     ensures { (g : Config) (name : Option (List ℕ)) (past : List Request)
         → IsSource g name past source.entry → IsRead g name past limit (paths.OfInstance top.TracePipe) result }
 {
-    // Theorems: a buffer has a list of events for each CPU, and so many records of each are the ones that are shown.
+    // Theorems: a buffer has one list of events per CPU, and taking this many of each leaves the same as taking the records shown.
     trace_buffer::laws::one_list_each();
     trace_buffer::laws::reads_of_each_leave_the_same();
     let buffer = source.instance.buffer();
-    // What is known of it bounds the lists.
+    // Brings in what is known of the buffer, which bounds the lists.
     let _cpus = buffer.cpus();
     let most = limit.unwrap_or(u64::MAX);
     let taken = buffer.preview_any(most)?;

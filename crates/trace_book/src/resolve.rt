@@ -1,4 +1,4 @@
-//! Paths are looked up once: the instance, the CPU and the event that a path names, in the order in which they are refused.
+//! Looking up paths, once: the instance, the CPU and the event that a path names, in the order of refusals.
 
 ghost use Rattle.std.specs.Prelude.{◌≡◌, ◌≢◌, ℕ, ◌<◌, ◌≤◌, List, length, slice_index_or, position, nat_lt, if◌then◌else◌, Some, None, IfSome, IfOk, IfErr};
 ghost use Rattle.std.specs.Option.{option_map};
@@ -19,7 +19,7 @@ use trace_command::{Config, CpuFile, EventFile, FileName, Refusal, TopFile, addr
 use trace_format::{Catalog, EventDef};
 use trace_lex::digits_value;
 
-/// A file of an instance that is there: a CPU by its number, an event by its index among the declared ones, from 0.
+/// A file of an existing instance: a CPU by its number, an event by its index among the declared ones, from 0.
 #[derive(Clone, Copy, Drop)]
 pub(crate) enum File {
     OfInstance(TopFile),
@@ -27,7 +27,7 @@ pub(crate) enum File {
     OfEvent(usize, EventFile),
 }
 
-/// What a path leads to.
+/// What a path names.
 #[derive(Clone, Copy, Drop)]
 pub(crate) enum Target {
     /// The file of all declarations, which only the top instance has.
@@ -43,7 +43,7 @@ pub(crate) struct Found<'a> {
     pub event: &'a EventDef,
 }
 
-/// The event of this name.
+/// The event with this name.
 pub(crate) fn find<'a>(catalog: &'a Catalog, name: &[u8]) -> Option<Found<'a>>
     ensures named { option_map numbered result ≡ event_named_in catalog.now name.now }
     ensures index { IfSome result (λ found. IsIndexOf catalog.now name.now found.index found.event.now) }
@@ -52,7 +52,7 @@ pub(crate) fn find<'a>(catalog: &'a Catalog, name: &[u8]) -> Option<Found<'a>>
     numbered(catalog, id)
 }
 
-/// The same, where it is likely the event of this number, which is looked at first.
+/// Likewise, trying the event with this number first.
 pub(crate) fn find_likely<'a>(catalog: &'a Catalog, id: u16, name: &[u8]) -> Option<Found<'a>>
     ensures named { option_map numbered result ≡ event_named_in catalog.now name.now }
     ensures index { IfSome result (λ found. IsIndexOf catalog.now name.now found.index found.event.now) }
@@ -63,7 +63,7 @@ pub(crate) fn find_likely<'a>(catalog: &'a Catalog, id: u16, name: &[u8]) -> Opt
     }
 }
 
-// The event of a number.
+// The event with this number.
 fn numbered(catalog: &Catalog, id: u16) -> Option<Found<'_>>
     ensures numbered { option_map numbered result ≡ numbered_event catalog.now id }
     ensures index { (name : List ℕ) → id_of catalog.now name ≡ Some id
@@ -87,8 +87,8 @@ pub(crate) fn event_at(catalog: &Catalog, index: usize) -> &EventDef
 }
 
 impl State {
-    /// What a path leads to. It is refused as `NoSuchInstance` if its instance isn't there, then as `NoSuchFile` if the rest names no file,
-    /// then as `NoSuchCpu` or `NoSuchEvent`.
+    /// What a path names. Refused with `NoSuchInstance` if its instance doesn't exist, then with `NoSuchFile` if the rest names no file, then with
+    /// `NoSuchCpu` or `NoSuchEvent`.
     pub(crate) fn resolve(&self, config: &Config, path: &[u8]) -> Result<Target, Refusal>
         ensures resolved { (past : List Request) → StandsFor config.now self.now past
             → files.IsResolved config.now self.now past (paths.address_of path.now) result }
@@ -108,7 +108,7 @@ impl State {
         }
     }
 
-    /// The index of the instance of this name; the top one has none.
+    /// The index of the instance with this name, or of the top one if no name is given.
     pub(crate) fn index_of(&self, name: Option<&[u8]>) -> Option<usize>
         ensures { result ≡ position (λ (n : Named). is_same n.name (option_map names.bytes_now name.entry)) self.now.instances.items }
     {
@@ -144,7 +144,7 @@ fn found_file(catalog: &Catalog, cpus: u32, named: FileName<'_>) -> Result<Optio
     Ok(Some(file))
 }
 
-// The number that digits write, if it is a CPU's.
+// The number that these digits write, if a CPU has it.
 fn cpu_below(digits: &[u8], cpus: u32) -> Result<u32, Refusal>
     ensures { files.IsCpu (value_after 0 digits.now) cpus result }
 {
@@ -154,7 +154,7 @@ fn cpu_below(digits: &[u8], cpus: u32) -> Result<u32, Refusal>
     }
 }
 
-// The index of the event of this name.
+// The index of the event with this name.
 fn event_index(catalog: &Catalog, name: &[u8]) -> Result<usize, Refusal>
     ensures { files.IsEventIndex catalog.now name.now result }
 {

@@ -35,7 +35,7 @@ fn write_record(head: Head, row: &Row, size: usize, out: &mut [u8])
     write_head(head, out);
 }
 
-/// The record of an emission, whose row has a payload of so many bytes.
+/// The record of an emission, whose row has a payload of this many bytes.
 #[tactic(auto, unfolding(trace_history::specs::Emissions::record_bytes))]
 pub(crate) fn record(
     memory: &mut EmissionMemory,

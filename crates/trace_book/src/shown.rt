@@ -47,7 +47,7 @@ pub(crate) fn shown_in_order<'a>(
     with_newer(shown, tables, hists, trigger.number)
 }
 
-// With those that were attached before the request of a number.
+// Adds those that were attached before the request with this number.
 fn with_older<'a>(
     mut shown: Vec<Shown<'a>>,
     tables: &'a [Table],
@@ -66,7 +66,7 @@ fn with_older<'a>(
     Ok(shown)
 }
 
-// With the others.
+// Adds the others.
 fn with_newer<'a>(
     mut shown: Vec<Shown<'a>>,
     tables: &'a [Table],

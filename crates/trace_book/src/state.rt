@@ -1,4 +1,4 @@
-//! What a book's requests have come to: the events, the clock and the instances.
+//! The state that a book's requests lead to: the events, the clock and the instances.
 
 ghost use Rattle.std.specs.Prelude.{◌≡◌, ℕ, ◌+◌, ◌^◌, ◌≤◌, ◌<◌, List, [], ◌∷◌, ◌++◌, length, take, drop, slice_index_or, All, IfErr, IfSome, OnOk, OnErr, Option, Some, None};
 ghost use Rattle.trace_record.specs.Record.{IsRecord};
@@ -15,14 +15,14 @@ use trace_command::{Config, Refusal, Reply};
 use trace_format::Catalog;
 use trace_lex::Text;
 
-/// An instance under its name; the top one has none.
+/// An instance with its name; the top one has none.
 #[derive(Drop)]
 pub(crate) struct Named {
     pub name: Option<Text>,
     pub instance: Instance,
 }
 
-/// The declared events, the clock, and the instances: first the top one, then the others in the order in which they were made.
+/// The declared events, the clock, and the instances: first the top one, then the others in order of creation.
 #[derive(Drop)]
 pub(crate) struct State {
     pub catalog: Catalog,
@@ -30,7 +30,7 @@ pub(crate) struct State {
     pub instances: Vec<Named>,
 }
 
-/// A command that was prepared: what it will change, and its reply.
+/// A prepared command: its change and its reply.
 #[derive(Drop)]
 pub(crate) struct Prepared {
     pub change: Change,
@@ -38,8 +38,8 @@ pub(crate) struct Prepared {
 }
 
 impl State {
-    /// Makes a change for which all memory is at hand but that of the lists of events and of instances, of a spare side and of one more hist
-    /// trigger. If that is refused, nothing is changed.
+    /// Applies a change. It may still allocate for the lists of events and of instances, a spare side, or a hist trigger; if that is refused, nothing
+    /// changes.
     pub(crate) fn commit(&mut self, config: &Config, change: Change) -> Result<(), Refusal>
         requires usable { states.IsUsable config.now self.old }
         requires ready { states.IsReady config.now self.old change }
@@ -61,7 +61,7 @@ impl State {
         Ok(())
     }
 
-    /// Brings an emission to all instances, for which all memory is at hand.
+    /// Delivers an emission to all instances. Allocates nothing.
     pub(crate) fn deliver(&mut self, config: &Config, delivery: &Delivery)
         requires usable { states.IsUsable config.now self.old }
         requires ready { states.CanEmit config.now self.old delivery.now }
@@ -75,7 +75,7 @@ impl State {
     }
 }
 
-// Takes one more event into each instance.
+// Adds an event to each instance.
 fn add_event(instances: &mut [Named])
     requires { All (λ n. (length n.instance.enabled < 64) × (length n.instance.filters < 64) × (length n.instance.triggers < 64)
         × (length n.instance.hists < 64)) instances.old }
@@ -86,7 +86,7 @@ fn add_event(instances: &mut [Named])
     }
 }
 
-// Changes the instance at an index. Where memory is refused it is as it was.
+// Changes the instance at this index. If memory is refused, nothing changes.
 fn change_one(
     instances: &mut [Named],
     index: usize,
@@ -100,7 +100,7 @@ fn change_one(
     instances[index].instance.apply(change)
 }
 
-// Brings an emission to each instance.
+// Delivers an emission to each instance.
 fn deliver_each(instances: &mut [Named], delivery: &Delivery)
     requires few_instances { length instances.old ≤ 8 }
     requires event { All (λ n. delivery.now.event < length n.instance.triggers) instances.old }

@@ -21,7 +21,7 @@ pub(crate) struct Table {
 }
 
 impl Table {
-    // Does what a string asks for.
+    // Applies an action.
     fn ask(&mut self, action: Action)
         ensures number { self.new.number ≡ self.old.number }
         ensures asked { kept.kept_table self.new.hist ≡ kept.asked action (kept.kept_table self.old.hist) }
@@ -35,14 +35,14 @@ impl Table {
     }
 }
 
-// The index of the table of a number.
+// The index of the table with this number.
 fn index_of(tables: &[Table], number: u64) -> Option<usize>
     ensures { result ≡ position (λ (t : TableSeen). t.number == number) tables.now }
 {
     tables.iter().position(|table| table.number == number)
 }
 
-/// The histogram of the table of a number.
+/// The histogram of the table with this number.
 pub(crate) fn hist_of(tables: &[Table], number: u64) -> Option<&Hist>
     ensures { option_copied result ≡ table_numbered number tables.now }
 {
@@ -50,7 +50,7 @@ pub(crate) fn hist_of(tables: &[Table], number: u64) -> Option<&Hist>
     Some(&tables[index].hist)
 }
 
-/// Does what a string asks of the table of a number.
+/// Applies an action to the table with this number.
 pub(crate) fn ask(tables: &mut [Table], number: u64, action: Action)
     ensures { (other : ℕ) → kept_at other tables.new
         ≡ (if number == other then option_map (kept.asked action) (kept_at other tables.old) else kept_at other tables.old) }
@@ -60,7 +60,7 @@ pub(crate) fn ask(tables: &mut [Table], number: u64, action: Action)
     }
 }
 
-/// Takes the memory that the table of a number needs to count a row, as a trigger reads it.
+/// Reserves memory in the table with this number to count a row, as a trigger reads it.
 pub(crate) fn reserve(
     tables: &mut [Table],
     number: u64,
@@ -80,7 +80,7 @@ pub(crate) fn reserve(
     tables[index].hist.reserve_hit_as(by, row, cpu, pid)
 }
 
-/// Counts a row in the table of a number, as a trigger reads it.
+/// Counts a row in the table with this number, as a trigger reads it.
 pub(crate) fn hit(tables: &mut [Table], number: u64, by: &HistSpec, row: &Row, cpu: u32, pid: i32)
     requires ready { IfSome (table_numbered number tables.old)
         (λ hist. IsReservedAs hist by.now (record { values = row.now.values; cpu = cpu; pid = pid })) }
@@ -94,14 +94,14 @@ pub(crate) fn hit(tables: &mut [Table], number: u64, by: &HistSpec, row: &Row, c
     }
 }
 
-/// Lets those go that no trigger counts in any more.
+/// Drops the tables that no trigger uses any more.
 pub(crate) fn keep_used(tables: &mut Vec<Table>, hists: &[EventHists])
     ensures { tables.new.items ≡ filter (λ (t : TableSeen). kept.is_used t.number hists.now) tables.old.items }
 {
     tables.retain(|table| is_used(hists, table.number));
 }
 
-// Whether some trigger counts in the table of a number.
+// Whether any trigger counts in the table with this number.
 fn is_used(hists: &[EventHists], number: u64) -> bool
     ensures { result ≡ kept.is_used number hists.now }
 {

@@ -13,7 +13,7 @@ use trace_format::Catalog;
 use trace_lex::Text;
 use trace_text::declaration_text;
 
-/// A switch.
+/// The text of a switch.
 #[tactic(auto, unfolding(trace_history::specs::FileTexts::flag_text))]
 pub(crate) fn flag_text(alloc: Global, flag: bool) -> Result<Text, AllocError>
     ensures { IfOk result (λ text. text ≡ file_texts.flag_text flag) }
@@ -37,7 +37,7 @@ pub(crate) fn option_text(alloc: Global, flag: bool) -> Result<Text, AllocError>
     }
 }
 
-/// A mixture of switches.
+/// The text of several switches taken together.
 #[tactic(auto, unfolding(trace_history::specs::FileTexts::mixture_text))]
 pub(crate) fn mixture_text(alloc: Global, none_on: bool, some_off: bool) -> Result<Text, AllocError>
     ensures { IfOk result (λ text. text ≡ file_texts.mixture_text none_on some_off) }
@@ -50,7 +50,7 @@ pub(crate) fn mixture_text(alloc: Global, none_on: bool, some_off: bool) -> Resu
     }
 }
 
-/// A filter.
+/// The text of a filter, or of none.
 #[tactic(auto, unfolding(crate::specs::private::Commands::shown_filter))]
 pub(crate) fn filter_text(alloc: Global, filter: Option<&Filter>) -> Result<Text, AllocError>
     ensures { IfOk result (λ text. text ≡ shown_filter (option_copied filter.entry)) }

@@ -12,7 +12,7 @@ use trace_format::Row;
 use trace_text::Shown;
 use trace_trigger::SnapshotTrigger;
 
-/// A trigger that takes a snapshot for each emission of its event that its filter passes: so many times more, or without end.
+/// A trigger that takes a snapshot for each emission of its event that passes its filter: this many more times, or without limit.
 #[derive(Drop)]
 pub(crate) struct Trigger {
     /// How many requests had been done before the one that attached it.
@@ -22,7 +22,7 @@ pub(crate) struct Trigger {
 }
 
 impl Trigger {
-    /// The trigger that a string writes, as the request of this number.
+    /// The trigger that a string describes, attached by the request with this number.
     pub(crate) fn new(number: u64, written: SnapshotTrigger) -> Trigger
         ensures { result ≡ record { number = number; left = written.count; filter = written.filter } }
     {
@@ -50,7 +50,7 @@ impl Trigger {
         is_left(self.left) && passes(self.filter.as_ref(), row, cpu, pid)
     }
 
-    /// Counts that the trigger acted.
+    /// Counts down after the trigger acted.
     pub(crate) fn count_down(&mut self)
         ensures { Some self.new ≡ counted_down (Some self.old) }
     {
@@ -60,7 +60,7 @@ impl Trigger {
     }
 }
 
-// Whether there is a time left.
+// Whether the trigger may act once more.
 fn is_left(left: Option<u32>) -> bool
     ensures { result ≡ triggers.is_left left }
 {

@@ -29,7 +29,7 @@ use trace_filter::{Filter, FilterFault};
 use trace_format::{Catalog, EventDef};
 use trace_lex::{trim, written_number};
 
-/// A text that is written to a file, as the request of this number (how many requests were done before it), and whether it is appended.
+/// A write: its string, whether it is appended, and its number (how many requests were done before it).
 #[derive(Clone, Copy)]
 pub(crate) struct WrittenText<'a> {
     pub number: u64,
@@ -37,7 +37,7 @@ pub(crate) struct WrittenText<'a> {
     pub text: &'a [u8],
 }
 
-/// What a write to a file of an instance changes of it.
+/// The change that a write to a file of an instance makes.
 pub(crate) fn written_change(
     alloc: Global,
     catalog: &Catalog,
@@ -63,7 +63,7 @@ pub(crate) fn written_change(
     }
 }
 
-// What a write to a file of the instance itself changes.
+// The change that a write to a file of the instance itself makes.
 fn change_of_instance(
     alloc: Global,
     catalog: &Catalog,
@@ -90,7 +90,7 @@ fn change_of_instance(
     }
 }
 
-// What a write to a file of a CPU changes.
+// The change that a write to a file of a CPU makes.
 fn change_of_cpu(cpu: u32, file: CpuFile, append: bool) -> Result<InstanceChange, Refusal>
     ensures change { (g : Config) (name : Option (List ℕ)) (past : List Request) (text : List ℕ) → cpu < g.cpus
         → IsWriteChange g name past append text (paths.OfCpu cpu file) result }
@@ -102,7 +102,7 @@ fn change_of_cpu(cpu: u32, file: CpuFile, append: bool) -> Result<InstanceChange
     }
 }
 
-// What a write to a file of an event changes.
+// The change that a write to a file of an event makes.
 fn change_of_event(
     alloc: Global,
     catalog: &Catalog,
@@ -136,8 +136,8 @@ fn change_of_event(
     }
 }
 
-// What a number that is written to `snapshot` changes (ftrace.rst, "Snapshot"). The spare is not freed while some event has a trigger that
-// needs it.
+// The change that a number written to `snapshot` makes (ftrace.rst, "Snapshot"). The spare side is not freed while any event has a snapshot trigger,
+// which needs it.
 #[tactic(auto, unfolding(trace_history::specs::History::snapshot_answer, trace_history::specs::Snapshots::written_snapshot))]
 fn written_snapshot(instance: &Instance, text: &[u8]) -> Result<InstanceChange, Refusal>
     ensures change { (g : Config) (name : Option (List ℕ)) (past : List Request) (append : Bool) → InstanceStandsFor g name past instance.now
@@ -153,14 +153,14 @@ fn written_snapshot(instance: &Instance, text: &[u8]) -> Result<InstanceChange, 
     }
 }
 
-// A write to a trace file: any string empties rings, but not to append.
+// A write to a trace file: any string empties rings, unless it is appended.
 fn cleared(append: bool, clear: InstanceChange) -> InstanceChange
     ensures { result ≡ (if append then change.Keep else clear) }
 {
     if append { InstanceChange::Keep } else { clear }
 }
 
-// The value that was written, if it is one.
+// The value that was written, or `BadValue` if there is none.
 fn needed(flag: Option<bool>) -> Result<bool, Refusal>
     ensures value { result ≡ needed_flag flag }
     ensures memory { IfErr result (λ r. r ≢ Refusal.Memory) }
@@ -168,7 +168,7 @@ fn needed(flag: Option<bool>) -> Result<bool, Refusal>
     flag.ok_or(Refusal::BadValue)
 }
 
-/// The switch that a string writes.
+/// The setting of a switch that a string writes: 0 or 1.
 #[tactic(auto, unfolding(trace_history::specs::Settings::written_flag))]
 fn written_flag(text: &[u8]) -> Option<bool>
     ensures { result ≡ settings.written_flag text.now }
@@ -180,7 +180,7 @@ fn written_flag(text: &[u8]) -> Option<bool>
     }
 }
 
-// Whether a number that is written switches recording on.
+// The setting of `tracing_on` that a string writes: any number but 0 turns recording on.
 #[tactic(auto, unfolding(trace_history::specs::Settings::written_tracing))]
 fn written_tracing(text: &[u8]) -> Option<bool>
     ensures { result ≡ settings.written_tracing text.now }
@@ -189,7 +189,7 @@ fn written_tracing(text: &[u8]) -> Option<bool>
     Some(number != 0)
 }
 
-// The word of an option.
+// The setting of an option that its word writes.
 #[tactic(auto, unfolding(trace_history::specs::Settings::written_option))]
 fn written_option(text: &[u8]) -> Option<bool>
     ensures { result ≡ settings.written_option text.now }
@@ -211,7 +211,7 @@ fn clears_filter(text: &[u8]) -> bool
     trim(text) == b"0".as_slice()
 }
 
-// The filter of an event that a string writes, none if it clears.
+// The filter of an event that a string writes; `None` if it clears.
 fn written_filter(alloc: Global, text: &[u8], event: &EventDef) -> Result<Option<Filter>, Refusal>
     ensures filter { IsWrittenFilter text.now event.now result }
     ensures memory { settings.clears_filter text.now ≡ true → IfErr result (λ r. r ≢ Refusal.Memory) }
@@ -222,7 +222,7 @@ fn written_filter(alloc: Global, text: &[u8], event: &EventDef) -> Result<Option
     Ok(Some(Filter::parse(alloc, text, event)?))
 }
 
-// A filter of all events: a string that clears, or a filter for those that can take it, of which there is at least one.
+// A filter for all events: a string that clears, or a filter for those that can take it, at least one.
 fn written_filters(alloc: Global, catalog: &Catalog, text: &[u8]) -> Result<InstanceChange, Refusal>
     requires { length catalog.now ≤ 64 }
     ensures change { (g : Config) (name : Option (List ℕ)) (past : List Request) (append : Bool) → catalog.now ≡ declared_events past → AreEvents [] catalog.now
@@ -240,14 +240,14 @@ fn written_filters(alloc: Global, catalog: &Catalog, text: &[u8]) -> Result<Inst
     Ok(InstanceChange::SetFilters(changes))
 }
 
-/// What a filter of all events changes, and whether some event takes it.
+/// The changes that a filter for all events makes, and whether any event can take it.
 #[derive(Drop)]
 struct Taken {
     changes: Vec<FilterChange>,
     some: bool,
 }
 
-// What a filter of all events changes of one's.
+// The change that a filter for all events makes to the filter of one.
 fn filter_change(alloc: Global, event: &EventDef, text: &[u8]) -> Result<FilterChange, AllocError>
     ensures { IfOk result (λ change. change ≡ change_of text.now event.now) }
 {
@@ -274,7 +274,7 @@ fn filter_changes(alloc: Global, events: &Catalog, text: &[u8]) -> Result<Taken,
     Ok(Taken { changes, some })
 }
 
-// Whether a filter of all events, of which there is at least one, is done. If no event gets one, the first event says why it is refused.
+// Refuses a filter for all events that no event can take, for the first event's reason. There is at least one event.
 fn check_filter_of_all(
     alloc: Global,
     events: &Catalog,

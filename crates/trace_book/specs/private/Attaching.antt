@@ -1,5 +1,5 @@
 -- What a trigger text changes of an event's triggers, by what an instance keeps of them.
-use Rattle.std.specs.Prelude.{◌≡◌, ℕ, ◌+◌, Bool, true, false, is_some, if◌then◌else◌, List, [], ◌∷◌, length, map, slice_set, Option, Some, None, Result, Ok, Err, option_copied}
+use Rattle.std.specs.Prelude.{◌≡◌, ℕ, ◌+◌, Bool, true, false, is_some, if◌then◌else◌, List, [], ◌∷◌, length, map, Option, Some, None, Result, Ok, Err, option_copied}
 use Rattle.trace_format.specs.Catalogs.{AreEvents}
 use Rattle.trace_format.specs.Definitions.{Definition}
 use Rattle.trace_trigger.specs.HistSpecs.{SpecSeen}
@@ -22,8 +22,7 @@ use Rattle.trace_history.specs.Declarations.{IsIndexOf}
 use Rattle.trace_history.specs.Snapshots.{spare_armed}
 use Rattle.trace_book.specs.Changes.{IsAsked as IsAskedOf, IsJoinedBy, IsPossible, asks_triggers, hists_changed, trigger_changed}
 use Rattle.trace_book.specs.Instances.{TablesFit, kept_trigger}
-use Rattle.trace_book.specs.KeptHists.{kept_hists, names_table_of}
-use Rattle.std.specs.List.{find, flat_map}
+use Rattle.trace_book.specs.KeptHists.{kept_hists}
 use Rattle.trace_trigger.specs.FittingSpecs.{is_fitting}
 use Rattle.trace_hist.specs.Hists.{StandsFor}
 use Rattle.trace_history.specs.HistTriggers.{is_pause}
@@ -106,10 +105,6 @@ abbrev pub asked_change : ℕ → Action → Result TriggerChange Refusal
 asked_change table action.Attach = Err TriggerExists
 asked_change table asked = Ok (AskTable table asked)
 
--- the triggers that `>` or `>>` leaves, of all events
-abbrev pub left_of : EventTriggers → Bool → List (List AttachedHist)
-left_of triggers append = if append then triggers.all.now else slice_set triggers.all.now triggers.event []
-
 -- whether a hist trigger is attached where none says the same
 abbrev pub attaches : Action → Bool
 attaches action.Attach = true
@@ -118,10 +113,6 @@ attaches action.Continue = false
 attaches action.Clear = false
 
 -- ---- a hist trigger that is attached
-
--- the first trigger whose table a text names, of those of all events
-abbrev pub named_in : SpecSeen → List (List AttachedHist) → Option AttachedHist
-named_in spec all = find (names_table_of spec) (flat_map (λ (hists : List AttachedHist). hists) all)
 
 -- it counts in the table of another one, if it fits that and there is memory
 abbrev pub IsJoinedChange : ℕ → SpecSeen → AttachedHist → Result TriggerChange Refusal → Type 0

@@ -1,5 +1,4 @@
-//! What an emission does to an instance: first it is looked what that is, then its hist triggers take the memory that they need, and then it is taken
-//! in.
+//! An emission in one instance: what it does is worked out, its hist triggers' memory is reserved, and then it is applied.
 
 ghost use Rattle.std.specs.Prelude.{◌≡◌, ◌≤◌, ◌<◌, ◌==◌, [], true, not, is_some, length, slice_index_or, IfOk, OnOk};
 ghost use Rattle.trace_record.specs.Record.{IsRecord};
@@ -27,7 +26,7 @@ impl Instance {
         !self.hists[event].as_slice().is_empty()
     }
 
-    /// Asks the filters of the hist triggers of the event at this index about a row, and takes the memory to count it for those which it passes.
+    /// Evaluates the filters of the hist triggers of the event at this index for a row, and reserves memory to count it for those that it passes.
     pub(crate) fn reserve(
         &mut self,
         event: usize,
@@ -44,9 +43,8 @@ impl Instance {
         self.hists[event].reserve(&mut self.tables, row, cpu, pid)
     }
 
-    /// What an emission of the event at this index does here, but for the event's hist triggers: whether it is recorded, and whether it makes the
-    /// event's snapshot trigger act. It is recorded where tracing is on, the event is enabled, and its filter passes. A
-    /// trigger heeds its own filter alone.
+    /// What an emission of the event at this index does here, apart from hist triggers: whether it is recorded (recording is on, the event is
+    /// enabled, its filter passes) and whether the event's snapshot trigger acts (only its own filter and count matter).
     pub(crate) fn reach(&self, event: usize, row: &Row, cpu: u32, pid: i32) -> Reach
         requires enabled { event < length self.now.enabled }
         requires filters { event < length self.now.filters }
@@ -81,9 +79,8 @@ impl Instance {
         }
     }
 
-    /// Takes in an emission, which does this here: its record is written if it is to be, over older ones where the ring is full and that is
-    /// allowed; then the event's hist triggers are offered its row; and then the sides are exchanged if it makes the event's trigger for
-    /// snapshots act. It is known which filters of the hist triggers it passes.
+    /// Applies a prepared emission: writes its record, if any, over older ones if the ring is full and overwriting is on; counts its row in the hist
+    /// triggers whose filters it passes; then swaps the sides if the snapshot trigger acts.
     pub(crate) fn deliver(&mut self, delivery: &Delivery, reach: Reach, passed: &Passed)
         requires event { delivery.now.event < length self.old.triggers }
         requires hists { delivery.now.event < length self.old.hists }
@@ -105,7 +102,7 @@ impl Instance {
         }
     }
 
-    // Writes a record, if it is written here.
+    // Writes a record, if this instance records it.
     fn write(&mut self, pending: &Pending, reach: Reach)
         requires is_record { IsRecord pending.now.bytes.items }
         requires fits { length pending.now.bytes.items ≤ self.old.sides.live.page_bytes }
@@ -121,7 +118,7 @@ impl Instance {
         }
     }
 
-    // Offers the row of an emission to the hist triggers of its event.
+    // Counts an emission's row in the hist triggers of its event whose filters it passes.
     fn offer(&mut self, delivery: &Delivery, passed: &Passed)
         requires hists { delivery.now.event < length self.old.hists }
         requires passed { passed.now ≡ passed_in (row_of delivery.now) delivery.now.event self.old }
@@ -139,7 +136,7 @@ impl Instance {
         );
     }
 
-    // Exchanges the sides for the trigger of the event at this index, which acts once less.
+    // Swaps the sides for the snapshot trigger of the event at this index, and counts the trigger down.
     fn exchange(&mut self, event: usize)
         requires event { event < length self.old.triggers }
         requires spare { is_some self.old.sides.spare ≡ true }

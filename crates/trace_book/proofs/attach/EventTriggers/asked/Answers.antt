@@ -1,6 +1,7 @@
 use Rattle.std.proofs.Common.{◌≡◌, true, false, None, Some, Err, rules}
 use Rattle.trace_command.specs.declared.refusal.Refusal.TheVariants as refusal
 use Rattle.trace_book.specs.private.Attaching as attaching
+use Rattle.trace_book.specs.private.SharedTables as sharing
 use Rattle.trace_book.proofs.Answering.{same_left}
 use Rattle.trace_book.proofs.HistAnswering.{ask-again, ask-full, ask-lacks}
 use Rattle.trace_book.proofs.HistAttaching.{ask-joined, ask-made}
@@ -30,7 +31,7 @@ pub returns-in-Some-named_by : goal.returns-in-Some-named_by
 returns-in-Some-named_by c =
     let none : same_left c.args.spec c.args.self c.args.written.append ≡ None = search rules in
     let attaches : attaching.attaches c.args.spec.action ≡ true = search rules in
-    let found : attaching.named_in c.args.spec (attaching.left_of c.args.self c.args.written.append) ≡ Some c.in-Some-named_by.other.now = search rules in
+    let found : sharing.named_in c.args.spec (sharing.left_of c.args.self c.args.written.append) ≡ Some c.in-Some-named_by.other.now = search rules in
     ask-joined c.args.spec c.args.event.now c.args.self c.args.written c.in-Some-named_by.other.now c.joined.result none attaches
     c.in_ok-check_room.ensures.room found c.joined.ensures
 
@@ -38,5 +39,5 @@ pub returns-in-None : goal.returns-in-None
 returns-in-None c =
     let none : same_left c.args.spec c.args.self c.args.written.append ≡ None = search rules in
     let attaches : attaching.attaches c.args.spec.action ≡ true = search rules in
-    let lost : attaching.named_in c.args.spec (attaching.left_of c.args.self c.args.written.append) ≡ None = search rules in
+    let lost : sharing.named_in c.args.spec (sharing.left_of c.args.self c.args.written.append) ≡ None = search rules in
     ask-made c.args.spec c.args.event.now c.args.self c.args.written c.made.result none attaches c.in_ok-check_room.ensures.room lost c.made.ensures

@@ -1,6 +1,6 @@
 use Rattle.std.proofs.Common.{◌≡◌, ◌⊎◌, inl, inr, true, false, is_some, option_copied, sym, ap, ◌∙◌, rules}
 use Rattle.std.specs.List.{find}
-use Rattle.trace_book.specs.KeptHists.{names_table_of}
+use Rattle.trace_book.specs.private.SharedTables.{names_table_of}
 use Rattle.trace_book.proofs.NamedIn.{copied-some, named-further, named-here, named-past}
 use Rattle.trace_book.proofs.attach.EventTriggers.named_by.Goals as goal
 use Rattle.trace_book.proofs.attach.EventTriggers.named_by.Goals.{then-append+else-is_some, then-append-via-then-append, then-append-via-else-append+then-i-self, else-append+else-i-self}

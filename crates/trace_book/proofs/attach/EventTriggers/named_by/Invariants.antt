@@ -1,5 +1,5 @@
 use Rattle.std.proofs.Common.{◌≡◌, drop}
-use Rattle.trace_book.specs.private.Attaching.{left_of, named_in}
+use Rattle.trace_book.specs.private.SharedTables.{left_of, named_in}
 use Rattle.trace_book.proofs.attach.EventTriggers.named_by.Given as goal
 
 abbrev pub invariant-loop-i : goal.invariant-loop-i
