@@ -8,8 +8,9 @@ use Rattle.trace_script.specs.declared.fault.ScriptFault.{ScriptFault}
 use Rattle.trace_script.specs.declared.line.Line.{Line}
 use Rattle.trace_script.specs.declared.line.Line.TheVariants.{Blank, Ask, Parallel, Thread, End}
 use Rattle.trace_items.specs.Items.{Item, Single, Threads, Faulty, threads_after, fault_after, or_later, first_fault, own_with, own_commands, threads_with, threads_of, part_with, part_of, is_end, before_end, after_end}
-use Rattle.trace_items.specs.PartReads.{commands_in, with_more, with_line, comes_to, IsPartRead, IsLineAt}
+use Rattle.trace_items.specs.PartReads.{asked_of, commands_in, with_more, with_line, comes_to, IsPartRead, IsLineAt}
 use Rattle.trace_items.specs.declared.part.Numbered.{Numbered}
+use Rattle.trace_items.specs.declared.part_line.PartLine.{PartLine}
 
 -- ---- threads
 
@@ -55,23 +56,23 @@ more_line number (Ok Thread) threads own more = more_begun threads more own
 more_line number (Ok End) threads own more = refl
 more_line number (Err fault) threads own more = refl
 
--- the last of some threads is taken away, and put back with a command more
-pub added : (old left new : List (Vec Numbered Global)) (own next : Vec Numbered Global) (asked : Numbered) → old ≡ left ++ own ∷ [] → new ≡ left ++ next ∷ []
+-- the last of some threads is taken away, and put back with a line more
+pub added : (old left new : List (Vec PartLine Global)) (own next : Vec PartLine Global) (asked : PartLine) → old ≡ left ++ own ∷ [] → new ≡ left ++ next ∷ []
     → next.items ≡ own.items ++ asked ∷ []
-    → map (λ (x : Vec Numbered Global). x.items) new ≡ with_more (map (λ (x : Vec Numbered Global). x.items) old) (asked ∷ []) []
+    → commands_in new ≡ with_more (commands_in old) (asked_of asked ∷ []) []
 added old left new own next asked was is more =
-    let f : Vec Numbered Global → List Numbered = λ x. x.items in
+    let f : Vec PartLine Global → List Numbered = λ x. map asked_of x.items in
     ap (map f) is ∙ map-append f left (next ∷ [])
-    ∙ ap (λ (last : List Numbered). map f left ++ last ∷ []) more
-    ∙ sym (more_last (map f left) [] own.items (asked ∷ []))
-    ∙ ap (λ (ts : List (List Numbered)). with_more ts (asked ∷ []) []) (sym (map-append f left (own ∷ [])) ∙ ap (map f) (sym was))
+    ∙ ap (λ (last : List Numbered). map f left ++ last ∷ []) (ap (map asked_of) more ∙ map-append asked_of own.items (asked ∷ []))
+    ∙ sym (more_last (map f left) [] (map asked_of own.items) (asked_of asked ∷ []))
+    ∙ ap (λ (ts : List (List Numbered)). with_more ts (asked_of asked ∷ []) []) (sym (map-append f left (own ∷ [])) ∙ ap (map f) (sym was))
 
 -- one thread more
-pub begun_one : (old new : List (Vec Numbered Global)) (own : Vec Numbered Global) → new ≡ old ++ own ∷ [] → own.items ≡ []
-    → map (λ (x : Vec Numbered Global). x.items) new ≡ map (λ (x : Vec Numbered Global). x.items) old ++ [] ∷ []
+pub begun_one : (old new : List (Vec PartLine Global)) (own : Vec PartLine Global) → new ≡ old ++ own ∷ [] → own.items ≡ []
+    → commands_in new ≡ commands_in old ++ [] ∷ []
 begun_one old new own is none =
-    let f : Vec Numbered Global → List Numbered = λ x. x.items in
-    ap (map f) is ∙ map-append f old (own ∷ []) ∙ ap (λ (last : List Numbered). map f old ++ last ∷ []) none
+    let f : Vec PartLine Global → List Numbered = λ x. map asked_of x.items in
+    ap (map f) is ∙ map-append f old (own ∷ []) ∙ ap (λ (last : List Numbered). map f old ++ last ∷ []) (ap (map asked_of) none)
 
 length_more : (threads : List (List Numbered)) (own : List Numbered) → length (with_more threads own []) ≡ length threads
 length_more [] own = refl
@@ -87,8 +88,8 @@ length_line number (Ok End) threads = refl
 length_line number (Err fault) threads = refl
 
 -- as many threads as lists of commands
-pub length_commands : (threads : List (Vec Numbered Global)) → length (commands_in threads) ≡ length threads
-length_commands threads = length-map threads (λ (x : Vec Numbered Global). x.items)
+pub length_commands : (threads : List (Vec PartLine Global)) → length (commands_in threads) ≡ length threads
+length_commands threads = length-map threads (λ (x : Vec PartLine Global). map asked_of x.items)
 
 -- ---- one line
 

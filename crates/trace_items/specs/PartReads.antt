@@ -7,12 +7,17 @@ use Rattle.trace_script.specs.declared.line.Line.{Line}
 use Rattle.trace_script.specs.declared.line.Line.TheVariants.{Ask, Thread}
 use Rattle.trace_items.specs.Items.{Item, Single, Threads, Faulty, first_fault, own_commands, threads_of, part_with, part_of, is_end, before_end, after_end}
 use Rattle.trace_items.specs.declared.part.Numbered.{Numbered}
+use Rattle.trace_items.specs.declared.part_line.PartLine.{PartLine}
 use Rattle.trace_items.specs.declared.part.Part.TheVariants as parts
 use Rattle.trace_items.specs.declared.part.Part.{Part}
 
+-- the command that a line of a part asks for, with the line's number
+abbrev pub asked_of : PartLine → Numbered
+asked_of line = record { number = line.number; command = line.command.value }
+
 -- the commands of each thread
-abbrev pub commands_in : List (Vec Numbered Global) → List (List Numbered)
-commands_in threads = map (λ (own : Vec Numbered Global). own.items) threads
+abbrev pub commands_in : List (Vec PartLine Global) → List (List Numbered)
+commands_in threads = map (λ (own : Vec PartLine Global). map asked_of own.items) threads
 
 -- the part that was read, as an item
 abbrev pub item_of : Part → Item

@@ -9,7 +9,8 @@ ghost use Rattle.trace_items.specs.NextItems.{item_read, begins_with, IsSaid, Ha
 ghost use Rattle.trace_items.specs.PartReads.{item_of, HasItsLine};
 ghost use Rattle.trace_items.specs.ScriptLines.{lines_of, lines_left, bytes_left};
 
-use crate::part::{FaultAt, Numbered, Part, read_line, read_part};
+use crate::part::{FaultAt, Part, read_line, read_part};
+use crate::part_line::PartLine;
 use crate::script::first_line;
 use std::alloc::{AllocError, Global};
 use trace_format::BorrowedPair;
@@ -28,10 +29,10 @@ pub enum ItemRead<'a> {
         line: &'a [u8],
         head: EmissionHead<'a>,
     },
-    /// A part: the string that begins with its lines, and the commands of each of its threads.
+    /// A part: the string that begins with its lines, and the lines of the commands of each of its threads.
     Threads {
         text: &'a [u8],
-        threads: Vec<Vec<Numbered>>,
+        threads: Vec<Vec<PartLine<'a>>>,
     },
     /// The fault of the earliest line of a part that has one, and that line.
     Fault {

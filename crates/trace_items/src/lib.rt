@@ -6,6 +6,7 @@ pub mod item;
 pub mod laws;
 mod lines_from;
 pub mod part;
+pub mod part_line;
 mod script;
 mod source;
 mod stop;

@@ -5,17 +5,19 @@ ghost use Rattle.std.specs.List.{list_any};
 ghost use Rattle.std.specs.Option.{option_copied};
 ghost use Rattle.trace_script.specs.Lines.{line_of};
 ghost use Rattle.trace_items.specs.Items.{Threads, ends_with, is_end, fault_after};
-ghost use Rattle.trace_items.specs.PartReads.{commands_in, item_of, with_more, with_line, comes_to, IsPartRead, IsLineAt, HasItsLine};
+ghost use Rattle.trace_items.specs.PartReads.{asked_of, commands_in, item_of, with_more, with_line, comes_to, IsPartRead, IsLineAt, HasItsLine};
 ghost use Rattle.trace_items.specs.ScriptLines.{lines_left, bytes_left};
 
 use crate::end::has_end;
+use crate::part_line::PartLine;
 use crate::script::first_line;
 use crate::stop::Stop;
 use std::alloc::{AllocError, Global};
+use std::snapshot::Snapshot;
 use trace_command::Command;
 use trace_script::{Line, LineError, ScriptFault, prepare};
 
-/// A command of a part, and the number of its line.
+/// A command of a part, and the number of its line. Clauses alone speak of it: no value of it is made.
 #[derive(Drop)]
 pub struct Numbered {
     pub number: usize,
@@ -32,8 +34,8 @@ pub struct FaultAt {
 /// What the lines of a part come to.
 #[derive(Drop)]
 pub enum Part<'a> {
-    /// The commands of each of its threads.
-    Threads(Vec<Vec<Numbered>>),
+    /// The lines that ask for the commands of each of its threads.
+    Threads(Vec<Vec<PartLine<'a>>>),
     /// The fault of its earliest line that has one, and that line.
     Fault { at: FaultAt, line: &'a [u8] },
 }
@@ -86,15 +88,18 @@ fn fault_after(threads: usize, line: &Result<Line, ScriptFault>) -> Option<Scrip
 
 /// What is wrong with a line of a part after these threads.
 #[tactic(auto, using(crate::proofs::PartReading::length_commands))]
-fn next_fault(threads: &[Vec<Numbered>], line: &Result<Line, ScriptFault>) -> Option<ScriptFault>
+fn next_fault(
+    threads: &[Vec<PartLine<'_>>],
+    line: &Result<Line, ScriptFault>,
+) -> Option<ScriptFault>
     ensures { result ≡ fault_after (length (commands_in threads.now)) line.now }
 {
     fault_after(threads.len(), line)
 }
 
-/// Adds a command to the last of some threads.
-fn add_command(threads: &mut Vec<Vec<Numbered>>, asked: Numbered) -> Result<(), Stop>
-    ensures added { OnOk result (commands_in threads.new.items ≡ with_more (commands_in threads.old.items) (asked ∷ []) []) }
+/// Adds a command's line to the last of some threads.
+fn add_command<'a>(threads: &mut Vec<Vec<PartLine<'a>>>, asked: PartLine<'a>) -> Result<(), Stop>
+    ensures added { OnOk result (commands_in threads.new.items ≡ with_more (commands_in threads.old.items) (asked_of asked.entry ∷ []) []) }
     ensures err { IsErrOf result Stop.Device → ⊥ }
 {
     let Some(mut own) = threads.pop() else {
@@ -106,7 +111,7 @@ fn add_command(threads: &mut Vec<Vec<Numbered>>, asked: Numbered) -> Result<(), 
 }
 
 /// Begins one more thread.
-fn add_thread(alloc: Global, threads: &mut Vec<Vec<Numbered>>) -> Result<(), Stop>
+fn add_thread(alloc: Global, threads: &mut Vec<Vec<PartLine<'_>>>) -> Result<(), Stop>
     ensures added { OnOk result (commands_in threads.new.items ≡ commands_in threads.old.items ++ [] ∷ []) }
     ensures err { IsErrOf result Stop.Device → ⊥ }
 {
@@ -116,17 +121,26 @@ fn add_thread(alloc: Global, threads: &mut Vec<Vec<Numbered>>) -> Result<(), Sto
 }
 
 /// Adds a line to some threads. One that has a fault changes nothing.
-fn add_line(
+fn add_line<'a>(
     alloc: Global,
-    threads: &mut Vec<Vec<Numbered>>,
+    threads: &mut Vec<Vec<PartLine<'a>>>,
     number: usize,
-    line: Result<Line, ScriptFault>,
+    line: &'a [u8],
+    said: Result<Line, ScriptFault>,
 ) -> Result<(), Stop>
-    ensures added { OnOk result (commands_in threads.new.items ≡ with_line number line (commands_in threads.old.items)) }
+    requires { said ≡ line_of line.now }
+    ensures added { OnOk result (commands_in threads.new.items ≡ with_line number said (commands_in threads.old.items)) }
     ensures err { IsErrOf result Stop.Device → ⊥ }
 {
-    match line {
-        Ok(Line::Ask(command)) => add_command(threads, Numbered { number, command }),
+    match said {
+        Ok(Line::Ask(command)) => {
+            let asked = PartLine {
+                number,
+                line,
+                command: Snapshot::of(&command),
+            };
+            add_command(threads, asked)
+        }
         Ok(Line::Thread) => add_thread(alloc, threads),
         Ok(Line::Blank | Line::Parallel | Line::End) | Err(_) => Ok(()),
     }
@@ -136,14 +150,14 @@ fn add_line(
 #[tactic(auto, using(crate::proofs::PartReading::at_fault_line, crate::proofs::PartReading::at_line_with))]
 fn read_next<'a>(
     alloc: Global,
-    mut threads: Vec<Vec<Numbered>>,
+    mut threads: Vec<Vec<PartLine<'a>>>,
     number: usize,
     line: &'a [u8],
     said: Result<Line, ScriptFault>,
 ) -> Result<Part<'a>, Stop>
     requires { said ≡ line_of line.now }
     ensures reads { IfOk result (λ next. (lines : List (List ℕ))
-        → comes_to (Threads (commands_in threads.items)) number (line.now ∷ lines) ≡ comes_to (item_of next) (number + 1) lines) }
+        → comes_to (Threads (commands_in threads.entry.items)) number (line.now ∷ lines) ≡ comes_to (item_of next) (number + 1) lines) }
     ensures line { IfOk result (λ next. (first : ℕ) (all : List (List ℕ)) → IsLineAt first all number line.now → HasItsLine first all next) }
     ensures err { IsErrOf result Stop.Device → ⊥ }
 {
@@ -153,7 +167,7 @@ fn read_next<'a>(
             line,
         }),
         None => {
-            add_line(alloc, &mut threads, number, said)?;
+            add_line(alloc, &mut threads, number, line, said)?;
             Ok(Part::Threads(threads))
         }
     }

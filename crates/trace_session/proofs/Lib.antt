@@ -9,3 +9,4 @@ pub mod PartWriting
 pub mod PartRunning
 pub mod Hearing
 pub mod PartLines
+pub mod PartAsking

@@ -14,14 +14,15 @@ use Rattle.trace_command.specs.declared.command.Reply.{Reply}
 use Rattle.trace_command.specs.declared.refusal.Refusal.{Refusal}
 use Rattle.trace_items.specs.declared.part.Numbered.{Numbered}
 use Rattle.trace_session.specs.Parts.{Given, PartMayGive, outcomes_in}
-use Rattle.trace_session.specs.PartTexts.{numbered_threads, outcomes_of_threads, items_in, replies_in, AreNumbered, AreOutcomesOf}
+use Rattle.trace_session.specs.declared.part_line.AskedLine.{AskedLine}
+use Rattle.trace_session.specs.PartTexts.{asked_command, numbered_threads, outcomes_of_threads, items_in, replies_in, AreNumbered, AreOutcomesOf}
 use Rattle.trace_session.specs.Passes.{IsSessionPass, progress_of}
 use Rattle.trace_session.specs.Sessions.{status_of}
 use Rattle.trace_session.specs.declared.part_text.OutcomeAt.{OutcomeAt}
 use Rattle.trace_session.specs.declared.status.Status.{Status}
 use Rattle.trace_session.proofs.PartWriting.{numbered_is, are_outcomes}
 use Rattle.trace_workers.proofs.Blocking.{is_block}
-use Rattle.trace_workers.specs.BlockRuns.{trails_of, IsAfterBlock}
+use Rattle.trace_workers.specs.BlockRuns.{trails_of, commands_of as commands_asked, IsAfterBlock}
 use Rattle.trace_workers.specs.declared.part.Part.{Part}
 
 abbrev Answer : Type 0
@@ -89,11 +90,12 @@ pass_after g v w trails pass after = record {
 }
 
 -- what a block of the threads' commands comes to
-pub of_threads : (v w : View Entry) (threads : List (List Numbered)) (commands : List (Vec Command Global)) (done : List Part)
-    → items_in commands ≡ commands_of threads → length done ≡ length commands → IsAfterBlock v w (trails_of (items_in commands) done)
+pub of_threads : (v w : View Entry) (threads : List (List Numbered)) (lines : List (Vec AskedLine Global)) (done : List Part)
+    → commands_asked asked_command lines ≡ commands_of threads → length done ≡ length lines
+    → IsAfterBlock v w (trails_of (commands_asked asked_command lines) done)
     → (length done ≡ length threads) × IsAfterBlock v w (trails_of (commands_of threads) done)
-of_threads v w threads commands done is same after = (
-  same ∙ sym (length-map commands (λ (own : Vec Command Global). own.items)) ∙ ap (λ (cs : List (List Command)). length cs) is
+of_threads v w threads lines done is same after = (
+  same ∙ sym (length-map lines (λ (own : Vec AskedLine Global). map asked_command own.items)) ∙ ap (λ (cs : List (List Command)). length cs) is
       ∙ length-map threads (map (λ (asked : Numbered). asked.command)),
   subst (λ (cs : List (List Command)). IsAfterBlock v w (trails_of cs done)) is after,
 )

@@ -7,3 +7,4 @@ pub mod Heard
 pub mod Fronts
 pub mod PartLaws
 pub mod PartExamples
+pub mod private

@@ -6,6 +6,8 @@ use Rattle.trace_command.specs.declared.refusal.Refusal.{Refusal}
 use Rattle.trace_items.specs.declared.part.Numbered.{Numbered}
 use Rattle.trace_script.specs.Rendering.{rendered}
 use Rattle.trace_script.specs.declared.outcome.Outcome.{Outcome}
+use Rattle.trace_command.specs.declared.command.Command.{Command}
+use Rattle.trace_session.specs.declared.part_line.AskedLine.{AskedLine}
 use Rattle.trace_session.specs.Parts.{outcome_of, thread_line}
 use Rattle.trace_session.specs.Sessions.{is_refusal}
 use Rattle.trace_session.specs.declared.part_text.OutcomeAt.{OutcomeAt}
@@ -55,3 +57,7 @@ AreNumbered numbers replies = map (λ (own : List ℕ). length own) numbers ≡ 
 pub record AreOutcomesOf (threads : List (List Numbered)) (became : List (Option Outcome)) (told : List OutcomeAt) : Type 0 where
   pub numbers : map (λ (one : OutcomeAt). one.number) told ≡ flat_map (map (λ (asked : Numbered). asked.number)) threads
   pub outcomes : map (λ (one : OutcomeAt). Some one.outcome) told ≡ became
+
+-- the command that a line asks for, which a part's thread keeps
+abbrev pub asked_command : AskedLine → Command
+asked_command asked = asked.command.value

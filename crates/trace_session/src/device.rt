@@ -1,5 +1,5 @@
-//! What a session writes to; what it reads from is a `Source` of trace_items. Contracts see the bytes and what was heard, where a device tells
-//! them, and how many calls failed.
+//! What a session writes to; what it reads from is a `Source` of trace_items. Contracts see its bytes and what it heard, if the device states them,
+//! and how many of its calls failed.
 
 ghost use Rattle.std.specs.Prelude.{◌≡◌, ℕ, false, List, [], ◌∷◌, Option, None, length};
 ghost use Rattle.std.specs.Io.{WritesAtMost};
@@ -13,35 +13,34 @@ use trace_script::Outcome;
 
 /// What takes the bytes that a session writes.
 pub trait Sink {
-    /// The bytes that it holds, where they are known.
+    /// The bytes that it holds, if known.
     ghost contents: { Self → Option (List ℕ) };
 
-    /// How many calls failed, or took no byte though some were offered.
+    /// How many calls failed, or took none of the bytes offered, if any were.
     ghost failures: { Self → ℕ };
 
-    /// What it heard, oldest first, where it hears and tells it.
+    /// What it heard, oldest first, if it hears and states that.
     ghost heard: { Self → Option (List Heard) };
 
-    /// Takes some bytes from the front of `buf`, and gives their number.
+    /// Takes some bytes from the beginning of `buf`, and returns how many.
     fn write(&mut self, buf: &[u8]) -> io::Result<usize>
         ensures bound { WritesAtMost result buf.now }
         ensures bytes { WriteAppends (contents self.old) (contents self.new) result buf.now }
         ensures failures { failures self.new ≡ failures_after_write (length buf.now) (failures self.old) result }
         ensures heard { heard self.new ≡ heard self.old };
 
-    /// Whether it is to hear what becomes of each line.
+    /// Whether to tell it the outcome of each line.
     fn hears(&self) -> bool
         ensures { result ≡ false → heard self.now ≡ None };
 
-    /// Whether it is to hear of each line only once it has taken all that is written up to there. Each reply is then written by itself.
+    /// Whether to write all output so far before telling it an outcome. Each reply is then written by itself.
     fn wants_output_first(&self) -> bool {
         false
     }
 
-    /// Hears what became of the line of this number. Of a refusal or a fault it hears once it has taken all that is written up to there. Of a
-    /// parallel part it hears of each command, in the order of their lines, once all of them were asked; if one was refused, it has taken all that
-    /// the part gives by then. If it wants the output first, that holds of what was done, too. It may tell of it elsewhere; the bytes that it holds
-    /// stay, and that counts as no failure.
+    /// Tells it the outcome of the line with this number. Before a refusal or a fault, all output so far is written; if `wants_output_first`, before
+    /// any outcome. A parallel part's commands are told in the order of their lines, once all have run, and after the part's output is written if one
+    /// was refused. It may report elsewhere; its own bytes stay as they are, and this counts as no failed call.
     fn hear(&mut self, number: usize, line: &[u8], outcome: &Option<Outcome>)
         ensures bytes { contents self.new ≡ contents self.old }
         ensures failures { failures self.new ≡ failures self.old }
@@ -49,7 +48,7 @@ pub trait Sink {
             (heard_of number line.now outcome.now (contents self.old) ∷ []) };
 }
 
-/// A writer of std, and how many of its calls failed, or took no byte though some were offered. It hears nothing.
+/// A writer of std, and how many of its calls failed, or took none of the bytes offered, if any were. It hears nothing.
 #[derive(Drop)]
 pub struct Output<W> {
     pub device: W,

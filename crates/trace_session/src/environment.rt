@@ -1,10 +1,10 @@
-//! What every item of a session is done with.
+//! What every item of a session needs.
 
 use std::alloc::Global;
 use ticket_lock::TicketLock;
 use trace_book::Book;
 
-/// The runtime, the allocator, the lock over the session's book, and the gate that is asked in parts.
+/// The runtime, the allocator, the lock over the session's book, and the gate for parallel parts.
 #[derive(Drop)]
 pub(crate) struct Environment<'a, R, G> {
     pub rt: &'a R,

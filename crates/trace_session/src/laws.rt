@@ -1,4 +1,4 @@
-//! What the sessions of scripts with parts come to. Each function does nothing: its contract is a theorem.
+//! Theorems about sessions with parts, each the contract of a function with an empty body.
 
 ghost use Rattle.trace_session.specs.PartExamples.{HasOnly, end_out_of_place, end_out_of_place_session, part_without_end, part_without_end_session, part_in_a_part, part_in_a_part_session, command_before_threads, command_before_threads_session, fault_in_a_part, fault_in_a_part_session, nine_threads, nine_threads_session};
 ghost use Rattle.trace_session.specs.PartLaws.{OneThreadHasOneSession, OneThreadBeginsOneSession};
@@ -10,7 +10,7 @@ pub fn one_thread_has_one_session()
     ensures { OneThreadHasOneSession }
 {}
 
-/// What a script with no line `parallel` began to write is the first strings of that session.
+/// If a session of such a script is cut short, the strings that it wrote are the first ones of that session.
 pub fn one_thread_begins_one_session()
     ensures { OneThreadBeginsOneSession }
 {}

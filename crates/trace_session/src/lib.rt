@@ -1,4 +1,4 @@
-//! Whole sessions: a script is read from a reader, its lines and parts are done over a book, and what each gives goes to a writer.
+//! Whole sessions: a script is read, its lines and parts run on a book, and their output goes to a writer.
 #![tactic(auto)]
 
 mod device;
@@ -6,6 +6,8 @@ mod environment;
 pub mod laws;
 mod line;
 mod output;
+mod part_ask;
+mod part_line;
 mod part_run;
 mod part_split;
 mod part_text;

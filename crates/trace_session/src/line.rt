@@ -1,4 +1,4 @@
-//! A line by itself, asked through the lock.
+//! A single line, run through the lock.
 
 ghost use Rattle.std.specs.Prelude.{◌≡◌, ◌≢◌, ℕ, List, Ok, IfOk, IsErrOf};
 ghost use Rattle.ticket_lock.specs.Calls.{view_of, IsOf, IsWorn};
@@ -6,6 +6,7 @@ ghost use Rattle.trace_command.specs.declared.command.Config.{Config};
 ghost use Rattle.trace_history.specs.History.{answer_to};
 ghost use Rattle.trace_script.specs.Lines.{line_of};
 ghost use Rattle.trace_script.specs.PlainEmissions.{emission_said};
+ghost use Rattle.trace_session.specs.private.LineAsked.{asks_of};
 ghost use Rattle.trace_session.specs.Passes.{IsSessionPass, IsRefusedEarly, progress_of};
 ghost use Rattle.trace_session.specs.Sessions.{Progress, answered, turn_of};
 
@@ -18,8 +19,8 @@ use trace_items::Stop;
 use trace_script::{EmissionHead, Line, Outcome, ScriptFault};
 use trace_workers::{ask, ask_emission};
 
-/// Asks a command. That all tickets are drawn no script comes to; it stops the session as refused memory does. A refusal that is found before any
-/// memory is taken is the outcome though memory was refused.
+/// Runs a command. If all tickets are drawn, which no script can reach, the session stops as if out of memory. A refusal found before anything is
+/// allocated is the outcome even if memory is refused.
 #[tactic(auto, using(crate::proofs::EarlyRefusals::memory_is_late, crate::proofs::EarlyRefusals::all_drawn))]
 fn ask_command<R: Wait>(
     rt: &R,
@@ -46,7 +47,7 @@ fn ask_command<R: Wait>(
     }
 }
 
-/// Asks for an emission whose strings lie elsewhere, as `ask_command` does for the command that it is.
+/// As `ask_command`, for an emission whose strings are borrowed.
 #[tactic(auto, using(crate::proofs::EarlyRefusals::memory_is_late, crate::proofs::EarlyRefusals::all_drawn))]
 fn ask_borrowed<R: Wait>(
     rt: &R,
@@ -73,7 +74,16 @@ fn ask_borrowed<R: Wait>(
     }
 }
 
-/// What becomes of a line that asks no command. It is kept out of line, so that a command doesn't take the room of what the other lines drop.
+/// What a line by itself asks for.
+#[derive(Drop)]
+pub(crate) enum LineAsks<'a> {
+    /// What the line says, or its fault.
+    Said(Result<Line, ScriptFault>),
+    /// An emission: its words, and its pairs.
+    Emission(EmissionHead<'a>, &'a [BorrowedPair<'a>]),
+}
+
+/// The outcome of a line that is no command. Out of line, so that commands don't pay for what the other lines drop.
 #[inline(never)]
 #[tactic(auto, unfolding(crate::specs::Sessions::turn_of))]
 fn unasked(said: Result<Line, ScriptFault>) -> Option<Outcome>
@@ -89,9 +99,9 @@ fn unasked(said: Result<Line, ScriptFault>) -> Option<Outcome>
     }
 }
 
-/// Asks for what a line asks for. The ticket of a command is the number of commands that were asked before it.
+/// Runs a line. A command's ticket is the number of commands before it, refused ones included.
 #[tactic(auto, unfolding(crate::specs::Sessions::turn_of))]
-pub(crate) fn ask_line<R: Wait>(
+fn ask_line<R: Wait>(
     rt: &R,
     lock: &TicketLock<Book>,
     pass: Pass<Book>,
@@ -114,9 +124,9 @@ pub(crate) fn ask_line<R: Wait>(
     }
 }
 
-/// Asks for the emission that a line is, whose words and pairs these are, as `ask_line` does. No command is made of it.
+/// As `ask_line`, for an emission with these words and pairs. It builds no command.
 #[tactic(auto, unfolding(crate::specs::Sessions::turn_of))]
-pub(crate) fn ask_emission_line<R: Wait>(
+fn ask_emission_line<R: Wait>(
     rt: &R,
     lock: &TicketLock<Book>,
     pass: Pass<Book>,
@@ -138,4 +148,29 @@ pub(crate) fn ask_emission_line<R: Wait>(
 {
     let emission = BorrowedEmission::new(head.event, head.cpu, head.pid, pairs);
     ask_borrowed(rt, lock, pass, &emission)
+}
+
+/// Runs a line, however it was read. It is inlined, so that an emission's words are not moved.
+#[inline(always)]
+pub(crate) fn ask_for_line<R: Wait>(
+    rt: &R,
+    lock: &TicketLock<Book>,
+    pass: Pass<Book>,
+    asks: LineAsks<'_>,
+) -> (Pass<Book>, Result<Option<Outcome>, Stop>)
+    requires { IsOf lock.now pass }
+    ensures of { IsOf lock.now result.0 }
+    ensures session { (g : Config) → IsSessionPass g (view_of pass) → IsSessionPass g (view_of result.0) }
+    ensures turn { IfOk result.1 (λ outcome. (g : Config) (text : List ℕ) → IsSessionPass g (view_of pass) → asks_of asks.entry ≡ line_of text
+        → turn_of g (progress_of (view_of pass)) text
+        ≡ record { outcome = outcome; progress = progress_of (view_of result.0) }) }
+    ensures early { IsErrOf result.1 Stop.Memory → (g : Config) (command : Command) → IsSessionPass g (view_of pass)
+        → asks_of asks.entry ≡ Ok (Line.Ask command) → IsRefusedEarly g (view_of pass) command → IsWorn (view_of pass) (view_of result.0) }
+    ensures device { IsErrOf result.1 Stop.Device → ⊥ }
+    ensures stopped { IsErrOf result.1 Stop.Stopped → ⊥ }
+{
+    match asks {
+        LineAsks::Said(said) => ask_line(rt, lock, pass, said),
+        LineAsks::Emission(head, pairs) => ask_emission_line(rt, lock, pass, head, pairs),
+    }
 }

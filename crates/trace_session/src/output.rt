@@ -1,4 +1,4 @@
-//! What a session writes for its lines.
+//! The output of a session's lines.
 
 ghost use Rattle.std.specs.Prelude.{◌≡◌, [], ◌++◌, OnOk, IsErrOf};
 ghost use Rattle.trace_items.specs.Sources.{HasRisen};
@@ -12,8 +12,8 @@ use trace_command::Reply;
 use trace_items::Stop;
 use trace_script::{Outcome, render};
 
-/// Adds what a line of this number gives to the replies; a command without a reply gives nothing. The text of a reply is added as it is; all
-/// else is rendered first.
+/// Appends the output of the line with this number to the replies: a reply's bytes as they are, anything else rendered. A command without a reply has
+/// none.
 #[tactic(auto, using(crate::proofs::DeviceLemmas::Passes_nothing))]
 pub(crate) fn write_outcome<W: Sink>(
     alloc: Global,

@@ -1,4 +1,4 @@
-//! A part: its threads ask their commands side by side, and what they give is put together.
+//! A part: its threads run concurrently, and their output is assembled.
 
 ghost use Rattle.std.specs.Prelude.{◌≡◌, ◌≤◌, true, vec_len, IfOk, IsErrOf};
 ghost use Rattle.ticket_lock.specs.Calls.{view_of, IsOf};
@@ -17,17 +17,17 @@ use std::thread::Threads;
 use ticket_lock::Pass;
 use trace_book::Book;
 use trace_items::Stop;
-use trace_items::part::Numbered;
-use trace_workers::{BlockFault, Gate, run_block};
+use trace_items::part_line::PartLine;
+use trace_workers::{BlockFault, Gate, run_block_of};
 
-/// Runs the threads of a part side by side, and gives what is to be written for it, and what became of each command.
+/// Runs the threads of a part concurrently, and returns the output and each command's outcome.
 ///
-/// Memory is told where it was refused, and where a command got no turn since all tickets are drawn, to which no script comes. After a fault
-/// nothing is to be written for the part, though some of its commands may have been done: the pass has seen them.
+/// `Memory` if it was refused, if a thread could not be started, or if all tickets are drawn, which no script can reach. After a fault nothing is to
+/// be written for the part, though some of its commands may have been done: the pass has seen them.
 pub fn run_part<R: Threads + Wait + Sync, G: Gate + Sync>(
     env: &Environment<'_, R, G>,
     pass: Pass<Book>,
-    threads: Vec<Vec<Numbered>>,
+    threads: Vec<Vec<PartLine<'_>>>,
 ) -> (Pass<Book>, Result<PartOutput, Stop>)
     requires of { IsOf env.now.lock.now pass }
     requires session { (g : Config) × IsSessionPass g (view_of pass) }
@@ -35,16 +35,16 @@ pub fn run_part<R: Threads + Wait + Sync, G: Gate + Sync>(
     ensures of { IsOf env.now.lock.now result.0 }
     ensures session { (g : Config) → IsSessionPass g (view_of pass) → IsSessionPass g (view_of result.0) }
     ensures given { IfOk result.1 (λ written. (g : Config) → IsSessionPass g (view_of pass)
-        → (given : Given) × PartMayGive g (commands_in threads.items) (progress_of (view_of pass)) (progress_of (view_of result.0)) given
+        → (given : Given) × PartMayGive g (commands_in threads.entry.items) (progress_of (view_of pass)) (progress_of (view_of result.0)) given
         × (given.text ≡ written.text.items) × (written.status ≡ status_of given.outcomes)
-        × AreOutcomesOf (commands_in threads.items) given.outcomes written.outcomes.items) }
+        × AreOutcomesOf (commands_in threads.entry.items) given.outcomes written.outcomes.items) }
     ensures open { G.is_open env.now.gate.now ≡ true → IsErrOf result.1 Stop.Stopped → ⊥ }
     ensures device { IsErrOf result.1 Stop.Device → ⊥ }
 {
-    let Ok((numbers, commands)) = split_threads(env.alloc, threads) else {
+    let Ok((numbers, lines)) = split_threads(env.alloc, threads) else {
         return (pass, Err(Stop::Memory));
     };
-    let (pass, replied) = run_block(env.rt, env.alloc, env.lock, pass, commands, env.gate);
+    let (pass, replied) = run_block_of(env.rt, env.alloc, env.lock, env.gate, pass, lines);
     let done = match replied {
         Ok(done) => done,
         Err(BlockFault::Stopped) => return (pass, Err(Stop::Stopped)),

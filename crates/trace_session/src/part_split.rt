@@ -1,46 +1,51 @@
-//! The commands of a part's threads, taken apart from the numbers of their lines.
+//! The lines of a part's threads, separated from their numbers.
 
 ghost use Rattle.std.specs.Prelude.{◌≡◌, map, IfOk};
-ghost use Rattle.trace_items.specs.PartReads.{commands_in};
-ghost use Rattle.trace_session.specs.PartTexts.{items_in};
+ghost use Rattle.trace_items.specs.PartReads.{asked_of, commands_in};
+ghost use Rattle.trace_session.specs.PartTexts.{asked_command, items_in};
+ghost use Rattle.trace_workers.specs.BlockRuns.{commands_of};
 
+use crate::part_line::AskedLine;
 use std::alloc::{AllocError, Global};
-use trace_command::Command;
-use trace_items::part::Numbered;
+use trace_items::part_line::PartLine;
 
-/// The numbers and the commands of a thread.
-fn split_thread(
+/// The numbers and the lines of a thread.
+fn split_thread<'a>(
     alloc: Global,
-    thread: Vec<Numbered>,
-) -> Result<(Vec<usize>, Vec<Command>), AllocError>
-    ensures numbers { IfOk result (λ halves. halves.0.items ≡ map (λ asked. asked.number) thread.items) }
-    ensures commands { IfOk result (λ halves. halves.1.items ≡ map (λ asked. asked.command) thread.items) }
+    thread: Vec<PartLine<'a>>,
+) -> Result<(Vec<usize>, Vec<AskedLine<'a>>), AllocError>
+    ensures numbers { IfOk result (λ halves. halves.0.items ≡ map (λ asked. asked.number) (map asked_of thread.entry.items)) }
+    ensures commands { IfOk result (λ halves. map asked_command halves.1.items ≡ map (λ asked. asked.command) (map asked_of thread.entry.items)) }
 {
-    let mut numbers = Vec::new(alloc);
-    let mut commands = Vec::new(alloc);
-    for Numbered { number, command } in thread {
+    let mut numbers = Vec::with_capacity(alloc, thread.len())?;
+    let mut lines = Vec::with_capacity(alloc, thread.len())?;
+    for PartLine {
+        number,
+        line,
+        command,
+    } in thread {
         numbers.push(number)?;
-        commands.push(command)?;
+        lines.push(AskedLine { line, command })?;
     }
-    Ok((numbers, commands))
+    Ok((numbers, lines))
 }
 
-/// The numbers and the commands of each thread.
-pub(crate) fn split_threads(
+/// The numbers and the lines of each thread.
+pub(crate) fn split_threads<'a>(
     alloc: Global,
-    threads: Vec<Vec<Numbered>>,
-) -> Result<(Vec<Vec<usize>>, Vec<Vec<Command>>), AllocError>
+    threads: Vec<Vec<PartLine<'a>>>,
+) -> Result<(Vec<Vec<usize>>, Vec<Vec<AskedLine<'a>>>), AllocError>
     ensures numbers { IfOk result (λ halves.
-        items_in halves.0.items ≡ map (map (λ asked. asked.number)) (commands_in threads.items)) }
+        items_in halves.0.items ≡ map (map (λ asked. asked.number)) (commands_in threads.entry.items)) }
     ensures commands { IfOk result (λ halves.
-        items_in halves.1.items ≡ map (map (λ asked. asked.command)) (commands_in threads.items)) }
+        commands_of asked_command halves.1.items ≡ map (map (λ asked. asked.command)) (commands_in threads.entry.items)) }
 {
     let mut numbers = Vec::new(alloc);
-    let mut commands = Vec::new(alloc);
+    let mut lines = Vec::new(alloc);
     for thread in threads {
-        let (own_numbers, own_commands) = split_thread(alloc, thread)?;
+        let (own_numbers, own_lines) = split_thread(alloc, thread)?;
         numbers.push(own_numbers)?;
-        commands.push(own_commands)?;
+        lines.push(own_lines)?;
     }
-    Ok((numbers, commands))
+    Ok((numbers, lines))
 }

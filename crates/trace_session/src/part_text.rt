@@ -1,5 +1,5 @@
-//! What is written for a part, and what became of its commands. All of it is put together before any of it is written, so that no half of a
-//! part is.
+//! The output of a part and the outcomes of its commands. All of it is assembled before any of it is written, so that running out of memory never
+//! leaves half a part written.
 
 ghost use Rattle.std.specs.Prelude.{◌≡◌, ◌≢◌, ◌||◌, ◌++◌, ◌∷◌, [], if◌then◌else◌, All, length, Err, IfOk, OnOk, IsErrOf};
 ghost use Rattle.std.specs.List.{list_any};
@@ -18,15 +18,14 @@ use trace_items::Stop;
 use trace_script::{Outcome, render};
 use trace_workers::Part;
 
-/// What became of a command of a part, and the number of its line.
+/// The outcome of a command of a part, and the number of its line.
 #[derive(Drop)]
 pub struct OutcomeAt {
     pub number: usize,
     pub outcome: Outcome,
 }
 
-/// What a part gives: the bytes that are to be written for it, the status of its commands, and what became of each of them, in the order of
-/// their lines.
+/// The output of a part, the status of its commands, and the outcome of each of them, in the order of their lines.
 #[derive(Drop)]
 pub struct PartOutput {
     pub text: Vec<u8>,
@@ -34,7 +33,7 @@ pub struct PartOutput {
     pub outcomes: Vec<OutcomeAt>,
 }
 
-/// What the first commands of a part give, and whether any of them was refused.
+/// The output and the outcomes of the first commands of a part, and whether any of them was refused.
 #[derive(Drop)]
 struct Writing {
     text: Vec<u8>,
@@ -42,7 +41,7 @@ struct Writing {
     outcomes: Vec<OutcomeAt>,
 }
 
-/// Adds what is written for the line of this number.
+/// Appends the output of this outcome of the line with this number.
 fn add_outcome(
     alloc: Global,
     number: usize,
@@ -60,7 +59,7 @@ fn add_outcome(
     }
 }
 
-/// Adds what is written for a command in the line of this number, and what became of it. A command that got no turn is told as refused memory.
+/// Appends the output and the outcome of the command in the line with this number. `Worn` counts as out of memory.
 fn add_reply(
     alloc: Global,
     number: usize,
@@ -87,7 +86,7 @@ fn add_reply(
     Ok(())
 }
 
-/// Adds what is written for a thread's commands, which stand in lines of these numbers, and what became of them.
+/// Appends the output and the outcomes of a thread's commands, which are in the lines with these numbers.
 fn add_replies(
     alloc: Global,
     numbers: &[usize],
@@ -111,7 +110,7 @@ fn add_replies(
     Ok(())
 }
 
-/// Adds the line of a thread, what is written for its commands, and what became of them.
+/// Appends a thread's line, and the output and the outcomes of its commands.
 fn add_thread(
     alloc: Global,
     thread: usize,
@@ -134,7 +133,7 @@ fn add_thread(
     add_replies(alloc, numbers, replies, writing)
 }
 
-/// What a part gives, all of whose commands give this.
+/// The output of a part from that of its commands.
 fn finish(writing: Writing) -> PartOutput
     ensures text { result.text.items ≡ writing.text.items }
     ensures status { result.status ≡ (if writing.is_refused then Status.Refused else Status.Done) }
@@ -151,7 +150,7 @@ fn finish(writing: Writing) -> PartOutput
     }
 }
 
-/// What the threads of a part give, whose commands stand in lines of these numbers.
+/// The output of the threads of a part, whose commands are in the lines with these numbers.
 pub(crate) fn write_threads(
     alloc: Global,
     numbers: &[Vec<usize>],

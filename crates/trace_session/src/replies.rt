@@ -13,7 +13,7 @@ use trace_items::Stop;
 /// The bytes of a piece.
 const PIECE_BYTES: usize = 8192;
 
-/// Writes some bytes from the front of a string that is not empty, and gives their number.
+/// Writes the first bytes of a nonempty string, and returns how many.
 fn write_some<W: Sink>(writer: &mut W, text: &[u8]) -> Result<usize, Stop>
     requires { 0 < length text.now }
     ensures bytes { IfOk result (λ count. (0 < count) × (count ≤ length text.now)
@@ -31,7 +31,7 @@ fn write_some<W: Sink>(writer: &mut W, text: &[u8]) -> Result<usize, Stop>
     }
 }
 
-/// Writes a string.
+/// Writes a whole string.
 #[tactic(auto, using(crate::proofs::DeviceLemmas::Appends_append))]
 fn write_all<W: Sink>(writer: &mut W, text: &[u8]) -> Result<(), Stop>
     ensures bytes { OnOk result (Appends (W.contents writer.old) (W.contents writer.new) text.now) }
@@ -50,7 +50,7 @@ fn write_all<W: Sink>(writer: &mut W, text: &[u8]) -> Result<(), Stop>
     Ok(())
 }
 
-/// The replies that wait to be written, at most a piece. A contract sees their bytes.
+/// Buffered replies, at most one piece. Contracts see their bytes.
 #[derive(Drop)]
 pub(crate) struct Replies {
     waiting: Vec<u8>,
@@ -67,7 +67,7 @@ impl Model for Replies {
 }
 
 impl Replies {
-    /// None, and room for a piece.
+    /// An empty buffer with room for one piece.
     pub(crate) fn new(alloc: Global) -> Result<Replies, AllocError>
         ensures { IfOk result (λ replies. replies ≡ []) }
     {
@@ -76,7 +76,7 @@ impl Replies {
         })
     }
 
-    /// Lets a string wait for which there is room.
+    /// Buffers a string that fits.
     fn keep(&mut self, text: &[u8])
         requires { length self.old + length text.now ≤ PIECE_BYTES }
         ensures { self.new ≡ self.old ++ text.now }
@@ -86,7 +86,7 @@ impl Replies {
         };
     }
 
-    /// Writes what waits.
+    /// Writes what is buffered.
     pub(crate) fn flush<W: Sink>(&mut self, writer: &mut W) -> Result<(), Stop>
         ensures none { OnOk result (self.new ≡ []) }
         ensures bytes { OnOk result (Appends (W.contents writer.old) (W.contents writer.new) self.old) }
@@ -102,7 +102,7 @@ impl Replies {
         Ok(())
     }
 
-    /// Adds a string. A full piece is written; what is left waits, or is written with it if it would be a piece by itself.
+    /// Adds a string. A full piece is written; the rest of the string is buffered, or written as well if it is a piece or more.
     pub(crate) fn add<W: Sink>(&mut self, writer: &mut W, text: &[u8]) -> Result<(), Stop>
         ensures bytes { OnOk result (Passes (W.contents writer.old) self.old (W.contents writer.new) self.new text.now) }
         ensures failures { OnOk result (W.failures writer.new ≡ W.failures writer.old) }

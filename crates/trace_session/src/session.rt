@@ -1,4 +1,4 @@
-//! A whole session: a script is read, each of its items is done, and what it gives is written.
+//! A whole session: a script is read, its items run in order, and their output is written.
 
 ghost use Rattle.std.specs.Prelude.{◌≡◌, ◌≢◌, ◌<◌, ◌≤◌, ◌⊎◌, [], length, true, IfOk, IfSome, OnOk, IsErrOf};
 ghost use Rattle.std.specs.Io.KnownBytes.{Appends, IsAtEnd};
@@ -27,7 +27,7 @@ use trace_items::item::next_item;
 use trace_items::{MOST_SCRIPT_BYTES, Source, Stop, read_script};
 use trace_workers::Gate;
 
-/// The status of items and of one more, which is no fault.
+/// The status after one more item, which is no fault.
 fn with_item(status: Status, item: Status) -> Status
     ensures refused { item ≡ Status.Refused → result ≡ Status.Refused }
     ensures other { item ≢ Status.Refused → result ≡ status }
@@ -38,7 +38,7 @@ fn with_item(status: Status, item: Status) -> Status
     }
 }
 
-/// Does the items of a script in turn, up to its end or the first fault, and adds what they give to the replies.
+/// Runs the items of a script in order, up to its end or the first fault, and appends their output to the replies.
 fn do_items<R: Threads + Wait + Sync, W: Sink, G: Gate + Sync>(
     env: &Environment<'_, R, G>,
     pass: Pass<Book>,
@@ -95,8 +95,8 @@ fn do_items<R: Threads + Wait + Sync, W: Sink, G: Gate + Sync>(
     Ok(status)
 }
 
-/// Does the items of a script in turn, up to its end or the first fault, and writes what they give. Nothing waits after it, except where a
-/// device failed.
+/// Runs the items of a script in order, up to its end or the first fault, and writes their output. Nothing is left in the buffer unless a device
+/// failed.
 fn do_script<R: Threads + Wait + Sync, W: Sink, G: Gate + Sync>(
     env: &Environment<'_, R, G>,
     pass: Pass<Book>,
@@ -149,7 +149,7 @@ fn new_book(alloc: Global, config: Config) -> Result<(TicketLock<Book>, Pass<Boo
     ensures device { IsErrOf result Stop.Device → ⊥ }
     ensures stopped { IsErrOf result Stop.Stopped → ⊥ }
 {
-    // The configuration is in range, so a book is refused only where memory is.
+    // The configuration is in range, so a book is refused only if out of memory.
     let Ok(book) = Book::new(alloc, config) else {
         return Err(Stop::Memory);
     };
@@ -209,16 +209,15 @@ fn attempt<T: Threads + Wait + Sync, R: Source, W: Sink, G: Gate + Sync>(
     do_script(&env, root, &script, writer)
 }
 
-/// A session: reads a script to its end, does its lines and parallel parts in turn over a new book, and writes what each gives. The threads of a
-/// part ask the book side by side, and what they give is written once all of them have ended.
+/// Runs a session: reads a script to its end, runs its lines and parallel parts in order on a new book, and writes their output. A part's threads run
+/// concurrently; its output is written once all have ended.
 ///
-/// At the statuses `Done`, `Refused` and `Fault` the bytes and the status are those of a lawful session of the script (`IsSession`). A script
-/// with no parallel part has only one. At `Memory` no call of a device failed, and what the first items of a session give was written, whole.
-/// At `Stopped` a part was stopped, and what the items before it give was written; it comes only where the gate is not open and the script has a
-/// part. At `Device` a read or a write failed or the script has over 16,777,216 bytes, and a prefix of a session was written: nothing, where a
-/// read failed or the script is too long.
+/// With `Done`, `Refused` and `Fault`, output and status are those of a lawful session of the script (`IsSession`); without parallel parts there is
+/// only one. With `Memory`, no device failed, and the output of the first items was written, each whole. With `Stopped`, the gate stopped a part, and
+/// the output of the items before it was written; only with a gate that isn't open and a script with a part. With `Device`, a read or a write failed
+/// or the script has over 16,777,216 bytes, and a prefix of a session's output was written, nothing if a read failed or the script is too long.
 ///
-/// It waits for its turns and for the threads of parts. That it returns is not promised.
+/// It waits for turns and threads, so it is not promised that it returns.
 pub fn run_session<T: Threads + Wait + Sync, R: Source, W: Sink, G: Gate + Sync>(
     rt: &T,
     alloc: Global,
@@ -237,7 +236,7 @@ pub fn run_session<T: Threads + Wait + Sync, R: Source, W: Sink, G: Gate + Sync>
     ensures failures { IsRead result
         → (R.failures reader.new ≡ R.failures reader.old) × (W.failures writer.new ≡ W.failures writer.old) }
 
-    // Stopped by the gate at a part: what the items before it give was written, and nothing of it. A script without parts is never stopped.
+    // Stopped by the gate at a part: the output of the items before it was written, and none of the part's. A script without parts is never stopped.
     ensures stopped { result ≡ Status.Stopped → IfSome (R.remaining reader.old) (λ script.
         AppendsStopped config script (W.contents writer.old) (W.contents writer.new)) }
     ensures part { result ≡ Status.Stopped → IfSome (R.remaining reader.old) (λ script. HasNoPart script → ⊥) }

@@ -5,13 +5,13 @@ ghost use Rattle.std.specs.Prelude.{◌≡◌};
 /// How a session ended.
 #[derive(Clone, Copy, Debug, PartialEq, Eq)]
 pub enum Status {
-    /// Each command was done.
+    /// Every command succeeded.
     Done,
-    /// Each command was asked, and some were refused.
+    /// The script ran to its end, and some commands were refused.
     Refused,
     /// A fault in the script ended the session.
     Fault,
-    /// Memory was refused.
+    /// Memory was refused, or a thread could not be started.
     Memory,
     /// A read or a write failed, or the script is too long.
     Device,

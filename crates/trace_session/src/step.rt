@@ -1,4 +1,4 @@
-//! One item of a session: a line by itself or a part is asked, and what it gives is written.
+//! One item of a session: a single line or a part runs, and its output is written.
 
 ghost use Rattle.std.specs.Prelude.{◌≡◌, ◌≤◌, List, ℕ, [], ◌∷◌, true, vec_len, IfOk, OnOk, IsErrOf};
 ghost use Rattle.ticket_lock.specs.Calls.{view_of, IsOf};
@@ -10,16 +10,16 @@ ghost use Rattle.trace_items.specs.PartReads.{commands_in};
 ghost use Rattle.trace_items.specs.ScriptLines.{lines_of};
 ghost use Rattle.trace_items.specs.Sources.{HasRisen};
 ghost use Rattle.trace_script.specs.Lines.{line_of};
-ghost use Rattle.trace_script.specs.PlainEmissions.{emission_said};
 ghost use Rattle.trace_session.specs.Devices.{Passes};
 ghost use Rattle.trace_session.specs.Fronts.{PassesItem, AppendsItem, IsThreads};
 ghost use Rattle.trace_session.specs.Heard.{Hears, HearsPart, HearsItem, AreInOrder, HasItsLines, heard_of, numbers_in};
 ghost use Rattle.trace_session.specs.Passes.{IsSessionPass, progress_of};
+ghost use Rattle.trace_session.specs.private.LineAsked.{asks_of};
 ghost use Rattle.trace_session.specs.Sessions.{Progress, turn_of};
 
 use crate::device::Sink;
 use crate::environment::Environment;
-use crate::line::{ask_emission_line, ask_line};
+use crate::line::{LineAsks, ask_for_line};
 use crate::part_run::run_part;
 use crate::replies::Replies;
 use crate::status::Status;
@@ -32,23 +32,25 @@ use trace_book::Book;
 use trace_format::BorrowedPair;
 use trace_items::Stop;
 use trace_items::item::ItemRead;
-use trace_items::part::{FaultAt, Numbered};
-use trace_script::{EmissionHead, Line, Outcome, ScriptFault};
+use trace_items::part::FaultAt;
+use trace_items::part_line::PartLine;
+use trace_script::Outcome;
 use trace_workers::Gate;
 
-/// Asks for what a line by itself asks for, and writes what it gives.
+/// Runs a single line, and writes its output. It is inlined, so that an emission's words are not moved.
+#[inline(always)]
 fn do_line<R: Wait, W: Sink, G>(
     env: &Environment<'_, R, G>,
     pass: Pass<Book>,
     number: usize,
     line: &[u8],
-    said: Result<Line, ScriptFault>,
+    asks: LineAsks<'_>,
     replies: &mut Replies,
     writer: &mut W,
 ) -> (Pass<Book>, Result<Status, Stop>)
     requires of { IsOf env.now.lock.now pass }
     requires session { (g : Config) × IsSessionPass g (view_of pass) }
-    requires said { said ≡ line_of line.now }
+    requires asks { asks_of asks ≡ line_of line.now }
     ensures of { IsOf env.now.lock.now result.0 }
     ensures session { (g : Config) → IsSessionPass g (view_of pass) → IsSessionPass g (view_of result.0) }
     ensures done { IfOk result.1 (λ status. (g : Config) → IsSessionPass g (view_of pass)
@@ -66,7 +68,7 @@ fn do_line<R: Wait, W: Sink, G>(
     ensures heard { (g : Config) → IsSessionPass g (view_of pass) → OnOk result.1 (Hears (W.heard writer.old) (W.heard writer.new)
         (heard_of number line.now (turn_of g (progress_of (view_of pass)) line.now).outcome (W.contents writer.new) ∷ [])) }
 {
-    let (pass, asked) = ask_line(env.rt, env.lock, pass, said);
+    let (pass, asked) = ask_for_line(env.rt, env.lock, pass, asks);
     match asked {
         Ok(outcome) => (
             pass,
@@ -76,55 +78,13 @@ fn do_line<R: Wait, W: Sink, G>(
     }
 }
 
-/// Asks for the emission that a line by itself is, whose words and pairs these are, and writes what it gives.
-fn do_emission<R: Wait, W: Sink, G>(
-    env: &Environment<'_, R, G>,
-    pass: Pass<Book>,
-    number: usize,
-    line: &[u8],
-    head: EmissionHead<'_>,
-    pairs: &[BorrowedPair<'_>],
-    replies: &mut Replies,
-    writer: &mut W,
-) -> (Pass<Book>, Result<Status, Stop>)
-    requires of { IsOf env.now.lock.now pass }
-    requires session { (g : Config) × IsSessionPass g (view_of pass) }
-    requires said { line_of line.now ≡ emission_said head pairs.now }
-    ensures of { IsOf env.now.lock.now result.0 }
-    ensures session { (g : Config) → IsSessionPass g (view_of pass) → IsSessionPass g (view_of result.0) }
-    ensures done { IfOk result.1 (λ status. (g : Config) → IsSessionPass g (view_of pass)
-        → PassesItem g (Single number line.now) (progress_of (view_of pass)) (progress_of (view_of result.0)) status
-        (W.contents writer.old) replies.old (W.contents writer.new) replies.new) }
-    ensures failures { OnOk result.1 (W.failures writer.new ≡ W.failures writer.old) }
-    ensures memory { IsErrOf result.1 Stop.Memory
-        → Passes (W.contents writer.old) replies.old (W.contents writer.new) replies.new [] }
-    ensures unfailed { IsErrOf result.1 Stop.Memory → W.failures writer.new ≡ W.failures writer.old }
-    ensures stopped { IsErrOf result.1 Stop.Stopped → ⊥ }
-    ensures risen { IsErrOf result.1 Stop.Device → HasRisen (W.failures writer.old) (W.failures writer.new) }
-    ensures device { IsErrOf result.1 Stop.Device → (g : Config) → IsSessionPass g (view_of pass)
-        → AppendsItem g (Single number line.now) (progress_of (view_of pass)) (progress_of (view_of result.0))
-        (W.contents writer.old) replies.old (W.contents writer.new) }
-    ensures heard { (g : Config) → IsSessionPass g (view_of pass) → OnOk result.1 (Hears (W.heard writer.old) (W.heard writer.new)
-        (heard_of number line.now (turn_of g (progress_of (view_of pass)) line.now).outcome (W.contents writer.new) ∷ [])) }
-{
-    let (pass, asked) = ask_emission_line(env.rt, env.lock, pass, head, pairs);
-    match asked {
-        Ok(outcome) => {
-            let given = give(env.alloc, number, line, &outcome, replies, writer);
-            (pass, given)
-        }
-        Err(stop) => (pass, Err(stop)),
-    }
-}
-
-/// Asks the commands of a part, and writes what they give once all of them were asked. The string begins with the part's first line, which
-/// has this number.
+/// Runs a part, and writes its output once all its commands have run. The string begins with the part's first line, which has this number.
 fn do_part<R: thread::Threads + Wait + Sync, W: Sink, G: Gate + Sync>(
     env: &Environment<'_, R, G>,
     pass: Pass<Book>,
     number: usize,
     text: &[u8],
-    threads: Vec<Vec<Numbered>>,
+    threads: Vec<Vec<PartLine<'_>>>,
     replies: &mut Replies,
     writer: &mut W,
 ) -> (Pass<Book>, Result<Status, Stop>)
@@ -135,7 +95,7 @@ fn do_part<R: thread::Threads + Wait + Sync, W: Sink, G: Gate + Sync>(
     ensures of { IsOf env.now.lock.now result.0 }
     ensures session { (g : Config) → IsSessionPass g (view_of pass) → IsSessionPass g (view_of result.0) }
     ensures done { IfOk result.1 (λ status. (g : Config) → IsSessionPass g (view_of pass)
-        → PassesItem g (Threads (commands_in threads.items)) (progress_of (view_of pass)) (progress_of (view_of result.0)) status
+        → PassesItem g (Threads (commands_in threads.entry.items)) (progress_of (view_of pass)) (progress_of (view_of result.0)) status
         (W.contents writer.old) replies.old (W.contents writer.new) replies.new) }
     ensures failures { OnOk result.1 (W.failures writer.new ≡ W.failures writer.old) }
     ensures memory { IsErrOf result.1 Stop.Memory
@@ -147,9 +107,9 @@ fn do_part<R: thread::Threads + Wait + Sync, W: Sink, G: Gate + Sync>(
     ensures open { G.is_open env.now.gate.now ≡ true → IsErrOf result.1 Stop.Stopped → ⊥ }
     ensures risen { IsErrOf result.1 Stop.Device → HasRisen (W.failures writer.old) (W.failures writer.new) }
     ensures device { IsErrOf result.1 Stop.Device → (g : Config) → IsSessionPass g (view_of pass)
-        → AppendsItem g (Threads (commands_in threads.items)) (progress_of (view_of pass)) (progress_of (view_of result.0))
+        → AppendsItem g (Threads (commands_in threads.entry.items)) (progress_of (view_of pass)) (progress_of (view_of result.0))
         (W.contents writer.old) replies.old (W.contents writer.new) }
-    ensures heard { (g : Config) → IsSessionPass g (view_of pass) → OnOk result.1 (HearsPart g number text.now (commands_in threads.items)
+    ensures heard { (g : Config) → IsSessionPass g (view_of pass) → OnOk result.1 (HearsPart g number text.now (commands_in threads.entry.items)
         (progress_of (view_of pass)) (progress_of (view_of result.0)) (W.contents writer.new) (W.heard writer.old) (W.heard writer.new)) }
 {
     let (pass, ran) = run_part(env, pass, threads);
@@ -159,7 +119,7 @@ fn do_part<R: thread::Threads + Wait + Sync, W: Sink, G: Gate + Sync>(
     }
 }
 
-/// Writes the fault of a part, none of whose commands is asked.
+/// Writes a part's fault; none of its commands runs.
 fn do_fault<W: Sink>(
     alloc: Global,
     at: FaultAt,
@@ -184,9 +144,9 @@ fn do_fault<W: Sink>(
     give(alloc, at.number, line, &outcome, replies, writer)
 }
 
-/// Does an item whose first line has this number: adds what it gives to the replies, and gives its own status. Of a part nothing is added before
-/// all its commands were asked. A writer that hears is told of each line by itself, of a fault with its line, and of each command of a part. An
-/// emission's pairs are these.
+/// Runs the item whose first line has this number: appends its output to the replies and returns its status. A part's output is appended only once
+/// all its commands have run. A writer that hears is told of each single line, of a fault with its line, and of each command of a part. `pairs` are
+/// the emission's.
 pub(crate) fn do_item<R: thread::Threads + Wait + Sync, W: Sink, G: Gate + Sync>(
     env: &Environment<'_, R, G>,
     pass: Pass<Book>,
@@ -224,9 +184,13 @@ pub(crate) fn do_item<R: thread::Threads + Wait + Sync, W: Sink, G: Gate + Sync>
 {
     match item {
         ItemRead::Emission { line, head } => {
-            do_emission(env, pass, number, line, head, pairs, replies, writer)
+            let asks = LineAsks::Emission(head, pairs);
+            do_line(env, pass, number, line, asks, replies, writer)
         }
-        ItemRead::Line { line, said } => { do_line(env, pass, number, line, said, replies, writer) }
+        ItemRead::Line { line, said } => {
+            let asks = LineAsks::Said(said);
+            do_line(env, pass, number, line, asks, replies, writer)
+        }
         ItemRead::Threads { text, threads } => {
             do_part(env, pass, number, text, threads, replies, writer)
         }

@@ -1,4 +1,4 @@
-//! What became of a line or of the commands of a part: it is written, and a writer that hears is told.
+//! Outcomes of lines and parts, written and told to a writer that hears.
 
 ghost use Rattle.std.specs.Prelude.{◌≡◌, ◌≢◌, ◌≤◌, ◌↔◌, ℕ, List, [], ◌∷◌, ◌++◌, map, IfOk, IsSome, OnOk, OnErr, IsErrOf};
 ghost use Rattle.trace_items.specs.ScriptLines.{lines_of};
@@ -16,7 +16,7 @@ use std::alloc::Global;
 use trace_items::{LinesFrom, Stop};
 use trace_script::Outcome;
 
-/// The status of a line by itself.
+/// The status of a single line.
 fn line_status(outcome: &Option<Outcome>) -> Status
     ensures { result ≡ status_of (outcome.now ∷ []) }
 {
@@ -27,8 +27,8 @@ fn line_status(outcome: &Option<Outcome>) -> Status
     }
 }
 
-/// Writes what waits, unless all was done that a writer is to hear of and it doesn't want the output first: what it tells of a refusal or a fault
-/// comes after the lines of that.
+/// Flushes before the writer is told of a refusal or a fault, so that its report follows that line's output; before any outcome, if it wants the
+/// output first.
 fn write_before<W: Sink>(status: Status, waiting: &mut Replies, writer: &mut W) -> Result<(), Stop>
     ensures written { OnOk result (Passes (W.contents writer.old) waiting.old (W.contents writer.new) waiting.new []) }
     ensures all { OnOk result (status ≢ Status.Done → waiting.new ≡ []) }
@@ -45,7 +45,7 @@ fn write_before<W: Sink>(status: Status, waiting: &mut Replies, writer: &mut W) 
     }
 }
 
-/// Has a writer that is to hear of lines hear what became of the line of this number. Before it hears of a refusal or a fault, all is written.
+/// Tells a writer that hears the outcome of the line with this number; before a refusal or a fault, all output is written.
 fn tell<W: Sink>(
     number: usize,
     line: &[u8],
@@ -72,8 +72,8 @@ fn tell<W: Sink>(
     Ok(())
 }
 
-/// Adds what became of the line of this number to the replies, tells it, and gives the line's own status. A writer that hears has heard of this
-/// line and its outcome, and of a refusal or a fault once all was written.
+/// Appends the output of the line with this number to the replies, tells its outcome, and returns the line's own status. A writer that hears has
+/// heard of this line and its outcome, and of a refusal or a fault once all output was written.
 pub(crate) fn give<W: Sink>(
     alloc: Global,
     number: usize,
@@ -102,7 +102,7 @@ pub(crate) fn give<W: Sink>(
     Ok(line_status(outcome))
 }
 
-/// Tells a writer what became of the command in the line of this number, which is one of these lines.
+/// Tells a writer the outcome of the command in the line with this number, which is one of these lines.
 fn hear_line<W: Sink>(lines: &mut LinesFrom<'_>, number: usize, outcome: Outcome, writer: &mut W)
     requires { (line : List ℕ) × IsLeft lines.old number line }
     ensures later { (later : ℕ) (line : List ℕ) → number ≤ later
@@ -118,7 +118,7 @@ fn hear_line<W: Sink>(lines: &mut LinesFrom<'_>, number: usize, outcome: Outcome
     writer.hear(number, line, &Some(outcome));
 }
 
-/// Tells a writer what became of each of these commands, with its line. The first line of the string has this number.
+/// Tells a writer the outcome of each of these commands, with its line. The first line of the string has this number.
 fn hear_each<W: Sink>(first: usize, text: &[u8], outcomes: Vec<OutcomeAt>, writer: &mut W)
     requires { AreInOrder first first (lines_of text.now) (map (λ one. one.number) outcomes.items) }
     ensures bytes { W.contents writer.new ≡ W.contents writer.old }
@@ -132,8 +132,8 @@ fn hear_each<W: Sink>(first: usize, text: &[u8], outcomes: Vec<OutcomeAt>, write
     }
 }
 
-/// Tells a writer that hears what became of each command of a part. The string begins with the part's first line, which has this number. If a
-/// command was refused, what waits is written first.
+/// Tells a writer that hears the outcome of each command of a part. The string begins with the part's first line, which has this number. If a command
+/// was refused, or the writer wants the output first, all output is written before.
 fn tell_part<W: Sink>(
     number: usize,
     text: &[u8],
@@ -162,8 +162,9 @@ fn tell_part<W: Sink>(
     Ok(())
 }
 
-/// Adds what a part gives to the replies, tells it, and gives the part's own status. The string begins with the part's first line, which has
-/// this number. A writer that hears has heard of each command of the part with its line, and once all was written, if one was refused.
+/// Appends the output of a part to the replies, tells the outcomes, and returns the part's own status. The string begins with the part's first line,
+/// which has this number. A writer that hears has heard of each command of the part with its line, and if one was refused, once all output was
+/// written.
 pub(crate) fn give_part<W: Sink>(
     number: usize,
     text: &[u8],

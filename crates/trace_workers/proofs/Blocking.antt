@@ -1,17 +1,18 @@
 -- The parts of a block, one after the other, and what all of them come to.
-use Rattle.std.proofs.Common.{◌≡◌, ◌≢◌, ℕ, zero, suc, ◌+◌, ◌-◌, ◌*◌, ◌≤◌, ◌<◌, ◌^◌, ◌⊎◌, inl, inr, Bool, List, [], ◌∷◌, ◌++◌, map, take, drop, length, get_or, All, Any, Option, Some, None, refl, sym, ap, ◌∙◌, subst, append-nil, arith, add-one}
+use Rattle.std.proofs.Common.{◌≡◌, ◌≢◌, ℕ, zero, suc, ◌+◌, ◌-◌, ◌*◌, ◌≤◌, ◌<◌, ◌^◌, ◌⊎◌, inl, inr, Bool, Vec, List, [], ◌∷◌, ◌++◌, map, take, drop, length, get_or, All, Any, Option, Some, None, refl, sym, ap, ◌∙◌, subst, append-nil, arith, add-one}
 use Rattle.std.proofs.Math.Nat.{pow-suc}
 use Rattle.std.proofs.lemmas.Nat.{pow_pos}
 use Rattle.std.proofs.lemmas.List.{take_all, take-append-drop, map-append, append_cancel_left, drop_at}
 use Rattle.std.proofs.lemmas.List.Elements.{All-nil, All-cons, All-drop, All-same}
 use Rattle.std.specs.List.{AllZip}
+use Rattle.std.specs.declared.alloc.Global.{Global}
 use Rattle.ticket_lock.specs.Moves.{middle_of}
 use Rattle.ticket_lock.specs.Views.{HasAllNames}
 use Rattle.ticket_lock.specs.declared.views.View.{View}
 use Rattle.trace_history.specs.History.{IsLegal}
 use Rattle.trace_history.specs.Blocks.{Trail, StandsIn, IsBlock, IsUnworn}
 use Rattle.trace_book.specs.Bases.{numbers_of}
-use Rattle.trace_workers.specs.BlockRuns.{trails_of, Begins, IsAfterBlock}
+use Rattle.trace_workers.specs.BlockRuns.{trails_of, commands_of, Begins, IsAfterBlock}
 use Rattle.trace_workers.specs.Gates.{HasReply, LetsBegunPass}
 use Rattle.trace_workers.specs.PartRuns.{HasRun, begun_trail, begun_trails, AreWhole, SeesCallers, told_fault}
 use Rattle.trace_command.specs.declared.command.Command.{Command}
@@ -208,3 +209,15 @@ not_begun v parts may names =
         answered = λ thread call has. absurd (nothing_replied 0 parts thread (call + 1) has);
       },
     )
+
+-- ---- parts that keep their commands as they are
+
+commands_same : (commands : List Command) → map (λ (command : Command). command) commands ≡ commands
+commands_same [] = refl
+commands_same (command ∷ commands) = ap (λ (cs : List Command). command ∷ cs) (commands_same commands)
+
+pub parts_same : (parts : List (Vec Command Global)) → commands_of (λ (command : Command). command) parts ≡ map (λ (part : Vec Command Global). part.items) parts
+parts_same [] = refl
+parts_same (part ∷ parts) =
+    ap (λ (cs : List Command). cs ∷ commands_of (λ (command : Command). command) parts) (commands_same part.items)
+    ∙ ap (λ (all : List (List Command)). part.items ∷ all) (parts_same parts)

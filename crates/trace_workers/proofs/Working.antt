@@ -10,7 +10,7 @@ use Rattle.trace_history.specs.History.{IsLegal}
 use Rattle.trace_book.specs.Bases.{numbers_of}
 use Rattle.trace_history.specs.Trails.{IsTrail, IsWithout, IsRefusedAfter}
 use Rattle.trace_history.specs.Blocks.{Trail, StandsIn, IsUnworn}
-use Rattle.trace_workers.specs.Asks.{GoesOn, IsDone, IsRefused, AreOthers}
+use Rattle.trace_workers.specs.Asks.{GoesOn, IsDone, IsRefused, IsUndone, AreOthers}
 use Rattle.trace_workers.specs.PartRuns.{IsNameOf, HasRun, begun_trail, HasAsked}
 use Rattle.trace_command.specs.declared.command.Command.{Command}
 use Rattle.trace_command.specs.declared.command.Config.{Config}
@@ -255,19 +255,19 @@ asked_refused v w command refusal fault some known goes refused legal =
     }
 
 pub asked_memory : (v w : View Entry) (command : Command) (fault : BlockFault)
-    → v.low < v.end → GoesOn v w → IsRefused v w command Refusals.Memory → KeepsLegal v w → HasAsked v w (command ∷ []) [] (Some fault)
-asked_memory v w command fault some goes refused legal =
+    → v.low < v.end → GoesOn v w → IsUndone v w → KeepsLegal v w → HasAsked v w (command ∷ []) [] (Some fault)
+asked_memory v w command fault some goes undone legal =
     let trail : Trail = begun_trail v.low (command ∷ []) [] in
-    let idle : IsWithout v.low refused.others = without_name v.low v.end v.low refused.others (of_others v refused.others refused.by_others) (omega arith) some in
+    let idle : IsWithout v.low undone.others = without_name v.low v.end v.low undone.others (of_others v undone.others undone.by_others) (omega arith) some in
     record {
       run = record {
         goes_on = goes;
-        after = refused.others;
-        seen = refused.seen;
-        each = λ g is. one (StandsIn g v.seen refused.others) trail idle;
+        after = undone.others;
+        seen = undone.seen;
+        each = λ g is. one (StandsIn g v.seen undone.others) trail idle;
         named = one (λ (t : Trail). IsNameOf v t.by) trail (omega arith, some);
         distinct = alone trail;
-        callers = λ g is. others_callers v refused.others (trail ∷ []) refused.by_others;
+        callers = λ g is. others_callers v undone.others (trail ∷ []) undone.by_others;
         legal = legal;
         unworn = λ below. one (λ (t : Trail). IsUnworn t.replies) trail (All-nil (λ (reply : Answer). reply ≢ Err Worn));
       };
@@ -277,11 +277,13 @@ asked_memory v w command fault some goes refused legal =
 
 -- a call that was answered, and not by Memory
 pub asked_answered : (v w : View Entry) (command : Command) (answer : Answer) (fault : Option BlockFault)
-    → v.low < v.end → answer ≢ Err Refusals.Memory → GoesOn v w → IfOk answer (IsDone v w command) → IfErr answer (IsRefused v w command)
+    → v.low < v.end → answer ≢ Err Refusals.Memory → GoesOn v w → IfOk answer (IsDone v w command)
+    → IfErr answer (λ refusal. refusal ≢ Refusals.Memory → IsRefused v w command refusal)
     → KeepsLegal v w → HasAsked v w (command ∷ []) (answer ∷ []) fault
 asked_answered v w command (Ok reply) fault some known goes done refused legal = asked_done v w command reply fault some goes done legal
 asked_answered v w command (Err refusal) fault some known goes done refused legal =
-    asked_refused v w command refusal fault some (λ e. known (ap (λ (r : Refusal). Err r) e)) goes refused legal
+    let other : refusal ≢ Refusals.Memory = λ e. known (ap (λ (r : Refusal). Err r) e) in
+    asked_refused v w command refusal fault some other goes (refused other) legal
 
 -- what the test of an answer tells
 pub is_not_memory : (b : Bool) (answer : Answer) → IsTrue b ↔ (answer ≡ Err Refusals.Memory) → b ≡ false → answer ≡ Err Refusals.Memory → ⊥
@@ -294,7 +296,17 @@ is_memory false answer tells e = absurd cc
 
 -- a call that memory was refused to
 pub asked_refused_memory : (v w : View Entry) (command : Command) (answer : Answer) (fault : BlockFault)
-    → v.low < v.end → answer ≡ Err Refusals.Memory → GoesOn v w → IfErr answer (IsRefused v w command) → KeepsLegal v w
+    → v.low < v.end → answer ≡ Err Refusals.Memory → GoesOn v w → (answer ≡ Err Refusals.Memory → IsUndone v w) → KeepsLegal v w
     → HasAsked v w (command ∷ []) [] (Some fault)
-asked_refused_memory v w command answer fault some is goes refused legal =
-    asked_memory v w command fault some goes (subst (λ (a : Answer). IfErr a (IsRefused v w command)) is refused) legal
+asked_refused_memory v w command answer fault some is goes undone legal = asked_memory v w command fault some goes (undone is) legal
+
+-- a refused call, if it isn't by Memory
+pub refused_unless_memory : (v w : View Entry) (command : Command) (answer : Answer) → IfErr answer (IsRefused v w command)
+    → IfErr answer (λ refusal. refusal ≢ Refusals.Memory → IsRefused v w command refusal)
+refused_unless_memory v w command (Ok reply) refused = refused
+refused_unless_memory v w command (Err refusal) refused = λ other. refused
+
+-- a refused call did nothing
+pub undone : (v w : View Entry) (command : Command) (answer : Answer) → IfErr answer (IsRefused v w command) → answer ≡ Err Refusals.Memory → IsUndone v w
+undone v w command (Ok reply) refused is = absurd cc
+undone v w command (Err refusal) refused is = record { others = refused.others; seen = refused.seen; by_others = refused.by_others }

@@ -70,3 +70,9 @@ pub record IsRefused (v w : View Entry) (command : Command) (refusal : Refusal) 
       → IfErr (answer_to g w.seen command) (λ answered. answered ≡ refusal)
   pub rises : refusal ≢ Worn → Rises v w
   pub worn : refusal ≡ Worn → IsWorn v w
+
+-- A call that did nothing. What the pass sees now is what others have done.
+pub record IsUndone (v w : View Entry) : Type 0 where
+  pub others : List Entry
+  pub seen : w.seen ≡ v.seen ++ others
+  pub by_others : AreOthers v others

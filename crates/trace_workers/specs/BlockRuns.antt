@@ -1,5 +1,6 @@
 -- What a block of parts comes to, told by what the pass with all names knows: `v` is that before the block, and `w` after it.
-use Rattle.std.specs.Prelude.{◌≡◌, ◌≢◌, ◌≤◌, ◌^◌, List, [], ◌∷◌, ◌++◌, All, Any, AllPairs}
+use Rattle.std.specs.Prelude.{◌≡◌, ◌≢◌, ◌≤◌, ◌^◌, Vec, List, [], ◌∷◌, ◌++◌, map, All, Any, AllPairs}
+use Rattle.std.specs.declared.alloc.Global.{Global}
 use Rattle.ticket_lock.specs.Views.{HasAllNames}
 use Rattle.ticket_lock.specs.declared.views.View.{View}
 use Rattle.trace_history.specs.History.{IsLegal}
@@ -10,6 +11,10 @@ use Rattle.trace_workers.specs.declared.part.Part.{Part}
 use Rattle.trace_command.specs.declared.command.Command.{Command}
 use Rattle.trace_command.specs.declared.command.Config.{Config}
 use Rattle.trace_command.specs.declared.command.Entry.{Entry}
+
+-- the commands of each part, where this is the command that each of its turns asks for
+abbrev pub commands_of : {C : Type 0} → (C → Command) → List (Vec C Global) → List (List Command)
+commands_of {C} command parts = map (λ (part : Vec C Global). map command part.items) parts
 
 -- the trail of each part: its commands, its caller's number and its replies
 abbrev pub trails_of : List (List Command) → List Part → List Trail

@@ -1,26 +1,27 @@
-//! A block: parts side by side, each on a thread of its own.
+//! A block: parts that run concurrently, each on a thread of its own.
 //!
-//! The pass with all names is cut once for each part, the last part first. Its upper half goes to the part's thread, and the parts before it get on
-//! with the lower half; the upper half of that goes to the part before, and so on:
+//! The pass with all names is split once for each part, the last part first. The upper half goes to that part's thread, and the parts before it share
+//! the lower half:
 //!
 //!     0 .. 65536          root
 //!     0 .. 32768          | 32768 .. 65536   the last part
 //!     0 .. 16384  | 16384 .. 32768           the part before
 //!     0 .. 8192 | 8192 .. 16384              ...
 //!
-//! When a part has ended, its half is joined again with what is below it. So the pass that comes back has all names, whether the parts were asked
-//! whole or not, and it has seen what all of them did. What the lowest names could have done nobody did.
+//! When a part has ended, its half is joined again with what is below it. So the pass that comes back has all names, whether or not the parts ran to
+//! their ends, and it has seen what all of them did. Nobody acts under the names that are left over.
 
 ghost use Rattle.std.specs.Prelude.{◌≡◌, ◌≢◌, ◌+◌, ◌-◌, ◌<◌, ◌≤◌, ◌^◌, [], map, length, vec_len, vec_capacity, Some, None, true, IfOk, IfErr, List};
 ghost use Rattle.std.specs.List.{AllZip};
 ghost use Rattle.ticket_lock.specs.Calls.{view_of, IsOf};
 ghost use Rattle.ticket_lock.specs.Views.{HasAllNames};
 ghost use Rattle.trace_history.specs.Blocks.{Trail};
-ghost use Rattle.trace_workers.specs.BlockRuns.{trails_of, Begins, IsAfterBlock};
+ghost use Rattle.trace_workers.specs.BlockRuns.{trails_of, commands_of, Begins, IsAfterBlock};
 ghost use Rattle.trace_workers.specs.Gates.{LetsAllPass, LetsBegunPass, StopsOne};
 ghost use Rattle.trace_workers.specs.PartRuns.{HasRun, HasAsked, IsGated, AreWhole, SeesCallers, begun_trails};
 ghost use Rattle.trace_workers.specs.declared.fault.BlockFault.TheVariants.{Stopped};
 
+use crate::asked::Asked;
 use crate::fault::{BlockFault, first_of};
 use crate::gate::Gate;
 use crate::part::Part;
@@ -36,11 +37,10 @@ use ticket_lock::{Pass, TicketLock};
 use trace_book::Book;
 use trace_command::Command;
 
-/// The bytes of a thread's stack. So a block of eight parts asks for 4 MiB, and no setting of the system changes that. What a part does was seen to
-/// need less than a tenth of it.
+/// The bytes of a thread's stack. Eight parts need 4 MiB, whatever the system's settings. In a trial a part used less than a tenth of its stack.
 const STACK_BYTES: usize = 512 * 1024;
 
-// What some parts came to: their passes joined, what was asked of each, and the fault to be told.
+// The result of some parts: their passes joined, what each of them ran, and the fault to report.
 #[derive(Drop)]
 struct Ended {
     pass: Pass<Book>,
@@ -48,15 +48,15 @@ struct Ended {
     fault: Option<BlockFault>,
 }
 
-// Runs the last part on a thread of its own under the upper half of the names, and the parts before it under the lower half. There is room in `done`
-// for what is asked of them. A thread that can't be started is told by `missed`, so that its part, called here, only gives its pass back.
-fn run_parts<'s, E, R: Threads + Wait + Sync, G: Gate + Sync>(
+// Runs the last part on a thread of its own under the upper half of the names, and the parts before it under the lower half. `done` has room for
+// their results. If a thread can't be started, `missed` is set, and the part, called here, only returns its pass.
+fn run_parts<'s, E, R: Threads + Wait + Sync, G: Gate + Sync, C: Asked + Send + Drop + 's>(
     scope: &Scope<'s, E>,
     rt: &'s R,
     alloc: Global,
     lock: &'s TicketLock<Book>,
     pass: Pass<Book>,
-    mut parts: Vec<Vec<Command>>,
+    mut parts: Vec<Vec<C>>,
     done: Vec<Part>,
     gate: &'s G,
     missed: &'s AtomicBool,
@@ -67,15 +67,15 @@ fn run_parts<'s, E, R: Threads + Wait + Sync, G: Gate + Sync>(
     requires empty { done.items ≡ [] }
     requires room { vec_len done + vec_len parts ≤ vec_capacity done }
     ensures of { IsOf lock.now result.pass }
-    ensures run { HasRun (view_of pass) (view_of result.pass) (begun_trails (map (λ part. part.items) parts.items) result.done.items) }
+    ensures run { HasRun (view_of pass) (view_of result.pass) (begun_trails (commands_of C.command parts.items) result.done.items) }
     ensures length { length result.done.items ≡ length parts.items }
     ensures room { (vec_len result.done ≡ vec_len done + vec_len parts) × (vec_capacity result.done ≡ vec_capacity done) }
-    ensures whole { result.fault ≡ None → AreWhole (map (λ part. part.items) parts.items) result.done.items }
+    ensures whole { result.fault ≡ None → AreWhole (commands_of C.command parts.items) result.done.items }
     ensures callers { SeesCallers (view_of pass) (view_of result.pass) }
     ensures open { G.is_open gate.now ≡ true → result.fault ≢ Some Stopped }
-    ensures begun { LetsBegunPass (G.may_answer gate.now) (begun_trails (map (λ part. part.items) parts.items) result.done.items) }
-    ensures gate { result.fault ≡ None → LetsAllPass (G.may_answer gate.now) (map (λ part. part.items) parts.items) }
-    ensures stopped { result.fault ≡ Some Stopped → StopsOne (G.may_answer gate.now) (map (λ part. part.items) parts.items) }
+    ensures begun { LetsBegunPass (G.may_answer gate.now) (begun_trails (commands_of C.command parts.items) result.done.items) }
+    ensures gate { result.fault ≡ None → LetsAllPass (G.may_answer gate.now) (commands_of C.command parts.items) }
+    ensures stopped { result.fault ≡ Some Stopped → StopsOne (G.may_answer gate.now) (commands_of C.command parts.items) }
 {
     let Some(commands) = parts.pop() else {
         return Ended {
@@ -101,9 +101,9 @@ fn run_parts<'s, E, R: Threads + Wait + Sync, G: Gate + Sync>(
         move || -> Returned
             requires { IsOf lock.now upper × ((view_of upper).low < (view_of upper).end) }
             ensures { IsOf lock.entry.now result.pass × (result.part.by ≡ (view_of upper).low)
-                × HasAsked (view_of upper) (view_of result.pass) commands.items result.part.replies.items result.fault
+                × HasAsked (view_of upper) (view_of result.pass) (map C.command commands.items) result.part.replies.items result.fault
                 × (G.is_open gate.entry.now ≡ true → result.fault ≢ Some Stopped)
-                × IsGated (G.may_answer gate.entry.now thread) commands.items result.part.replies.items result.fault }
+                × IsGated (G.may_answer gate.entry.now thread) (map C.command commands.items) result.part.replies.items result.fault }
         { run_part(rt, alloc, lock, upper, commands, thread, gate, missed) },
     );
     if started.is_err() {
@@ -132,39 +132,29 @@ fn run_parts<'s, E, R: Threads + Wait + Sync, G: Gate + Sync>(
     }
 }
 
-/// Runs parts side by side, each on a thread of its own and under a caller's number that no other part has, and gives their replies in the order of
-/// the parts. All threads have ended when it returns. There may be no parts, and parts of no commands.
-///
-/// Each part asks its commands in their order, and the gate before and after each. What they do comes into one history, in whatever order their turns
-/// fall: `IsBlock` says what that is. A part stops at the first command to which memory is refused, and where the gate answers `false`. Then there
-/// is a fault and no reply, but the pass has all names all the same, and has seen what was done.
-///
-/// It waits for its turns and for its threads, and so that it returns is not promised, nor in which order turns fall.
-pub fn run_block<R: Threads + Wait + Sync, G: Gate + Sync>(
+/// Runs a block as [`run_block`] does, whose parts keep their commands in a form of their own: what is said there of the commands is said here of
+/// the commands that the parts ask for.
+pub fn run_block_of<R: Threads + Wait + Sync, G: Gate + Sync, C: Asked + Send + Drop>(
     rt: &R,
     alloc: Global,
     lock: &TicketLock<Book>,
-    root: Pass<Book>,
-    parts: Vec<Vec<Command>>,
     gate: &G,
+    root: Pass<Book>,
+    parts: Vec<Vec<C>>,
 ) -> (Pass<Book>, Result<Vec<Part>, BlockFault>)
     requires of { IsOf lock.now root }
     requires names { HasAllNames (view_of root) }
     requires few { vec_len parts ≤ 8 }
     ensures of { IsOf lock.now result.0 }
     ensures names { HasAllNames (view_of result.0) }
-    // Each part's replies are the trail of its commands, from what the root had seen on.
     ensures done { IfOk result.1 (λ done. (vec_len done ≡ vec_len parts)
-        × IsAfterBlock (view_of root) (view_of result.0) (trails_of (map (λ part. part.items) parts.items) done.items)) }
-    // After a fault the same is true of the first commands of each part, with some replies. The gate let each come so far.
-    ensures fault { IfErr result.1 (λ fault. (trails : List Trail) × AllZip Begins (map (λ part. part.items) parts.items) trails
+        × IsAfterBlock (view_of root) (view_of result.0) (trails_of (commands_of C.command parts.items) done.items)) }
+    ensures fault { IfErr result.1 (λ fault. (trails : List Trail) × AllZip Begins (commands_of C.command parts.items) trails
         × IsAfterBlock (view_of root) (view_of result.0) trails × LetsBegunPass (G.may_answer gate.now) trails) }
     ensures open { G.is_open gate.now ≡ true → IfErr result.1 (λ fault. fault ≢ Stopped) }
-    // The gate was asked at both points of each command, by its own indexes: it can be told from what it may answer there. That it was asked at
-    // `Asking` before the command, and at `Answered` after it, is not said.
-    ensures gate { IfOk result.1 (λ done. LetsAllPass (G.may_answer gate.now) (map (λ part. part.items) parts.items)) }
+    ensures gate { IfOk result.1 (λ done. LetsAllPass (G.may_answer gate.now) (commands_of C.command parts.items)) }
     ensures stopped { IfErr result.1 (λ fault. fault ≡ Stopped
-        → StopsOne (G.may_answer gate.now) (map (λ part. part.items) parts.items)) }
+        → StopsOne (G.may_answer gate.now) (commands_of C.command parts.items)) }
 {
     let Ok(done) = Vec::with_capacity(alloc, parts.len()) else {
         return (root, Err(BlockFault::Memory));
@@ -178,15 +168,15 @@ pub fn run_block<R: Threads + Wait + Sync, G: Gate + Sync>(
             requires { IsOf lock.now root × HasAllNames (view_of root) × (vec_len parts ≤ 8) × (done.items ≡ [])
                 × (vec_len done + vec_len parts ≤ vec_capacity done) }
             ensures { IsOf lock.entry.now result.pass
-                × HasRun (view_of root) (view_of result.pass) (begun_trails (map (λ part. part.items) parts.items) result.done.items)
+                × HasRun (view_of root) (view_of result.pass) (begun_trails (commands_of C.command parts.items) result.done.items)
                 × (length result.done.items ≡ length parts.items)
                 × (vec_len result.done ≡ vec_len done + vec_len parts)
-                × (result.fault ≡ None → AreWhole (map (λ part. part.items) parts.items) result.done.items)
+                × (result.fault ≡ None → AreWhole (commands_of C.command parts.items) result.done.items)
                 × SeesCallers (view_of root) (view_of result.pass)
                 × (G.is_open gate.entry.now ≡ true → result.fault ≢ Some Stopped)
-                × LetsBegunPass (G.may_answer gate.entry.now) (begun_trails (map (λ part. part.items) parts.items) result.done.items)
-                × (result.fault ≡ None → LetsAllPass (G.may_answer gate.entry.now) (map (λ part. part.items) parts.items))
-                × (result.fault ≡ Some Stopped → StopsOne (G.may_answer gate.entry.now) (map (λ part. part.items) parts.items)) }
+                × LetsBegunPass (G.may_answer gate.entry.now) (begun_trails (commands_of C.command parts.items) result.done.items)
+                × (result.fault ≡ None → LetsAllPass (G.may_answer gate.entry.now) (commands_of C.command parts.items))
+                × (result.fault ≡ Some Stopped → StopsOne (G.may_answer gate.entry.now) (commands_of C.command parts.items)) }
         { run_parts(scope, rt, alloc, lock, root, parts, done, gate, missed) },
     );
     let Ended { pass, done, fault } = ended;
@@ -194,4 +184,41 @@ pub fn run_block<R: Threads + Wait + Sync, G: Gate + Sync>(
         None => (pass, Ok(done)),
         Some(fault) => (pass, Err(fault)),
     }
+}
+
+/// Runs parts concurrently, each on its own thread under a caller's number of its own, and returns their replies in the order of the parts, once all
+/// threads have ended. There may be no parts, and a part may have no commands.
+///
+/// Each part runs its commands in order and asks the gate before and after each. All of them extend one history, in whatever order their turns come
+/// (`IsBlock`). A part stops at the first command that is refused memory, or if the gate answers `false`. If a part stops early or a thread can't be
+/// started, the result is a fault without replies, but the pass still has all names and has seen what was done.
+///
+/// It waits for turns and threads, so neither that it returns nor the order of turns is promised.
+pub fn run_block<R: Threads + Wait + Sync, G: Gate + Sync>(
+    rt: &R,
+    alloc: Global,
+    lock: &TicketLock<Book>,
+    root: Pass<Book>,
+    parts: Vec<Vec<Command>>,
+    gate: &G,
+) -> (Pass<Book>, Result<Vec<Part>, BlockFault>)
+    requires of { IsOf lock.now root }
+    requires names { HasAllNames (view_of root) }
+    requires few { vec_len parts ≤ 8 }
+    ensures of { IsOf lock.now result.0 }
+    ensures names { HasAllNames (view_of result.0) }
+    // Each part's replies are the trail of its commands, starting from what the root had seen.
+    ensures done { IfOk result.1 (λ done. (vec_len done ≡ vec_len parts)
+        × IsAfterBlock (view_of root) (view_of result.0) (trails_of (map (λ part. part.items) parts.items) done.items)) }
+    // After a fault the same is true of the first commands of each part, with replies that are not returned. The gate let each part come that far.
+    ensures fault { IfErr result.1 (λ fault. (trails : List Trail) × AllZip Begins (map (λ part. part.items) parts.items) trails
+        × IsAfterBlock (view_of root) (view_of result.0) trails × LetsBegunPass (G.may_answer gate.now) trails) }
+    ensures open { G.is_open gate.now ≡ true → IfErr result.1 (λ fault. fault ≢ Stopped) }
+    // The gate let each command of each part pass, at both points and by the command's own indexes, as far as `may_answer` tells. Not stated: that it
+    // was asked at `Asking` before the command, and at `Answered` after it.
+    ensures gate { IfOk result.1 (λ done. LetsAllPass (G.may_answer gate.now) (map (λ part. part.items) parts.items)) }
+    ensures stopped { IfErr result.1 (λ fault. fault ≡ Stopped
+        → StopsOne (G.may_answer gate.now) (map (λ part. part.items) parts.items)) }
+{
+    run_block_of(rt, alloc, lock, gate, root, parts)
 }

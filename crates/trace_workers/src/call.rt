@@ -1,4 +1,4 @@
-//! One call: a turn at the lock, in which the book is asked.
+//! One call: a turn at the lock, in which the book runs a command.
 
 ghost use Rattle.std.specs.Prelude.{◌≡◌, Err, IfOk, IfErr};
 ghost use Rattle.ticket_lock.specs.Calls.{view_of, IsOf};
@@ -12,7 +12,7 @@ use ticket_lock::{Pass, TicketLock, Worn};
 use trace_book::Book;
 use trace_command::{BorrowedEmission, Command, Refusal, Reply};
 
-/// The answer where no ticket is left. It drops the command out of line, so that a call that draws a ticket goes through none of that.
+/// The answer if no ticket is left. Out of line, so that other calls don't pay for dropping the command.
 #[cold]
 #[inline(never)]
 fn worn_out(worn: Worn<Book>, _command: Command) -> (Pass<Book>, Result<Reply, Refusal>)
@@ -22,11 +22,10 @@ fn worn_out(worn: Worn<Book>, _command: Command) -> (Pass<Book>, Result<Reply, R
     (worn.pass, Err(Refusal::Worn))
 }
 
-/// Asks the book under the lock, as the first of the pass's names, and gives the pass back with the answer.
+/// Takes a turn at the lock, runs a command under the pass's first name, and returns the pass with the answer.
 ///
-/// It waits for its turn, finds all that was done before, and is answered by that: a command that is done is the next entry of the history, and
-/// one that is refused leaves none. Worn comes exactly where all tickets are drawn, and then nobody was asked. The lock is held while the book
-/// answers, and no longer.
+/// It waits for its turn, and the answer follows from everything done before: a command that is done becomes the history's next entry, a refused one
+/// leaves none. `Worn` exactly if all tickets are drawn; then nothing was run. The lock is held only while the book answers.
 pub fn ask<R: Wait>(
     rt: &R,
     lock: &TicketLock<Book>,
@@ -51,7 +50,7 @@ pub fn ask<R: Wait>(
     }
 }
 
-/// Asks the book for an emission whose strings lie elsewhere, as `ask` does for the command that it is. No command is made of it.
+/// As `ask`, for an emission whose strings are borrowed. It builds no command.
 pub fn ask_emission<R: Wait>(
     rt: &R,
     lock: &TicketLock<Book>,

@@ -1,4 +1,4 @@
-//! Why a block has no replies.
+//! Why a block returned no replies.
 
 ghost use Rattle.std.specs.Prelude.{◌≡◌, Some};
 ghost use Rattle.trace_workers.specs.PartRuns.{told_fault};
@@ -7,10 +7,10 @@ use std::error::Error;
 use std::fmt;
 use std::fmt::{Display, Formatter};
 
-/// Why a block gives no replies. Of several faults a block tells the one that is named first here.
+/// Why a block returned no replies. Of several faults, the first in this list is reported.
 #[derive(Clone, Copy, Debug, PartialEq, Eq, Drop)]
 pub enum BlockFault {
-    /// Memory was refused, to a command or for the replies.
+    /// Memory was refused, for a command or for the replies.
     Memory,
     /// The gate answered `false`.
     Stopped,
@@ -35,7 +35,7 @@ impl Display for BlockFault {
 
 impl Error for BlockFault {}
 
-// Of two faults the one that a block tells.
+// The one of two faults that is reported.
 pub(crate) fn first_of(one: Option<BlockFault>, other: Option<BlockFault>) -> Option<BlockFault>
     ensures { result ≡ told_fault one other }
 {

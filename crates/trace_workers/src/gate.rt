@@ -3,22 +3,22 @@
 ghost use Rattle.std.specs.Prelude.{◌≡◌, ℕ, Bool, true};
 ghost use Rattle.trace_workers.specs.declared.gate.Point.{Point};
 
-/// Where a worker stands with a command when it asks a gate.
+/// Where in a command a worker asks its gate.
 #[derive(Clone, Copy, PartialEq, Eq)]
 pub enum Point {
-    /// It is about to ask the command.
+    /// Before the command runs.
     Asking,
-    /// The command was answered, and the lock is free again.
+    /// After the command was answered, when the lock is free again.
     Answered,
 }
 
-/// Lets the workers of a block through, or stops them. A gate may hold a worker for as long as it likes, since its thread is held and no lock.
+/// Lets the workers of a block through, or stops them. A gate may block as long as it likes: only the worker's thread waits, and no lock is held.
 pub trait Gate {
-    /// Whether it answers `true` always.
+    /// Whether it always answers `true`.
     ghost is_open: { Self → Bool };
 
-    /// What it may answer: to the part with this index in its block, at the command with this index in its part, at this point. Anything, if it can't
-    /// tell beforehand.
+    /// Which answers it may give: to the part with this index in its block, at the command with this index in its part, at this point. Any, if it
+    /// can't say in advance.
     ghost may_answer: { Self → ℕ → ℕ → Point → Bool → Type 0 } = { λ _ _ _ _ _. Unit {0} };
 
     /// Whether the worker may go on: the part with this index in its block, at the command with this index in its part. Both indexes count from 0.
@@ -27,7 +27,7 @@ pub trait Gate {
         ensures named { may_answer self.now thread call point result };
 }
 
-/// A gate that lets everybody through.
+/// A gate that lets every worker through.
 #[derive(Clone, Copy)]
 pub struct OpenGate;
 

@@ -1,4 +1,4 @@
-//! A run of many threads, from a new book to its history at the close.
+//! A run of several threads, from a new book to its history at the end.
 
 ghost use Rattle.std.specs.Prelude.{◌≡◌, ◌≢◌, ◌<◌, ◌≤◌, [], map, vec_len, true, IfOk, IfErr, All, AllPairs};
 ghost use Rattle.trace_command.specs.Configs.{IsInRange};
@@ -19,7 +19,7 @@ use ticket_lock::TicketLock;
 use trace_book::Book;
 use trace_command::{Command, Config, Refusal, Reply};
 
-// Whether each of these is an answer, and none tells that no ticket was left.
+// Whether none of these replies is `Worn`.
 fn is_unworn(replies: &[Result<Reply, Refusal>]) -> bool
     ensures { result ≡ true → IsUnworn replies.now }
 {
@@ -28,20 +28,20 @@ fn is_unworn(replies: &[Result<Reply, Refusal>]) -> bool
         .all(|reply| !matches!(reply, Err(Refusal::Worn)))
 }
 
-// The same of each part.
+// Likewise for each part.
 fn are_unworn(done: &[Part]) -> bool
     ensures { result ≡ true → All (λ part. IsUnworn part.replies.items) done.now }
 {
     done.iter().all(|part| is_unworn(&part.replies))
 }
 
-/// Asks parts side by side over a new book, each on a thread of its own, and gives the book, whose history holds all that they did and nothing else,
-/// with their replies in the order of the parts. `Config::is_in_range` tells whether a book can be made with a configuration.
+/// Runs parts concurrently over a new book, each on its own thread, and returns the book, whose history is exactly what they did, and their replies
+/// in the order of the parts. Check a configuration by `Config::is_in_range` first.
 ///
-/// It fails as `run_block` does. `Memory` is told, too, where no book or lock could be made, or where a command got no turn since all tickets are drawn,
-/// to which no block comes. After a fault nothing is given: the book is let go with what was done.
+/// Fails as `run_block` does; also with `Memory` if the book or the lock can't be made, or if a command got no turn because all tickets were drawn,
+/// which is out of reach. After a fault nothing is returned and the book is dropped.
 ///
-/// It waits for its turns and for its threads, and so that it returns is not promised, nor in which order turns fall.
+/// It waits for turns and threads, so neither that it returns nor the order of turns is promised.
 pub fn history_of<R: Threads + Wait + Sync, G: Gate + Sync>(
     rt: &R,
     alloc: Global,
@@ -54,7 +54,8 @@ pub fn history_of<R: Threads + Wait + Sync, G: Gate + Sync>(
     ensures count { IfOk result (λ r. vec_len r.1 ≡ vec_len parts) }
     ensures config { IfOk result (λ r. r.0.config ≡ config) }
     ensures rising { IfOk result (λ r. AllPairs (λ (one other : Entry). one.ticket < other.ticket) r.0.entries) }
-    // The history is one block of the parts, from nothing on: each part's replies are the trail of its commands in it, and each entry is one of them.
+    // The history is one block of the parts, starting from nothing: each part's replies are the trail of its commands in it, and each entry is one of
+    // these commands.
     ensures history { IfOk result (λ r.
         IsBlock config [] r.0.entries (trails_of (map (λ part. part.items) parts.items) r.1.items)) }
     ensures unworn { IfOk result (λ r. All (λ part. IsUnworn part.replies.items) r.1.items) }

@@ -1,6 +1,7 @@
-//! Callers who ask one book through a lock, each in its turn: one call, blocks of parts on threads of their own, and whole histories of such blocks.
+//! Threads that share one book through a lock: a single call, a block of parts on threads of their own, and a whole run over a new book.
 #![tactic(auto)]
 
+mod asked;
 mod block;
 mod call;
 mod fault;
@@ -10,7 +11,8 @@ mod part;
 mod thread;
 mod worker;
 
-pub use block::run_block;
+pub use asked::Asked;
+pub use block::{run_block, run_block_of};
 pub use call::{ask, ask_emission};
 pub use fault::BlockFault;
 pub use gate::{Gate, OpenGate, Point};

@@ -1,12 +1,12 @@
-//! What a part of a block gives.
+//! The result of a part of a block.
 
 use trace_command::{Refusal, Reply};
 
-/// A part that was asked whole.
+/// A part's replies. If a block returns it, every command has one.
 #[derive(Drop)]
 pub struct Part {
-    /// The caller's number under which its commands stand in the history.
+    /// The caller's number of its commands in the history.
     pub by: u32,
-    /// What each command was answered, in their order.
+    /// The answer to each command, in order.
     pub replies: Vec<Result<Reply, Refusal>>,
 }

@@ -1,10 +1,11 @@
 //! The thread of one part.
 
-ghost use Rattle.std.specs.Prelude.{◌≡◌, ◌≢◌, ◌<◌, [], Some, true};
+ghost use Rattle.std.specs.Prelude.{◌≡◌, ◌≢◌, ◌<◌, [], map, Some, true};
 ghost use Rattle.ticket_lock.specs.Calls.{view_of, IsOf};
 ghost use Rattle.trace_workers.specs.PartRuns.{HasAsked, IsGated};
 ghost use Rattle.trace_workers.specs.declared.fault.BlockFault.TheVariants.{Stopped};
 
+use crate::asked::Asked;
 use crate::fault::BlockFault;
 use crate::gate::Gate;
 use crate::part::Part;
@@ -16,9 +17,8 @@ use std::sync::atomic::{AtomicBool, Ordering};
 use std::thread::Promise;
 use ticket_lock::{Pass, TicketLock};
 use trace_book::Book;
-use trace_command::Command;
 
-/// What a part's thread gives back: the pass, what was asked of the part, and why it stopped before its end.
+/// What a part's thread returns: the pass, the replies so far, and why it stopped early, if it did.
 #[derive(Drop)]
 pub struct Returned {
     pub pass: Pass<Book>,
@@ -26,16 +26,16 @@ pub struct Returned {
     pub fault: Option<BlockFault>,
 }
 
-/// What a part's thread is given, as far as its promise names it. A value has no bytes.
-pub struct Given<G> {
+/// A thread's arguments, as its contract names them. Takes no memory.
+pub struct Given<G, C> {
     pub lock: Snapshot<TicketLock<Book>>,
     pub pass: Snapshot<Pass<Book>>,
-    pub commands: Snapshot<Vec<Command>>,
+    pub commands: Snapshot<Vec<C>>,
     pub thread: Snapshot<u32>,
     pub gate: Snapshot<G>,
 }
 
-impl<G> Drop for Given<G> {
+impl<G, C> Drop for Given<G, C> {
     fn drop(self) {
         let Given {
             lock: _,
@@ -47,15 +47,15 @@ impl<G> Drop for Given<G> {
     }
 }
 
-impl<G: Gate> Promise<Returned> for Given<G> {
+impl<G: Gate, C: Asked> Promise<Returned> for Given<G, C> {
     ghost kept_by = { λ given result. IsOf given.lock.value result.pass
         × (result.part.by ≡ (view_of given.pass.value).low)
-        × HasAsked (view_of given.pass.value) (view_of result.pass) given.commands.value.items result.part.replies.items result.fault
+        × HasAsked (view_of given.pass.value) (view_of result.pass) (map C.command given.commands.value.items) result.part.replies.items result.fault
         × (G.is_open given.gate.value ≡ true → result.fault ≢ Some Stopped)
-        × IsGated (G.may_answer given.gate.value given.thread.value) given.commands.value.items result.part.replies.items result.fault };
+        × IsGated (G.may_answer given.gate.value given.thread.value) (map C.command given.commands.value.items) result.part.replies.items result.fault };
 }
 
-// A part of which nothing was asked.
+// The result of a part that ran no command.
 fn idle(alloc: Global, pass: Pass<Book>, fault: BlockFault) -> Returned
     ensures pass { result.pass ≡ pass }
     ensures by { result.part.by ≡ (view_of pass).low }
@@ -71,14 +71,13 @@ fn idle(alloc: Global, pass: Pass<Book>, fault: BlockFault) -> Returned
     }
 }
 
-/// Asks the commands of a part. Where the block has already missed a thread it asks nothing and gives the pass back: so a thread that could not be
-/// started doesn't keep its names.
-pub fn run_part<R: Wait, G: Gate>(
+/// Runs the commands of a part. If the block has failed to start a thread, it runs none and returns the pass, so that no names are lost.
+pub fn run_part<R: Wait, G: Gate, C: Asked + Drop>(
     rt: &R,
     alloc: Global,
     lock: &TicketLock<Book>,
     pass: Pass<Book>,
-    commands: Vec<Command>,
+    commands: Vec<C>,
     thread: u32,
     gate: &G,
     missed: &AtomicBool,
@@ -87,9 +86,9 @@ pub fn run_part<R: Wait, G: Gate>(
     requires named { (view_of pass).low < (view_of pass).end }
     ensures of { IsOf lock.now result.pass }
     ensures by { result.part.by ≡ (view_of pass).low }
-    ensures asked { HasAsked (view_of pass) (view_of result.pass) commands.items result.part.replies.items result.fault }
+    ensures asked { HasAsked (view_of pass) (view_of result.pass) (map C.command commands.items) result.part.replies.items result.fault }
     ensures open { G.is_open gate.now ≡ true → result.fault ≢ Some Stopped }
-    ensures gate { IsGated (G.may_answer gate.now thread) commands.items result.part.replies.items result.fault }
+    ensures gate { IsGated (G.may_answer gate.now thread) (map C.command commands.items) result.part.replies.items result.fault }
 {
     if missed.load(Ordering::SeqCst) {
         return idle(alloc, pass, BlockFault::NoThread);
@@ -99,7 +98,9 @@ pub fn run_part<R: Wait, G: Gate>(
     };
     let by = pass.names().start;
     let worker = Worker { pass, replies };
-    let (Worker { pass, replies }, fault) = ask_part(rt, lock, worker, commands, thread, gate);
+    let (Worker { pass, replies }, fault) = ask_part(
+        rt, alloc, lock, worker, commands, thread, gate,
+    );
     Returned {
         pass,
         part: Part { by, replies },

@@ -1,6 +1,6 @@
-//! One worker of a block: it asks the commands of its part, one after the other.
+//! One worker of a block: it runs the commands of its part in order.
 
-ghost use Rattle.std.specs.Prelude.{◌≡◌, ◌≢◌, ◌<◌, ◌≤◌, ◌+◌, ◌++◌, ◌∷◌, [], ◌↔◌, IsTrue, Err, Some, None, List, Result, length, vec_len, vec_capacity, true};
+ghost use Rattle.std.specs.Prelude.{◌≡◌, ◌≢◌, ◌<◌, ◌≤◌, ◌+◌, ◌++◌, ◌∷◌, [], map, ◌↔◌, IsTrue, Err, Some, None, List, Result, length, vec_len, vec_capacity, true};
 ghost use Rattle.ticket_lock.specs.Calls.{view_of, IsOf};
 ghost use Rattle.trace_workers.specs.PartRuns.{HasAsked, IsGated};
 ghost use Rattle.trace_workers.specs.declared.fault.BlockFault.TheVariants.{Stopped};
@@ -9,13 +9,14 @@ ghost use Rattle.trace_command.specs.declared.command.Reply.{Reply};
 ghost use Rattle.trace_command.specs.declared.refusal.Refusal.{Refusal};
 ghost use Rattle.trace_command.specs.declared.refusal.Refusal.TheVariants.{Memory};
 
-use crate::call::ask;
+use crate::asked::Asked;
 use crate::fault::BlockFault;
 use crate::gate::{Gate, Point};
+use std::alloc::Global;
 use std::sync::Wait;
 use ticket_lock::{Pass, TicketLock};
 use trace_book::Book;
-use trace_command::{Command, Refusal, Reply};
+use trace_command::{Refusal, Reply};
 
 /// A worker between two calls: its pass, and the replies so far.
 #[derive(Drop)]
@@ -34,12 +35,13 @@ fn is_memory(answer: &Result<Reply, Refusal>) -> bool
     }
 }
 
-// One command of a part. The gate is asked before it and after it, and not while the lock is held.
-fn take_turn<R: Wait, G: Gate>(
+// Runs one command of a part. The gate is asked before and after it, never while the lock is held.
+fn take_turn<R: Wait, G: Gate, C: Asked + Drop>(
     rt: &R,
+    alloc: Global,
     lock: &TicketLock<Book>,
     worker: Worker,
-    command: Command,
+    command: C,
     thread: u32,
     gate: &G,
 ) -> (Worker, Option<BlockFault>)
@@ -50,19 +52,19 @@ fn take_turn<R: Wait, G: Gate>(
     ensures capacity { vec_capacity result.0.replies ≡ vec_capacity worker.replies }
     ensures len { result.1 ≡ None → vec_len result.0.replies ≡ vec_len worker.replies + 1 }
     ensures asked { (answers : List (Result Reply Refusal)) × (result.0.replies.items ≡ worker.replies.items ++ answers)
-        × HasAsked (view_of worker.pass) (view_of result.0.pass) (command ∷ []) answers result.1 }
+        × HasAsked (view_of worker.pass) (view_of result.0.pass) (C.command command ∷ []) answers result.1 }
     ensures open { G.is_open gate.now ≡ true → result.1 ≢ Some Stopped }
-    // What was asked before this one is as many commands as there are replies.
+    // As many commands were run before this one as there are replies.
     ensures gate { (asked : List Command) → length asked ≡ vec_len worker.replies
         → IsGated (G.may_answer gate.now thread) asked worker.replies.items None
-        → IsGated (G.may_answer gate.now thread) (asked ++ command ∷ []) result.0.replies.items result.1 }
+        → IsGated (G.may_answer gate.now thread) (asked ++ C.command command ∷ []) result.0.replies.items result.1 }
 {
     let Worker { pass, mut replies } = worker;
     let call = replies.len() as u64;
     if !gate.arrive(thread, call, Point::Asking) {
         return (Worker { pass, replies }, Some(BlockFault::Stopped));
     }
-    let (pass, answer) = ask(rt, lock, pass, command);
+    let (pass, answer) = command.ask_in(rt, alloc, lock, pass);
     let goes_on = gate.arrive(thread, call, Point::Answered);
     if is_memory(&answer) {
         return (Worker { pass, replies }, Some(BlockFault::Memory));
@@ -76,12 +78,13 @@ fn take_turn<R: Wait, G: Gate>(
     (Worker { pass, replies }, fault)
 }
 
-/// Asks the commands of a part in their order, and stops at the first fault. There is room for the replies.
-pub fn ask_part<R: Wait, G: Gate>(
+/// Runs the commands of a part in order, and stops at the first fault. The replies have room reserved.
+pub fn ask_part<R: Wait, G: Gate, C: Asked + Drop>(
     rt: &R,
+    alloc: Global,
     lock: &TicketLock<Book>,
     worker: Worker,
-    commands: Vec<Command>,
+    commands: Vec<C>,
     thread: u32,
     gate: &G,
 ) -> (Worker, Option<BlockFault>)
@@ -90,13 +93,13 @@ pub fn ask_part<R: Wait, G: Gate>(
     requires empty { worker.replies.items ≡ [] }
     requires room { vec_len worker.replies + vec_len commands ≤ vec_capacity worker.replies }
     ensures of { IsOf lock.now result.0.pass }
-    ensures asked { HasAsked (view_of worker.pass) (view_of result.0.pass) commands.items result.0.replies.items result.1 }
+    ensures asked { HasAsked (view_of worker.pass) (view_of result.0.pass) (map C.command commands.items) result.0.replies.items result.1 }
     ensures open { G.is_open gate.now ≡ true → result.1 ≢ Some Stopped }
-    ensures gate { IsGated (G.may_answer gate.now thread) commands.items result.0.replies.items result.1 }
+    ensures gate { IsGated (G.may_answer gate.now thread) (map C.command commands.items) result.0.replies.items result.1 }
 {
     let mut mine = worker;
     for command in commands {
-        let (next, fault) = take_turn(rt, lock, mine, command, thread, gate);
+        let (next, fault) = take_turn(rt, alloc, lock, mine, command, thread, gate);
         mine = next;
         if let Some(fault) = fault {
             return (mine, Some(fault));

@@ -10,11 +10,11 @@ use Rattle.trace_session.proofs.part_run.run_part.Goals as goal
 pub write_threads-requires : goal.write_threads-requires
 write_threads-requires g c =
     let v = view_of c.args.pass in
-    let w = view_of c.run_block-pass.result.0 in
+    let w = view_of c.run_block_of-pass.result.0 in
     let threads = commands_in c.args.threads.items in
-    let commands = c.in-Ok.commands.items in
+    let commands = c.in-Ok.lines.items in
     let done = c.in-Ok-replied.done.items in
-    let came = rw c.in-Ok-replied.is at c.run_block-pass.ensures.done in
+    let came = rw c.in-Ok-replied.is at c.run_block_of-pass.ensures.done in
     let same : length done ≡ length commands = omega (arith, came.0) in
     let after = of_threads v w threads commands done c.in-Ok.ensures.commands same came.1 in
     rw (c.deref.ensures.value, c.in-Ok.ensures.numbers)
@@ -24,11 +24,11 @@ write_threads-requires g c =
 pub returns-in-Ok-write_threads-clause-given : goal.returns-in-Ok-write_threads-clause-given
 returns-in-Ok-write_threads-clause-given g c config pass =
     let v = view_of c.args.pass in
-    let w = view_of c.run_block-pass.result.0 in
+    let w = view_of c.run_block_of-pass.result.0 in
     let threads = commands_in c.args.threads.items in
-    let commands = c.in-Ok.commands.items in
+    let commands = c.in-Ok.lines.items in
     let done = c.in-Ok-replied.done.items in
-    let came = rw c.in-Ok-replied.is at c.run_block-pass.ensures.done in
+    let came = rw c.in-Ok-replied.is at c.run_block_of-pass.ensures.done in
     let same : length done ≡ length commands = omega (arith, came.0) in
     let after = of_threads v w threads commands done c.in-Ok.ensures.commands same came.1 in
     let written = c.in-Ok-write_threads in

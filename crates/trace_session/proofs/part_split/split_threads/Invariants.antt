@@ -1,7 +1,8 @@
 use Rattle.std.proofs.Common.{◌≡◌, ◌++◌, map}
 use Rattle.trace_items.specs.PartReads.{commands_in}
 use Rattle.trace_items.specs.declared.part.Numbered.{Numbered}
-use Rattle.trace_session.specs.PartTexts.{items_in}
+use Rattle.trace_session.specs.PartTexts.{asked_command, items_in}
+use Rattle.trace_workers.specs.BlockRuns.{commands_of}
 use Rattle.trace_session.proofs.part_split.split_threads.Given as goal
 
 -- what was split and what is left to split are all
@@ -9,6 +10,6 @@ abbrev pub invariant-loop-thread : goal.invariant-loop-thread
 invariant-loop-thread l = record {
   numbers : items_in l.numbers.items ++ map (map (λ (asked : Numbered). asked.number)) (commands_in l.thread-iterator.rest.items)
       ≡ map (map (λ (asked : Numbered). asked.number)) (commands_in l.fn.threads.items);
-  commands : items_in l.commands.items ++ map (map (λ (asked : Numbered). asked.command)) (commands_in l.thread-iterator.rest.items)
+  lines : commands_of asked_command l.lines.items ++ map (map (λ (asked : Numbered). asked.command)) (commands_in l.thread-iterator.rest.items)
       ≡ map (map (λ (asked : Numbered). asked.command)) (commands_in l.fn.threads.items);
 }

@@ -1,6 +1,7 @@
 use Rattle.std.proofs.Common.{◌≡◌, ◌≢◌, inl, inr, Some, ◌∷◌, ◌++◌, ℕ, ◌+◌, ◌<◌, [], map, length, vec_len, List, refl, sym, ap, ◌∙◌, arith, rules}
 use Rattle.std.proofs.lemmas.List.{length-map}
 use Rattle.ticket_lock.specs.Calls.{view_of}
+use Rattle.trace_workers.specs.BlockRuns.{commands_of}
 use Rattle.trace_workers.specs.PartRuns.{HasAsked, IsGated, begun_trail, begun_trails}
 use Rattle.trace_command.specs.declared.command.Command.{Command}
 use Rattle.trace_workers.specs.declared.fault.BlockFault.TheVariants.{Stopped}
@@ -23,7 +24,7 @@ unreachable-requires g t c =
 pub returns-in_default-clause-run : goal.returns-in_default-clause-run
 returns-in_default-clause-run g t c =
     let v = view_of c.args.pass in
-    rw (c.requires.empty, begun_none (map (λ part. part.items) c.args.parts.items)) (run_none v)
+    rw (c.requires.empty, begun_none (commands_of g.C.Asked.command c.args.parts.items)) (run_none v)
 
 -- what the parts before this one and this one come to
 pub returns-clause-run : goal.returns-clause-run
@@ -33,19 +34,19 @@ returns-clause-run g t c =
     let b = view_of c.in-Ok.upper in
     let others = c.run_parts-others in
     let returned = c.match-started.returned.0 in
-    let commands = c.in-Some.commands.items in
+    let commands = map g.C.Asked.command c.in-Some.commands.items in
     let replies = returned.part.replies.items in
-    let before : List (List Command) = map (λ part. part.items) c.pop.new.self.items in
+    let before : List (List Command) = commands_of g.C.Asked.command c.pop.new.self.items in
     let acts : HasAsked b (view_of returned.pass) commands replies returned.fault =
     elim c.match-started.branch [ in-Ok-started w ↦ search rules | in-Err w ↦ search rules ] in
     let by : returned.part.by ≡ b.low =
     elim c.match-started.branch [ in-Ok-started w ↦ search rules | in-Err w ↦ search rules ] in
     let some : v.low + 1 < v.end = c.in-Ok.ensures.ok.0 refl in
-    let parts : map (λ part. part.items) c.args.parts.items ≡ before ++ commands ∷ [] =
-    map_push (λ part. part.items) c.args.parts.items c.pop.new.self.items c.in-Some.commands c.in-Some.ensures.items in
+    let parts : commands_of g.C.Asked.command c.args.parts.items ≡ before ++ commands ∷ [] =
+    map_push (λ part. map g.C.Asked.command part.items) c.args.parts.items c.pop.new.self.items c.in-Some.commands c.in-Some.ensures.items in
     let same : length others.result.done.items ≡ length before =
-    others.ensures.length ∙ sym (length-map c.pop.new.self.items (λ part. part.items)) in
-    let trails : begun_trails (map (λ part. part.items) c.args.parts.items) c.push_reserved.new.self.items
+    others.ensures.length ∙ sym (length-map c.pop.new.self.items (λ part. map g.C.Asked.command part.items)) in
+    let trails : begun_trails (commands_of g.C.Asked.command c.args.parts.items) c.push_reserved.new.self.items
     ≡ begun_trails before others.result.done.items ++ begun_trail b.low commands replies ∷ [] =
     rw (parts, c.push_reserved.ensures.items)
     (begun_push before others.result.done.items commands returned.part same
@@ -57,7 +58,7 @@ returns-clause-run g t c =
 -- no part is left, so none was begun
 pub returns-in_default-clause-begun : goal.returns-in_default-clause-begun
 returns-in_default-clause-begun g t c =
-    rw (c.requires.empty, begun_none (map (λ part. part.items) c.args.parts.items)) (begun_pass_none (g.G.Gate.may_answer c.args.gate.now))
+    rw (c.requires.empty, begun_none (commands_of g.C.Asked.command c.args.parts.items)) (begun_pass_none (g.G.Gate.may_answer c.args.gate.now))
 
 -- the gate let the parts before this one pass as far as they came, and this one
 pub returns-clause-begun : goal.returns-clause-begun
@@ -66,15 +67,15 @@ returns-clause-begun g t c =
     let may = g.G.Gate.may_answer c.args.gate.now in
     let others = c.run_parts-others in
     let returned = c.match-started.returned.0 in
-    let commands = c.in-Some.commands.items in
+    let commands = map g.C.Asked.command c.in-Some.commands.items in
     let replies = returned.part.replies.items in
     let thread = vec_len c.pop.new.self in
-    let before : List (List Command) = map (λ part. part.items) c.pop.new.self.items in
+    let before : List (List Command) = commands_of g.C.Asked.command c.pop.new.self.items in
     let gated : IsGated (may thread) commands replies returned.fault =
     elim c.match-started.branch [ in-Ok-started w ↦ search rules | in-Err w ↦ search rules ] in
-    let parts : map (λ part. part.items) c.args.parts.items ≡ before ++ commands ∷ [] =
-    map_push (λ part. part.items) c.args.parts.items c.pop.new.self.items c.in-Some.commands c.in-Some.ensures.items in
-    let many : length before ≡ length c.pop.new.self.items = length-map c.pop.new.self.items (λ part. part.items) in
+    let parts : commands_of g.C.Asked.command c.args.parts.items ≡ before ++ commands ∷ [] =
+    map_push (λ part. map g.C.Asked.command part.items) c.args.parts.items c.pop.new.self.items c.in-Some.commands c.in-Some.ensures.items in
+    let many : length before ≡ length c.pop.new.self.items = length-map c.pop.new.self.items (λ part. map g.C.Asked.command part.items) in
     let same : length others.result.done.items ≡ length before = others.ensures.length ∙ sym many in
     let counted : length (begun_trails before others.result.done.items) ≡ thread =
     omega (arith, length-begun before others.result.done.items same, many, c.pop.new.self.ok.0) in
@@ -88,12 +89,12 @@ returns-clause-whole g t c none =
     let b = view_of c.in-Ok.upper in
     let others = c.run_parts-others in
     let returned = c.match-started.returned.0 in
-    let commands = c.in-Some.commands.items in
-    let before : List (List Command) = map (λ part. part.items) c.pop.new.self.items in
+    let commands = map g.C.Asked.command c.in-Some.commands.items in
+    let before : List (List Command) = commands_of g.C.Asked.command c.pop.new.self.items in
     let acts : HasAsked b (view_of returned.pass) commands returned.part.replies.items returned.fault =
     elim c.match-started.branch [ in-Ok-started w ↦ search rules | in-Err w ↦ search rules ] in
-    let parts : map (λ part. part.items) c.args.parts.items ≡ before ++ commands ∷ [] =
-    map_push (λ part. part.items) c.args.parts.items c.pop.new.self.items c.in-Some.commands c.in-Some.ensures.items in
+    let parts : commands_of g.C.Asked.command c.args.parts.items ≡ before ++ commands ∷ [] =
+    map_push (λ part. map g.C.Asked.command part.items) c.args.parts.items c.pop.new.self.items c.in-Some.commands c.in-Some.ensures.items in
     let all = told_none c.first_of-2.result others.result.fault c.first_of.result c.first_of-2.ensures none in
     let last = told_none c.first_of.result returned.fault c.match-started.returned.1 c.first_of.ensures all.1 in
     rw (parts, c.push_reserved.ensures.items)
@@ -106,18 +107,18 @@ returns-clause-gate g t c none =
     let may = g.G.Gate.may_answer c.args.gate.now in
     let others = c.run_parts-others in
     let returned = c.match-started.returned.0 in
-    let commands = c.in-Some.commands.items in
+    let commands = map g.C.Asked.command c.in-Some.commands.items in
     let replies = returned.part.replies.items in
     let thread = vec_len c.pop.new.self in
-    let before : List (List Command) = map (λ part. part.items) c.pop.new.self.items in
+    let before : List (List Command) = commands_of g.C.Asked.command c.pop.new.self.items in
     let acts : HasAsked b (view_of returned.pass) commands replies returned.fault =
     elim c.match-started.branch [ in-Ok-started w ↦ search rules | in-Err w ↦ search rules ] in
     let gated : IsGated (may thread) commands replies returned.fault =
     elim c.match-started.branch [ in-Ok-started w ↦ search rules | in-Err w ↦ search rules ] in
-    let parts : map (λ part. part.items) c.args.parts.items ≡ before ++ commands ∷ [] =
-    map_push (λ part. part.items) c.args.parts.items c.pop.new.self.items c.in-Some.commands c.in-Some.ensures.items in
+    let parts : commands_of g.C.Asked.command c.args.parts.items ≡ before ++ commands ∷ [] =
+    map_push (λ part. map g.C.Asked.command part.items) c.args.parts.items c.pop.new.self.items c.in-Some.commands c.in-Some.ensures.items in
     let counted : thread ≡ length c.pop.new.self.items = omega (arith, c.pop.new.self.ok.0) in
-    let many : length before ≡ thread = length-map c.pop.new.self.items (λ part. part.items) ∙ sym counted in
+    let many : length before ≡ thread = length-map c.pop.new.self.items (λ part. map g.C.Asked.command part.items) ∙ sym counted in
     let all = told_none c.first_of-2.result others.result.fault c.first_of.result c.first_of-2.ensures none in
     let last = told_none c.first_of.result returned.fault c.match-started.returned.1 c.first_of.ensures all.1 in
     pass_push may _ before commands thread parts many (others.ensures.gate all.0)
@@ -129,18 +130,18 @@ returns-clause-stopped g t c told =
     let may = g.G.Gate.may_answer c.args.gate.now in
     let others = c.run_parts-others in
     let returned = c.match-started.returned.0 in
-    let commands = c.in-Some.commands.items in
+    let commands = map g.C.Asked.command c.in-Some.commands.items in
     let replies = returned.part.replies.items in
     let thread = vec_len c.pop.new.self in
-    let before : List (List Command) = map (λ part. part.items) c.pop.new.self.items in
+    let before : List (List Command) = commands_of g.C.Asked.command c.pop.new.self.items in
     let gated : IsGated (may thread) commands replies returned.fault =
     elim c.match-started.branch [ in-Ok-started w ↦ search rules | in-Err w ↦ search rules ] in
     let refused : c.match-started.returned.1 ≢ Some Stopped =
     elim c.match-started.branch [ in-Ok-started w ↦ search rules | in-Err w ↦ search rules ] in
-    let parts : map (λ part. part.items) c.args.parts.items ≡ before ++ commands ∷ [] =
-    map_push (λ part. part.items) c.args.parts.items c.pop.new.self.items c.in-Some.commands c.in-Some.ensures.items in
+    let parts : commands_of g.C.Asked.command c.args.parts.items ≡ before ++ commands ∷ [] =
+    map_push (λ part. map g.C.Asked.command part.items) c.args.parts.items c.pop.new.self.items c.in-Some.commands c.in-Some.ensures.items in
     let counted : thread ≡ length c.pop.new.self.items = omega (arith, c.pop.new.self.ok.0) in
-    let many : length before ≡ thread = length-map c.pop.new.self.items (λ part. part.items) ∙ sym counted in
+    let many : length before ≡ thread = length-map c.pop.new.self.items (λ part. map g.C.Asked.command part.items) ∙ sym counted in
     elim (told_stopped c.first_of-2.result others.result.fault c.first_of.result c.first_of-2.ensures told) [
       | inl earlier ↦ stops_before may _ before commands parts (others.ensures.stopped earlier)
       | inr here ↦ elim (told_stopped c.first_of.result returned.fault c.match-started.returned.1 c.first_of.ensures here) [

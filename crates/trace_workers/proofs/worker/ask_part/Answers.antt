@@ -1,4 +1,5 @@
-use Rattle.std.proofs.Common.{◌≡◌, ◌∷◌, ◌++◌, [], length, vec_len, None, Some, refl, sym, ap, ◌∙◌, append_assoc, arith, rules, List}
+use Rattle.std.proofs.Common.{◌≡◌, ◌∷◌, ◌++◌, [], map, length, vec_len, None, Some, refl, sym, ap, ◌∙◌, append_assoc, arith, rules, List}
+use Rattle.std.proofs.lemmas.List.{map-append}
 use Rattle.std.specs.Vec.Iter.{into_iter_items}
 use Rattle.ticket_lock.specs.Calls.{view_of}
 use Rattle.trace_workers.specs.PartRuns.{HasAsked, IsGated}
@@ -20,11 +21,19 @@ loop-command-init g c =
       rw c.requires.empty (gated_none (g.G.Gate.may_answer c.args.gate.now c.args.thread) [] None (λ e. absurd cc)),
     )
 
--- the commands are those so far, this one and the rest
-cut : (all yielded rest : List Command) (command : Command) (more : List Command) → all ≡ yielded ++ rest → rest ≡ command ∷ more
-    → all ≡ (yielded ++ command ∷ []) ++ more
-cut all yielded rest command more whole next =
-    whole ∙ ap (λ (cs : List Command). yielded ++ cs) next ∙ sym (append_assoc yielded (command ∷ []) more)
+-- what is asked is what was asked so far, this one and the rest
+items_cut : {C : Type 0} (all yielded rest : List C) (one : C) (more : List C) → all ≡ yielded ++ rest → rest ≡ one ∷ more
+    → all ≡ (yielded ++ one ∷ []) ++ more
+items_cut {C} all yielded rest one more whole next =
+    whole ∙ ap (λ (xs : List C). yielded ++ xs) next ∙ sym (append_assoc yielded (one ∷ []) more)
+
+-- and so are the commands
+cut : {C : Type 0} (command : C → Command) (all yielded rest : List C) (one : C) (more : List C) → all ≡ yielded ++ rest → rest ≡ one ∷ more
+    → map command all ≡ (map command yielded ++ command one ∷ []) ++ map command more
+cut {C} command all yielded rest one more whole next =
+    ap (λ (xs : List C). map command xs) (items_cut all yielded rest one more whole next)
+    ∙ map-append command (yielded ++ one ∷ []) more
+    ∙ ap (λ (cs : List Command). cs ++ map command more) (map-append command yielded (one ∷ []))
 
 -- the rest was not asked
 pub returns-in-Some-fault-clause-asked : goal.returns-in-Some-fault-clause-asked
@@ -34,15 +43,16 @@ returns-in-Some-fault-clause-asked g c =
     let v = view_of c.args.worker.pass in
     let w = view_of l.mine.pass in
     let x = view_of turn.result.0.pass in
-    let asked = l.yielded ++ c.in-Some.command ∷ [] in
-    let rest = into_iter_items c.next.new.self in
-    let whole : c.args.commands.items ≡ asked ++ rest =
-    cut c.args.commands.items l.yielded (into_iter_items l.command-iterator) c.in-Some.command rest l.invariant.5 c.in-Some.ensures.steps.0 in
+    let command = g.C.Asked.command in
+    let asked = map command l.yielded ++ command c.in-Some.command ∷ [] in
+    let rest = map command (into_iter_items c.next.new.self) in
+    let whole : map command c.args.commands.items ≡ asked ++ rest =
+    cut command c.args.commands.items l.yielded (into_iter_items l.command-iterator) c.in-Some.command (into_iter_items c.next.new.self) l.invariant.5 c.in-Some.ensures.steps.0 in
     let answers = turn.ensures.asked.0 in
-    let one : HasAsked w x (c.in-Some.command ∷ []) answers (Some c.in-Some-fault.fault) =
+    let one : HasAsked w x (command c.in-Some.command ∷ []) answers (Some c.in-Some-fault.fault) =
     rw c.in-Some-fault.is at turn.ensures.asked.2 in
     let all : HasAsked v x asked (l.mine.replies.items ++ answers) (Some c.in-Some-fault.fault) =
-    asked_then v w x l.yielded (c.in-Some.command ∷ []) l.mine.replies.items answers (Some c.in-Some-fault.fault) l.invariant.6 one in
+    asked_then v w x (map command l.yielded) (command c.in-Some.command ∷ []) l.mine.replies.items answers (Some c.in-Some-fault.fault) l.invariant.6 one in
     rw (whole, turn.ensures.asked.1) (asked_stop v x asked rest (l.mine.replies.items ++ answers) c.in-Some-fault.fault all)
 
 -- and the gate was not asked for it
@@ -51,14 +61,15 @@ returns-in-Some-fault-clause-gate g c =
     let l = c.loop-command in
     let turn = c.take_turn-next in
     let may = g.G.Gate.may_answer c.args.gate.now c.args.thread in
-    let asked = l.yielded ++ c.in-Some.command ∷ [] in
-    let rest = into_iter_items c.next.new.self in
-    let whole : c.args.commands.items ≡ asked ++ rest =
-    cut c.args.commands.items l.yielded (into_iter_items l.command-iterator) c.in-Some.command rest l.invariant.5 c.in-Some.ensures.steps.0 in
-    let so_far : length l.mine.replies.items ≡ length l.yielded = l.invariant.6.whole refl in
-    let same : length l.yielded ≡ vec_len l.mine.replies = omega (arith, so_far, l.mine.replies.ok.0) in
+    let command = g.C.Asked.command in
+    let asked = map command l.yielded ++ command c.in-Some.command ∷ [] in
+    let rest = map command (into_iter_items c.next.new.self) in
+    let whole : map command c.args.commands.items ≡ asked ++ rest =
+    cut command c.args.commands.items l.yielded (into_iter_items l.command-iterator) c.in-Some.command (into_iter_items c.next.new.self) l.invariant.5 c.in-Some.ensures.steps.0 in
+    let so_far : length l.mine.replies.items ≡ length (map command l.yielded) = l.invariant.6.whole refl in
+    let same : length (map command l.yielded) ≡ vec_len l.mine.replies = omega (arith, so_far, l.mine.replies.ok.0) in
     let gated : IsGated may asked turn.result.0.replies.items (Some c.in-Some-fault.fault) =
-    rw c.in-Some-fault.is at (turn.ensures.gate l.yielded same l.invariant.7) in
+    rw c.in-Some-fault.is at (turn.ensures.gate (map command l.yielded) same l.invariant.7) in
     rw whole (gated_more may asked rest turn.result.0.replies.items (Some c.in-Some-fault.fault) gated)
 
 pub loop-command-preserved : goal.loop-command-preserved
@@ -68,13 +79,16 @@ loop-command-preserved g c =
     let v = view_of c.args.worker.pass in
     let w = view_of l.mine.pass in
     let x = view_of turn.result.0.pass in
+    let command = g.C.Asked.command in
     let rest = into_iter_items c.next.new.self in
+    let mapped : map command (l.yielded ++ c.in-Some.command ∷ []) ≡ map command l.yielded ++ command c.in-Some.command ∷ [] =
+    map-append command l.yielded (c.in-Some.command ∷ []) in
     let whole : c.args.commands.items ≡ (l.yielded ++ c.in-Some.command ∷ []) ++ rest =
-    cut c.args.commands.items l.yielded (into_iter_items l.command-iterator) c.in-Some.command rest l.invariant.5 c.in-Some.ensures.steps.0 in
+    items_cut c.args.commands.items l.yielded (into_iter_items l.command-iterator) c.in-Some.command (into_iter_items c.next.new.self) l.invariant.5 c.in-Some.ensures.steps.0 in
     let answers = turn.ensures.asked.0 in
-    let one : HasAsked w x (c.in-Some.command ∷ []) answers None = rw c.in_default.is at turn.ensures.asked.2 in
-    let so_far : length l.mine.replies.items ≡ length l.yielded = l.invariant.6.whole refl in
-    let same : length l.yielded ≡ vec_len l.mine.replies = omega (arith, so_far, l.mine.replies.ok.0) in
+    let one : HasAsked w x (command c.in-Some.command ∷ []) answers None = rw c.in_default.is at turn.ensures.asked.2 in
+    let so_far : length l.mine.replies.items ≡ length (map command l.yielded) = l.invariant.6.whole refl in
+    let same : length (map command l.yielded) ≡ vec_len l.mine.replies = omega (arith, so_far, l.mine.replies.ok.0) in
     let grown = turn.ensures.len c.in_default.is in (
       search rules,
       search rules,
@@ -82,6 +96,6 @@ loop-command-preserved g c =
       rw (one.run.goes_on.low, one.run.goes_on.end) l.invariant.3,
       omega (arith, grown, turn.ensures.capacity, l.invariant.4, c.in-Some.ensures.steps.1),
       whole,
-      rw turn.ensures.asked.1 (asked_then v w x l.yielded (c.in-Some.command ∷ []) l.mine.replies.items answers None l.invariant.6 one),
-      rw c.in_default.is at (turn.ensures.gate l.yielded same l.invariant.7),
+      rw (turn.ensures.asked.1, mapped) (asked_then v w x (map command l.yielded) (command c.in-Some.command ∷ []) l.mine.replies.items answers None l.invariant.6 one),
+      rw mapped (rw c.in_default.is at (turn.ensures.gate (map command l.yielded) same l.invariant.7)),
     )

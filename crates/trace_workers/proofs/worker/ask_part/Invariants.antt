@@ -1,4 +1,4 @@
-use Rattle.std.proofs.Common.{◌≡◌, ◌<◌, ◌≤◌, ◌++◌, ◌+◌, None, vec_len, vec_capacity}
+use Rattle.std.proofs.Common.{◌≡◌, ◌<◌, ◌≤◌, ◌++◌, map, ◌+◌, None, vec_len, vec_capacity}
 use Rattle.std.specs.Vec.Iter.{into_iter_items, into_iter_len}
 use Rattle.ticket_lock.specs.Calls.{view_of, IsOf}
 use Rattle.trace_workers.specs.PartRuns.{HasAsked, IsGated}
@@ -13,5 +13,5 @@ invariant-loop-command g l =
     × ((view_of l.mine.pass).low < (view_of l.mine.pass).end)
     × (vec_len l.mine.replies + into_iter_len l.command-iterator ≤ vec_capacity l.mine.replies)
     × (l.fn.commands.items ≡ l.yielded ++ into_iter_items l.command-iterator)
-    × HasAsked (view_of l.fn.worker.pass) (view_of l.mine.pass) l.yielded l.mine.replies.items None
-    × IsGated (g.G.Gate.may_answer l.gate l.fn.thread) l.yielded l.mine.replies.items None
+    × HasAsked (view_of l.fn.worker.pass) (view_of l.mine.pass) (map g.C.Asked.command l.yielded) l.mine.replies.items None
+    × IsGated (g.G.Gate.may_answer l.gate l.fn.thread) (map g.C.Asked.command l.yielded) l.mine.replies.items None
