@@ -1,3 +1,4 @@
 pub mod CaretLemmas
 pub mod HistLemmas
 pub mod NearLemmas
+pub mod OpeningLemmas

@@ -20,7 +20,7 @@ use Rattle.trace_explain.specs.Events.{command_of, event_named}
 use Rattle.trace_explain.specs.Hints.{written_in, command_meant, line_meant}
 use Rattle.trace_explain.specs.Layout.{shown_bytes, shown}
 use Rattle.trace_explain.specs.Places.{refusal_place, row_place, offset_of, fault_offset}
-use Rattle.trace_explain.specs.Wording.{command_subject, refusal_words, cause_words, fault_words}
+use Rattle.trace_explain.specs.Wording.{command_subject, refusal_words, cause_words, fault_words, name_of as first_name}
 
 -- ---- words
 
@@ -66,7 +66,8 @@ told_of_refusal script number events line (Some command) refusal = told_of_comma
 -- what is told of a line that is no command
 unfoldable pub told_of_fault : List ℕ → ℕ → List ℕ → ScriptFault → List ℕ
 told_of_fault script number line fault =
-    shown script number line (fault_offset line fault) (fault_name fault) (fault_words line fault) (line_meant line fault)
+    shown script number line (fault_offset (first_name line) line fault) (fault_name fault) (fault_words (first_name line) fault)
+    (line_meant (first_name line) fault)
 
 -- what is told of the line of this number in the script of this name, where these events were declared before it
 abbrev pub explanation : List ℕ → ℕ → List Definition → List ℕ → Outcome → List ℕ

@@ -65,14 +65,20 @@ filter_due_words _ rest = joint_words rest
 
 -- ---- operators that are meant
 
-abbrev pub operator_meant_at : FilterDue → ℕ → List ℕ
-operator_meant_at Name b = if b == 61 then codes "==" else []
-operator_meant_at Operator b = if b == 61 then codes "==" else []
-operator_meant_at Bare b = if b == 38 then codes "&&" else (if b == 124 then codes "||" else [])
-operator_meant_at Joint b = if b == 38 then codes "&&" else (if b == 124 then codes "||" else [])
-operator_meant_at _ b = []
+-- by an `=`, where these bytes follow it
+abbrev pub meant_by_equal : List ℕ → List ℕ
+meant_by_equal [] = codes "=="
+meant_by_equal (b ∷ bs) = if b == 62 then codes ">=" else (if b == 60 then codes "<=" else (if b == 126 then codes "~" else codes "=="))
 
--- the operator that is meant where half of one is written; nothing, if none is
+-- by a byte, where these follow it
+abbrev pub operator_meant_at : FilterDue → ℕ → List ℕ → List ℕ
+operator_meant_at Name b rest = if b == 61 then meant_by_equal rest else []
+operator_meant_at Operator b rest = if b == 61 then meant_by_equal rest else []
+operator_meant_at Bare b rest = if b == 38 then codes "&&" else (if b == 124 then codes "||" else [])
+operator_meant_at Joint b rest = if b == 38 then codes "&&" else (if b == 124 then codes "||" else [])
+operator_meant_at _ b rest = []
+
+-- the operator that is meant where half of one is written, or one with its bytes exchanged; nothing, if none is
 abbrev pub operator_meant : FilterDue → List ℕ → List ℕ
 operator_meant due [] = []
-operator_meant due (b ∷ bs) = operator_meant_at due b
+operator_meant due (b ∷ bs) = operator_meant_at due b bs

@@ -1,22 +1,21 @@
 -- What was meant, if something that is near is there.
-use Rattle.std.specs.Prelude.{ℕ, ◌+◌, Bool, nat_lt, ◌&&◌, if◌then◌else◌, List, [], ◌∷◌, ◌++◌, length, take, drop, Option, Some, None, unwrap_or, option_map, codes}
+use Rattle.std.specs.Prelude.{ℕ, ◌+◌, Bool, nat_lt, ◌&&◌, ◌==◌, if◌then◌else◌, List, [], ◌∷◌, ◌++◌, length, take, drop, Option, Some, None, unwrap_or, codes}
 use Rattle.std.specs.List.{prefix_len}
-use Rattle.std.specs.Str.{bytes_eq}
 use Rattle.trace_lex.specs.Names.{is_name_byte}
 use Rattle.trace_lex.specs.Prefixes.{is_not}
 use Rattle.trace_trigger.specs.TriggerTexts.{begins}
 use Rattle.trace_format.specs.Definitions.{Definition}
 use Rattle.trace_command.specs.Paths.{File, OfEvent, address_of}
 use Rattle.trace_command.specs.declared.command.Command.{Command}
-use Rattle.trace_command.specs.declared.command.Command.TheVariants.{Emit, Mkdir, Rmdir, Write, Read}
+use Rattle.trace_command.specs.declared.command.Command.TheVariants.{Emit, Write, Read}
 use Rattle.trace_command.specs.declared.refusal.Refusal.{Refusal}
 use Rattle.trace_command.specs.declared.refusal.Refusal.TheVariants.{NoSuchFile, NoSuchEvent, FilterSyntax, NoSuchField, BadRow}
 use Rattle.trace_script.specs.declared.fault.ScriptFault.{ScriptFault}
 use Rattle.trace_script.specs.declared.fault.ScriptFault.TheVariants.{UnknownCommand}
 use Rattle.trace_explain.specs.Events.{event_named}
 use Rattle.trace_explain.specs.FilterDue.{operator_meant}
-use Rattle.trace_explain.specs.Near.{near_event, near_field, near_command, near_file, near_event_file}
-use Rattle.trace_explain.specs.Wording.{command_subject, filter_due_at, name_of}
+use Rattle.trace_explain.specs.Near.{near_event, near_field, near_command, near_file, near_top_file, near_event_file}
+use Rattle.trace_explain.specs.Wording.{command_subject, filter_due_at}
 
 -- ---- paths
 
@@ -39,12 +38,25 @@ abbrev pub file_or_event_file : List ℕ → List ℕ → List Definition → Li
 file_or_event_file [] given events = unwrap_or (near_event_file given events) []
 file_or_event_file (b ∷ bs) given events = b ∷ bs
 
-abbrev pub near_rest : List Definition → List ℕ → List ℕ
-near_rest events given = file_or_event_file (near_file given) given events
+-- by how many bytes come before: at the top none do
+abbrev pub near_fixed : ℕ → List ℕ → List ℕ
+near_fixed len given = if len == 0 then near_top_file given else near_file given
+
+abbrev pub near_rest : ℕ → List Definition → List ℕ → List ℕ
+near_rest len events given = file_or_event_file (near_fixed len given) given events
+
+-- the first file below the mount point whose path is near
+abbrev pub near_below : List Definition → List ℕ → List ℕ
+near_below events path =
+    with_front (take (instance_len path) path) (near_rest (instance_len path) events (drop (instance_len path) path))
+
+-- how many bytes of a path are those of the mount point
+abbrev pub mount_len : List ℕ → ℕ
+mount_len path = if begins (codes "/sys/kernel/tracing/") path then 20 else 0
 
 -- the first file whose path is near
 unfoldable pub near_path : List Definition → List ℕ → List ℕ
-near_path events path = with_front (take (instance_len path) path) (near_rest events (drop (instance_len path) path))
+near_path events path = with_front (take (mount_len path) path) (near_below events (drop (mount_len path) path))
 
 -- ---- events and fields
 
@@ -102,7 +114,7 @@ command_meant events command (BadRow field) = field_meant events (event_of comma
 command_meant events command (FilterSyntax at) = operator_of command at
 command_meant events command _ = []
 
--- what was meant by a line that is no command
+-- what was meant by a line that is no command, and begins with a word of this name
 abbrev pub line_meant : List ℕ → ScriptFault → List ℕ
-line_meant line UnknownCommand = near_command (name_of line)
-line_meant line _ = []
+line_meant name UnknownCommand = near_command name
+line_meant name _ = []

@@ -1,7 +1,6 @@
 -- What a hist trigger may go on with, by the bytes before.
-use Rattle.std.specs.Prelude.{ℕ, ◌+◌, ◌-◌, Bool, false, not, Option, Some, None, slice_get, ◌||◌, ◌==◌, if◌then◌else◌, List, [], ◌∷◌, length, take, drop, reverse, codes}
+use Rattle.std.specs.Prelude.{ℕ, ◌+◌, ◌-◌, Bool, false, not, Option, Some, None, slice_get, ◌&&◌, ◌||◌, ◌==◌, if◌then◌else◌, List, [], ◌∷◌, length, take, drop, reverse, codes}
 use Rattle.std.specs.List.{count_by, prefix_len}
-use Rattle.std.specs.Option.{is_some}
 use Rattle.std.specs.Str.{bytes_eq}
 use Rattle.trace_lex.specs.Blanks.{is_blank}
 use Rattle.trace_lex.specs.Prefixes.{is_not}
@@ -100,12 +99,23 @@ items_in (Some at) text = count_by is_comma (first_part (drop (at + 1) text)) + 
 abbrev pub items_of : List ℕ → List ℕ → ℕ
 items_of attribute text = items_in (attribute_at attribute text) text
 
--- how many values it has besides `hitcount`
-abbrev pub values_in : Option ℕ → List ℕ → ℕ
-values_in None text = 0
-values_in (Some at) text =
-    if is_some (attribute_at (codes "hitcount") (first_part (drop (at + 1) text))) then count_by is_comma (first_part (drop (at + 1) text))
-    else count_by is_comma (first_part (drop (at + 1) text)) + 1
+-- whether the item that some bytes of a list begin with is a value other than `hitcount`
+abbrev pub is_counted : List ℕ → Bool
+is_counted list = not (bytes_eq (take (prefix_len (is_not 44) list) list) (codes "hitcount"))
+
+-- how many such items follow a comma
+abbrev pub values_after : List ℕ → ℕ
+values_after [] = 0
+values_after (b ∷ bs) = if b == 44 && is_counted bs then values_after bs + 1 else values_after bs
+
+-- how many values a list has besides `hitcount`
+abbrev pub values_among : List ℕ → ℕ
+values_among list = if is_counted list then values_after list + 1 else values_after list
+
+-- how many an attribute has
+abbrev pub values_in : Option ℕ → List ℕ → List ℕ → ℕ
+values_in None attribute text = 0
+values_in (Some at) attribute text = values_among (first_part (drop (length attribute) (drop at text)))
 
 abbrev pub values_of : List ℕ → List ℕ → ℕ
-values_of attribute text = values_in (attribute_at attribute text) text
+values_of attribute text = values_in (attribute_at attribute text) attribute text

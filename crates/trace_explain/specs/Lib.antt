@@ -3,8 +3,10 @@ pub mod Carets
 pub mod Starts
 pub mod Causes
 pub mod FilterDue
+pub mod Openings
 pub mod DeclarationDue
 pub mod HistDue
+pub mod TriggerDue
 pub mod Near
 pub mod Wording
 pub mod Events

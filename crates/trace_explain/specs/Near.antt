@@ -88,12 +88,15 @@ near_system_file given =
 unfoldable pub near_lower_file : List ℕ → List ℕ
 near_lower_file given = or_near_path given (codes "options/overwrite") (or_near_path given (codes "events/enable") (near_system_file given))
 
--- the first file of no event whose path is near; nothing, if none is
+-- the first file of an instance, but of no event, whose path is near; nothing, if none is
 unfoldable pub near_file : List ℕ → List ℕ
 near_file given =
     or_near_path given (codes "trace") (or_near_path given (codes "trace_pipe") (or_near_path given (codes "tracing_on")
-    (or_near_path given (codes "trace_options") (or_near_path given (codes "snapshot") (or_near_path given (codes "synthetic_events")
-    (near_lower_file given))))))
+    (or_near_path given (codes "trace_options") (or_near_path given (codes "snapshot") (near_lower_file given)))))
+
+-- or else, before these, the one that only the top has
+unfoldable pub near_top_file : List ℕ → List ℕ
+near_top_file given = or_near_path given (codes "synthetic_events") (near_file given)
 
 -- ---- files of events
 

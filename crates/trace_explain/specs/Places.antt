@@ -1,5 +1,5 @@
 -- Where in a line it is wrong.
-use Rattle.std.specs.Prelude.{ℕ, ◌+◌, ◌-◌, Bool, true, false, not, ◌&&◌, ◌||◌, ◌==◌, if◌then◌else◌, List, [], ◌∷◌, ◌++◌, length, take, drop, position, find, slice_get, Option, Some, None, option_map, unwrap_or, Result, Ok, Err, codes}
+use Rattle.std.specs.Prelude.{ℕ, ◌+◌, ◌-◌, Bool, true, false, not, ◌&&◌, ◌||◌, ◌==◌, if◌then◌else◌, List, [], ◌∷◌, ◌++◌, length, take, drop, position, find, slice_get, Option, Some, None, unwrap_or, Result, Err, codes}
 use Rattle.std.specs.List.{prefix_len}
 use Rattle.std.specs.Str.{bytes_eq}
 use Rattle.trace_lex.specs.Blanks.{is_blank, without_end}
@@ -14,7 +14,9 @@ use Rattle.trace_explain.specs.Bytes.{has_byte}
 use Rattle.trace_explain.specs.Carets.{written_offset, open_quote}
 use Rattle.trace_explain.specs.Starts.{starts_of}
 use Rattle.trace_explain.specs.HistDue.{attribute_at}
-use Rattle.trace_explain.specs.Wording.{name_of, word_of}
+use Rattle.trace_trigger.specs.TriggerTexts.{word_of as first_word}
+use Rattle.trace_explain.specs.TriggerDue.{trigger_offset}
+use Rattle.trace_explain.specs.Wording.{word_of}
 use Rattle.trace_explain.specs.declared.cause.Cause.{Cause}
 use Rattle.trace_explain.specs.declared.cause.Cause.TheVariants as cause
 use Rattle.trace_explain.specs.declared.place.Place.{Place}
@@ -29,6 +31,11 @@ abbrev pub value_place : Subject → List ℕ → Place
 value_place subject.Instance text = Path
 value_place subject.Read text = Path
 value_place _ text = Written (prefix_len is_blank text)
+
+-- what is no value for its file: a trigger has a place of its own
+abbrev pub bad_value_place : Subject → List ℕ → Place
+bad_value_place subject.Trigger text = Written (trigger_offset text)
+bad_value_place subject text = value_place subject text
 
 abbrev pub event_place : Subject → Place
 event_place subject.Emission = Word 3
@@ -57,8 +64,8 @@ refusal_place subject text NoSuchInstance = Path
 refusal_place subject text InstanceExists = Path
 refusal_place subject text NoSuchEvent = event_place subject
 refusal_place subject text NoSuchCpu = cpu_place subject
-refusal_place subject text BadSize = size_place (attribute_at (codes ":size=") text)
-refusal_place subject text BadValue = value_place subject text
+refusal_place subject text BadSize = size_place (attribute_at (codes ":size=") (first_word text))
+refusal_place subject text BadValue = bad_value_place subject text
 refusal_place subject text EventExists = value_place subject text
 refusal_place subject text TooBig = value_place subject text
 refusal_place subject text TriggerExists = value_place subject text
@@ -159,18 +166,18 @@ unfoldable pub has_bad_cpu : List ℕ → ℕ → Bool
 has_bad_cpu line at = is_bad_number (line_of (take at line ++ codes " 0 a a=1"))
 
 -- the second number of an emission, if the first is right
-abbrev pub number_place : List ℕ → Option ℕ → Option ℕ → Option ℕ
-number_place line first None = first
-number_place line first (Some second) =
-    if bytes_eq (name_of line) (codes "emit") && not (has_bad_cpu line second) then Some second else first
+abbrev pub number_place : List ℕ → List ℕ → Option ℕ → Option ℕ → Option ℕ
+number_place name line first None = first
+number_place name line first (Some second) =
+    if bytes_eq name (codes "emit") && not (has_bad_cpu line second) then Some second else first
 
--- where a line is at fault
-abbrev pub fault_offset : List ℕ → ScriptFault → Option ℕ
-fault_offset line LineTooLong = None
-fault_offset line BadByte = position (λ b. not (is_line_byte b)) line
-fault_offset line UnclosedQuote = open_quote line
-fault_offset line UnknownCommand = position (λ b. not (is_blank b)) line
-fault_offset line BlockOutOfPlace = position (λ b. not (is_blank b)) line
-fault_offset line TooManyThreads = position (λ b. not (is_blank b)) line
-fault_offset line WrongWords = Some (words_place (name_of line) line (starts_of line))
-fault_offset line BadNumber = number_place line (slice_get (starts_of line) 1) (slice_get (starts_of line) 2)
+-- where a line whose first word is this name is at fault
+abbrev pub fault_offset : List ℕ → List ℕ → ScriptFault → Option ℕ
+fault_offset name line LineTooLong = None
+fault_offset name line BadByte = position (λ b. not (is_line_byte b)) line
+fault_offset name line UnclosedQuote = open_quote line
+fault_offset name line UnknownCommand = position (λ b. not (is_blank b)) line
+fault_offset name line BlockOutOfPlace = position (λ b. not (is_blank b)) line
+fault_offset name line TooManyThreads = position (λ b. not (is_blank b)) line
+fault_offset name line WrongWords = Some (words_place name line (starts_of line))
+fault_offset name line BadNumber = number_place name line (slice_get (starts_of line) 1) (slice_get (starts_of line) 2)

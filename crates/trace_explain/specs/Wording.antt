@@ -1,28 +1,31 @@
 -- What is wrong, in words.
-use Rattle.std.specs.Prelude.{ℕ, ◌+◌, Bool, true, false, nat_lt, not, ◌&&◌, ◌||◌, ◌==◌, if◌then◌else◌, List, [], ◌∷◌, length, take, drop, Result, Ok, Err, codes, Option, Some, None}
+use Rattle.std.specs.Prelude.{ℕ, ◌+◌, Bool, false, nat_lt, not, ◌||◌, ◌==◌, if◌then◌else◌, List, [], ◌∷◌, ◌++◌, length, take, drop, codes, Option, Some}
 use Rattle.std.specs.List.{count_by, prefix_len}
 use Rattle.std.specs.Option.{is_some}
 use Rattle.std.specs.Str.{bytes_eq}
 use Rattle.trace_lex.specs.Blanks.{is_blank, trimmed, without_end}
-use Rattle.trace_command.specs.Paths.{File, SyntheticEvents, OfInstance, OfCpu, OfEvent, address_of}
+use Rattle.trace_command.specs.Paths.{File, SyntheticEvents, OfInstance, OfEvent, address_of}
 use Rattle.trace_command.specs.declared.file_name.EventFile.{EventFile}
 use Rattle.trace_command.specs.declared.file_name.EventFile.TheVariants as per_event
 use Rattle.trace_command.specs.declared.file_name.TopFile.{TopFile}
 use Rattle.trace_command.specs.declared.file_name.TopFile.TheVariants as top
 use Rattle.trace_trigger.specs.Frames.{is_unblank}
-use Rattle.trace_trigger.specs.TriggerTexts.{begins}
-use Rattle.trace_script.specs.Tokens.{is_end}
+use Rattle.trace_trigger.specs.TriggerTexts.{begins, word_of as first_word}
+use Rattle.trace_script.specs.Tokens.{is_end, is_quote}
 use Rattle.trace_command.specs.declared.command.Command.{Command}
 use Rattle.trace_command.specs.declared.command.Command.TheVariants.{Emit, Mkdir, Rmdir, Write, Read}
 use Rattle.trace_command.specs.declared.refusal.Refusal.{Refusal}
 use Rattle.trace_command.specs.declared.refusal.Refusal.TheVariants.{NoSuchFile, NotReadable, NotWritable, BadValue, NoSuchEvent, EventExists, BadDefinition, TooBig, FilterSyntax, NoSuchField, WrongOperator, HistSyntax, BadSize, TriggerExists, NoSuchTrigger, TooMany, InstanceExists, NoSuchInstance, Busy, NoSuchCpu, BadRow, HistoryFull, Memory, Worn}
 use Rattle.trace_script.specs.declared.fault.ScriptFault.{ScriptFault}
 use Rattle.trace_script.specs.declared.fault.ScriptFault.TheVariants.{LineTooLong, BadByte, UnclosedQuote, UnknownCommand, WrongWords, BadNumber, BlockOutOfPlace, TooManyThreads}
-use Rattle.trace_script.specs.declared.line.Line.{Line}
-use Rattle.trace_script.specs.declared.line.Line.TheVariants.{Ask}
 use Rattle.trace_explain.specs.Bytes.{has_blank}
+use Rattle.trace_explain.specs.Starts.{next_stand}
+use Rattle.trace_explain.specs.declared.caret.Stand.{Stand}
+use Rattle.trace_explain.specs.declared.caret.Stand.TheVariants.{InWord, InQuotes}
 use Rattle.trace_explain.specs.FilterDue.{due_from, filter_due_words}
 use Rattle.trace_explain.specs.DeclarationDue.{due_from as declared_from, declaration_due_words}
+use Rattle.trace_explain.specs.Openings.{is_deep}
+use Rattle.trace_explain.specs.TriggerDue.{trigger_due, trigger_due_words}
 use Rattle.trace_explain.specs.HistDue.{ends_with, attribute_at, items_of, values_of, hist_due_words, field_words as hist_field_words}
 use Rattle.trace_explain.specs.declared.filter_due.FilterDue.{FilterDue}
 use Rattle.trace_explain.specs.declared.filter_due.FilterDue.TheVariants.{Operand}
@@ -39,11 +42,11 @@ subject_of_event_file per_event.Trigger = subject.Trigger
 subject_of_event_file _ = subject.Write
 
 abbrev pub subject_of_top_file : TopFile → Subject
-subject_of_top_file top.TracingOn = subject.Switch
+subject_of_top_file top.TracingOn = subject.Number
 subject_of_top_file top.Overwrite = subject.Switch
 subject_of_top_file top.EventsEnable = subject.Switch
 subject_of_top_file top.TraceOptions = subject.Options
-subject_of_top_file top.Snapshot = subject.Snapshot
+subject_of_top_file top.Snapshot = subject.Number
 subject_of_top_file top.EventsFilter = subject.AllFilters
 subject_of_top_file _ = subject.Write
 
@@ -68,14 +71,14 @@ path_words subject.Instance = codes "expected `instances/` and a name"
 path_words _ = codes "no file has this path"
 
 -- N4
-unfoldable pub value_words : Subject → List ℕ
-value_words subject.Instance = codes "an instance can't have this name"
-value_words subject.Read = codes "only a pipe is read by `take`"
-value_words subject.Switch = codes "expected `0` or `1`"
-value_words subject.Options = codes "expected `overwrite` or `nooverwrite`"
-value_words subject.Snapshot = codes "expected a number"
-value_words subject.Trigger = codes "expected `hist:` or `snapshot`"
-value_words _ = codes "the file doesn't take what is written"
+unfoldable pub value_words : Subject → List ℕ → List ℕ
+value_words subject.Instance text = codes "an instance can't have this name"
+value_words subject.Read text = codes "only a pipe is read by `take`"
+value_words subject.Switch text = codes "expected `0` or `1`"
+value_words subject.Options text = codes "expected `overwrite` or `nooverwrite`"
+value_words subject.Number text = codes "expected a number"
+value_words subject.Trigger text = trigger_due_words (trigger_due text)
+value_words _ text = codes "the file doesn't take what is written"
 
 -- N5
 abbrev pub event_words : Subject → List ℕ
@@ -117,7 +120,7 @@ declaration_words text at = declaration_due_words (declared_from Event (take at 
 abbrev pub exists_words : List ℕ → List ℕ
 exists_words text =
     if begins (codes "snapshot") text then codes "the event has a snapshot trigger already"
-    else (if is_some (attribute_at (codes ":name=") text) then codes "the event has this trigger already, or it doesn't fit the table of its name"
+    else (if is_some (attribute_at (codes ":name=") (first_word text)) then codes "expected a trigger that is new to the event and fits the table of its name"
     else codes "the event has this trigger already")
 
 -- N16, of a declaration: its `;` say how many fields there are
@@ -142,19 +145,17 @@ has_over most attribute text = nat_lt most (items_of attribute text)
 abbrev pub has_values : List ℕ → List ℕ → Bool
 has_values attribute text = nat_lt 3 (values_of attribute text)
 
-abbrev pub is_opening : ℕ → Bool
-is_opening b = b == 33 || b == 40
-
 abbrev pub condition_most_words : List ℕ → List ℕ
 condition_most_words filter =
     if nat_lt 1024 (length (trimmed filter)) then codes "a filter has at most 1,024 bytes"
-    else (if nat_lt 16 (count_by is_opening filter) then codes "at most 16 `!` and `(` may be open" else codes "the event has four triggers already")
+    else (if is_deep filter then codes "at most 16 `!` and `(` may be open" else codes "the event has four triggers already")
 
 unfoldable pub trigger_most_words : List ℕ → List ℕ
 trigger_most_words text =
-    if has_over 3 (codes ":keys=") text || has_over 3 (codes ":key=") text then codes "a hist trigger has at most three keys"
-    else (if has_values (codes ":values=") text || (has_values (codes ":vals=") text || has_values (codes ":val=") text) then codes "a hist trigger has at most three values"
-    else (if has_over 2 (codes ":sort=") text then codes "a hist trigger is sorted by at most two names"
+    if has_over 3 (codes ":keys=") (first_word text) || has_over 3 (codes ":key=") (first_word text) then codes "a hist trigger has at most three keys"
+    else (if has_values (codes ":values=") (first_word text) || (has_values (codes ":vals=") (first_word text) || has_values (codes ":val=") (first_word text))
+    then codes "a hist trigger has at most three values"
+    else (if has_over 2 (codes ":sort=") (first_word text) then codes "a hist trigger is sorted by at most two names"
     else condition_most_words (drop (condition_start text) text)))
 
 -- N16
@@ -174,7 +175,7 @@ unfoldable pub refusal_words : Subject → List ℕ → Refusal → List ℕ
 refusal_words subject text NoSuchFile = path_words subject
 refusal_words subject text NotReadable = codes "the file can't be read"
 refusal_words subject text NotWritable = codes "the file can't be written"
-refusal_words subject text BadValue = value_words subject
+refusal_words subject text BadValue = value_words subject text
 refusal_words subject text NoSuchEvent = event_words subject
 refusal_words subject text EventExists = codes "an event of this name is declared already"
 refusal_words subject text (BadDefinition at) = declaration_words text at
@@ -198,7 +199,7 @@ refusal_words subject text Worn = codes "all tickets are drawn"
 
 -- what is wrong with a field
 unfoldable pub cause_words : Cause → List ℕ
-cause_words cause.NotKnown = codes "it is unknown, repeated or missing, or its value is wrong"
+cause_words cause.NotKnown = codes "expected each field of the event once, with a value of its type"
 cause_words cause.NoField = codes "the event has no field of this name"
 cause_words cause.Repeated = codes "the field is repeated"
 cause_words cause.Missing = codes "the field is missing"
@@ -207,15 +208,32 @@ cause_words cause.OutOfRange = codes "its value is out of the range of its type"
 cause_words cause.TooLong = codes "its value is too long"
 cause_words cause.NotPrintable = codes "its value has a byte that is not from 0x20 to 0x7e"
 
--- the first word of a line, as it is written
+-- the word that some bytes of a line begin with, as it is written
 abbrev pub is_in_word : ℕ → Bool
 is_in_word b = not (is_end b)
 
 abbrev pub word_of : List ℕ → List ℕ
 word_of text = take (prefix_len is_in_word text) text
 
+-- whether it ends before a byte
+abbrev pub ends_word : Stand → ℕ → Bool
+ends_word (InQuotes quote) b = false
+ends_word _ b = is_end b
+
+-- whether a byte is one of the word's, and no quote around some of it
+abbrev pub is_kept : Stand → ℕ → Bool
+is_kept (InQuotes quote) b = not (b == quote)
+is_kept _ b = not (is_quote b)
+
+-- the rest of the word without its quotes
+abbrev pub unquoted_from : Stand → List ℕ → List ℕ
+unquoted_from stand [] = []
+unquoted_from stand (b ∷ bs) =
+    if ends_word stand b then [] else ((if is_kept stand b then b ∷ [] else []) ++ unquoted_from (next_stand stand b) bs)
+
+-- the first word of a line without its quotes
 abbrev pub name_of : List ℕ → List ℕ
-name_of line = word_of (drop (prefix_len is_blank line) line)
+name_of line = unquoted_from InWord (drop (prefix_len is_blank line) line)
 
 -- how a line of this name is written
 unfoldable pub usage_words : List ℕ → List ℕ
@@ -233,16 +251,16 @@ unfoldable pub block_words : List ℕ → List ℕ
 block_words name =
     if bytes_eq name (codes "thread") then codes "no parallel part is open here"
     else (if bytes_eq name (codes "end") then codes "no parallel part is open here"
-    else (if bytes_eq name (codes "parallel") then codes "this is in a parallel part, or has no `end`"
+    else (if bytes_eq name (codes "parallel") then codes "expected `parallel` outside a part, with an `end` after it"
     else codes "expected `thread` before the first command of a part"))
 
--- what is wrong with a line that is no command
+-- what is wrong with a line that is no command, and begins with a word of this name
 unfoldable pub fault_words : List ℕ → ScriptFault → List ℕ
-fault_words line LineTooLong = codes "the line has over 4,096 bytes"
-fault_words line BadByte = codes "this byte is neither a tab nor one from 0x20 to 0x7e"
-fault_words line UnclosedQuote = codes "this quote is not closed"
-fault_words line UnknownCommand = codes "unknown command"
-fault_words line WrongWords = usage_words (name_of line)
-fault_words line BadNumber = codes "expected a number in its range"
-fault_words line BlockOutOfPlace = block_words (name_of line)
-fault_words line TooManyThreads = codes "a parallel part has at most eight threads"
+fault_words name LineTooLong = codes "the line has over 4,096 bytes"
+fault_words name BadByte = codes "this byte is neither a tab nor one from 0x20 to 0x7e"
+fault_words name UnclosedQuote = codes "this quote is not closed"
+fault_words name UnknownCommand = codes "unknown command"
+fault_words name WrongWords = usage_words name
+fault_words name BadNumber = codes "expected a number in its range"
+fault_words name BlockOutOfPlace = block_words name
+fault_words name TooManyThreads = codes "a parallel part has at most eight threads"

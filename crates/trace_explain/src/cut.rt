@@ -1,6 +1,9 @@
 //! Strings up to an offset, and from one on, whether or not they are as long; and what bytes they have.
 
-ghost use Rattle.std.specs.Prelude.{◌≡◌, drop, take};
+ghost use Rattle.std.specs.Prelude.{◌≡◌, ◌≤◌, drop, length, take};
+ghost use Rattle.std.specs.List.{prefix_len};
+ghost use Rattle.trace_trigger.specs.Frames as frames;
+ghost use Rattle.trace_trigger.specs.TriggerTexts as texts;
 ghost use Rattle.trace_explain.specs.Bytes as bytes;
 
 use trace_lex::is_blank;
@@ -20,6 +23,21 @@ pub(crate) fn after(len: usize, text: &[u8]) -> &[u8]
         Some(rest) => rest,
         None => b"",
     }
+}
+
+/// How many bytes come before the first blank.
+pub(crate) fn word_len(text: &[u8]) -> usize
+    ensures value { result ≡ prefix_len frames.is_unblank text.now }
+    ensures bound { result ≤ length text.now }
+{
+    text.iter().take_while(|byte| !is_blank(**byte)).count()
+}
+
+/// What comes before the first blank.
+pub(crate) fn first_word(text: &[u8]) -> &[u8]
+    ensures { result.now ≡ texts.word_of text.now }
+{
+    &text[..word_len(text)]
 }
 
 fn lacks_byte(byte: u8, text: &[u8]) -> bool

@@ -2,7 +2,6 @@
 
 ghost use Rattle.std.specs.Prelude.{◌≡◌, ◌++◌, [], IfOk, OnOk, OnErr};
 ghost use Rattle.trace_format.specs.Definitions.{Definition};
-ghost use Rattle.trace_script.specs.Rendering as rendering;
 ghost use Rattle.trace_explain.specs.Events as events_of;
 ghost use Rattle.trace_explain.specs.Events.{declared_by};
 ghost use Rattle.trace_explain.specs.Explanations as told;
@@ -10,11 +9,12 @@ ghost use Rattle.trace_explain.specs.Explanations as told;
 use crate::cause::{Cause, cause_at_name};
 use crate::event::{command_of, declared, event_named};
 use crate::fault_place::fault_offset;
+use crate::fault_words::{fault_words, name_of};
 use crate::hint::{command_meant, line_meant, written_in};
 use crate::layout::{shown, shown_bytes};
 use crate::place::{Place, offset_of, refusal_place, row_place};
 use crate::script_line::ScriptLine;
-use crate::wording::{cause_words, command_subject, fault_words, refusal_words};
+use crate::wording::{cause_words, command_subject, refusal_words};
 use std::alloc::{AllocError, Global};
 use std::marker::Model;
 use trace_command::{Command, Refusal};
@@ -125,23 +125,6 @@ fn told_of_command(
     shown(alloc, line, caret, refusal.name(), &words, &meant)
 }
 
-/// A script fault's name.
-#[tactic(auto, unfolding(trace_script::specs::Rendering::fault_name))]
-fn fault_name(fault: ScriptFault) -> &'static str
-    ensures { result.now ≡ rendering.fault_name fault }
-{
-    match fault {
-        ScriptFault::LineTooLong => "LineTooLong",
-        ScriptFault::BadByte => "BadByte",
-        ScriptFault::UnclosedQuote => "UnclosedQuote",
-        ScriptFault::UnknownCommand => "UnknownCommand",
-        ScriptFault::WrongWords => "WrongWords",
-        ScriptFault::BadNumber => "BadNumber",
-        ScriptFault::BlockOutOfPlace => "BlockOutOfPlace",
-        ScriptFault::TooManyThreads => "TooManyThreads",
-    }
-}
-
 /// What is told of a line that is no command.
 #[tactic(auto, unfolding(crate::specs::Explanations::told_of_fault))]
 fn told_of_fault(
@@ -151,14 +134,15 @@ fn told_of_fault(
 ) -> Result<Vec<u8>, AllocError>
     ensures { IfOk result (λ text. text.items ≡ told.told_of_fault line.entry.script.now line.entry.number line.entry.text.now fault) }
 {
-    let caret = fault_offset(alloc, line.text, fault)?;
-    let words = fault_words(line.text, fault);
-    let meant = line_meant(line.text, fault);
+    let name = name_of(alloc, line.text)?;
+    let caret = fault_offset(alloc, &name, line.text, fault)?;
+    let words = fault_words(&name, fault);
+    let meant = line_meant(&name, fault);
     shown(
         alloc,
         line,
         caret,
-        fault_name(fault),
+        fault.name(),
         words.as_bytes(),
         meant.as_bytes(),
     )

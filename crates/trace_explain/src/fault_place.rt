@@ -9,8 +9,8 @@ ghost use Rattle.trace_explain.specs.Places as places;
 
 use crate::caret::open_quote;
 use crate::cut::{after, has_byte, up_to};
+use crate::fault_words::word_of;
 use crate::starts::starts;
-use crate::wording::{name_of, word_of};
 use std::alloc::{AllocError, Global};
 use trace_lex::{is_blank, trim_end};
 use trace_script::{LineError, ScriptFault, prepare};
@@ -185,14 +185,19 @@ fn has_bad_cpu(alloc: Global, line: &[u8], at: usize) -> Result<bool, AllocError
 }
 
 /// The number of a line that is wrong.
-fn number_place(alloc: Global, line: &[u8], starts: &[usize]) -> Result<Option<usize>, AllocError>
-    ensures { IfOk result (λ offset. offset ≡ places.number_place line.now (slice_get starts.now 1) (slice_get starts.now 2)) }
+fn number_place(
+    alloc: Global,
+    name: &[u8],
+    line: &[u8],
+    starts: &[usize],
+) -> Result<Option<usize>, AllocError>
+    ensures { IfOk result (λ offset. offset ≡ places.number_place name.now line.now (slice_get starts.now 1) (slice_get starts.now 2)) }
 {
     let first = starts.get(1).copied();
     let Some(second) = starts.get(2).copied() else {
         return Ok(first);
     };
-    if name_of(line) == b"emit".as_slice() && !has_bad_cpu(alloc, line, second)? {
+    if name == b"emit".as_slice() && !has_bad_cpu(alloc, line, second)? {
         Ok(Some(second))
     } else {
         Ok(first)
@@ -214,13 +219,14 @@ fn first_word(line: &[u8]) -> Option<usize>
     line.iter().position(|byte| !is_blank(*byte))
 }
 
-/// Where a line is at fault.
+/// Where a line whose first word is this name is at fault.
 pub(crate) fn fault_offset(
     alloc: Global,
+    name: &[u8],
     line: &[u8],
     fault: ScriptFault,
 ) -> Result<Option<usize>, AllocError>
-    ensures { IfOk result (λ offset. offset ≡ places.fault_offset line.now fault) }
+    ensures { IfOk result (λ offset. offset ≡ places.fault_offset name.now line.now fault) }
 {
     match fault {
         ScriptFault::LineTooLong => Ok(None),
@@ -230,11 +236,11 @@ pub(crate) fn fault_offset(
             Ok(first_word(line)),
         ScriptFault::WrongWords => {
             let starts = starts(alloc, line)?;
-            Ok(Some(words_place(name_of(line), line, &starts)))
+            Ok(Some(words_place(name, line, &starts)))
         }
         ScriptFault::BadNumber => {
             let starts = starts(alloc, line)?;
-            number_place(alloc, line, &starts)
+            number_place(alloc, name, line, &starts)
         }
     }
 }

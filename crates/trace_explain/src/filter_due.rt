@@ -2,7 +2,7 @@
 
 ghost use Rattle.std.specs.Prelude.{◌≡◌};
 ghost use Rattle.trace_script.specs.Tokens as tokens;
-ghost use Rattle.trace_explain.specs.FilterDue.{takes_equal, after_operator, after_value, due_after, due_from, quoted_words, value_due_words, joint_words, filter_due_words, operator_meant_at, operator_meant};
+ghost use Rattle.trace_explain.specs.FilterDue.{takes_equal, after_operator, after_value, due_after, due_from, quoted_words, value_due_words, joint_words, filter_due_words, meant_by_equal, operator_meant_at, operator_meant};
 
 use crate::cut::has_byte;
 use trace_lex::{is_blank, is_name_byte};
@@ -28,7 +28,7 @@ pub(crate) enum FilterDue {
     Joined,
 }
 
-fn is_quote(byte: u8) -> bool
+pub(crate) fn is_quote(byte: u8) -> bool
     ensures { result ≡ tokens.is_quote byte }
 {
     byte == b'\'' || byte == b'"'
@@ -76,7 +76,7 @@ fn after_name(byte: u8) -> FilterDue
 }
 
 /// What comes next, after one more byte.
-fn due_after(due: FilterDue, byte: u8) -> FilterDue
+pub(crate) fn due_after(due: FilterDue, byte: u8) -> FilterDue
     ensures { result ≡ due_after due byte }
 {
     match due {
@@ -153,23 +153,35 @@ pub(crate) fn filter_due_words(due: FilterDue, rest: &[u8]) -> &'static str
     }
 }
 
-fn operator_meant_at(due: FilterDue, byte: u8) -> &'static str
-    ensures { result.now ≡ operator_meant_at due byte }
+/// The operator that is meant by an `=`, where these bytes follow it.
+fn meant_by_equal(rest: &[u8]) -> &'static str
+    ensures { result.now ≡ meant_by_equal rest.now }
+{
+    match rest {
+        [b'>', ..] => ">=",
+        [b'<', ..] => "<=",
+        [b'~', ..] => "~",
+        _ => "==",
+    }
+}
+
+fn operator_meant_at(due: FilterDue, byte: u8, rest: &[u8]) -> &'static str
+    ensures { result.now ≡ operator_meant_at due byte rest.now }
 {
     match (due, byte) {
-        (FilterDue::Name | FilterDue::Operator, b'=') => "==",
+        (FilterDue::Name | FilterDue::Operator, b'=') => meant_by_equal(rest),
         (FilterDue::Bare | FilterDue::Joint, b'&') => "&&",
         (FilterDue::Bare | FilterDue::Joint, b'|') => "||",
         _ => "",
     }
 }
 
-/// The operator that is meant where half of one is written; empty, if none is.
+/// The operator that is meant where half of one is written, or one with its bytes exchanged; empty, if none is.
 pub(crate) fn operator_meant(due: FilterDue, rest: &[u8]) -> &'static str
     ensures { result.now ≡ operator_meant due rest.now }
 {
     match rest {
         [] => "",
-        [byte, ..] => operator_meant_at(due, *byte),
+        [byte, rest @ ..] => operator_meant_at(due, *byte, rest),
     }
 }

@@ -10,8 +10,10 @@ use crate::cut::{after, up_to};
 use crate::event::event_named;
 use crate::filter_due::operator_meant;
 use crate::hist_due::begins;
-use crate::near::{near_command, near_event, near_event_file, near_field, near_file};
-use crate::wording::{command_subject, filter_due_at, name_of};
+use crate::near::{
+    near_command, near_event, near_event_file, near_field, near_file, near_top_file,
+};
+use crate::wording::{command_subject, filter_due_at};
 use std::alloc::{AllocError, Global};
 use trace_command::{Command, FileName, Refusal, address_of};
 use trace_format::EventDef;
@@ -41,11 +43,27 @@ fn instance_len(path: &[u8]) -> usize
     }
 }
 
-/// The first file whose path, without that of an instance, is near; empty, if none is.
-fn near_rest(alloc: Global, events: &[EventDef], given: &[u8]) -> Result<Vec<u8>, AllocError>
-    ensures { IfOk result (λ found. found.items ≡ hints.near_rest events.now given.now) }
+/// The first file of no event whose path is near, where so many bytes come before it; empty, if none is.
+fn near_fixed(len: usize, given: &[u8]) -> &'static str
+    ensures { result.now ≡ hints.near_fixed len given.now }
 {
-    let file = near_file(given);
+    if len == 0 {
+        near_top_file(given)
+    } else {
+        near_file(given)
+    }
+}
+
+/// The first file whose path, where so many bytes come before it, is near; empty, if none is.
+fn near_rest(
+    alloc: Global,
+    len: usize,
+    events: &[EventDef],
+    given: &[u8],
+) -> Result<Vec<u8>, AllocError>
+    ensures { IfOk result (λ found. found.items ≡ hints.near_rest len events.now given.now) }
+{
+    let file = near_fixed(len, given);
     if !file.is_empty() {
         return Vec::from_slice(alloc, file.as_bytes());
     }
@@ -66,13 +84,33 @@ fn with_front(alloc: Global, front: &[u8], rest: &[u8]) -> Result<Vec<u8>, Alloc
     Ok(text)
 }
 
+/// The first file below the mount point whose path is near; empty, if none is.
+fn near_below(alloc: Global, events: &[EventDef], path: &[u8]) -> Result<Vec<u8>, AllocError>
+    ensures { IfOk result (λ found. found.items ≡ hints.near_below events.now path.now) }
+{
+    let len = instance_len(path);
+    let rest = near_rest(alloc, len, events, after(len, path))?;
+    with_front(alloc, up_to(len, path), &rest)
+}
+
+/// How many bytes of a path are those of the mount point.
+fn mount_len(path: &[u8]) -> usize
+    ensures { result ≡ hints.mount_len path.now }
+{
+    if begins(b"/sys/kernel/tracing/", path) {
+        20
+    } else {
+        0
+    }
+}
+
 /// The first file whose path is near; empty, if none is.
 #[tactic(auto, unfolding(crate::specs::Hints::near_path))]
 fn near_path(alloc: Global, events: &[EventDef], path: &[u8]) -> Result<Vec<u8>, AllocError>
     ensures { IfOk result (λ found. found.items ≡ hints.near_path events.now path.now) }
 {
-    let len = instance_len(path);
-    let rest = near_rest(alloc, events, after(len, path))?;
+    let len = mount_len(path);
+    let rest = near_below(alloc, events, after(len, path))?;
     with_front(alloc, up_to(len, path), &rest)
 }
 
@@ -195,12 +233,12 @@ pub(crate) fn command_meant(
     Vec::from_slice(alloc, meant)
 }
 
-/// What was meant by a line that is no command; empty, if nothing is near.
-pub(crate) fn line_meant(line: &[u8], fault: ScriptFault) -> &'static str
-    ensures { result.now ≡ hints.line_meant line.now fault }
+/// What was meant by a line that is no command, and begins with a word of this name; empty, if nothing is near.
+pub(crate) fn line_meant(name: &[u8], fault: ScriptFault) -> &'static str
+    ensures { result.now ≡ hints.line_meant name.now fault }
 {
     match fault {
-        ScriptFault::UnknownCommand => near_command(name_of(line)),
+        ScriptFault::UnknownCommand => near_command(name),
         _ => "",
     }
 }

@@ -6,8 +6,8 @@ ghost use Rattle.trace_lex.specs.Prefixes as prefixes;
 ghost use Rattle.trace_trigger.specs.TriggerTexts as texts;
 ghost use Rattle.trace_explain.specs.HistDue as due;
 
-use crate::cut::has_blank;
-use trace_lex::{is_blank, rest_of};
+use crate::cut::{after, has_blank, up_to};
+use trace_lex::{is_blank, len_before, rest_of};
 
 /// Whether a string begins so.
 pub(crate) fn begins(beginning: &[u8], text: &[u8]) -> bool
@@ -202,17 +202,44 @@ pub(crate) fn items_of(attribute: &[u8], text: &[u8]) -> usize
     }
 }
 
-/// How many values it has besides `hitcount`.
+/// Whether the item that some bytes of a list begin with is a value other than `hitcount`.
+fn is_counted(list: &[u8]) -> bool
+    ensures { result ≡ due.is_counted list.now }
+{
+    up_to(len_before(b',', list), list) != b"hitcount".as_slice()
+}
+
+/// How many such items follow a comma.
+fn values_after(list: &[u8]) -> usize
+    ensures value { result ≡ due.values_after list.now }
+    ensures bound { result ≤ length list.now }
+{
+    let mut count = 0;
+    for (at, byte) in list.iter().enumerate() {
+        if *byte == b',' && is_counted(after(at + 1, list)) {
+            count += 1;
+        }
+    }
+    count
+}
+
+/// How many values a list has besides `hitcount`.
+fn values_among(list: &[u8]) -> usize
+    ensures { result ≡ due.values_among list.now }
+{
+    if is_counted(list) {
+        values_after(list) + 1
+    } else {
+        values_after(list)
+    }
+}
+
+/// How many values an attribute has besides `hitcount`.
 pub(crate) fn values_of(attribute: &[u8], text: &[u8]) -> usize
     ensures { result ≡ due.values_of attribute.now text.now }
 {
-    let Some(at) = attribute_at(attribute, text) else {
-        return 0;
-    };
-    let list = first_part(&text[at + 1..]);
-    if attribute_at(b"hitcount", list).is_some() {
-        commas(list)
-    } else {
-        commas(list) + 1
+    match attribute_at(attribute, text) {
+        Some(at) => values_among(first_part(after(attribute.len(), after(at, text)))),
+        None => 0,
     }
 }

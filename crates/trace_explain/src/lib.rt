@@ -9,14 +9,17 @@ mod declaration_due;
 mod event;
 mod explainer;
 mod fault_place;
+mod fault_words;
 mod filter_due;
 mod hint;
 mod hist_due;
 mod layout;
 mod near;
+mod openings;
 mod place;
 mod script_line;
 mod starts;
+mod trigger_due;
 mod wording;
 
 pub use cause::Cause;

@@ -194,7 +194,7 @@ fn near_lower_file(given: &[u8]) -> &'static str
     }
 }
 
-/// The first file of no event whose path is near; empty, if none is.
+/// The first file of an instance, but of no event, whose path is near; empty, if none is.
 #[tactic(auto, unfolding(crate::specs::Near::near_file))]
 pub(crate) fn near_file(given: &[u8]) -> &'static str
     ensures { result.now ≡ near.near_file given.now }
@@ -209,10 +209,20 @@ pub(crate) fn near_file(given: &[u8]) -> &'static str
         "trace_options"
     } else if is_near_path(given, b"snapshot") {
         "snapshot"
-    } else if is_near_path(given, b"synthetic_events") {
-        "synthetic_events"
     } else {
         near_lower_file(given)
+    }
+}
+
+/// The first file at the top, but of no event, whose path is near; empty, if none is.
+#[tactic(auto, unfolding(crate::specs::Near::near_top_file))]
+pub(crate) fn near_top_file(given: &[u8]) -> &'static str
+    ensures { result.now ≡ near.near_top_file given.now }
+{
+    if is_near_path(given, b"synthetic_events") {
+        "synthetic_events"
+    } else {
+        near_file(given)
     }
 }
 

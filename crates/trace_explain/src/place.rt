@@ -1,13 +1,16 @@
 //! Where in a line it is wrong.
 
 ghost use Rattle.std.specs.Prelude.{◌≡◌, ◌<◌, IfSome, IfOk, length, drop, slice_get, codes};
+ghost use Rattle.trace_trigger.specs.TriggerTexts as texts;
 ghost use Rattle.trace_explain.specs.HistDue.{attribute_at};
 ghost use Rattle.trace_explain.specs.Places as places;
 
 use crate::caret::written_offset;
 use crate::cause::Cause;
+use crate::cut::first_word;
 use crate::hist_due::attribute_at;
 use crate::starts::starts;
+use crate::trigger_due::trigger_offset;
 use crate::wording::Subject;
 use std::alloc::{AllocError, Global};
 use trace_command::Refusal;
@@ -37,6 +40,16 @@ fn value_place(subject: Subject, text: &[u8]) -> Place
     }
 }
 
+/// Where what is written is no value for its file.
+fn bad_value_place(subject: Subject, text: &[u8]) -> Place
+    ensures { result ≡ places.bad_value_place subject text.now }
+{
+    match subject {
+        Subject::Trigger => Place::Written(trigger_offset(text)),
+        _ => value_place(subject, text),
+    }
+}
+
 fn event_place(subject: Subject) -> Place
     ensures { result ≡ places.event_place subject }
 {
@@ -56,9 +69,9 @@ fn cpu_place(subject: Subject) -> Place
 }
 
 fn size_place(text: &[u8]) -> Place
-    ensures { result ≡ places.size_place (attribute_at (codes ":size=") text.now) }
+    ensures { result ≡ places.size_place (attribute_at (codes ":size=") (texts.word_of text.now)) }
 {
-    match attribute_at(b":size=", text) {
+    match attribute_at(b":size=", first_word(text)) {
         Some(at) => Place::Written(at + 1),
         None => Place::Nowhere,
     }
@@ -82,8 +95,8 @@ pub(crate) fn refusal_place(subject: Subject, text: &[u8], refusal: &Refusal) ->
         Refusal::NoSuchEvent => event_place(subject),
         Refusal::NoSuchCpu => cpu_place(subject),
         Refusal::BadSize => size_place(text),
-        Refusal::BadValue
-        | Refusal::EventExists
+        Refusal::BadValue => bad_value_place(subject, text),
+        Refusal::EventExists
         | Refusal::TooBig
         | Refusal::TriggerExists
         | Refusal::NoSuchTrigger

@@ -20,7 +20,7 @@ fn is_start(stand: Stand, byte: u8) -> bool
 }
 
 /// Where a byte leads.
-fn next_stand(stand: Stand, byte: u8) -> Stand
+pub(crate) fn next_stand(stand: Stand, byte: u8) -> Stand
     ensures { result ≡ next_stand stand byte }
 {
     match stand {

@@ -8,15 +8,16 @@ ghost use Rattle.trace_trigger.specs.Frames as frames;
 ghost use Rattle.trace_explain.specs.Wording as wording;
 
 use crate::cause::Cause;
-use crate::cut::{after, has_blank, up_to};
+use crate::cut::{after, first_word, has_blank, up_to, word_len};
 use crate::declaration_due::{declaration_due, declaration_due_words};
 use crate::filter_due::{FilterDue, filter_due, filter_due_words};
 use crate::hist_due::{
     attribute_at, begins, ends_with, hist_due_words, hist_field_words, items_of, values_of,
 };
+use crate::openings::is_deep;
+use crate::trigger_due::trigger_due_words;
 use trace_command::{Command, EventFile, FileName, Refusal, TopFile, address_of};
 use trace_lex::{blanks_len, is_blank, rest_of, trim, trim_end};
-use trace_script::ScriptFault;
 
 /// What a command is about, as far as the words depend on it.
 #[derive(Clone, Copy, PartialEq, Eq)]
@@ -29,8 +30,8 @@ pub(crate) enum Subject {
     AllFilters,
     /// A trigger is written.
     Trigger,
-    /// A `snapshot` file is written.
-    Snapshot,
+    /// A file that takes any number is written.
+    Number,
     /// A file that takes `0` and `1` is written.
     Switch,
     /// `trace_options` is written.
@@ -60,9 +61,9 @@ fn subject_of_top_file(file: TopFile) -> Subject
     ensures { result ≡ wording.subject_of_top_file file }
 {
     match file {
-        TopFile::TracingOn | TopFile::Overwrite | TopFile::EventsEnable => Subject::Switch,
+        TopFile::Overwrite | TopFile::EventsEnable => Subject::Switch,
         TopFile::TraceOptions => Subject::Options,
-        TopFile::Snapshot => Subject::Snapshot,
+        TopFile::TracingOn | TopFile::Snapshot => Subject::Number,
         TopFile::EventsFilter => Subject::AllFilters,
         _ => Subject::Write,
     }
@@ -102,16 +103,16 @@ fn path_words(subject: Subject) -> &'static str
 }
 
 #[tactic(auto, unfolding(crate::specs::Wording::value_words))]
-fn value_words(subject: Subject) -> &'static str
-    ensures { result.now ≡ wording.value_words subject }
+fn value_words(subject: Subject, text: &[u8]) -> &'static str
+    ensures { result.now ≡ wording.value_words subject text.now }
 {
     match subject {
         Subject::Instance => "an instance can't have this name",
         Subject::Read => "only a pipe is read by `take`",
         Subject::Switch => "expected `0` or `1`",
         Subject::Options => "expected `overwrite` or `nooverwrite`",
-        Subject::Snapshot => "expected a number",
-        Subject::Trigger => "expected `hist:` or `snapshot`",
+        Subject::Number => "expected a number",
+        Subject::Trigger => trigger_due_words(text),
         _ => "the file doesn't take what is written",
     }
 }
@@ -123,14 +124,6 @@ fn event_words(subject: Subject) -> &'static str
         Subject::AllFilters => "no event is declared",
         _ => "no event of this name is declared",
     }
-}
-
-/// How many bytes come before the first blank.
-fn word_len(text: &[u8]) -> usize
-    ensures value { result ≡ prefix_len frames.is_unblank text.now }
-    ensures bound { result ≤ length text.now }
-{
-    text.iter().take_while(|byte| !is_blank(**byte)).count()
 }
 
 /// The filter of a trigger, if it has one: what follows its first word, `if` and the blanks between.
@@ -206,8 +199,8 @@ fn exists_words(text: &[u8]) -> &'static str
 {
     if begins(b"snapshot", text) {
         "the event has a snapshot trigger already"
-    } else if attribute_at(b":name=", text).is_some() {
-        "the event has this trigger already, or it doesn't fit the table of its name"
+    } else if attribute_at(b":name=", first_word(text)).is_some() {
+        "expected a trigger that is new to the event and fits the table of its name"
     } else {
         "the event has this trigger already"
     }
@@ -247,21 +240,12 @@ fn filter_most_words(filter: &[u8]) -> &'static str
     }
 }
 
-fn openings(filter: &[u8]) -> usize
-    ensures { result ≡ count_by wording.is_opening filter.now }
-{
-    filter
-        .iter()
-        .filter(|byte| matches!(**byte, b'!' | b'('))
-        .count()
-}
-
 fn condition_most_words(filter: &[u8]) -> &'static str
     ensures { result.now ≡ wording.condition_most_words filter.now }
 {
     if trim(filter).len() > 1024 {
         "a filter has at most 1,024 bytes"
-    } else if openings(filter) > 16 {
+    } else if is_deep(filter) {
         "at most 16 `!` and `(` may be open"
     } else {
         "the event has four triggers already"
@@ -284,14 +268,15 @@ fn has_values(attribute: &[u8], text: &[u8]) -> bool
 fn trigger_most_words(text: &[u8]) -> &'static str
     ensures { result.now ≡ wording.trigger_most_words text.now }
 {
-    if has_over(3, b":keys=", text) || has_over(3, b":key=", text) {
+    let word = first_word(text);
+    if has_over(3, b":keys=", word) || has_over(3, b":key=", word) {
         "a hist trigger has at most three keys"
-    } else if has_values(b":values=", text)
-        || has_values(b":vals=", text)
-        || has_values(b":val=", text)
+    } else if has_values(b":values=", word)
+        || has_values(b":vals=", word)
+        || has_values(b":val=", word)
     {
         "a hist trigger has at most three values"
-    } else if has_over(2, b":sort=", text) {
+    } else if has_over(2, b":sort=", word) {
         "a hist trigger is sorted by at most two names"
     } else {
         condition_most_words(condition(text))
@@ -335,7 +320,7 @@ pub(crate) fn refusal_words(subject: Subject, text: &[u8], refusal: &Refusal) ->
         Refusal::NoSuchFile => path_words(subject),
         Refusal::NotReadable => "the file can't be read",
         Refusal::NotWritable => "the file can't be written",
-        Refusal::BadValue => value_words(subject),
+        Refusal::BadValue => value_words(subject, text),
         Refusal::NoSuchEvent => event_words(subject),
         Refusal::EventExists => "an event of this name is declared already",
         Refusal::BadDefinition { at } => declaration_words(text, *at),
@@ -365,7 +350,7 @@ pub(crate) fn cause_words(cause: Cause) -> &'static str
     ensures { result.now ≡ wording.cause_words cause }
 {
     match cause {
-        Cause::NotKnown => "it is unknown, repeated or missing, or its value is wrong",
+        Cause::NotKnown => "expected each field of the event once, with a value of its type",
         Cause::NoField => "the event has no field of this name",
         Cause::Repeated => "the field is repeated",
         Cause::Missing => "the field is missing",
@@ -373,81 +358,5 @@ pub(crate) fn cause_words(cause: Cause) -> &'static str
         Cause::OutOfRange => "its value is out of the range of its type",
         Cause::TooLong => "its value is too long",
         Cause::NotPrintable => "its value has a byte that is not from 0x20 to 0x7e",
-    }
-}
-
-/// How many bytes come before the end of a word.
-fn written_word_len(text: &[u8]) -> usize
-    ensures value { result ≡ prefix_len wording.is_in_word text.now }
-    ensures bound { result ≤ length text.now }
-{
-    text.iter()
-        .take_while(|byte| !(is_blank(**byte) || **byte == b'>'))
-        .count()
-}
-
-/// The first word, as it is written.
-pub(crate) fn word_of(text: &[u8]) -> &[u8]
-    ensures { result.now ≡ wording.word_of text.now }
-{
-    &text[..written_word_len(text)]
-}
-
-/// The first word of a line, as it is written.
-pub(crate) fn name_of(line: &[u8]) -> &[u8]
-    ensures { result.now ≡ wording.name_of line.now }
-{
-    word_of(rest_of(line, blanks_len(line)))
-}
-
-/// How a line of this name is written.
-#[tactic(auto, unfolding(crate::specs::Wording::usage_words))]
-fn usage_words(name: &[u8]) -> &'static str
-    ensures { result.now ≡ wording.usage_words name.now }
-{
-    if name == b"emit".as_slice() {
-        "expected `emit CPU PID EVENT FIELD=VALUE ..`"
-    } else if name == b"echo".as_slice() {
-        "expected `echo WORD .. > PATH`, or `>>`"
-    } else if name == b"cat".as_slice() {
-        "expected `cat PATH`"
-    } else if name == b"take".as_slice() {
-        "expected `take N PATH`"
-    } else if name == b"mkdir".as_slice() {
-        "expected `mkdir PATH`"
-    } else if name == b"rmdir".as_slice() {
-        "expected `rmdir PATH`"
-    } else {
-        "expected nothing more"
-    }
-}
-
-#[tactic(auto, unfolding(crate::specs::Wording::block_words))]
-fn block_words(name: &[u8]) -> &'static str
-    ensures { result.now ≡ wording.block_words name.now }
-{
-    if name == b"thread".as_slice() || name == b"end".as_slice() {
-        "no parallel part is open here"
-    } else if name == b"parallel".as_slice() {
-        "this is in a parallel part, or has no `end`"
-    } else {
-        "expected `thread` before the first command of a part"
-    }
-}
-
-/// What is wrong with a line that is no command.
-#[tactic(auto, unfolding(crate::specs::Wording::fault_words))]
-pub(crate) fn fault_words(line: &[u8], fault: ScriptFault) -> &'static str
-    ensures { result.now ≡ wording.fault_words line.now fault }
-{
-    match fault {
-        ScriptFault::LineTooLong => "the line has over 4,096 bytes",
-        ScriptFault::BadByte => "this byte is neither a tab nor one from 0x20 to 0x7e",
-        ScriptFault::UnclosedQuote => "this quote is not closed",
-        ScriptFault::UnknownCommand => "unknown command",
-        ScriptFault::WrongWords => usage_words(name_of(line)),
-        ScriptFault::BadNumber => "expected a number in its range",
-        ScriptFault::BlockOutOfPlace => block_words(name_of(line)),
-        ScriptFault::TooManyThreads => "a parallel part has at most eight threads",
     }
 }

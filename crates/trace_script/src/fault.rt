@@ -1,6 +1,7 @@
 //! What is wrong with a line of a script.
 
 ghost use Rattle.std.specs.Prelude.{◌≡◌, Some};
+ghost use Rattle.trace_script.specs.Rendering.{fault_name};
 ghost use Rattle.trace_script.specs.declared.fault.LineError.TheVariants.{Memory, Fault};
 
 use std::alloc::{AllocError, AllocFailed};
@@ -27,6 +28,25 @@ pub enum ScriptFault {
     BlockOutOfPlace,
     /// A parallel part has more than eight threads.
     TooManyThreads,
+}
+
+impl ScriptFault {
+    /// Its name, as a session prints it.
+    #[tactic(auto, unfolding(crate::specs::Rendering::fault_name))]
+    pub fn name(self) -> &'static str
+        ensures { result.now ≡ fault_name self }
+    {
+        match self {
+            ScriptFault::LineTooLong => "LineTooLong",
+            ScriptFault::BadByte => "BadByte",
+            ScriptFault::UnclosedQuote => "UnclosedQuote",
+            ScriptFault::UnknownCommand => "UnknownCommand",
+            ScriptFault::WrongWords => "WrongWords",
+            ScriptFault::BadNumber => "BadNumber",
+            ScriptFault::BlockOutOfPlace => "BlockOutOfPlace",
+            ScriptFault::TooManyThreads => "TooManyThreads",
+        }
+    }
 }
 
 impl Display for ScriptFault {

@@ -2,7 +2,7 @@
 
 ghost use Rattle.std.specs.Prelude.{◌≡◌, ◌++◌, ◌∷◌, IfOk, codes};
 ghost use Rattle.std.specs.Fmt.{decimal};
-ghost use Rattle.trace_script.specs.Rendering.{fault_name, detail_of, refusal_line, fault_line, rendered};
+ghost use Rattle.trace_script.specs.Rendering.{detail_of, refusal_line, fault_line, rendered};
 
 use crate::fault::ScriptFault;
 use std::alloc::{AllocError, Global};
@@ -17,23 +17,6 @@ pub enum Outcome {
     Refused(Refusal),
     /// The line has this fault.
     Fault(ScriptFault),
-}
-
-/// A script fault's name.
-#[tactic(auto, unfolding(crate::specs::Rendering::fault_name))]
-fn fault_name(fault: ScriptFault) -> &'static str
-    ensures { result.now ≡ fault_name fault }
-{
-    match fault {
-        ScriptFault::LineTooLong => "LineTooLong",
-        ScriptFault::BadByte => "BadByte",
-        ScriptFault::UnclosedQuote => "UnclosedQuote",
-        ScriptFault::UnknownCommand => "UnknownCommand",
-        ScriptFault::WrongWords => "WrongWords",
-        ScriptFault::BadNumber => "BadNumber",
-        ScriptFault::BlockOutOfPlace => "BlockOutOfPlace",
-        ScriptFault::TooManyThreads => "TooManyThreads",
-    }
 }
 
 /// What is printed behind a refusal's name: where, or which field.
@@ -87,7 +70,7 @@ fn refusal_line(alloc: Global, number: usize, refusal: &Refusal) -> Result<Vec<u
 fn fault_line(alloc: Global, number: usize, fault: ScriptFault) -> Result<Vec<u8>, AllocError>
     ensures { IfOk result (λ text. text.items ≡ fault_line number fault) }
 {
-    let name = fault_name(fault);
+    let name = fault.name();
     Ok(format!(in alloc; "! {number}: script {name}\n")?.into_bytes())
 }
 

@@ -1,0 +1,127 @@
+//! What is wrong with a line that is no command, in words.
+
+ghost use Rattle.std.specs.Prelude.{◌≡◌, ◌≤◌, IfOk, length};
+ghost use Rattle.std.specs.List.{prefix_len};
+ghost use Rattle.trace_explain.specs.Wording as wording;
+
+use crate::caret::{Stand, is_end};
+use crate::filter_due::is_quote;
+use crate::starts::next_stand;
+use std::alloc::{AllocError, Global};
+use trace_lex::{blanks_len, is_blank, rest_of};
+use trace_script::ScriptFault;
+
+/// How many bytes come before the end of a word.
+fn written_word_len(text: &[u8]) -> usize
+    ensures value { result ≡ prefix_len wording.is_in_word text.now }
+    ensures bound { result ≤ length text.now }
+{
+    text.iter()
+        .take_while(|byte| !(is_blank(**byte) || **byte == b'>'))
+        .count()
+}
+
+/// The word that some bytes of a line begin with, as it is written.
+pub(crate) fn word_of(text: &[u8]) -> &[u8]
+    ensures { result.now ≡ wording.word_of text.now }
+{
+    &text[..written_word_len(text)]
+}
+
+/// Whether a word ends before a byte.
+fn ends_word(stand: Stand, byte: u8) -> bool
+    ensures { result ≡ wording.ends_word stand byte }
+{
+    match stand {
+        Stand::InQuotes(_) => false,
+        _ => is_end(byte),
+    }
+}
+
+/// Whether a byte is one of the word's, and no quote around some of it.
+fn is_kept(stand: Stand, byte: u8) -> bool
+    ensures { result ≡ wording.is_kept stand byte }
+{
+    match stand {
+        Stand::InQuotes(quote) => byte != quote,
+        _ => !is_quote(byte),
+    }
+}
+
+/// The word that some bytes begin with, without its quotes.
+#[tactic(auto, using(crate::proofs::CaretLemmas::more_offsets))]
+fn unquoted(alloc: Global, text: &[u8]) -> Result<Vec<u8>, AllocError>
+    ensures { IfOk result (λ word. word.items ≡ wording.unquoted_from Stand.InWord text.now) }
+{
+    let mut word = Vec::new(alloc);
+    let mut stand = Stand::InWord;
+    for byte in text {
+        if ends_word(stand, *byte) {
+            return Ok(word);
+        }
+        if is_kept(stand, *byte) {
+            word.push(*byte)?;
+        }
+        stand = next_stand(stand, *byte);
+    }
+    Ok(word)
+}
+
+/// The first word of a line, without its quotes.
+pub(crate) fn name_of(alloc: Global, line: &[u8]) -> Result<Vec<u8>, AllocError>
+    ensures { IfOk result (λ name. name.items ≡ wording.name_of line.now) }
+{
+    unquoted(alloc, rest_of(line, blanks_len(line)))
+}
+
+/// How a line of this name is written.
+#[tactic(auto, unfolding(crate::specs::Wording::usage_words))]
+fn usage_words(name: &[u8]) -> &'static str
+    ensures { result.now ≡ wording.usage_words name.now }
+{
+    if name == b"emit".as_slice() {
+        "expected `emit CPU PID EVENT FIELD=VALUE ..`"
+    } else if name == b"echo".as_slice() {
+        "expected `echo WORD .. > PATH`, or `>>`"
+    } else if name == b"cat".as_slice() {
+        "expected `cat PATH`"
+    } else if name == b"take".as_slice() {
+        "expected `take N PATH`"
+    } else if name == b"mkdir".as_slice() {
+        "expected `mkdir PATH`"
+    } else if name == b"rmdir".as_slice() {
+        "expected `rmdir PATH`"
+    } else {
+        "expected nothing more"
+    }
+}
+
+#[tactic(auto, unfolding(crate::specs::Wording::block_words))]
+fn block_words(name: &[u8]) -> &'static str
+    ensures { result.now ≡ wording.block_words name.now }
+{
+    if name == b"thread".as_slice() || name == b"end".as_slice() {
+        "no parallel part is open here"
+    } else if name == b"parallel".as_slice() {
+        "expected `parallel` outside a part, with an `end` after it"
+    } else {
+        "expected `thread` before the first command of a part"
+    }
+}
+
+/// What is wrong with a line that is no command, and begins with a word of this name.
+#[tactic(auto, unfolding(crate::specs::Wording::fault_words))]
+pub(crate) fn fault_words(name: &[u8], fault: ScriptFault) -> &'static str
+    ensures { result.now ≡ wording.fault_words name.now fault }
+{
+    match fault {
+        ScriptFault::LineTooLong => "the line has over 4,096 bytes",
+        ScriptFault::BadByte => "this byte is neither a tab nor one from 0x20 to 0x7e",
+        ScriptFault::UnclosedQuote => "this quote is not closed",
+        ScriptFault::UnknownCommand => "unknown command",
+        ScriptFault::WrongWords => usage_words(name),
+        ScriptFault::BadNumber => "expected a number in its range",
+        ScriptFault::BlockOutOfPlace => block_words(name),
+        ScriptFault::TooManyThreads => "a parallel part has at most eight threads",
+    }
+}

@@ -1,0 +1,146 @@
+//! What is wrong with what is written to a `trigger` file, where it is neither a hist trigger nor a snapshot trigger.
+
+ghost use Rattle.std.specs.Prelude.{◌≡◌, ◌≤◌, ◌+◌, ◌-◌, ◌^◌, length};
+ghost use Rattle.std.specs.List.{list_all};
+ghost use Rattle.trace_lex.specs.Blanks as blanks;
+ghost use Rattle.trace_lex.specs.Decimals as decimals;
+ghost use Rattle.trace_explain.specs.TriggerDue as triggers;
+
+use crate::cut::{after, first_word, word_len};
+use crate::hist_due::begins;
+use trace_lex::{blanks_len, decimal_number, is_blank, rest_of};
+
+/// What is due instead of what is written.
+#[derive(Clone, Copy, PartialEq, Eq)]
+pub(crate) enum TriggerDue {
+    /// `hist:` or `snapshot`, without the blank before it.
+    Unblank,
+    /// `hist:` or `snapshot`.
+    Word,
+    /// The end of the word, or `:` and a count.
+    Colon,
+    Count,
+    /// `if` and a filter.
+    Condition,
+    Filter,
+}
+
+fn are_blanks(text: &[u8]) -> bool
+    ensures { result ≡ list_all blanks.is_blank text.now }
+{
+    text.iter().all(|byte| is_blank(*byte))
+}
+
+/// What is due after the word and the blanks that follow it.
+fn tail_due(rest: &[u8]) -> TriggerDue
+    ensures { result ≡ triggers.tail_due rest.now }
+{
+    if begins(b"if", rest) && are_blanks(after(2, rest)) {
+        TriggerDue::Filter
+    } else {
+        TriggerDue::Condition
+    }
+}
+
+fn is_count(digits: &[u8]) -> bool
+    ensures { result ≡ triggers.is_count (decimals.up_to (2 ^ 32 - 1) (decimals.decimal_number digits.now)) }
+{
+    match decimal_number(digits, 4_294_967_295) {
+        Some(count) => count > 0,
+        None => false,
+    }
+}
+
+/// What is due by the rest of a word that begins with `snapshot`, and what follows the blanks after the word.
+fn count_due(word: &[u8], rest: &[u8]) -> TriggerDue
+    ensures { result ≡ triggers.count_due word.now rest.now }
+{
+    match word {
+        [] => tail_due(rest),
+        [b':', digits @ ..] if is_count(digits) => tail_due(rest),
+        [b':', ..] => TriggerDue::Count,
+        _ => TriggerDue::Colon,
+    }
+}
+
+/// How many bytes the word and the blanks after it have.
+fn after_gap(body: &[u8]) -> usize
+    ensures value { result ≡ triggers.after_gap body.now }
+    ensures bound { result ≤ length body.now }
+{
+    let word = word_len(body);
+    word + blanks_len(rest_of(body, word))
+}
+
+/// What is due by all that follows an optional `!`.
+fn body_due(body: &[u8]) -> TriggerDue
+    ensures { result ≡ triggers.body_due body.now }
+{
+    if blanks_len(body) > 0 {
+        TriggerDue::Unblank
+    } else if begins(b"snapshot", body) {
+        let tail = after(word_len(body), body);
+        count_due(after(8, first_word(body)), after(blanks_len(tail), tail))
+    } else {
+        TriggerDue::Word
+    }
+}
+
+fn due_offset(due: TriggerDue, body: &[u8]) -> usize
+    ensures value { result ≡ triggers.due_offset due body.now }
+    ensures bound { result ≤ length body.now + 9 }
+{
+    match due {
+        TriggerDue::Unblank | TriggerDue::Word => 0,
+        TriggerDue::Colon => 8,
+        TriggerDue::Count => 9,
+        TriggerDue::Condition => after_gap(body),
+        TriggerDue::Filter => body.len(),
+    }
+}
+
+fn mark_len(text: &[u8]) -> usize
+    ensures value { result ≡ triggers.mark_len text.now }
+    ensures bound { result ≤ 1 }
+{
+    if begins(b"!", text) { 1 } else { 0 }
+}
+
+/// What is due in a text.
+#[tactic(auto, unfolding(crate::specs::TriggerDue::trigger_due))]
+fn trigger_due(text: &[u8]) -> TriggerDue
+    ensures { result ≡ triggers.trigger_due text.now }
+{
+    body_due(after(mark_len(text), text))
+}
+
+/// Where it is due.
+#[tactic(auto, unfolding(crate::specs::TriggerDue::trigger_offset))]
+pub(crate) fn trigger_offset(text: &[u8]) -> usize
+    ensures { result ≡ triggers.trigger_offset text.now }
+{
+    let len = mark_len(text);
+    let body = after(len, text);
+    len + due_offset(body_due(body), body)
+}
+
+#[tactic(auto, unfolding(crate::specs::TriggerDue::trigger_due_words))]
+fn due_words(due: TriggerDue) -> &'static str
+    ensures { result.now ≡ triggers.trigger_due_words due }
+{
+    match due {
+        TriggerDue::Unblank => "no blank may come before `hist:` or `snapshot`",
+        TriggerDue::Word => "expected `hist:` or `snapshot`",
+        TriggerDue::Colon => "expected a blank, or `:` and a count",
+        TriggerDue::Count => "expected a count from 1 to 4,294,967,295",
+        TriggerDue::Condition => "expected `if` and a filter",
+        TriggerDue::Filter => "expected a filter",
+    }
+}
+
+/// What is wrong with a text that is no trigger.
+pub(crate) fn trigger_due_words(text: &[u8]) -> &'static str
+    ensures { result.now ≡ triggers.trigger_due_words (triggers.trigger_due text.now) }
+{
+    due_words(trigger_due(text))
+}
