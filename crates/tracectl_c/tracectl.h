@@ -3,10 +3,10 @@
  * What each call leaves, and its status, is proved for every history (crates/tracectl_c/src/lib.rt). Nothing checks the C side, so the proof
  * holds only if the caller upholds this:
  *
- *  - A handle is zero bytes (TRACECTL_CLOSED) before it is opened first. Only these functions change it, and it is not copied.
+ *  - A handle is set to TRACECTL_CLOSED (all zeros) before it is first opened. Only these functions change it, and it is not copied.
  *  - One call at a time works on a handle, on the thread that opened it. Each thread may have handles of its own.
  *  - No pointer is null. A string is a pointer to bytes that nobody writes during the call, and how many they are, below 2^63; its last byte
- *    need not be 0. A string of no bytes has a pointer too. What a call writes to lies apart from all else that it is given.
+ *    need not be 0. A string of no bytes has a pointer too. Memory that a call writes to overlaps none of its other arguments.
  *  - No call comes from a signal handler, nor from the child of a fork in a process with threads.
  *  - malloc, realloc and free come from one allocator, and align blocks to 16 bytes. They may refuse memory: the call is then refused
  *    (TRACECTL_MEMORY), and has changed nothing.
@@ -62,7 +62,7 @@ uint32_t tracectl_close(tracectl *handle);
 
 /* ---- Commands. One that is done becomes the next entry of the history; one that is refused changes nothing but the reply. ---- */
 
-/* A line of a script (docs/SCRIPTS.md), without its newline. A blank line and a comment do nothing. */
+/* A line of a script (docs/FILES.md), without its newline. A blank line and a comment do nothing. */
 uint32_t tracectl_line(tracectl *handle, const char *line, size_t line_length);
 
 /* An event happens on a CPU, in a process. Its fields are NAME=VALUE each, with a byte 0 between each two: "prev=1\0next=2". A value is
@@ -78,9 +78,14 @@ uint32_t tracectl_append(tracectl *handle, const char *path, size_t path_length,
 uint32_t tracectl_read(tracectl *handle, const char *path, size_t path_length);
 uint32_t tracectl_take(tracectl *handle, const char *path, size_t path_length, uint64_t limit);
 
-/* ---- What there is to tell. None of these is a command, and none changes the reply. ---- */
+/* ---- The last outcome. ---- */
 
-/* How many bytes the last command replied: what it read, or the name of the field whose value is wrong (N21 BadRow); else 0. */
+/* Lists the files that there are, as `tracectl --list` does: a line for each, which has r, w or rw, a space and the file's path. The list is the
+ * reply until the next command or list. */
+uint32_t tracectl_files(tracectl *handle);
+
+/* How many bytes the reply has: what the last command read, or the name of the field whose value is wrong (N21 BadRow), or the list; else 0. None of
+ * the calls from here on changes the reply. */
 size_t tracectl_reply_length(tracectl *handle);
 
 /* Copies the reply from this byte on, as far as there is room, and returns how many bytes. */

@@ -1,4 +1,4 @@
-/* Declares an event, emits it a million times, and reads how a CPU's ring and a histogram stand. examples/c/build says how it is built. */
+/* Declares an event, emits it a million times, and reads a ring's statistics and a histogram. examples/c/build says how it is built. */
 #include <stdio.h>
 #include <string.h>
 
@@ -23,7 +23,7 @@ static int show(tracectl *tracer, const char *path) {
     return 1;
 }
 
-/* Emits `tick`, with a field n below eight, so many times. */
+/* Emits `tick`, with a field n below eight, count times. */
 static int emit(tracectl *tracer, unsigned count) {
     char fields[] = "n=0";
     for (unsigned i = 0; i < count; i++) {

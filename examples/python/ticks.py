@@ -1,4 +1,4 @@
-"""Declares an event, emits it a few times, and shows what became of that."""
+"""Declares an event, emits it a few times, and shows the result."""
 from tracectl import Refused, Tracer
 
 with Tracer(pages=2, page_bytes=64) as tracer:

@@ -1,8 +1,8 @@
 """tracectl by ctypes: a tracer whose calls are methods. TRACECTL_LIBRARY names the shared object, which examples/c/build makes."""
 import ctypes
+import functools
 import os
 
-NOT_OPEN = 200
 NO_OFFSET = ctypes.c_size_t(-1).value
 
 
@@ -54,21 +54,9 @@ class Tracer:
         count = self._call("reply", ctypes.c_size_t(0), room, ctypes.c_size_t(len(room)))
         return room.raw[:count]
 
-    def line(self, line):
-        return self._ask("line", line)
-
     def emit(self, event, cpu=0, process=0, **fields):
         text = b"\0".join(b"%s=%s" % (name.encode(), str(value).encode()) for name, value in fields.items())
         self._ask("emit", event, ctypes.c_uint32(cpu), ctypes.c_int32(process), text)
-
-    def write(self, path, text):
-        self._ask("write", path, text)
-
-    def append(self, path, text):
-        self._ask("append", path, text)
-
-    def read(self, path):
-        return self._ask("read", path)
 
     def take(self, path, limit):
         return self._ask("take", path, ctypes.c_uint64(limit))
@@ -84,3 +72,7 @@ class Tracer:
 
     def __exit__(self, *error):
         self.close()
+
+
+for name in ("line", "write", "append", "read", "files"):  # line(text), write(path, text), append(path, text), read(path), files()
+    setattr(Tracer, name, functools.partialmethod(Tracer._ask, name))

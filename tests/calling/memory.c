@@ -40,6 +40,8 @@ static uint32_t taken(void) { return tracectl_take(&tracer, TEXT("per_cpu/cpu1/t
 
 static uint32_t read_hist(void) { return tracectl_read(&tracer, TEXT("events/synthetic/long_named_event/hist")); }
 
+static uint32_t listed(void) { return tracectl_files(&tracer); }
+
 /* Makes a call until it is done. Tells whether each refusal was one of memory, and left the history as it was. */
 static int is_done(const char *name, uint32_t (*call)(void)) {
     uint64_t entries = tracectl_entries(&tracer);
@@ -53,9 +55,9 @@ static int is_done(const char *name, uint32_t (*call)(void)) {
 }
 
 int main(void) {
-    int done = enabled() == TRACECTL_NOT_OPEN && tracectl_close(&tracer) == TRACECTL_NOT_OPEN && is_done("open", opened)
-        && opened() == TRACECTL_ALREADY_OPEN && is_done("append", declared) && is_done("line", enabled) && is_done("write", filtered)
-        && is_done("trigger", counted) && is_done("emit", emitted) && is_done("take", taken) && is_done("read", read_hist);
+    int done = enabled() == TRACECTL_NOT_OPEN && listed() == TRACECTL_NOT_OPEN && tracectl_close(&tracer) == TRACECTL_NOT_OPEN
+        && is_done("open", opened) && opened() == TRACECTL_ALREADY_OPEN && is_done("append", declared) && is_done("line", enabled) && is_done("write", filtered)
+        && is_done("trigger", counted) && is_done("emit", emitted) && is_done("take", taken) && is_done("read", read_hist) && is_done("files", listed);
     printf("entries: %llu\n", (unsigned long long)tracectl_entries(&tracer));
     return tracectl_close(&tracer) || !done;
 }

@@ -1,4 +1,4 @@
-"""The library for C and Python: its examples, and scripts of tests/rows done by it line by line."""
+"""The library for C and Python: its examples, and scripts of tests/rows done by it line by line, with the list of files after them."""
 import atexit
 import os
 import shutil
@@ -16,14 +16,17 @@ PYTHON = TOP / "examples" / "python"
 OPTIONS = {"--cpus": "cpus", "--pages": "pages", "--page-bytes": "page_bytes"}
 
 
-def lacking():
-    """What there is not to build the examples with, if anything."""
+def unusable():
+    """What there is not to use the library by, if anything."""
     compiler = os.environ.get("CC", "cc")
     if not shutil.which(compiler):
         return "there is no C compiler %s" % compiler
-    if not shutil.which("rt"):
-        return "there is no rt"
-    return None if LIBRARY.exists() else "there is no %s: rt lib makes it there" % LIBRARY.relative_to(TOP)
+    return None if shutil.which("rt") else "there is no rt"
+
+
+def lacking():
+    """What there is not to build the examples with, if anything."""
+    return unusable() or (None if LIBRARY.exists() else "there is no %s: tests/archive makes it, after rt ci" % LIBRARY.relative_to(TOP))
 
 
 def built():
@@ -50,9 +53,16 @@ def is_plain(script):
 
 
 def by_lines(tracer_of, script):
-    """What a script's lines reply, one after another."""
+    """What a script's lines reply, one after another, and which files are listed after them."""
     with tracer_of(**settings_of(words_of(script))) as tracer:
-        return b"".join(tracer.line(line) for line in script.read_bytes().split(b"\n"))
+        return b"".join(tracer.line(line) for line in script.read_bytes().split(b"\n")), tracer.files()
+
+
+def called(program, tracer_of, script):
+    """That calls reply to a script's lines as the program does, and list the files that it lists."""
+    replies, files = by_lines(tracer_of, script)
+    listed = run([program, "--list"] + words_of(script), script=script.read_bytes()).stdout
+    return text_differences("replies", replies, wanted(script).stdout) + text_differences("replies and the list", replies + files, listed)
 
 
 def example_case(name, command, folder, stdout):
@@ -73,7 +83,7 @@ def calling_cases():
         return Tracer(library=str(folder / "libtracectl.so"), **settings)
 
     def script_case(script):
-        return Case("by calls: " + script.name, lambda _: text_differences("replies", by_lines(tracer_of, script), wanted(script).stdout))
+        return Case("by calls: " + script.name, lambda program: called(program, tracer_of, script))
 
     return [
         example_case("examples/c/million.c", [folder / "million"], folder, TOP / "examples" / "c" / "million.stdout"),

@@ -110,6 +110,7 @@ unfolding fields_in pairs_in
 all_read text rest items so_far none =
     ap (or_fault WrongWords) (sym so_far ∙ ap (λ (rest : List ℕ). option_map (λ more. items ++ more) (pairs_in (fields_in rest))) (is_nil rest none)) ∙ ap Ok (append-nil items)
 
-pub gives_err : {A : Type 0} (r : Result A LineError) (error : LineError) (read : Result A ScriptFault) → IsErrAnd r (λ e. e ≡ error) → Fails error read → Gives (λ a. a) r read
-gives_err (Ok a) error read is fails = absurd is
-gives_err (Err e) error read is fails = subst (λ x. Fails x read) (sym is) fails
+pub gives_err : {A B : Type 0} (seen : A → B) (r : Result A LineError) (error : LineError) (read : Result B ScriptFault) → IsErrAnd r (λ e. e ≡ error) → Fails error read
+    → Gives seen r read
+gives_err seen (Ok a) error read is fails = absurd is
+gives_err seen (Err e) error read is fails = subst (λ x. Fails x read) (sym is) fails

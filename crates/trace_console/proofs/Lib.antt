@@ -1,2 +1,3 @@
 pub mod ConsoleLemmas
 pub mod FieldLemmas
+pub mod ListedLemmas

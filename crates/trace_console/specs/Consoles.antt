@@ -4,7 +4,7 @@ use Rattle.trace_command.specs.declared.command.Command.{Command}
 use Rattle.trace_command.specs.declared.command.Command.TheVariants.{Emit}
 use Rattle.trace_command.specs.declared.command.Entry.{Entry}
 use Rattle.trace_command.specs.declared.command.Reply.{Reply}
-use Rattle.trace_command.specs.declared.command.Reply.TheVariants.{Done}
+use Rattle.trace_command.specs.declared.command.Reply.TheVariants.{Done, Text}
 use Rattle.trace_command.specs.declared.refusal.Refusal.{Refusal}
 use Rattle.trace_command.specs.declared.refusal.Refusal.TheVariants.{Memory}
 use Rattle.trace_format.specs.declared.pair.Pair.{Pair}
@@ -20,6 +20,7 @@ use Rattle.trace_script.specs.declared.outcome.Outcome.{Outcome}
 use Rattle.trace_script.specs.declared.outcome.Outcome.TheVariants.{Replied, Refused, Fault}
 use Rattle.trace_console.specs.ConsolesSeen.{ConsoleSeen}
 use Rattle.trace_console.specs.Fields.{fields_in, pairs_in}
+use Rattle.trace_console.specs.ListedFiles.{files_after}
 
 -- so many entries, each with a ticket below their number
 pub record IsCounted (count : ℕ) (entries : List Entry) : Type 0 where
@@ -70,6 +71,10 @@ after_pairs event cpu pid (Some pairs) before = after_command (Emit event cpu pi
 -- an emission of a string of fields
 abbrev pub after_emission : List ℕ → ℕ → ℤ → List ℕ → ConsoleSeen → ConsoleSeen
 after_emission event cpu pid fields before = after_pairs event cpu pid (pairs_in (fields_in fields)) before
+
+-- a list of the files, which is no command
+abbrev pub after_listing : ConsoleSeen → ConsoleSeen
+after_listing before = with_last (Replied (Text (files_after before.config before.entries))) before
 
 -- what is told of a line that was not read
 abbrev pub failed : LineError → Outcome

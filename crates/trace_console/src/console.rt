@@ -6,16 +6,18 @@ ghost use Rattle.trace_command.specs.declared.command.Command.{Command as Comman
 ghost use Rattle.trace_command.specs.declared.command.Command.TheVariants as commands;
 ghost use Rattle.trace_command.specs.declared.command.Reply.TheVariants as replies;
 ghost use Rattle.trace_command.specs.declared.refusal.Refusal.TheVariants as refusals;
-ghost use Rattle.trace_console.specs.Consoles.{ComesTo, after_command, after_emission, after_line, failed, with_last};
+ghost use Rattle.trace_console.specs.Consoles.{ComesTo, after_command, after_emission, after_line, after_listing, failed, with_last};
 ghost use Rattle.trace_console.specs.Statuses.{offset_in, reply_in, status_of};
 ghost use Rattle.trace_script.specs.declared.outcome.Outcome.TheVariants as outcomes;
 
 use crate::fields::pairs;
+use crate::files::files_of;
 use crate::status;
 use std::alloc::{AllocError, Global};
 use std::marker::Model;
 use trace_book::Book;
-use trace_command::{Command, Config, Refusal, Reply};
+use trace_command::{BorrowedEmission, Command, Config, Refusal, Reply};
+use trace_lex::Text;
 use trace_script::{Line, LineError, Outcome, ScriptFault, prepare};
 
 /// The caller's number, under which its commands stand in the history.
@@ -25,6 +27,7 @@ const CALLER: u32 = 0;
 #[derive(Drop)]
 pub struct Console {
     alloc: Global,
+    cpus: u32,
     book: Book,
     done: u64,
     last: Outcome,
@@ -37,9 +40,10 @@ impl Model for Console {
 
     ghost view = { λ c. record { config = c.book.config; entries = c.book.entries; last = c.last } };
 
+    ghost use Rattle.std.specs.Prelude.{◌≡◌};
     ghost use Rattle.trace_console.specs.Consoles.{IsCounted};
 
-    ghost invariant = { λ c. IsCounted c.done c.book.entries };
+    ghost invariant = { λ c. IsCounted c.done c.book.entries × (c.cpus ≡ c.book.config.cpus) };
 }
 
 impl Console {
@@ -52,6 +56,7 @@ impl Console {
     {
         Ok(Console {
             alloc,
+            cpus: config.cpus,
             book: Book::new(alloc, config)?,
             done: 0,
             last: Outcome::Replied(Reply::Done),
@@ -68,6 +73,24 @@ impl Console {
             return;
         };
         match self.book.ask(self.done, CALLER, command) {
+            Ok(reply) => {
+                self.done = next;
+                self.last = Outcome::Replied(reply);
+            }
+            Err(refusal) => self.last = Outcome::Refused(refusal),
+        }
+    }
+
+    /// Does an emission, as `ask` does a command.
+    #[tactic(auto, using(crate::proofs::ConsoleLemmas::one_more, crate::proofs::ConsoleLemmas::refused, crate::proofs::ConsoleLemmas::without_memory))]
+    fn ask_emission(&mut self, emission: &BorrowedEmission<'_>)
+        ensures { ComesTo (after_command emission.now self.old) self.old self.new }
+    {
+        let Some(next) = self.done.checked_add(1) else {
+            self.last = Outcome::Refused(Refusal::Memory);
+            return;
+        };
+        match self.book.ask_emission(self.done, CALLER, emission) {
             Ok(reply) => {
                 self.done = next;
                 self.last = Outcome::Replied(reply);
@@ -119,7 +142,7 @@ impl Console {
         ensures status { result ≡ status_of self.new.last }
     {
         match pairs(self.alloc, fields) {
-            Ok(pairs) => self.ask_made(Command::emit(self.alloc, event, cpu, pid, pairs)),
+            Ok(pairs) => self.ask_emission(&BorrowedEmission::new(event, cpu, pid, &pairs)),
             Err(error) => self.tell(failed(error)),
         }
         self.status()
@@ -158,6 +181,19 @@ impl Console {
         ensures status { result ≡ status_of self.new.last }
     {
         self.ask_made(Command::take(self.alloc, path, limit));
+        self.status()
+    }
+
+    /// Lists the files that there are, as `tracectl --list` does: a line for each, which has `r`, `w` or `rw`, a space and the file's path. This is no
+    /// command.
+    pub fn files(&mut self) -> u32
+        ensures done { ComesTo (after_listing self.old) self.old self.new }
+        ensures status { result ≡ status_of self.new.last }
+    {
+        match files_of(self.alloc, &self.book, self.cpus) {
+            Ok(text) => self.tell(Outcome::Replied(Reply::Text(Text::from(text)))),
+            Err(AllocError) => self.tell(Outcome::Refused(Refusal::Memory)),
+        }
         self.status()
     }
 

@@ -8,22 +8,17 @@ ghost use Rattle.trace_script.specs.declared.fault.ScriptFault.TheVariants.{Wron
 ghost use Rattle.trace_console.specs.Fields.{fields_in, pairs_in};
 
 use std::alloc::Global;
-use trace_command::Pairs;
-use trace_format::Pair;
-use trace_lex::{Text, len_before, rest_of};
+use trace_format::BorrowedPair;
+use trace_lex::{len_before, rest_of};
 use trace_script::{LineError, ScriptFault};
 
 /// The pair that a field writes: its first `=` separates the name from the value.
 #[tactic(auto, unfolding(trace_script::specs::Lines::pair_of))]
-fn pair(alloc: Global, field: &[u8]) -> Result<Pair, LineError>
-    ensures { Gives (λ pair. pair) result (or_fault WrongWords (pair_of field.now)) }
+fn pair(field: &[u8]) -> Option<BorrowedPair<'_>>
+    ensures { result ≡ pair_of field.now }
 {
-    let Some(at) = first_equals(field) else {
-        return Err(LineError::Fault(ScriptFault::WrongWords));
-    };
-    let name = Text::from_slice(alloc, &field[..at])?;
-    let value = Text::from_slice(alloc, &field[at + 1..])?;
-    Ok(Pair { name, value })
+    let at = first_equals(field)?;
+    Some(BorrowedPair::new(&field[..at], &field[at + 1..]))
 }
 
 /// Where a field has its first `=`.
@@ -34,19 +29,16 @@ fn first_equals(field: &[u8]) -> Option<usize>
 }
 
 /// Puts the pair that a field writes at the end.
-fn push_pair(alloc: Global, pairs: &mut Vec<Pair>, field: &[u8]) -> Result<(), LineError>
+fn push_pair<'a>(pairs: &mut Vec<BorrowedPair<'a>>, field: &'a [u8]) -> Result<(), LineError>
     ensures pair { OnOk result ((pair : PairValue) × (pairs.new.items ≡ pairs.old.items ++ pair ∷ [])
         × (or_fault WrongWords (pair_of field.now) ≡ Ok pair)) }
     ensures err { IfErr result (λ error. Fails error (or_fault WrongWords (pair_of field.now))) }
 {
-    pairs.reserve(1)?;
-    match pair(alloc, field) {
-        Ok(pair) => {
-            pairs.push_reserved(pair);
-            Ok(())
-        }
-        Err(error) => Err(error),
-    }
+    let Some(pair) = pair(field) else {
+        return Err(LineError::Fault(ScriptFault::WrongWords));
+    };
+    pairs.push(pair)?;
+    Ok(())
 }
 
 /// The first field of a string, and what follows it and the byte 0 after it.
@@ -64,16 +56,16 @@ fn cut_field(text: &[u8]) -> (&[u8], &[u8])
     (field, rest_of(text, count + 1))
 }
 
-/// The pairs of a string of fields.
-pub(crate) fn pairs(alloc: Global, text: &[u8]) -> Result<Pairs, LineError>
-    ensures { Gives (λ pairs. pairs) result (or_fault WrongWords (pairs_in (fields_in text.now))) }
+/// The pairs of a string of fields, as they lie in it.
+pub(crate) fn pairs(alloc: Global, text: &[u8]) -> Result<Vec<BorrowedPair<'_>>, LineError>
+    ensures { Gives (λ pairs. pairs.items) result (or_fault WrongWords (pairs_in (fields_in text.now))) }
 {
     let mut pairs = Vec::new(alloc);
     let mut rest = text;
     while !rest.is_empty() {
         let (field, after) = cut_field(rest);
-        push_pair(alloc, &mut pairs, field)?;
+        push_pair(&mut pairs, field)?;
         rest = after;
     }
-    Ok(Pairs::from(pairs))
+    Ok(pairs)
 }

@@ -3,6 +3,7 @@
 
 mod console;
 mod fields;
+mod files;
 mod status;
 
 pub use console::Console;

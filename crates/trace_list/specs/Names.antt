@@ -32,9 +32,17 @@ no_names = record { events = []; instances = []; gone = [] }
 abbrev pub index_of : List ℕ → List (List ℕ) → Option ℕ
 index_of name names = position (λ other. bytes_eq other name) names
 
+-- one more instance
+abbrev pub with_instance : List ℕ → NamesSeen → NamesSeen
+with_instance name names = record { events = names.events; instances = names.instances ++ name ∷ []; gone = names.gone }
+
+-- one more event
+abbrev pub with_event_name : List ℕ → NamesSeen → NamesSeen
+with_event_name name names = record { events = names.events ++ name ∷ []; instances = names.instances; gone = names.gone }
+
 -- an instance was made: it is there, unless a removal of it was heard before
 abbrev pub after_making : List ℕ → Option ℕ → NamesSeen → NamesSeen
-after_making name None names = record { events = names.events; instances = names.instances ++ name ∷ []; gone = names.gone }
+after_making name None names = with_instance name names
 after_making name (Some at) names = record { events = names.events; instances = names.instances; gone = remove names.gone at }
 
 -- an instance was removed
@@ -45,7 +53,7 @@ after_removing name (Some at) names = record { events = names.events; instances 
 -- an event was declared, if one was
 abbrev pub with_event : Option Definition → NamesSeen → NamesSeen
 with_event None names = names
-with_event (Some event) names = record { events = names.events ++ event.name ∷ []; instances = names.instances; gone = names.gone }
+with_event (Some event) names = with_event_name event.name names
 
 -- the names after a request that was done
 abbrev pub after_request : Request → NamesSeen → NamesSeen

@@ -2,7 +2,7 @@
 
 ghost use Rattle.std.specs.Prelude.{◌≡◌, IfOk, OnOk, OnErr};
 ghost use Rattle.trace_command.specs.Requests.{request_of};
-ghost use Rattle.trace_list.specs.Names.{after_hearing, after_making, after_removing, after_request, declares, index_of, no_names, with_event};
+ghost use Rattle.trace_list.specs.Names.{after_hearing, after_making, after_removing, after_request, declares, index_of, no_names, with_event, with_event_name, with_instance};
 
 use std::alloc::{AllocError, Global};
 use std::marker::Model;
@@ -66,18 +66,37 @@ impl Names {
         }
     }
 
+    /// Adds an event of this name.
+    pub fn add_event(&mut self, name: &[u8]) -> Result<(), AllocError>
+        ensures ok { OnOk result (self.new ≡ with_event_name name.now self.old) }
+        ensures err { OnErr result (self.new ≡ self.old) }
+    {
+        let name = Text::from_slice(self.alloc, name)?;
+        self.events.push(name)?;
+        Ok(())
+    }
+
+    /// Adds an instance of this name.
+    pub fn add_instance(&mut self, name: &[u8]) -> Result<(), AllocError>
+        ensures ok { OnOk result (self.new ≡ with_instance name.now self.old) }
+        ensures err { OnErr result (self.new ≡ self.old) }
+    {
+        let name = Text::from_slice(self.alloc, name)?;
+        self.instances.push(name)?;
+        Ok(())
+    }
+
     fn make(&mut self, name: &[u8]) -> Result<(), AllocError>
         ensures ok { OnOk result (self.new ≡ after_making name.now (index_of name.now self.old.gone) self.old) }
         ensures err { OnErr result (self.new ≡ self.old) }
     {
         match index_of(name, &self.gone) {
-            Some(index) => drop(self.gone.remove(index)),
-            None => {
-                let name = Text::from_slice(self.alloc, name)?;
-                self.instances.push(name)?;
+            Some(index) => {
+                drop(self.gone.remove(index));
+                Ok(())
             }
+            None => self.add_instance(name),
         }
-        Ok(())
     }
 
     fn remove(&mut self, name: &[u8]) -> Result<(), AllocError>
@@ -99,11 +118,10 @@ impl Names {
         ensures ok { OnOk result (self.new ≡ with_event (declares (request_of command.now)) self.old) }
         ensures err { OnErr result (self.new ≡ self.old) }
     {
-        if let Some(event) = declared(self.alloc, command)? {
-            let name = Text::from_slice(self.alloc, event.name())?;
-            self.events.push(name)?;
+        match declared(self.alloc, command)? {
+            Some(event) => self.add_event(event.name()),
+            None => Ok(()),
         }
-        Ok(())
     }
 
     /// Notes what a command changes that was done.

@@ -1,11 +1,11 @@
 //! tracectl for C: a static library whose exports are the calls of a console. `tracectl.h` declares them and says what C must uphold.
 #![tactic(auto)]
 
-ghost use Rattle.std.specs.Prelude.{◌≡◌, ◌≢◌, None, Some, false, true, length, min, take, drop, ◌++◌, IfOk, IfErr, OnOk};
+ghost use Rattle.std.specs.Prelude.{◌≡◌, ◌≢◌, None, Some, false, true, length, min, take, drop, ◌++◌, IfSome};
 ghost use Rattle.trace_command.specs.Configs.{IsInRange};
 ghost use Rattle.trace_command.specs.declared.command.Command.{Command as CommandValue};
 ghost use Rattle.trace_command.specs.declared.command.Command.TheVariants as commands;
-ghost use Rattle.trace_console.specs.Consoles.{after_command, after_emission, after_line};
+ghost use Rattle.trace_console.specs.Consoles.{after_command, after_emission, after_line, after_listing};
 ghost use Rattle.tracectl_c.specs.Handles.{console_of};
 ghost use Rattle.tracectl_c.specs.Calls.{Does, config_of, entries_read, offset_read, opened, reply_read};
 
@@ -34,13 +34,13 @@ pub struct Settings {
     pub history_limit: u64,
 }
 
-/// A console of its own on the heap.
-fn boxed(alloc: Global, config: Config) -> Result<Box<Console, Global>, Refusal>
-    ensures made { IfOk result (λ console. console.value ≡ opened config) }
-    ensures in_range { OnOk result (IsInRange config) }
-    ensures out_of_range { ¬ IsInRange config → IfErr result (λ r. r ≡ Refusal.BadValue) }
+/// A console of its own on the heap: none if memory is refused.
+fn boxed(alloc: Global, config: Config) -> Option<Box<Console, Global>>
+    requires { IsInRange config }
+    ensures { IfSome result (λ console. console.value ≡ opened config) }
 {
-    Ok(Box::new(alloc, Console::new(alloc, config)?)?)
+    let console = Console::new(alloc, config).ok()?;
+    Box::new(alloc, console).ok()
 }
 
 /// Opens a handle: a tracer with no history. A handle that is open stays as it is.
@@ -50,6 +50,7 @@ pub extern "C" fn tracectl_open(alloc: Global, handle: &mut Handle, settings: &S
     ensures made { result ≡ 0 → (console_of handle.new ≡ Some (opened (config_of settings.now))) × IsInRange (config_of settings.now) }
     ensures refused { result ≢ 0 → console_of handle.new ≡ console_of handle.old }
     ensures out_of_range { console_of handle.old ≡ None → ¬ IsInRange (config_of settings.now) → result ≡ 4 }
+    ensures memory { console_of handle.old ≡ None → IsInRange (config_of settings.now) → result ≢ 0 → result ≡ 23 }
 {
     if handle.is_open() {
         return ALREADY_OPEN;
@@ -60,13 +61,14 @@ pub extern "C" fn tracectl_open(alloc: Global, handle: &mut Handle, settings: &S
         page_bytes: settings.page_bytes,
         history_limit: settings.history_limit,
     };
-    match boxed(alloc, config) {
-        Ok(console) => {
-            handle.keep(console);
-            0
-        }
-        Err(refusal) => u32::from(refusal.number()),
+    if !config.is_in_range() {
+        return u32::from(Refusal::BadValue.number());
     }
+    let Some(console) = boxed(alloc, config) else {
+        return u32::from(Refusal::Memory.number());
+    };
+    handle.keep(console);
+    0
 }
 
 /// Does a line of a script.
@@ -160,6 +162,19 @@ pub extern "C" fn tracectl_take(alloc: Global, handle: &mut Handle, path: &[u8],
         return NOT_OPEN;
     };
     let status = console.take(path, limit);
+    handle.keep(console);
+    status
+}
+
+/// Lists the files that there are, as `tracectl --list` does. The list is the reply.
+#[unsafe(no_mangle)]
+pub extern "C" fn tracectl_files(alloc: Global, handle: &mut Handle) -> u32
+    ensures { Does after_listing (console_of handle.old) (console_of handle.new) result }
+{
+    let Some(mut console) = handle.take(alloc) else {
+        return NOT_OPEN;
+    };
+    let status = console.files();
     handle.keep(console);
     status
 }

@@ -4,7 +4,7 @@ use Rattle.trace_console.proofs.fields.pairs.Goals as goal
 
 pub returns-in_err-push_pair : goal.returns-in_err-push_pair
 returns-in_err-push_pair c =
-    gives_err _ _ _ c.from_residual.ensures.1
+    gives_err _ _ _ _ c.from_residual.ensures.1
     (no_pair_read _ _ _ _ _ _ c.loop-rest.invariant c.cut_field.ensures.field c.in_err-push_pair.ensures.err)
 
 pub loop-rest-preserved : goal.loop-rest-preserved
@@ -13,4 +13,4 @@ loop-rest-preserved c =
     rw pushed.1 (pair_read _ _ _ _ _ _ c.loop-rest.invariant c.cut_field.ensures.field pushed.2)
 
 pub returns : goal.returns
-returns c = rw c.from.ensures (all_read _ _ _ c.loop-rest.invariant (sym c.is_empty.ensures ∙ c.loop-rest-test.false))
+returns c = all_read _ _ _ c.loop-rest.invariant (sym c.is_empty.ensures ∙ c.loop-rest-test.false)
