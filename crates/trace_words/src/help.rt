@@ -8,7 +8,7 @@ pub(crate) const USAGE: &str = "tracectl [OPTIONS] SCRIPT
        tracectl [OPTIONS] -c LINE ..";
 
 pub(crate) const ABOUT: &str =
-    "The control side of a tracer, without a kernel: does the commands of a script, and prints what they read.";
+    "The control side of a tracer, without a kernel: runs the commands of a script and prints what they read.";
 
 /// What follows the options.
 pub(crate) const MORE: &str = "\
@@ -19,7 +19,7 @@ Scripts:
   cat PATH                           reads a file
   take N PATH                        reads at most N records of a pipe
   mkdir PATH, rmdir PATH             make and remove an instance
-  parallel, thread, end              threads of commands that are done side by side
+  parallel, thread, end              threads whose commands run concurrently
 
 Files:
   The files are those of Linux tracefs:
@@ -28,7 +28,7 @@ Files:
   events/enable                      the switches of all events
   trace, trace_pipe                  records of all CPUs: to look at, to consume
   per_cpu/cpuN/..                    trace, trace_pipe and stats of one CPU
-  snapshot                           records that were set aside
+  snapshot                           the records of the last snapshot
   tracing_on, options/overwrite      whether to record, and to overwrite older records
   instances/NAME/..                  the same files of an instance
 
@@ -46,6 +46,6 @@ Exit status:
   0  every command succeeded
   1  a command was refused, as a line of the output says; the others succeeded
   2  the command line is wrong, a number is out of range, or the script has a fault
-  3  out of memory
+  3  out of memory, or a thread could not be started
   4  reading or writing failed, or SCRIPT can't be opened
   5  ./tracectl could not build the program, or, under --try, not run it to its end";

@@ -85,18 +85,13 @@ fn flag<'a>(alloc: Global, name: &'a str, help: &'a str) -> Arg<'a> {
 
 /// A command with the options of the configuration too.
 fn with_config<'a>(alloc: Global, command: Command<'a>) -> Result<Command<'a>, AllocError> {
-    let cpus = option(alloc, CPUS, "1", "How many CPUs there are, 1 to 8");
-    let pages = option(
-        alloc,
-        PAGES,
-        "16",
-        "How many pages a CPU's ring has, 2 to 1024",
-    );
+    let cpus = option(alloc, CPUS, "1", "Number of CPUs, 1 to 8");
+    let pages = option(alloc, PAGES, "16", "Pages per ring, 2 to 1024");
     let page_bytes = option(
         alloc,
         PAGE_BYTES,
         "4080",
-        "How many bytes a page has, 64 to 4080, a multiple of 8",
+        "Bytes per page, 64 to 4080, a multiple of 8",
     );
     command.arg(cpus)?.arg(pages)?.arg(page_bytes)
 }
@@ -116,7 +111,7 @@ fn with_notes<'a>(alloc: Global, command: Command<'a>) -> Result<Command<'a>, Al
     let list = flag(
         alloc,
         LIST,
-        "After the script, print the files that there are, each after r, w or rw",
+        "After the script, list the files, each with r, w or rw before it",
     );
     command.arg(explain)?.arg(bars)?.arg(list)
 }
@@ -138,7 +133,7 @@ fn with_script<'a>(alloc: Global, command: Command<'a>) -> Result<Command<'a>, A
         .num_args(1..)
         .action(ArgAction::Append)
         .conflicts_with(SCRIPT)?
-        .help("Lines to do in place of a SCRIPT, a word each");
+        .help("Run these lines instead of SCRIPT, one line per argument");
     let script = Arg::new(alloc, SCRIPT)
         .required_unless_present(LINE)?
         .help("A file, or - for standard input");
