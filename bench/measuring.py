@@ -1,14 +1,19 @@
-"""What the scripts beside this one have in common: programs are run in turns, and their time or their instructions are measured."""
+"""What the scripts beside this one have in common: programs are run in turns, and their time, their instructions or their
+memory is measured."""
+import fcntl
 import os
 import re
 import statistics
+import struct
 import subprocess
 import sys
 import tempfile
+import termios
 import time
 
 TOP = os.path.dirname(os.path.dirname(os.path.abspath(__file__)))
 RUNS = 12
+MOST_SCRIPT_BYTES = 16 * 1024 * 1024  # the program refuses longer scripts
 
 
 def program_of(crate):
@@ -78,3 +83,56 @@ def costs_of(runs, as_instructions):
             with open(path, "w") as file:
                 file.write(text)
         return "ns", [seconds * 1e9 for seconds in least_times([(words, path) for (words, _), path in zip(runs, paths)])]
+
+
+# A pipe of a page, and reads whose replies are more than it takes.
+PIPE_BYTES = 4096
+LAST_READS = ["cat per_cpu/cpu0/stats"] * (PIPE_BYTES // 64)
+
+
+def skip(pipe, count):
+    """Reads so many bytes away."""
+    while count > 0:
+        count -= len(os.read(pipe, min(count, PIPE_BYTES)))
+
+
+def wait_until_still(pipe):
+    """Waits until there are bytes in a pipe, and no more come."""
+    waiting = -1
+    while True:
+        time.sleep(0.05)
+        before, waiting = waiting, struct.unpack("i", fcntl.ioctl(pipe, termios.FIONREAD, b"\0" * 4))[0]
+        if before == waiting > 0:
+            return
+
+
+def peak_of(words, script):
+    """The peak of the program's own memory in a run over these lines, in bytes: it is read while the program waits to write its last replies."""
+    with tempfile.TemporaryFile("w+") as source:
+        source.writelines(line + "\n" for line in script)
+        source.seek(0)
+        replies = subprocess.run(words, stdin=source, stdout=subprocess.PIPE, check=True).stdout
+        source.writelines(line + "\n" for line in LAST_READS)
+        source.seek(0)
+        reading, writing = os.pipe()
+        fcntl.fcntl(writing, fcntl.F_SETPIPE_SZ, PIPE_BYTES)
+        run = subprocess.Popen(words, stdin=source, stdout=writing)
+        os.close(writing)
+        skip(reading, len(replies))
+        wait_until_still(reading)
+        with open("/proc/%d/status" % run.pid) as status:
+            peak = int(re.search(r"VmHWM:\s+(\d+) kB", status.read()).group(1)) * 1024
+        with os.fdopen(reading, "rb") as rest:
+            rest.read()
+        run.wait()
+    return peak
+
+
+def most_that_fit(setup, lines_of, count):
+    """The greatest number up to this one of which a script can have the lines, after these and before the last reads."""
+    room = MOST_SCRIPT_BYTES - sum(len(line) + 1 for line in setup + LAST_READS)
+    for n in range(count):
+        room -= sum(len(line) + 1 for line in lines_of(n))
+        if room < 0:
+            return n
+    return count
