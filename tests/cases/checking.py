@@ -29,7 +29,7 @@ def checked(words, commands, settings=(), by=None):
 
 
 def check_cases():
-    counts = {"tests/program": 20, "tests/threads": 3, "tests/allocations": 10, "tests/refused": 4, "tests/devices": 7, "tests/interleaving": 9, "tests/histograms": 7, "tests/planted": 5, "tests/archive": 1}
+    counts = {"tests/program": 20, "tests/threads": 3, "tests/allocations": 10, "tests/refused": 4, "tests/devices": 7, "tests/calls": 2, "tests/interleaving": 9, "tests/histograms": 7, "tests/planted": 5, "tests/archive": 1}
     tests = {name: CHECKED % (name, count, 0, 0) for name, count in counts.items()}
     whole = dict(tests, rt=CHECKED % ("rt", 100, 0, 0))
 
@@ -43,17 +43,17 @@ def check_cases():
         return Case("./check: " + name, right)
 
     jobs = ["RT_JOBS=3"]
-    each = ["rt ci RT_JOBS=3", "tests/archive  RT_JOBS=3", "tests/program  RT_JOBS=3", "tests/threads ", "tests/allocations ", "tests/refused ", "tests/devices ", "tests/interleaving ", "tests/histograms "]
+    each = ["rt ci RT_JOBS=3", "tests/archive  RT_JOBS=3", "tests/program  RT_JOBS=3", "tests/threads ", "tests/allocations ", "tests/refused ", "tests/devices ", "tests/calls ", "tests/interleaving ", "tests/histograms "]
     no_rt = b"check: rt, the command of the Rattle kit, is needed and was not found\n"
     little = b"check: 1953 MiB of memory are free, and the largest crate needs about 4096\n"
     elsewhere = ["CDPATH=.:/", "TMPDIR=/no/such/folder"] + jobs
     return [
-        case("all of it", [], whole, each, 0, jobs, last=b"\n161 passed, 0 failed\n"),
-        case("by a link, with a CDPATH and a TMPDIR that isn't there", [], whole, each, 0, elsewhere, "link", last=b"\n161 passed, 0 failed\n"),
-        case("by a relative path, likewise", [], whole, each, 0, elsewhere, "relative", last=b"\n161 passed, 0 failed\n"),
-        case("a test that fails", [], dict(whole, **{"tests/threads": CHECKED % ("", 2, 1, 1)}), [], 1, jobs, last=b"\n160 passed, 1 failed\n"),
-        case("a gate that fails by its status alone", [], dict(whole, rt=CHECKED % ("rt", 100, 0, 1)), [], 1, jobs, last=b"\n161 passed, 1 failed\n"),
-        case("a test that prints no counts", [], dict(whole, **{"tests/program": "echo nothing"}), [], 1, jobs, last=b"\n141 passed, 1 failed\n"),
+        case("all of it", [], whole, each, 0, jobs, last=b"\n163 passed, 0 failed\n"),
+        case("by a link, with a CDPATH and a TMPDIR that isn't there", [], whole, each, 0, elsewhere, "link", last=b"\n163 passed, 0 failed\n"),
+        case("by a relative path, likewise", [], whole, each, 0, elsewhere, "relative", last=b"\n163 passed, 0 failed\n"),
+        case("a test that fails", [], dict(whole, **{"tests/threads": CHECKED % ("", 2, 1, 1)}), [], 1, jobs, last=b"\n162 passed, 1 failed\n"),
+        case("a gate that fails by its status alone", [], dict(whole, rt=CHECKED % ("rt", 100, 0, 1)), [], 1, jobs, last=b"\n163 passed, 1 failed\n"),
+        case("a test that prints no counts", [], dict(whole, **{"tests/program": "echo nothing"}), [], 1, jobs, last=b"\n143 passed, 1 failed\n"),
         case("quickly", ["--quick"], dict(tests, tracectl="echo built; [ \"$1\" = -c ]"), [], 0, last=b"\n33 passed, 0 failed\n"),
         case("quickly, and the build fails", ["--quick"], dict(whole, tracectl="exit 5"), [], 1, last=b"0 passed, 1 failed\n"),
         case("quickly, with nothing to build by", ["--quick"], dict(tests, tracectl="echo told >&2; exit 5"), [], 2, stderr=b"told\n", last=b""),
