@@ -1,7 +1,6 @@
 /* Declares an event, emits it a million times, and reads a ring's statistics and a histogram. examples/c/build says how it is built. */
 #include <stdio.h>
 #include <string.h>
-
 #include "tracectl.h"
 
 /* Does a line, and tells it if it was refused. */
@@ -14,12 +13,8 @@ static int line(tracectl *tracer, const char *text) {
 /* Prints the file of this path. */
 static int show(tracectl *tracer, const char *path) {
     char text[4096];
-    size_t from = 0, count;
     if (tracectl_read(tracer, path, strlen(path))) return 0;
-    while ((count = tracectl_reply(tracer, from, text, sizeof text))) {
-        fwrite(text, 1, count, stdout);
-        from += count;
-    }
+    for (size_t from = 0, count; (count = tracectl_reply(tracer, from, text, sizeof text)); from += count) fwrite(text, 1, count, stdout);
     return 1;
 }
 
