@@ -11,6 +11,7 @@ pub mod FittingTables
 pub mod Named
 pub mod NamedIn
 pub mod RecordBytes
+pub mod PlainRecords
 pub mod Lookups
 pub mod EachHist
 pub mod EachInstance
@@ -32,6 +33,8 @@ pub mod Writes
 pub mod Snapshotting
 pub mod Triggering
 pub mod Emitting
+pub mod Plain
+pub mod PlainRuns
 pub mod Effects
 pub mod Filtering
 pub mod MadeNames

@@ -4,6 +4,7 @@ pub mod Commands
 pub mod Emissions
 pub mod Files
 pub mod Found
+pub mod Plain
 pub mod Rows
 pub mod Tables
 pub mod SharedTables

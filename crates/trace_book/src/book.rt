@@ -14,6 +14,10 @@
 //! `commit` can be refused memory only for a spare side, a hist trigger and its table, an event or an instance, and it allocates all of that before
 //! it changes anything. Nothing is ever undone. The two phases pass on data (`Change`, `Delivery`), so `commit` never looks at the command again: it
 //! makes a step of the state, and `prepare` has shown that this is the step that the definitions give the command.
+//!
+//! Most emissions are plain (`plain.rt`): they run a shorter way, with the same two phases.
+
+mod plain;
 
 ghost use Rattle.std.specs.Prelude.{◌≡◌, ℕ, ◌+◌, ◌^◌, ◌≤◌, ◌<◌, [], ◌∷◌, ◌++◌, All, drop, length, map, is_none, is_some, IfOk, IfErr, IfSome, OnOk, OnErr, ◌≢◌, true, false};
 ghost use Rattle.std.specs.List.{slice_get};
@@ -29,7 +33,7 @@ ghost use Rattle.trace_book.specs.Instances.{InstanceStandsFor};
 ghost use Rattle.trace_book.specs.States.{StandsFor};
 ghost use Rattle.trace_command.specs.declared.refusal.Refusal.TheVariants as refusal;
 
-use crate::change::Delivery;
+use crate::change::{Delivery, Pending};
 use crate::instance::Instance;
 use crate::memory::EmissionMemory;
 use crate::resolve::event_at;
@@ -50,6 +54,8 @@ pub struct Book {
     history: History,
     state: State,
     memory: EmissionMemory,
+    // The record of the plain emission that ran last, whose memory serves the next one.
+    pending: Pending,
 }
 
 impl Model for Book {
@@ -81,6 +87,10 @@ impl Book {
             history: History::new(alloc),
             state: new_state(alloc, &config)?,
             memory: EmissionMemory::new(alloc),
+            pending: Pending {
+                cpu: 0,
+                bytes: Vec::new(alloc),
+            },
         })
     }
 
@@ -149,6 +159,32 @@ impl Book {
 
     /// As `ask`, for an emission whose strings are borrowed.
     pub fn ask_emission(
+        &mut self,
+        ticket: u64,
+        by: u32,
+        emission: &BorrowedEmission<'_>,
+    ) -> Result<Reply, Refusal>
+        requires { All (λ entry. entry.ticket < ticket) self.old.entries }
+        ensures reply { OrMemory result (answer_to self.old.config self.old.entries emission.now) }
+        ensures early { IsFoundEarly (answer_to self.old.config self.old.entries emission.now)
+            → result ≡ answer_to self.old.config self.old.entries emission.now }
+        ensures late_memory { TakesMemoryLate (request_of emission.now)
+            → IfErr (answer_to self.old.config self.old.entries emission.now) (λ r. result ≡ Err r) }
+        ensures done { OnOk result (self.new.entries
+            ≡ self.old.entries ++ record { ticket = ticket; by = by; command = emission.now } ∷ []) }
+        ensures refused { OnErr result (self.new.entries ≡ self.old.entries) }
+        ensures config { self.new.config ≡ self.old.config }
+        ensures legal { IsLegal self.new.config self.new.entries }
+    {
+        if self.ask_plain(ticket, by, emission) {
+            return Ok(Reply::Done);
+        }
+        self.ask_any(ticket, by, emission)
+    }
+
+    // As `ask_emission`, for an emission of any kind. Out of line, so that plain ones don't pay for its locals.
+    #[inline(never)]
+    fn ask_any(
         &mut self,
         ticket: u64,
         by: u32,

@@ -1,6 +1,8 @@
 //! Emissions: a row is built once, each filter is evaluated once, and each table that counts the row has its memory reserved, before any instance is
 //! written to.
 
+mod plain;
+
 ghost use Rattle.std.specs.Prelude.{◌≡◌, ℕ, ◌+◌, ◌<◌, ◌≤◌, ◌^◌, true, List, [], length, All, slice_index_or, Some, IfOk, OnOk};
 ghost use Rattle.trace_buffer.specs.Buffers as buffers;
 ghost use Rattle.trace_command.specs.Configs.{IsInRange};

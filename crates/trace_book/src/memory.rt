@@ -43,6 +43,12 @@ impl EmissionMemory {
         self.event
     }
 
+    /// Keeps the number of the event at this index, which was emitted.
+    #[inline(always)]
+    pub(crate) fn keep_event(&mut self, index: usize) {
+        self.event = u16::try_from(index).unwrap_or(0).saturating_add(1);
+    }
+
     /// The row that these pairs give for an event.
     pub(crate) fn row(
         &mut self,
@@ -73,7 +79,7 @@ impl EmissionMemory {
             record,
             ..
         } = delivery;
-        self.event = u16::try_from(event).unwrap_or(0).saturating_add(1);
+        self.keep_event(event);
         self.row = RowMemory::from(row);
         if let Some(Pending { bytes, .. }) = record {
             self.record = bytes;

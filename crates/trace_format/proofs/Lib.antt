@@ -10,6 +10,7 @@ pub mod OrderLemmas
 pub mod PairLemmas
 pub mod PartLemmas
 pub mod Patterns
+pub mod PayloadLemmas
 pub mod Payloads
 pub mod ReadingLemmas
 pub mod RefusalLemmas

@@ -15,9 +15,9 @@ use Rattle.trace_format.proofs.FieldNames.{bytes_eq-swap, fields_named, stand_by
 use Rattle.trace_format.proofs.PairLemmas.{row_is}
 
 -- each pair names the field in its index and gives it the value there
-record IsNamed (field : Field) (pair : Pair) (value : Datum) : Type 0 where
-  name : field.name ≡ pair.name
-  written : value_of field.kind pair.value ≡ Some value
+pub record IsNamed (field : Field) (pair : Pair) (value : Datum) : Type 0 where
+  pub name : field.name ≡ pair.name
+  pub written : value_of field.kind pair.value ≡ Some value
 
 abbrev AreNamed : List Field → List Pair → List Datum → Type 0
 AreNamed [] [] [] = Unit {0}
@@ -27,7 +27,7 @@ AreNamed (field ∷ fields) [] values = ⊥
 AreNamed (field ∷ fields) (pair ∷ pairs) [] = ⊥
 AreNamed (field ∷ fields) (pair ∷ pairs) (value ∷ values) = IsNamed field pair value × AreNamed fields pairs values
 
-is_named : (field : Field) (pair : Pair) (value : Datum) → named_value field pair ≡ Some value → IsNamed field pair value
+pub is_named : (field : Field) (pair : Pair) (value : Datum) → named_value field pair ≡ Some value → IsNamed field pair value
 is_named field pair value h = by (bytes_eq field.name pair.name) (bytes_eq-Decides field.name pair.name).0 h
   where
     by : (same : Bool) → (same ≡ true → field.name ≡ pair.name) → (if same then value_of field.kind pair.value else None) ≡ Some value → IsNamed field pair value

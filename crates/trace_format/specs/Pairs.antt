@@ -1,5 +1,5 @@
 -- Which row pairs of names and texts give, and where other pairs are refused.
-use Rattle.std.specs.Prelude.{◌≡◌, ◌⊎◌, ℕ, Bool, false, bytes_eq, IsTrue, List, [], ◌∷◌, ◌++◌, None, Some}
+use Rattle.std.specs.Prelude.{◌≡◌, ◌⊎◌, ℕ, Bool, false, bytes_eq, IsTrue, List, [], ◌∷◌, ◌++◌, None, Some, is_some}
 use Rattle.std.specs.List.{list_any, AllByRecursion}
 use Rattle.trace_format.specs.declared.event.Field.{Field}
 use Rattle.trace_format.specs.declared.pair.Pair.{Pair}
@@ -22,6 +22,11 @@ pub record HasPair (fields : List Field) (values : List Datum) (pair : Pair) : T
   pub value : Datum
   pub written : value_of field.kind pair.value ≡ Some value
   pub there : value_at fields values pair.name ≡ Some value
+
+-- a pair names this field, and its text is a value of it
+pub record GivesValue (field : Field) (pair : Pair) : Type 0 where
+  pub name : field.name ≡ pair.name
+  pub value : IsTrue (is_some (value_of field.kind pair.value))
 
 -- no pair has the name of one before it
 abbrev pub AreOnce : List Pair → List Pair → Type 0

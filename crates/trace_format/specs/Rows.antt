@@ -11,7 +11,7 @@ use Rattle.trace_format.specs.declared.pair.Pair.{Pair}
 use Rattle.trace_lex.specs.Numbers.{number_of}
 use Rattle.trace_format.specs.Kinds.{least, greatest}
 use Rattle.trace_format.specs.Definitions.{Definition}
-use Rattle.trace_format.specs.Cells.{Datum, Whole, Bytes, Cells, kinds_of, is_printable}
+use Rattle.trace_format.specs.Cells.{Datum, Whole, Bytes, Cells, kinds_of, is_printable, payload_of}
 
 -- a number as a value, if it is in the range
 abbrev pub number_in : ℤ → ℤ → ℤ → Option Datum
@@ -69,6 +69,11 @@ row_unless None None row = Ok row
 
 unfoldable pub row_of : Definition → List Pair → Result Cells (List ℕ)
 row_of definition pairs = row_unless (first_wrong definition.fields [] pairs) (first_missing definition.fields pairs) (record { kinds = kinds_of definition; values = filter_map (given pairs) definition.fields })
+
+-- the bytes are the payload of the row that the pairs give
+abbrev pub IsPayloadOf : Result Cells (List ℕ) → List ℕ → Type 0
+IsPayloadOf (Ok row) bytes = bytes ≡ payload_of row
+IsPayloadOf (Err name) bytes = ⊥
 
 -- what `build` answers is the row that the pairs give, unless memory was refused
 abbrev pub IsBuilt : Result Cells RowFault → Result Cells (List ℕ) → Type 0

@@ -43,7 +43,7 @@ fn encode_field(kind: Kind, value: &Value, out: &mut [u8], at: usize)
 }
 
 /// Writes a number of a type.
-fn encode_number(number_type: NumberType, number: i128, out: &mut [u8])
+pub(crate) fn encode_number(number_type: NumberType, number: i128, out: &mut [u8])
     requires held { Holds (kinds.Number number_type) (Whole number) }
     requires size { length out.old ≡ number_size number_type }
     ensures { out.new ≡ field_bytes (kinds.Number number_type) (Whole number) }
@@ -86,7 +86,7 @@ fn encode_low_bytes(number: u64, out: &mut [u8])
 }
 
 /// Writes a text, and zeros behind it.
-fn encode_text(text: &[u8], out: &mut [u8])
+pub(crate) fn encode_text(text: &[u8], out: &mut [u8])
     requires { length text.now ≤ length out.old }
     ensures { out.new ≡ text.now ++ replicate (length out.old - length text.now) 0 }
 {

@@ -21,7 +21,7 @@ pub enum Value {
 
 /// The number of a type that a text writes.
 #[tactic(auto, unfolding(crate::specs::Rows::value_of))]
-fn number_value(number_type: NumberType, text: &[u8]) -> Option<i128>
+pub(crate) fn number_value(number_type: NumberType, text: &[u8]) -> Option<i128>
     ensures { option_map Whole result ≡ value_of (kinds.Number number_type) text.now }
 {
     match number(text) {
@@ -32,7 +32,7 @@ fn number_value(number_type: NumberType, text: &[u8]) -> Option<i128>
 
 /// Whether a text fits a text field of so many bytes.
 #[tactic(auto, unfolding(crate::specs::Rows::value_of))]
-fn is_text_value(length: u8, text: &[u8]) -> bool
+pub(crate) fn is_text_value(length: u8, text: &[u8]) -> bool
     ensures { (if result then Some (Bytes text.now) else None) ≡ value_of (kinds.Char length) text.now }
 {
     text.len() < usize::from(length) && are_printable(text)

@@ -1,9 +1,9 @@
 -- The items of a script, read one after the other.
-use Rattle.std.proofs.Common.{◌≡◌, ℕ, suc, ◌+◌, ◌||◌, Bool, true, false, if◌then◌else◌, List, [], ◌∷◌, length, Result, Ok, Err, IfOk, refl, ap, sym, ◌∙◌, arith}
+use Rattle.std.proofs.Common.{◌≡◌, ℕ, suc, ◌+◌, ◌||◌, Bool, true, false, if◌then◌else◌, List, [], ◌∷◌, length, Option, Result, Ok, Err, IsSome, refl, ap, sym, subst, ◌∙◌, arith}
 use Rattle.std.specs.List.{list_any, slice_get}
 use Rattle.trace_format.specs.declared.pair.Pair.{Pair}
 use Rattle.trace_script.specs.Lines.{line_of}
-use Rattle.trace_script.specs.PlainEmissions.{emission_said}
+use Rattle.trace_script.specs.PlainEmissions.{emission_said, IsPlainEmission}
 use Rattle.trace_script.specs.declared.emission.EmissionHead.{EmissionHead}
 use Rattle.trace_script.specs.declared.fault.ScriptFault.{ScriptFault}
 use Rattle.trace_script.specs.declared.line.Line.{Line}
@@ -95,10 +95,12 @@ pub emission_next : (number : ℕ) (line : List ℕ) (all lines : List (List ℕ
     → line_of line ≡ emission_said head pairs → items_from number 0 all ≡ Single number line ∷ items_from (number + 1) 0 lines
 emission_next number line all lines head pairs is says = line_next number line all lines (emission_said head pairs) is (sym says) refl
 
--- what holds of an item with any pairs holds with these
-pub at_each : {A E : Type 0} (r : Result A E) (P : List Pair → A → Type 0) (pairs : List Pair) → IfOk r (λ a. (pairs : List Pair) → P pairs a) → IfOk r (λ a. P pairs a)
-at_each (Ok a) P pairs h = h pairs
-at_each (Err e) P pairs h = tt
+-- a line that is the first of some is found as that
+pub first_is_plain : (A : Type 0) (found : Option A) (line first : List ℕ) (all lines more : List (List ℕ)) → all ≡ first ∷ more → all ≡ line ∷ lines
+    → (IsPlainEmission first → IsSome found) → IsPlainEmission line → IsSome found
+first_is_plain A found line first all lines more is same finds plain =
+    let it : first ≡ line = cc (is, same) in
+    finds (subst IsPlainEmission (sym it) plain)
 
 -- ---- the line of a fault
 

@@ -1,8 +1,6 @@
 -- What the code that reads the next item of a script promises.
 use Rattle.std.specs.Prelude.{◌≡◌, ℕ, Bool, true, false, List, Result, Ok}
-use Rattle.trace_format.specs.declared.pair.Pair.{Pair}
 use Rattle.trace_script.specs.Lines.{line_of}
-use Rattle.trace_script.specs.PlainEmissions.{emission_said}
 use Rattle.trace_script.specs.declared.fault.ScriptFault.{ScriptFault}
 use Rattle.trace_script.specs.declared.line.Line.{Line}
 use Rattle.trace_script.specs.declared.line.Line.TheVariants.{Parallel}
@@ -14,15 +12,13 @@ use Rattle.trace_items.specs.declared.item.ItemRead.{ItemRead}
 -- the item that was read, whose first line has this number
 abbrev pub item_read : ℕ → ItemRead → Item
 item_read number (reads.Line line said) = Single number line.now
-item_read number (reads.Emission line head) = Single number line.now
 item_read number (reads.Threads text threads) = Threads (commands_in threads.items)
 item_read number (reads.Fault at line) = Faulty at
 
--- a line by itself comes with what it says; an emission comes with its words, and its pairs are these
-abbrev pub IsSaid : List Pair → ItemRead → Type 0
-IsSaid pairs (reads.Line line said) = said ≡ line_of line.now
-IsSaid pairs (reads.Emission line head) = line_of line.now ≡ emission_said head pairs
-IsSaid pairs _ = Unit {0}
+-- a line by itself comes with what it says
+abbrev pub IsSaid : ItemRead → Type 0
+IsSaid (reads.Line line said) = said ≡ line_of line.now
+IsSaid _ = Unit {0}
 
 -- the fault of a part comes with its line, which is one of these lines, numbered from `first` on
 abbrev pub HasFaultLine : ℕ → List (List ℕ) → ItemRead → Type 0

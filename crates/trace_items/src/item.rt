@@ -2,7 +2,6 @@
 
 ghost use Rattle.std.specs.Prelude.{◌≡◌, ℕ, List, true, ◌+◌, ◌-◌, ◌<◌, ◌≤◌, ◌^◌, ◌∷◌, length, IfOk};
 ghost use Rattle.std.specs.Option.{option_copied};
-ghost use Rattle.trace_format.specs.declared.pair.Pair.{Pair as PairValue};
 ghost use Rattle.trace_script.specs.Lines.{line_of};
 ghost use Rattle.trace_items.specs.Items.{items_from};
 ghost use Rattle.trace_items.specs.NextItems.{item_read, begins_with, IsSaid, HasFaultLine, HasItsText};
@@ -13,8 +12,7 @@ use crate::part::{FaultAt, Part, read_line, read_part};
 use crate::part_line::PartLine;
 use crate::script::first_line;
 use std::alloc::{AllocError, Global};
-use trace_format::BorrowedPair;
-use trace_script::{EmissionHead, Line, ScriptFault, plain_emission};
+use trace_script::{Line, ScriptFault};
 
 /// An item that was read.
 #[derive(Drop)]
@@ -23,11 +21,6 @@ pub enum ItemRead<'a> {
     Line {
         line: &'a [u8],
         said: Result<Line, ScriptFault>,
-    },
-    /// A line by itself that is an emission, whose pairs lie in the list that was given.
-    Emission {
-        line: &'a [u8],
-        head: EmissionHead<'a>,
     },
     /// A part: the string that begins with its lines, and the lines of the commands of each of its threads.
     Threads {
@@ -55,7 +48,7 @@ pub struct NextItem<'a> {
 fn part_item<'a>(text: &'a [u8], part: Part<'a>) -> ItemRead<'a>
     ensures text { HasItsText text.entry.now result }
     ensures item { (number : ℕ) → item_read number result ≡ item_of part.entry }
-    ensures said { (pairs : List PairValue) → IsSaid pairs result }
+    ensures said { IsSaid result }
     ensures line { (first : ℕ) (lines : List (List ℕ)) → HasItsLine first lines part.entry → HasFaultLine first lines result }
 {
     match part {
@@ -90,7 +83,7 @@ fn part_or_line<'a>(
     requires begins { begins_with said ≡ true }
     ensures read { IfOk result (λ next. items_from number 0 (lines_of text.now)
         ≡ item_read number next.item ∷ items_from next.number 0 (lines_left (option_copied next.rest))) }
-    ensures said { IfOk result (λ next. (pairs : List PairValue) → IsSaid pairs next.item) }
+    ensures said { IfOk result (λ next. IsSaid next.item) }
     ensures line { IfOk result (λ next. HasFaultLine number (lines_of text.now) next.item) }
     ensures text { IfOk result (λ next. HasItsText text.now next.item) }
     ensures shorter { IfOk result (λ next. bytes_left (option_copied next.rest) ≤ length text.now) }
@@ -110,28 +103,26 @@ fn part_or_line<'a>(
     }
 }
 
-/// Reads the item that a string begins with, whose first line has this number and is no emission that is read where it lies. It is kept out of
-/// line, so that such an emission doesn't take its room.
+/// Reads the item that a string begins with, whose first line has this number: a part, where that line is `parallel` and a line `end` follows
+/// it; else one line. It fails only if memory is refused. It is kept out of line, so that emissions, for which [`crate::plain::plain_item`] is
+/// asked first, don't take its room.
 #[inline(never)]
 #[tactic(auto, using(crate::proofs::ItemReading::line_next))]
-fn other_item<'a>(
+pub fn next_item<'a>(
     alloc: Global,
     number: usize,
     text: &'a [u8],
-    line: &'a [u8],
-    after: Option<&'a [u8]>,
 ) -> Result<NextItem<'a>, AllocError>
     requires room { number + length text.now < 2 ^ 63 - 1 }
-    requires lines { lines_of text.now ≡ line.now ∷ lines_left (option_copied after) }
-    requires shorter { bytes_left (option_copied after) ≤ length text.now }
     ensures read { IfOk result (λ next. items_from number 0 (lines_of text.now)
         ≡ item_read number next.item ∷ items_from next.number 0 (lines_left (option_copied next.rest))) }
-    ensures said { IfOk result (λ next. (pairs : List PairValue) → IsSaid pairs next.item) }
+    ensures said { IfOk result (λ next. IsSaid next.item) }
     ensures line { IfOk result (λ next. HasFaultLine number (lines_of text.now) next.item) }
     ensures text { IfOk result (λ next. HasItsText text.now next.item) }
     ensures shorter { IfOk result (λ next. bytes_left (option_copied next.rest) ≤ length text.now) }
     ensures room { IfOk result (λ next. next.number + bytes_left (option_copied next.rest) ≤ number + length text.now + 1) }
 {
+    let (line, after) = first_line(text);
     let Ok(said) = read_line(alloc, line) else {
         return Err(AllocError);
     };
@@ -143,34 +134,4 @@ fn other_item<'a>(
         number: number + 1,
         rest: after,
     })
-}
-
-/// Reads the item that a string begins with, whose first line has this number: a part, where that line is `parallel` and a line `end` follows
-/// it; else one line. The pairs of an emission that is read where it lies are left in a list, which keeps its room from item to item. It fails
-/// only if memory is refused.
-#[tactic(auto, using(crate::proofs::ItemReading::emission_next))]
-pub fn next_item<'a>(
-    alloc: Global,
-    number: usize,
-    text: &'a [u8],
-    pairs: &mut Vec<BorrowedPair<'a>>,
-) -> Result<NextItem<'a>, AllocError>
-    requires room { number + length text.now < 2 ^ 63 - 1 }
-    ensures read { IfOk result (λ next. items_from number 0 (lines_of text.now)
-        ≡ item_read number next.item ∷ items_from next.number 0 (lines_left (option_copied next.rest))) }
-    ensures said { IfOk result (λ next. IsSaid pairs.new.items next.item) }
-    ensures line { IfOk result (λ next. HasFaultLine number (lines_of text.now) next.item) }
-    ensures text { IfOk result (λ next. HasItsText text.now next.item) }
-    ensures shorter { IfOk result (λ next. bytes_left (option_copied next.rest) ≤ length text.now) }
-    ensures room { IfOk result (λ next. next.number + bytes_left (option_copied next.rest) ≤ number + length text.now + 1) }
-{
-    let (line, after) = first_line(text);
-    match plain_emission(line, pairs)? {
-        Some(head) => Ok(NextItem {
-            item: ItemRead::Emission { line, head },
-            number: number + 1,
-            rest: after,
-        }),
-        None => other_item(alloc, number, text, line, after),
-    }
 }

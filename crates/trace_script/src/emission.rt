@@ -187,7 +187,9 @@ fn bare_after_emit(line: &[u8]) -> Option<&[u8]>
 }
 
 /// The emission that a line is, if it has no quotes and no `>` and one blank between each two words. Its pairs are left in a list, which keeps
-/// its room from line to line. Every other line, and one that has a fault, is left to [`crate::prepare`].
+/// its room from line to line. Every other line, and one that has a fault, is left to [`crate::prepare`]. It is inlined, so that the words that it
+/// finds are not moved.
+#[inline(always)]
 #[tactic(auto, using(crate::proofs::BareEmissions::plain_read, crate::proofs::BareEmissions::wrong_pairs, crate::proofs::BareEmissions::no_cpu, crate::proofs::BareEmissions::no_pid, crate::proofs::BareEmissions::not_found))]
 pub fn plain_emission<'a>(
     line: &'a [u8],

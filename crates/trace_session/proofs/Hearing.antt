@@ -1,9 +1,11 @@
 -- What a writer has heard, one after the other, and the lines of the commands that it is yet to hear of.
-use Rattle.std.proofs.Common.{◌≡◌, ◌↔◌, ℕ, ◌-◌, ◌≤◌, List, [], ◌∷◌, ◌++◌, Option, Some, None, slice_get, unwrap_or, refl, ap, sym, subst, ◌∙◌, append_assoc, arith}
+use Rattle.std.proofs.Common.{◌≡◌, ◌↔◌, ℕ, ◌-◌, ◌≤◌, Bool, true, false, List, [], ◌∷◌, ◌++◌, map, Option, Some, None, slice_get, unwrap_or, refl, ap, sym, subst, ◌∙◌, append_assoc, arith}
 use Rattle.std.proofs.lemmas.List.{append-nil}
 use Rattle.trace_items.specs.PartReads.{IsLineAt}
 use Rattle.trace_script.specs.declared.outcome.Outcome.{Outcome}
-use Rattle.trace_session.specs.Heard.{Heard, Hears, AreInOrder, heard_of, line_at}
+use Rattle.trace_session.specs.Heard.{Heard, Hears, AreInOrder, heard_each, heard_of, line_at}
+use Rattle.trace_session.specs.PartTexts.{told_if}
+use Rattle.trace_session.specs.declared.part_text.OutcomeAt.{OutcomeAt}
 
 pub Hears_nothing : (a : Option (List Heard)) → Hears a a []
 Hears_nothing None = tt
@@ -86,3 +88,21 @@ module _ (first : ℕ) (all : List (List ℕ)) (now : ℕ) (left : List (List �
         let there = later at line behind in
         (λ h. there.0 (here.0 h), λ h. here.1 (there.1 h));
   }
+
+-- ---- what is told of a part, if somebody is
+
+-- what is told is in order where all is
+pub told_in_order : (is_told : Bool) (from first : ℕ) (lines : List (List ℕ)) (all told : List OutcomeAt) → told ≡ told_if is_told all
+    → AreInOrder from first lines (map (λ (one : OutcomeAt). one.number) all) → AreInOrder from first lines (map (λ (one : OutcomeAt). one.number) told)
+told_in_order true from first lines all told is order =
+    subst (λ (ones : List OutcomeAt). AreInOrder from first lines (map (λ (one : OutcomeAt). one.number) ones)) (sym is) order
+told_in_order false from first lines all told is order =
+    subst (λ (ones : List OutcomeAt). AreInOrder from first lines (map (λ (one : OutcomeAt). one.number) ones)) (sym is) tt
+
+-- a writer that is told, or that states nothing of what it heard, has heard of all
+pub hears_told : (is_told : Bool) (old new : Option (List Heard)) (first : ℕ) (lines : List (List ℕ)) (held : Option (List ℕ)) (all told : List OutcomeAt)
+    → (is_told ≡ false → old ≡ None) → told ≡ told_if is_told all
+    → Hears old new (heard_each first lines held told) → Hears old new (heard_each first lines held all)
+hears_told true old new first lines held all told deaf is heard =
+    subst (λ (ones : List OutcomeAt). Hears old new (heard_each first lines held ones)) is heard
+hears_told false old new first lines held all told deaf is heard = untold old new (heard_each first lines held all) (deaf refl)

@@ -112,7 +112,6 @@ of_first number (line ∷ lines) threads rest is = of_item number line lines thr
 pub has_its_lines : (number : ℕ) (script : List ℕ) (item : ItemRead) (rest : List Item) → items_from number 0 (lines_of script) ≡ item_read number item ∷ rest
     → HasItsText script item → HasItsLines number item
 has_its_lines number script (reads.Line line said) rest is text = tt
-has_its_lines number script (reads.Emission line head) rest is text = tt
 has_its_lines number script (reads.Threads text threads) rest is same =
     subst (λ (bytes : List ℕ). AreInOrder number number (lines_of bytes) (numbers_in (commands_in threads.items))) (sym same)
     (of_first number (lines_of script) (commands_in threads.items) rest is)

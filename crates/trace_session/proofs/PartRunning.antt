@@ -1,5 +1,5 @@
 -- What a block of parts comes to for a session.
-use Rattle.std.proofs.Common.{◌≡◌, ℕ, Vec, List, [], ◌∷◌, ◌++◌, length, map, All, Result, Ok, Err, refl, sym, ap, subst, ◌∙◌, arith}
+use Rattle.std.proofs.Common.{◌≡◌, ℕ, Bool, Vec, List, [], ◌∷◌, ◌++◌, length, map, All, Result, Ok, Err, refl, sym, ap, subst, ◌∙◌, arith}
 use Rattle.std.proofs.lemmas.List.{length-map}
 use Rattle.std.proofs.lemmas.List.Elements.{All-head, All-tail}
 use Rattle.std.specs.declared.alloc.Global.{Global}
@@ -15,7 +15,7 @@ use Rattle.trace_command.specs.declared.refusal.Refusal.{Refusal}
 use Rattle.trace_items.specs.declared.part.Numbered.{Numbered}
 use Rattle.trace_session.specs.Parts.{Given, PartMayGive, outcomes_in}
 use Rattle.trace_session.specs.declared.part_line.AskedLine.{AskedLine}
-use Rattle.trace_session.specs.PartTexts.{asked_command, numbered_threads, outcomes_of_threads, items_in, replies_in, AreNumbered, AreOutcomesOf}
+use Rattle.trace_session.specs.PartTexts.{asked_command, numbered_threads, outcomes_of_threads, replies_in, told_if, AreNumbered, AreOutcomesOf}
 use Rattle.trace_session.specs.Passes.{IsSessionPass, progress_of}
 use Rattle.trace_session.specs.Sessions.{status_of}
 use Rattle.trace_session.specs.declared.part_text.OutcomeAt.{OutcomeAt}
@@ -107,13 +107,14 @@ block_numbered g v w threads done pass same after =
     are_numbered g v.seen after.after threads done same (after.each g pass.base)
 
 -- the part may give what was written for it
-pub may_give : (g : Config) (v w : View Entry) (threads : List (List Numbered)) (done : List Part) (text : List ℕ) (status : Status) (told : List OutcomeAt)
+pub may_give : (g : Config) (v w : View Entry) (threads : List (List Numbered)) (done : List Part) (text : List ℕ) (status : Status) (is_told : Bool)
+    (written_outcomes : List OutcomeAt)
     → IsSessionPass g v → length done ≡ length threads → IsAfterBlock v w (trails_of (commands_of threads) done) → All IsUnworn (replies_in done)
     → text ≡ numbered_threads 0 (numbers_of_lines threads) (replies_in done) → status ≡ status_of (outcomes_in (replies_in done))
-    → told ≡ outcomes_of_threads (numbers_of_lines threads) (replies_in done)
+    → written_outcomes ≡ told_if is_told (outcomes_of_threads (numbers_of_lines threads) (replies_in done))
     → (given : Given) × PartMayGive g threads (progress_of v) (progress_of w) given × (given.text ≡ text) × (status ≡ status_of given.outcomes)
-    × AreOutcomesOf threads given.outcomes told
-may_give g v w threads done text status told pass same after unworn written ended became =
+    × (told : List OutcomeAt) × AreOutcomesOf threads given.outcomes told × (written_outcomes ≡ told_if is_told told)
+may_give g v w threads done text status is_told written_outcomes pass same after unworn written ended became =
     let same' : length done ≡ length (commands_of threads) = same ∙ sym (length-map threads (map (λ asked. asked.command))) in (
       record { text = text; outcomes = outcomes_in (replies_in done) },
       record {
@@ -134,6 +135,7 @@ may_give g v w threads done text status told pass same after unworn written ende
       },
       refl,
       ended,
-      subst (λ (all : List OutcomeAt). AreOutcomesOf threads (outcomes_in (replies_in done)) all) (sym became)
-          (are_outcomes threads (replies_in done) (block_numbered g v w threads done pass same after)),
+      outcomes_of_threads (numbers_of_lines threads) (replies_in done),
+      are_outcomes threads (replies_in done) (block_numbered g v w threads done pass same after),
+      became,
     )

@@ -1,5 +1,5 @@
 -- How what is written for the threads of a part is put together.
-use Rattle.std.proofs.Common.{◌≡◌, ℕ, ◌+◌, ◌<◌, Bool, false, ◌||◌, if◌then◌else◌, Option, Some, Ok, Err, Vec, List, [], ◌∷◌, ◌++◌, drop, get_or, length, map, All, Result, refl, sym, ap, subst, ◌∙◌, arith, append_assoc}
+use Rattle.std.proofs.Common.{◌≡◌, ℕ, ◌+◌, ◌<◌, Bool, true, false, ◌||◌, if◌then◌else◌, Option, Some, Ok, Err, Vec, List, [], ◌∷◌, ◌++◌, drop, get_or, length, map, All, Result, refl, sym, ap, subst, ◌∙◌, arith, append_assoc}
 use Rattle.std.proofs.Math.Bool.{or_assoc}
 use Rattle.std.proofs.lemmas.List.{drop_more, map-append}
 use Rattle.std.proofs.lemmas.List.Elements.{All-cons}
@@ -15,10 +15,15 @@ use Rattle.trace_session.specs.Sessions.{is_fault, is_refusal, status_of}
 use Rattle.trace_session.specs.declared.part_text.OutcomeAt.{OutcomeAt}
 use Rattle.trace_session.specs.declared.status.Status.{Status}
 use Rattle.trace_session.specs.declared.status.Status.TheVariants as statuses
-use Rattle.trace_session.specs.PartTexts.{numbered_text, numbered_threads, numbered_outcomes, outcomes_of_threads, refuses, replies_in, items_in, AreNumbered, AreOutcomesOf}
+use Rattle.trace_session.specs.PartTexts.{numbered_text, numbered_threads, numbered_outcomes, outcomes_of_threads, refuses, replies_in, items_in, told_if, AreNumbered, AreOutcomesOf}
 use Rattle.trace_command.specs.declared.command.Reply.{Reply}
 use Rattle.trace_command.specs.declared.refusal.Refusal.{Refusal}
 use Rattle.trace_workers.specs.declared.part.Part.{Part}
+
+-- what is told of several is what is told of each
+told_append : (is_told : Bool) (ones others : List OutcomeAt) → told_if is_told (ones ++ others) ≡ told_if is_told ones ++ told_if is_told others
+told_append true ones others = refl
+told_append false ones others = refl
 
 module _ (numbers : List (Vec ℕ Global)) (thread : ℕ) (own : Vec ℕ Global) (parts more : List Part) (part : Part)
     (within : thread < length numbers) (at : own ≡ get_or numbers thread own) (next : parts ≡ part ∷ more)
@@ -45,14 +50,16 @@ module _ (numbers : List (Vec ℕ Global)) (thread : ℕ) (own : Vec ℕ Global)
         ap (λ (bytes : List ℕ). bytes ++ rest) grown ∙ append_assoc text these rest
         ∙ left_is (λ os ps. text ++ numbered_threads thread (items_in os) (replies_in ps) ≡ all) written
 
-    pub outcomes_later : (told new all : List OutcomeAt) → told ++ outcomes_of_threads (items_in (drop thread numbers)) (replies_in parts) ≡ all
-        → new ≡ told ++ numbered_outcomes own.items part.replies.items
-        → new ++ outcomes_of_threads (items_in (drop (thread + 1) numbers)) (replies_in more) ≡ all
-    outcomes_later told new all written grown =
+    pub outcomes_later : (is_told : Bool) (told new all : List OutcomeAt)
+        → told ++ told_if is_told (outcomes_of_threads (items_in (drop thread numbers)) (replies_in parts)) ≡ all
+        → new ≡ told ++ told_if is_told (numbered_outcomes own.items part.replies.items)
+        → new ++ told_if is_told (outcomes_of_threads (items_in (drop (thread + 1) numbers)) (replies_in more)) ≡ all
+    outcomes_later is_told told new all written grown =
         let rest : List OutcomeAt = outcomes_of_threads (items_in (drop (thread + 1) numbers)) (replies_in more) in
         let these : List OutcomeAt = numbered_outcomes own.items part.replies.items in
-        ap (λ (outcomes : List OutcomeAt). outcomes ++ rest) grown ∙ append_assoc told these rest
-        ∙ left_is (λ os ps. told ++ outcomes_of_threads (items_in os) (replies_in ps) ≡ all) written
+        ap (λ (outcomes : List OutcomeAt). outcomes ++ told_if is_told rest) grown ∙ append_assoc told (told_if is_told these) (told_if is_told rest)
+        ∙ ap (λ (outcomes : List OutcomeAt). told ++ outcomes) (sym (told_append is_told these rest))
+        ∙ left_is (λ os ps. told ++ told_if is_told (outcomes_of_threads (items_in os) (replies_in ps)) ≡ all) written
 
     pub refused_later : (before now all : Bool) → (before || list_any (list_any refuses) (replies_in parts)) ≡ all
         → now ≡ (before || list_any refuses part.replies.items) → (now || list_any (list_any refuses) (replies_in more)) ≡ all

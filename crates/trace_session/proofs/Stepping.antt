@@ -1,15 +1,37 @@
 -- One item: what it gives.
-use Rattle.std.proofs.Common.{◌≡◌, ℕ, List, [], ◌∷◌, ◌++◌, Option, Some, Result, Ok, Err, IfOk, OnOk, refl, sym, subst}
+use Rattle.std.proofs.Common.{◌≡◌, ◌≢◌, ℕ, false, List, [], ◌∷◌, ◌++◌, Option, Some, None, Result, Ok, Err, IfOk, OnOk, refl, ap, sym, subst}
 use Rattle.trace_command.specs.declared.command.Config.{Config}
-use Rattle.trace_items.specs.Items.{Item, Faulty}
+use Rattle.trace_command.specs.declared.command.Reply.TheVariants as replies
+use Rattle.trace_items.specs.Items.{Item, Single, Faulty}
 use Rattle.trace_items.specs.declared.part.FaultAt.{FaultAt}
 use Rattle.trace_items.specs.declared.stop.Stop.{Stop}
+use Rattle.trace_script.specs.declared.outcome.Outcome.{Outcome}
 use Rattle.trace_script.specs.declared.outcome.Outcome.TheVariants as outcomes
 use Rattle.trace_session.specs.Devices.{AppendsFront, Passes}
 use Rattle.trace_session.specs.Fronts.{PassesItem, AppendsItem}
 use Rattle.trace_session.specs.Parts.{given_by}
-use Rattle.trace_session.specs.Sessions.{Progress, text_of, status_of}
+use Rattle.trace_session.specs.Sessions.{Progress, Turn, turn_of, is_fault, text_of, status_of}
 use Rattle.trace_session.specs.declared.status.Status.{Status}
+use Rattle.trace_session.specs.declared.status.Status.TheVariants as statuses
+use Rattle.trace_session.proofs.DeviceLemmas.{Passes_nothing}
+
+-- a command that was done without a reply
+pub done_unheard : (g : Config) (number : ℕ) (line : List ℕ) (before after : Progress) (old : Option (List ℕ)) (waited : List ℕ)
+    → turn_of g before line ≡ record { outcome = Some (outcomes.Replied replies.Done); progress = after }
+    → PassesItem g (Single number line) before after statuses.Done old waited old waited
+done_unheard g number line before after old waited is = (
+  given_by number (Some (outcomes.Replied replies.Done)),
+  (sym (ap (λ (turn : Turn). given_by number turn.outcome) is), sym (ap (λ (turn : Turn). turn.progress) is)),
+  refl,
+  Passes_nothing old waited,
+)
+
+-- what became of a line is no fault, nor is its status
+pub no_fault : (outcome : Option Outcome) (status : Status) → is_fault outcome ≡ false → status ≡ status_of (outcome ∷ []) → status ≢ statuses.Fault
+no_fault None status not is = λ fault. absurd (cc (is, fault))
+no_fault (Some (outcomes.Replied reply)) status not is = λ fault. absurd (cc (is, fault))
+no_fault (Some (outcomes.Refused refusal)) status not is = λ fault. absurd (cc (is, fault))
+no_fault (Some (outcomes.Fault told)) status not is = absurd (cc)
 
 -- the fault of a part
 pub fault_done : (at : FaultAt) (result : Result Status Stop) (old new : Option (List ℕ)) (waited waits : List ℕ)

@@ -73,8 +73,6 @@ HearsPart g number text threads before after held old new =
 abbrev pub HearsItem : Config → ℕ → ItemRead → Progress → Progress → Option (List ℕ) → Option (List Heard) → Option (List Heard) → Type 0
 HearsItem g number (reads.Line line said) before after held old new =
     Hears old new (heard_of number line.now (turn_of g before line.now).outcome held ∷ [])
-HearsItem g number (reads.Emission line head) before after held old new =
-    Hears old new (heard_of number line.now (turn_of g before line.now).outcome held ∷ [])
 HearsItem g number (reads.Threads text threads) before after held old new =
     HearsPart g number text.now (commands_in threads.items) before after held old new
 HearsItem g number (reads.Fault at line) before after held old new =

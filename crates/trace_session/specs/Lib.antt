@@ -7,4 +7,3 @@ pub mod Heard
 pub mod Fronts
 pub mod PartLaws
 pub mod PartExamples
-pub mod private

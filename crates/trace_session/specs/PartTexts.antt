@@ -1,5 +1,5 @@
 -- What the code that writes for a part promises. It no longer has the commands, only the numbers of their lines.
-use Rattle.std.specs.Prelude.{◌≡◌, Vec, ℕ, ◌+◌, Bool, List, [], ◌∷◌, ◌++◌, map, flat_map, length, Option, Some, Result}
+use Rattle.std.specs.Prelude.{◌≡◌, Vec, ℕ, ◌+◌, Bool, true, false, List, [], ◌∷◌, ◌++◌, map, flat_map, length, Option, Some, Result}
 use Rattle.std.specs.declared.alloc.Global.{Global}
 use Rattle.trace_command.specs.declared.command.Reply.{Reply}
 use Rattle.trace_command.specs.declared.refusal.Refusal.{Refusal}
@@ -31,6 +31,11 @@ numbered_outcomes _ _ = []
 abbrev pub outcomes_of_threads : List (List ℕ) → List (List (Result Reply Refusal)) → List OutcomeAt
 outcomes_of_threads (own ∷ numbers) (replies ∷ more) = numbered_outcomes own replies ++ outcomes_of_threads numbers more
 outcomes_of_threads _ _ = []
+
+-- the outcomes, if somebody is told
+abbrev pub told_if : Bool → List OutcomeAt → List OutcomeAt
+told_if true outcomes = outcomes
+told_if false outcomes = []
 
 -- what is written for threads from this one on, whose commands stand in lines of these numbers
 abbrev pub numbered_threads : ℕ → List (List ℕ) → List (List (Result Reply Refusal)) → List ℕ

@@ -1,14 +1,13 @@
 //! A single line, run through the lock.
 
-ghost use Rattle.std.specs.Prelude.{◌≡◌, ◌≢◌, ℕ, List, Ok, IfOk, IsErrOf};
+ghost use Rattle.std.specs.Prelude.{◌≡◌, ◌≢◌, ℕ, List, false, Ok, IfOk, IsErrOf};
 ghost use Rattle.ticket_lock.specs.Calls.{view_of, IsOf, IsWorn};
 ghost use Rattle.trace_command.specs.declared.command.Config.{Config};
 ghost use Rattle.trace_history.specs.History.{answer_to};
 ghost use Rattle.trace_script.specs.Lines.{line_of};
 ghost use Rattle.trace_script.specs.PlainEmissions.{emission_said};
-ghost use Rattle.trace_session.specs.private.LineAsked.{asks_of};
 ghost use Rattle.trace_session.specs.Passes.{IsSessionPass, IsRefusedEarly, progress_of};
-ghost use Rattle.trace_session.specs.Sessions.{Progress, answered, turn_of};
+ghost use Rattle.trace_session.specs.Sessions.{Progress, answered, is_fault, turn_of};
 
 use std::sync::Wait;
 use ticket_lock::{Pass, TicketLock};
@@ -48,6 +47,7 @@ fn ask_command<R: Wait>(
 }
 
 /// As `ask_command`, for an emission whose strings are borrowed.
+#[inline(always)]
 #[tactic(auto, using(crate::proofs::EarlyRefusals::memory_is_late, crate::proofs::EarlyRefusals::all_drawn))]
 fn ask_borrowed<R: Wait>(
     rt: &R,
@@ -61,6 +61,7 @@ fn ask_borrowed<R: Wait>(
     ensures turn { IfOk result.1 (λ outcome. (g : Config) → IsSessionPass g (view_of pass)
         → answered (progress_of (view_of pass)) emission.now (answer_to g (view_of pass).seen emission.now)
         ≡ record { outcome = outcome; progress = progress_of (view_of result.0) }) }
+    ensures faultless { IfOk result.1 (λ outcome. is_fault outcome ≡ false) }
     ensures early { IsErrOf result.1 Stop.Memory → (g : Config) → IsSessionPass g (view_of pass)
         → IsRefusedEarly g (view_of pass) emission.now → IsWorn (view_of pass) (view_of result.0) }
     ensures device { IsErrOf result.1 Stop.Device → ⊥ }
@@ -72,15 +73,6 @@ fn ask_borrowed<R: Wait>(
         Err(Refusal::Worn | Refusal::Memory) => (pass, Err(Stop::Memory)),
         Err(refusal) => (pass, Ok(Some(Outcome::Refused(refusal)))),
     }
-}
-
-/// What a line by itself asks for.
-#[derive(Drop)]
-pub(crate) enum LineAsks<'a> {
-    /// What the line says, or its fault.
-    Said(Result<Line, ScriptFault>),
-    /// An emission: its words, and its pairs.
-    Emission(EmissionHead<'a>, &'a [BorrowedPair<'a>]),
 }
 
 /// The outcome of a line that is no command. Out of line, so that commands don't pay for what the other lines drop.
@@ -101,7 +93,7 @@ fn unasked(said: Result<Line, ScriptFault>) -> Option<Outcome>
 
 /// Runs a line. A command's ticket is the number of commands before it, refused ones included.
 #[tactic(auto, unfolding(crate::specs::Sessions::turn_of))]
-fn ask_line<R: Wait>(
+pub(crate) fn ask_line<R: Wait>(
     rt: &R,
     lock: &TicketLock<Book>,
     pass: Pass<Book>,
@@ -124,9 +116,10 @@ fn ask_line<R: Wait>(
     }
 }
 
-/// As `ask_line`, for an emission with these words and pairs. It builds no command.
+/// As `ask_line`, for an emission with these words and pairs. It builds no command. It is inlined, so that its answer is not moved.
+#[inline(always)]
 #[tactic(auto, unfolding(crate::specs::Sessions::turn_of))]
-fn ask_emission_line<R: Wait>(
+pub(crate) fn ask_emission_line<R: Wait>(
     rt: &R,
     lock: &TicketLock<Book>,
     pass: Pass<Book>,
@@ -140,6 +133,7 @@ fn ask_emission_line<R: Wait>(
         → line_of text ≡ emission_said head.entry pairs.now
         → turn_of g (progress_of (view_of pass)) text
         ≡ record { outcome = outcome; progress = progress_of (view_of result.0) }) }
+    ensures faultless { IfOk result.1 (λ outcome. is_fault outcome ≡ false) }
     ensures early { IsErrOf result.1 Stop.Memory → (g : Config) (command : Command) → IsSessionPass g (view_of pass)
         → emission_said head.entry pairs.now ≡ Ok (Line.Ask command) → IsRefusedEarly g (view_of pass) command
         → IsWorn (view_of pass) (view_of result.0) }
@@ -148,29 +142,4 @@ fn ask_emission_line<R: Wait>(
 {
     let emission = BorrowedEmission::new(head.event, head.cpu, head.pid, pairs);
     ask_borrowed(rt, lock, pass, &emission)
-}
-
-/// Runs a line, however it was read. It is inlined, so that an emission's words are not moved.
-#[inline(always)]
-pub(crate) fn ask_for_line<R: Wait>(
-    rt: &R,
-    lock: &TicketLock<Book>,
-    pass: Pass<Book>,
-    asks: LineAsks<'_>,
-) -> (Pass<Book>, Result<Option<Outcome>, Stop>)
-    requires { IsOf lock.now pass }
-    ensures of { IsOf lock.now result.0 }
-    ensures session { (g : Config) → IsSessionPass g (view_of pass) → IsSessionPass g (view_of result.0) }
-    ensures turn { IfOk result.1 (λ outcome. (g : Config) (text : List ℕ) → IsSessionPass g (view_of pass) → asks_of asks.entry ≡ line_of text
-        → turn_of g (progress_of (view_of pass)) text
-        ≡ record { outcome = outcome; progress = progress_of (view_of result.0) }) }
-    ensures early { IsErrOf result.1 Stop.Memory → (g : Config) (command : Command) → IsSessionPass g (view_of pass)
-        → asks_of asks.entry ≡ Ok (Line.Ask command) → IsRefusedEarly g (view_of pass) command → IsWorn (view_of pass) (view_of result.0) }
-    ensures device { IsErrOf result.1 Stop.Device → ⊥ }
-    ensures stopped { IsErrOf result.1 Stop.Stopped → ⊥ }
-{
-    match asks {
-        LineAsks::Said(said) => ask_line(rt, lock, pass, said),
-        LineAsks::Emission(head, pairs) => ask_emission_line(rt, lock, pass, head, pairs),
-    }
 }

@@ -1,13 +1,14 @@
 //! A part: its threads run concurrently, and their output is assembled.
 
-ghost use Rattle.std.specs.Prelude.{◌≡◌, ◌≤◌, true, vec_len, IfOk, IsErrOf};
+ghost use Rattle.std.specs.Prelude.{◌≡◌, ◌≤◌, List, true, vec_len, IfOk, IsErrOf};
 ghost use Rattle.ticket_lock.specs.Calls.{view_of, IsOf};
 ghost use Rattle.trace_command.specs.declared.command.Config.{Config};
 ghost use Rattle.trace_items.specs.PartReads.{commands_in};
 ghost use Rattle.trace_session.specs.Parts.{Given, PartMayGive};
-ghost use Rattle.trace_session.specs.PartTexts.{AreOutcomesOf};
+ghost use Rattle.trace_session.specs.PartTexts.{AreOutcomesOf, told_if};
 ghost use Rattle.trace_session.specs.Passes.{IsSessionPass, progress_of};
 ghost use Rattle.trace_session.specs.Sessions.{status_of};
+ghost use Rattle.trace_session.specs.declared.part_text.OutcomeAt.{OutcomeAt};
 
 use crate::environment::Environment;
 use crate::part_split::split_threads;
@@ -20,7 +21,7 @@ use trace_items::Stop;
 use trace_items::part_line::PartLine;
 use trace_workers::{BlockFault, Gate, run_block_of};
 
-/// Runs the threads of a part concurrently, and returns the output and each command's outcome.
+/// Runs the threads of a part concurrently, and returns the output and, if somebody is told, each command's outcome.
 ///
 /// `Memory` if it was refused, if a thread could not be started, or if all tickets are drawn, which no script can reach. After a fault nothing is to
 /// be written for the part, though some of its commands may have been done: the pass has seen them.
@@ -28,6 +29,7 @@ pub fn run_part<R: Threads + Wait + Sync, G: Gate + Sync>(
     env: &Environment<'_, R, G>,
     pass: Pass<Book>,
     threads: Vec<Vec<PartLine<'_>>>,
+    is_told: bool,
 ) -> (Pass<Book>, Result<PartOutput, Stop>)
     requires of { IsOf env.now.lock.now pass }
     requires session { (g : Config) × IsSessionPass g (view_of pass) }
@@ -37,7 +39,8 @@ pub fn run_part<R: Threads + Wait + Sync, G: Gate + Sync>(
     ensures given { IfOk result.1 (λ written. (g : Config) → IsSessionPass g (view_of pass)
         → (given : Given) × PartMayGive g (commands_in threads.entry.items) (progress_of (view_of pass)) (progress_of (view_of result.0)) given
         × (given.text ≡ written.text.items) × (written.status ≡ status_of given.outcomes)
-        × AreOutcomesOf (commands_in threads.entry.items) given.outcomes written.outcomes.items) }
+        × (told : List OutcomeAt) × AreOutcomesOf (commands_in threads.entry.items) given.outcomes told
+        × (written.outcomes.items ≡ told_if is_told told)) }
     ensures open { G.is_open env.now.gate.now ≡ true → IsErrOf result.1 Stop.Stopped → ⊥ }
     ensures device { IsErrOf result.1 Stop.Device → ⊥ }
 {
@@ -50,7 +53,7 @@ pub fn run_part<R: Threads + Wait + Sync, G: Gate + Sync>(
         Err(BlockFault::Stopped) => return (pass, Err(Stop::Stopped)),
         Err(BlockFault::Memory | BlockFault::NoThread) => return (pass, Err(Stop::Memory)),
     };
-    match write_threads(env.alloc, &numbers, done) {
+    match write_threads(env.alloc, &numbers, done, is_told) {
         Ok(written) => (pass, Ok(written)),
         Err(stop) => (pass, Err(stop)),
     }

@@ -16,7 +16,7 @@ use crate::device::Sink;
 use crate::environment::Environment;
 use crate::replies::Replies;
 use crate::status::Status;
-use crate::step::do_item;
+use crate::step::{do_emission, do_item};
 use std::alloc::Global;
 use std::sync::Wait;
 use std::thread::Threads;
@@ -24,6 +24,7 @@ use ticket_lock::{Pass, TicketLock};
 use trace_book::Book;
 use trace_command::Config;
 use trace_items::item::next_item;
+use trace_items::plain::plain_item;
 use trace_items::{MOST_SCRIPT_BYTES, Source, Stop, read_script};
 use trace_workers::Gate;
 
@@ -72,18 +73,29 @@ fn do_items<R: Threads + Wait + Sync, W: Sink, G: Gate + Sync>(
     let mut status = Status::Done;
     let mut pairs = Vec::new(env.alloc);
     while let Some(text) = rest {
-        let Ok(next) = next_item(env.alloc, number, text, &mut pairs) else {
+        let Ok(found) = plain_item(text, &mut pairs) else {
             return Err(Stop::Memory);
         };
-        let (back, done) = do_item(
-            env,
-            pass,
-            number,
-            next.item,
-            pairs.as_slice(),
-            replies,
-            writer,
-        );
+        if let Some(plain) = found {
+            let (back, done) = do_emission(
+                env,
+                pass,
+                number,
+                &plain,
+                pairs.as_slice(),
+                replies,
+                writer,
+            );
+            pass = back;
+            status = with_item(status, done?);
+            number += 1;
+            rest = plain.rest;
+            continue;
+        }
+        let Ok(next) = next_item(env.alloc, number, text) else {
+            return Err(Stop::Memory);
+        };
+        let (back, done) = do_item(env, pass, number, next.item, replies, writer);
         pass = back;
         match done? {
             Status::Fault => return Ok(Status::Fault),

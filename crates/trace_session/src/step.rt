@@ -1,6 +1,6 @@
 //! One item of a session: a single line or a part runs, and its output is written.
 
-ghost use Rattle.std.specs.Prelude.{◌≡◌, ◌≤◌, List, ℕ, [], ◌∷◌, true, vec_len, IfOk, OnOk, IsErrOf};
+ghost use Rattle.std.specs.Prelude.{◌≡◌, ◌≢◌, ◌≤◌, [], ◌∷◌, true, vec_len, IfOk, OnOk, IsErrOf};
 ghost use Rattle.ticket_lock.specs.Calls.{view_of, IsOf};
 ghost use Rattle.trace_command.specs.declared.command.Config.{Config};
 ghost use Rattle.trace_items.specs.Items.{Single, Threads, Faulty};
@@ -10,16 +10,16 @@ ghost use Rattle.trace_items.specs.PartReads.{commands_in};
 ghost use Rattle.trace_items.specs.ScriptLines.{lines_of};
 ghost use Rattle.trace_items.specs.Sources.{HasRisen};
 ghost use Rattle.trace_script.specs.Lines.{line_of};
+ghost use Rattle.trace_script.specs.PlainEmissions.{emission_said};
 ghost use Rattle.trace_session.specs.Devices.{Passes};
 ghost use Rattle.trace_session.specs.Fronts.{PassesItem, AppendsItem, IsThreads};
 ghost use Rattle.trace_session.specs.Heard.{Hears, HearsPart, HearsItem, AreInOrder, HasItsLines, heard_of, numbers_in};
 ghost use Rattle.trace_session.specs.Passes.{IsSessionPass, progress_of};
-ghost use Rattle.trace_session.specs.private.LineAsked.{asks_of};
 ghost use Rattle.trace_session.specs.Sessions.{Progress, turn_of};
 
 use crate::device::Sink;
 use crate::environment::Environment;
-use crate::line::{LineAsks, ask_for_line};
+use crate::line::{ask_emission_line, ask_line};
 use crate::part_run::run_part;
 use crate::replies::Replies;
 use crate::status::Status;
@@ -29,28 +29,86 @@ use std::sync::Wait;
 use std::thread;
 use ticket_lock::Pass;
 use trace_book::Book;
+use trace_command::Reply;
 use trace_format::BorrowedPair;
 use trace_items::Stop;
 use trace_items::item::ItemRead;
 use trace_items::part::FaultAt;
 use trace_items::part_line::PartLine;
-use trace_script::Outcome;
+use trace_items::plain::PlainItem;
+use trace_script::{Line, Outcome, ScriptFault};
 use trace_workers::Gate;
 
-/// Runs a single line, and writes its output. It is inlined, so that an emission's words are not moved.
+/// Whether a command was done and has nothing to show.
 #[inline(always)]
-fn do_line<R: Wait, W: Sink, G>(
+fn is_done(outcome: &Option<Outcome>) -> bool
+    ensures { result ≡ true → outcome.now ≡ Some (Outcome.Replied Reply.Done) }
+{
+    matches!(outcome, Some(Outcome::Replied(Reply::Done)))
+}
+
+/// Runs an emission whose words lie in its line, and writes its output. One that is done prints nothing, so that only a writer that hears is told
+/// of it. It is inlined, so that neither its words nor its answer are moved.
+#[inline(always)]
+#[tactic(auto, using(crate::proofs::Stepping::done_unheard, crate::proofs::Stepping::no_fault))]
+pub(crate) fn do_emission<R: Wait, W: Sink, G>(
     env: &Environment<'_, R, G>,
     pass: Pass<Book>,
     number: usize,
-    line: &[u8],
-    asks: LineAsks<'_>,
+    plain: &PlainItem<'_>,
+    pairs: &[BorrowedPair<'_>],
     replies: &mut Replies,
     writer: &mut W,
 ) -> (Pass<Book>, Result<Status, Stop>)
     requires of { IsOf env.now.lock.now pass }
     requires session { (g : Config) × IsSessionPass g (view_of pass) }
-    requires asks { asks_of asks ≡ line_of line.now }
+    requires says { line_of plain.now.line.now ≡ emission_said plain.now.head pairs.now }
+    ensures of { IsOf env.now.lock.now result.0 }
+    ensures session { (g : Config) → IsSessionPass g (view_of pass) → IsSessionPass g (view_of result.0) }
+    ensures done { IfOk result.1 (λ status. (g : Config) → IsSessionPass g (view_of pass)
+        → PassesItem g (Single number plain.now.line.now) (progress_of (view_of pass)) (progress_of (view_of result.0)) status
+        (W.contents writer.old) replies.old (W.contents writer.new) replies.new) }
+    ensures faultless { IfOk result.1 (λ status. status ≢ Status.Fault) }
+    ensures failures { OnOk result.1 (W.failures writer.new ≡ W.failures writer.old) }
+    ensures memory { IsErrOf result.1 Stop.Memory
+        → Passes (W.contents writer.old) replies.old (W.contents writer.new) replies.new [] }
+    ensures unfailed { IsErrOf result.1 Stop.Memory → W.failures writer.new ≡ W.failures writer.old }
+    ensures stopped { IsErrOf result.1 Stop.Stopped → ⊥ }
+    ensures risen { IsErrOf result.1 Stop.Device → HasRisen (W.failures writer.old) (W.failures writer.new) }
+    ensures device { IsErrOf result.1 Stop.Device → (g : Config) → IsSessionPass g (view_of pass)
+        → AppendsItem g (Single number plain.now.line.now) (progress_of (view_of pass)) (progress_of (view_of result.0))
+        (W.contents writer.old) replies.old (W.contents writer.new) }
+    ensures heard { (g : Config) → IsSessionPass g (view_of pass) → OnOk result.1 (Hears (W.heard writer.old) (W.heard writer.new)
+        (heard_of number plain.now.line.now (turn_of g (progress_of (view_of pass)) plain.now.line.now).outcome (W.contents writer.new) ∷ [])) }
+{
+    let (pass, asked) = ask_emission_line(env.rt, env.lock, pass, plain.head, pairs);
+    match asked {
+        Ok(outcome) => {
+            if is_done(&outcome) && !writer.hears() {
+                return (pass, Ok(Status::Done));
+            }
+            (
+                pass,
+                give(env.alloc, number, plain.line, &outcome, replies, writer),
+            )
+        }
+        Err(stop) => (pass, Err(stop)),
+    }
+}
+
+/// Runs a single line, and writes its output.
+fn do_line<R: Wait, W: Sink, G>(
+    env: &Environment<'_, R, G>,
+    pass: Pass<Book>,
+    number: usize,
+    line: &[u8],
+    said: Result<Line, ScriptFault>,
+    replies: &mut Replies,
+    writer: &mut W,
+) -> (Pass<Book>, Result<Status, Stop>)
+    requires of { IsOf env.now.lock.now pass }
+    requires session { (g : Config) × IsSessionPass g (view_of pass) }
+    requires says { said ≡ line_of line.now }
     ensures of { IsOf env.now.lock.now result.0 }
     ensures session { (g : Config) → IsSessionPass g (view_of pass) → IsSessionPass g (view_of result.0) }
     ensures done { IfOk result.1 (λ status. (g : Config) → IsSessionPass g (view_of pass)
@@ -68,7 +126,7 @@ fn do_line<R: Wait, W: Sink, G>(
     ensures heard { (g : Config) → IsSessionPass g (view_of pass) → OnOk result.1 (Hears (W.heard writer.old) (W.heard writer.new)
         (heard_of number line.now (turn_of g (progress_of (view_of pass)) line.now).outcome (W.contents writer.new) ∷ [])) }
 {
-    let (pass, asked) = ask_for_line(env.rt, env.lock, pass, asks);
+    let (pass, asked) = ask_line(env.rt, env.lock, pass, said);
     match asked {
         Ok(outcome) => (
             pass,
@@ -79,6 +137,7 @@ fn do_line<R: Wait, W: Sink, G>(
 }
 
 /// Runs a part, and writes its output once all its commands have run. The string begins with the part's first line, which has this number.
+#[tactic(auto, using(crate::proofs::Hearing::told_in_order, crate::proofs::Hearing::hears_told))]
 fn do_part<R: thread::Threads + Wait + Sync, W: Sink, G: Gate + Sync>(
     env: &Environment<'_, R, G>,
     pass: Pass<Book>,
@@ -112,7 +171,7 @@ fn do_part<R: thread::Threads + Wait + Sync, W: Sink, G: Gate + Sync>(
     ensures heard { (g : Config) → IsSessionPass g (view_of pass) → OnOk result.1 (HearsPart g number text.now (commands_in threads.entry.items)
         (progress_of (view_of pass)) (progress_of (view_of result.0)) (W.contents writer.new) (W.heard writer.old) (W.heard writer.new)) }
 {
-    let (pass, ran) = run_part(env, pass, threads);
+    let (pass, ran) = run_part(env, pass, threads, writer.hears());
     match ran {
         Ok(written) => (pass, give_part(number, text, written, replies, writer)),
         Err(stop) => (pass, Err(stop)),
@@ -145,20 +204,20 @@ fn do_fault<W: Sink>(
 }
 
 /// Runs the item whose first line has this number: appends its output to the replies and returns its status. A part's output is appended only once
-/// all its commands have run. A writer that hears is told of each single line, of a fault with its line, and of each command of a part. `pairs` are
-/// the emission's.
+/// all its commands have run. A writer that hears is told of each single line, of a fault with its line, and of each command of a part. It is kept
+/// out of line, so that emissions, which are run before, don't take its room.
+#[inline(never)]
 pub(crate) fn do_item<R: thread::Threads + Wait + Sync, W: Sink, G: Gate + Sync>(
     env: &Environment<'_, R, G>,
     pass: Pass<Book>,
     number: usize,
     item: ItemRead<'_>,
-    pairs: &[BorrowedPair<'_>],
     replies: &mut Replies,
     writer: &mut W,
 ) -> (Pass<Book>, Result<Status, Stop>)
     requires of { IsOf env.now.lock.now pass }
     requires session { (g : Config) × IsSessionPass g (view_of pass) }
-    requires said { IsSaid pairs.now item }
+    requires said { IsSaid item }
     requires few { HasFewThreads (item_read number item) }
     requires lines { HasItsLines number item }
     ensures of { IsOf env.now.lock.now result.0 }
@@ -183,14 +242,7 @@ pub(crate) fn do_item<R: thread::Threads + Wait + Sync, W: Sink, G: Gate + Sync>
         (progress_of (view_of pass)) (progress_of (view_of result.0)) (W.contents writer.new) (W.heard writer.old) (W.heard writer.new)) }
 {
     match item {
-        ItemRead::Emission { line, head } => {
-            let asks = LineAsks::Emission(head, pairs);
-            do_line(env, pass, number, line, asks, replies, writer)
-        }
-        ItemRead::Line { line, said } => {
-            let asks = LineAsks::Said(said);
-            do_line(env, pass, number, line, asks, replies, writer)
-        }
+        ItemRead::Line { line, said } => do_line(env, pass, number, line, said, replies, writer),
         ItemRead::Threads { text, threads } => {
             do_part(env, pass, number, text, threads, replies, writer)
         }

@@ -73,7 +73,9 @@ fn tell<W: Sink>(
 }
 
 /// Appends the output of the line with this number to the replies, tells its outcome, and returns the line's own status. A writer that hears has
-/// heard of this line and its outcome, and of a refusal or a fault once all output was written.
+/// heard of this line and its outcome, and of a refusal or a fault once all output was written. It is kept out of line, so that emissions that are
+/// done don't take its room.
+#[inline(never)]
 pub(crate) fn give<W: Sink>(
     alloc: Global,
     number: usize,

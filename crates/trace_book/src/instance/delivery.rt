@@ -5,6 +5,7 @@ ghost use Rattle.trace_record.specs.Record.{IsRecord};
 ghost use Rattle.trace_buffer.specs.Buffers as buffers;
 ghost use Rattle.trace_book.specs.Instances.{IsAlike};
 ghost use Rattle.trace_book.specs.KeptHists.{KeysAgree};
+ghost use Rattle.trace_book.specs.private.Plain as plain;
 ghost use Rattle.trace_book.specs.private.Rows as rows;
 ghost use Rattle.trace_book.specs.private.Rows.{kept_holds};
 ghost use Rattle.trace_book.specs.States.{CanCountRow, CanFire, HasFewRows, row_of, IsDelivered, IsOffered, IsExchanged, IsWritable, IsWritten, HasFew};
@@ -18,6 +19,25 @@ use std::alloc::AllocError;
 use trace_format::Row;
 
 impl Instance {
+    /// Whether an emission of the event at this index is plain here: recorded whatever its row, since the event has no filter, and all that comes of
+    /// it, since it has no triggers.
+    #[inline(always)]
+    pub(crate) fn is_plain(&self, event: usize) -> bool
+        requires enabled { event < length self.now.enabled }
+        requires filters { event < length self.now.filters }
+        requires triggers { event < length self.now.triggers }
+        requires hists { event < length self.now.hists }
+        ensures { result ≡ plain.is_plain self.now event }
+    {
+        if !self.tracing || !self.enabled[event] {
+            return false;
+        }
+        if self.filters[event].is_some() || self.triggers[event].is_some() {
+            return false;
+        }
+        self.hists[event].as_slice().is_empty()
+    }
+
     /// Whether the event at this index has hist triggers.
     pub(crate) fn has_hists(&self, event: usize) -> bool
         requires { event < length self.now.hists }
@@ -102,8 +122,9 @@ impl Instance {
         }
     }
 
-    // Writes a record, if this instance records it.
-    fn write(&mut self, pending: &Pending, reach: Reach)
+    /// Writes a record, if this instance records it.
+    #[inline(always)]
+    pub(crate) fn write(&mut self, pending: &Pending, reach: Reach)
         requires is_record { IsRecord pending.now.bytes.items }
         requires fits { length pending.now.bytes.items ≤ self.old.sides.live.page_bytes }
         requires cpu { pending.now.cpu < buffers.cpus self.old.sides.live }

@@ -2,7 +2,7 @@ use Rattle.std.proofs.Common.{◌≡◌, ℕ, Vec, List, length, ap, ◌∙◌, 
 use Rattle.std.specs.declared.alloc.Global.{Global}
 use Rattle.ticket_lock.specs.Calls.{view_of}
 use Rattle.trace_items.specs.PartReads.{commands_in}
-use Rattle.trace_session.specs.PartTexts.{items_in, numbered_threads, outcomes_of_threads, replies_in}
+use Rattle.trace_session.specs.PartTexts.{items_in, numbered_threads, outcomes_of_threads, replies_in, told_if}
 use Rattle.trace_session.proofs.PartRunning.{numbers_of_lines, of_threads, block_numbered, may_give}
 use Rattle.trace_session.proofs.part_run.run_part.Goals as goal
 
@@ -35,8 +35,8 @@ returns-in-Ok-write_threads-clause-given g c config pass =
     let text : written.written.text.items ≡ numbered_threads 0 (numbers_of_lines threads) (replies_in done) =
     written.ensures.text ∙ ap (λ (own : List (Vec ℕ Global)). numbered_threads 0 (items_in own) (replies_in done)) c.deref.ensures.value
     ∙ ap (λ (numbers : List (List ℕ)). numbered_threads 0 numbers (replies_in done)) c.in-Ok.ensures.numbers in
-    let outcomes : written.written.outcomes.items ≡ outcomes_of_threads (numbers_of_lines threads) (replies_in done) =
-    written.ensures.outcomes ∙ ap (λ (own : List (Vec ℕ Global)). outcomes_of_threads (items_in own) (replies_in done)) c.deref.ensures.value
-    ∙ ap (λ (numbers : List (List ℕ)). outcomes_of_threads numbers (replies_in done)) c.in-Ok.ensures.numbers in
-    may_give config v w threads done written.written.text.items written.written.status written.written.outcomes.items pass after.0 after.1 written.ensures.unworn text
+    let outcomes : written.written.outcomes.items ≡ told_if c.args.is_told (outcomes_of_threads (numbers_of_lines threads) (replies_in done)) =
+    written.ensures.outcomes ∙ ap (λ (own : List (Vec ℕ Global)). told_if c.args.is_told (outcomes_of_threads (items_in own) (replies_in done))) c.deref.ensures.value
+    ∙ ap (λ (numbers : List (List ℕ)). told_if c.args.is_told (outcomes_of_threads numbers (replies_in done))) c.in-Ok.ensures.numbers in
+    may_give config v w threads done written.written.text.items written.written.status c.args.is_told written.written.outcomes.items pass after.0 after.1 written.ensures.unworn text
     written.ensures.status outcomes

@@ -21,7 +21,7 @@ loop-part-preserved c =
       numbered = numbered_later numbers l.thread own left more c.in-Some.part within c.index-numbers-thread.is next l.invariant.numbered;
       text = text_later numbers l.thread own left more c.in-Some.part within c.index-numbers-thread.is next l.writing.text.items c.add_thread.new.writing.text.items _ l.invariant.text
           (rw (← c.deref.ensures.value) grown.text);
-      outcomes = outcomes_later numbers l.thread own left more c.in-Some.part within c.index-numbers-thread.is next l.writing.outcomes.items c.add_thread.new.writing.outcomes.items _
+      outcomes = outcomes_later numbers l.thread own left more c.in-Some.part within c.index-numbers-thread.is next c.args.is_told l.writing.outcomes.items c.add_thread.new.writing.outcomes.items _
           l.invariant.outcomes (rw (← c.deref.ensures.value) grown.outcomes);
       refused = refused_later numbers l.thread own left more c.in-Some.part within c.index-numbers-thread.is next l.writing.is_refused c.add_thread.new.writing.is_refused _ l.invariant.refused
           grown.refused;

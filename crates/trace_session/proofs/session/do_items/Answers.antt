@@ -1,7 +1,8 @@
-use Rattle.std.proofs.Common.{◌∙◌, refl, arith}
+use Rattle.std.proofs.Common.{◌+◌, ◌∙◌, refl, arith}
 use Rattle.std.proofs.lemmas.Result.{err_from_is_err_and}
 use Rattle.std.specs.Option.{option_copied}
 use Rattle.ticket_lock.specs.Calls.{view_of}
+use Rattle.trace_items.specs.Items.{Single}
 use Rattle.trace_items.specs.NextItems.{item_read}
 use Rattle.trace_session.specs.Passes.{progress_of}
 use Rattle.trace_session.proofs.Standing.{begins, few, keeps, at_fault, at_device, at_part, at_stop, at_stop_here, at_end}
@@ -19,6 +20,59 @@ loop-rest-init g c = record {
   unfailed = refl;
 }
 
+-- ---- an emission
+
+pub returns-in_default-plain_item-clause-memory : goal.returns-in_default-plain_item-clause-memory
+returns-in_default-plain_item-clause-memory g c h config seat =
+    let contents = g.W.Sink.contents in
+    at_stop_here config c.args.script.now (contents c.args.writer.now) (contents c.loop-rest.writer) c.loop-rest.replies (progress_of (view_of c.loop-rest.pass)) c.in-Some.text.now
+    c.loop-rest.number c.loop-rest.status (rw c.in-Some.is at c.loop-rest.invariant.stands config seat)
+
+pub returns-in_err-done-clause-memory : goal.returns-in_err-done-clause-memory
+returns-in_err-done-clause-memory g c h config seat =
+    let contents = g.W.Sink.contents in
+    let p = err_from_is_err_and c.from_residual.result c.from_residual.ensures.1 in
+    at_stop config c.args.script.now (contents c.args.writer.now) (contents c.loop-rest.writer) c.loop-rest.replies (progress_of (view_of c.loop-rest.pass)) c.in-Some.text.now
+    c.loop-rest.number c.loop-rest.status (rw c.in-Some.is at c.loop-rest.invariant.stands config seat)
+    (contents c.do_emission-back.new.writer) c.do_emission-back.new.replies (c.do_emission-back.ensures.memory (cc (h, p.1, p.2, c.in_err-done.was)))
+
+pub returns-in_err-done-clause-stopped : goal.returns-in_err-done-clause-stopped
+returns-in_err-done-clause-stopped g c h config seat =
+    let p = err_from_is_err_and c.from_residual.result c.from_residual.ensures.1 in
+    absurd (c.do_emission-back.ensures.stopped (cc (h, p.1, p.2, c.in_err-done.was)))
+
+pub returns-in_err-done-clause-device : goal.returns-in_err-done-clause-device
+returns-in_err-done-clause-device g c h config seat =
+    let contents = g.W.Sink.contents in
+    let p = err_from_is_err_and c.from_residual.result c.from_residual.ensures.1 in
+    at_device config c.args.script.now (contents c.args.writer.now) (contents c.loop-rest.writer) c.loop-rest.replies (progress_of (view_of c.loop-rest.pass)) c.in-Some.text.now
+    c.loop-rest.number c.loop-rest.status (rw c.in-Some.is at c.loop-rest.invariant.stands config seat)
+    (Single c.loop-rest.number c.in-Some-found.plain.line.now) (option_copied c.in-Some-found.plain.rest) (c.loop-rest.number + 1)
+    ((rw c.in-Some-found.is at c.in-Ok.ensures.read) c.loop-rest.number)
+    (contents c.do_emission-back.new.writer) (progress_of (view_of c.do_emission-back.result.0))
+    (c.do_emission-back.ensures.device (cc (h, p.1, p.2, c.in_err-done.was)) config (c.loop-rest.invariant.seated config seat))
+
+pub loop-rest-preserved-in-Some-found : goal.loop-rest-preserved-in-Some-found
+loop-rest-preserved-in-Some-found g c =
+    let contents = g.W.Sink.contents in
+    let done = c.do_emission-back.ensures in
+    record {
+      of = done.of;
+      seated = λ config seat. done.session config (c.loop-rest.invariant.seated config seat);
+      stands = λ config seat.
+          keeps config c.args.script.now (contents c.args.writer.now) (contents c.loop-rest.writer) c.loop-rest.replies (progress_of (view_of c.loop-rest.pass)) c.in-Some.text.now
+          c.loop-rest.number c.loop-rest.status (rw c.in-Some.is at c.loop-rest.invariant.stands config seat)
+          (Single c.loop-rest.number c.in-Some-found.plain.line.now) (option_copied c.in-Some-found.plain.rest) (c.loop-rest.number + 1)
+          ((rw c.in-Some-found.is at c.in-Ok.ensures.read) c.loop-rest.number)
+          (contents c.do_emission-back.new.writer) c.do_emission-back.new.replies (progress_of (view_of c.do_emission-back.result.0)) c.in_ok-done.field-0
+          ((rw c.in_ok-done.was at done.done) config (c.loop-rest.invariant.seated config seat))
+          c.with_item-status.result (rw c.in_ok-done.was at done.faultless) c.with_item-status.ensures.refused c.with_item-status.ensures.other;
+      room = omega (arith, rw c.in-Some.is at c.loop-rest.invariant.room, rw c.in-Some-found.is at c.in-Ok.ensures.shorter);
+      unfailed = (rw c.in_ok-done.was at done.failures) ∙ c.loop-rest.invariant.unfailed;
+    }
+
+-- ---- any other item
+
 pub returns-in_default-next_item-clause-memory : goal.returns-in_default-next_item-clause-memory
 returns-in_default-next_item-clause-memory g c h config seat =
     let contents = g.W.Sink.contents in
@@ -31,16 +85,16 @@ do_item-back-requires-clause-few g c κs within =
     let config = c.requires.session.0 in
     few config c.args.script.now (contents c.args.writer.now) (contents c.loop-rest.writer) c.loop-rest.replies (progress_of (view_of c.loop-rest.pass)) c.in-Some.text.now
     c.loop-rest.number c.loop-rest.status (rw c.in-Some.is at c.loop-rest.invariant.stands config c.requires.session.1)
-    (item_read c.loop-rest.number c.in-Ok.next.item) (option_copied c.in-Ok.next.rest) c.in-Ok.next.number c.in-Ok.ensures.read
+    (item_read c.loop-rest.number c.in-Ok-next_item.next.item) (option_copied c.in-Ok-next_item.next.rest) c.in-Ok-next_item.next.number c.in-Ok-next_item.ensures.read
 
 pub do_item-back-requires-clause-lines : goal.do_item-back-requires-clause-lines
 do_item-back-requires-clause-lines g c κs within =
-    has_its_lines c.loop-rest.number c.in-Some.text.now c.in-Ok.next.item _ c.in-Ok.ensures.read c.in-Ok.ensures.text
+    has_its_lines c.loop-rest.number c.in-Some.text.now c.in-Ok-next_item.next.item _ c.in-Ok-next_item.ensures.read c.in-Ok-next_item.ensures.text
 
 pub returns-in_err-item_status-clause-memory : goal.returns-in_err-item_status-clause-memory
 returns-in_err-item_status-clause-memory g c h config seat =
     let contents = g.W.Sink.contents in
-    let p = err_from_is_err_and c.from_residual.result c.from_residual.ensures.1 in
+    let p = err_from_is_err_and c.from_residual-in_err-item_status.result c.from_residual-in_err-item_status.ensures.1 in
     at_stop config c.args.script.now (contents c.args.writer.now) (contents c.loop-rest.writer) c.loop-rest.replies (progress_of (view_of c.loop-rest.pass)) c.in-Some.text.now
     c.loop-rest.number c.loop-rest.status (rw c.in-Some.is at c.loop-rest.invariant.stands config seat)
     (contents c.do_item-back.new.writer) c.do_item-back.new.replies (c.do_item-back.ensures.memory (cc (h, p.1, p.2, c.in_err-item_status.was)))
@@ -48,20 +102,20 @@ returns-in_err-item_status-clause-memory g c h config seat =
 pub returns-in_err-item_status-clause-stopped : goal.returns-in_err-item_status-clause-stopped
 returns-in_err-item_status-clause-stopped g c h config seat =
     let contents = g.W.Sink.contents in
-    let p = err_from_is_err_and c.from_residual.result c.from_residual.ensures.1 in
+    let p = err_from_is_err_and c.from_residual-in_err-item_status.result c.from_residual-in_err-item_status.ensures.1 in
     at_part config c.args.script.now (contents c.args.writer.now) (contents c.loop-rest.writer) c.loop-rest.replies (progress_of (view_of c.loop-rest.pass)) c.in-Some.text.now
     c.loop-rest.number c.loop-rest.status (rw c.in-Some.is at c.loop-rest.invariant.stands config seat)
-    (item_read c.loop-rest.number c.in-Ok.next.item) (option_copied c.in-Ok.next.rest) c.in-Ok.next.number c.in-Ok.ensures.read
+    (item_read c.loop-rest.number c.in-Ok-next_item.next.item) (option_copied c.in-Ok-next_item.next.rest) c.in-Ok-next_item.next.number c.in-Ok-next_item.ensures.read
     (contents c.do_item-back.new.writer) c.do_item-back.new.replies (c.do_item-back.ensures.part (cc (h, p.1, p.2, c.in_err-item_status.was)))
     (c.do_item-back.ensures.stopped (cc (h, p.1, p.2, c.in_err-item_status.was)))
 
 pub returns-in_err-item_status-clause-device : goal.returns-in_err-item_status-clause-device
 returns-in_err-item_status-clause-device g c h config seat =
     let contents = g.W.Sink.contents in
-    let p = err_from_is_err_and c.from_residual.result c.from_residual.ensures.1 in
+    let p = err_from_is_err_and c.from_residual-in_err-item_status.result c.from_residual-in_err-item_status.ensures.1 in
     at_device config c.args.script.now (contents c.args.writer.now) (contents c.loop-rest.writer) c.loop-rest.replies (progress_of (view_of c.loop-rest.pass)) c.in-Some.text.now
     c.loop-rest.number c.loop-rest.status (rw c.in-Some.is at c.loop-rest.invariant.stands config seat)
-    (item_read c.loop-rest.number c.in-Ok.next.item) (option_copied c.in-Ok.next.rest) c.in-Ok.next.number c.in-Ok.ensures.read
+    (item_read c.loop-rest.number c.in-Ok-next_item.next.item) (option_copied c.in-Ok-next_item.next.rest) c.in-Ok-next_item.next.number c.in-Ok-next_item.ensures.read
     (contents c.do_item-back.new.writer) (progress_of (view_of c.do_item-back.result.0))
     (c.do_item-back.ensures.device (cc (h, p.1, p.2, c.in_err-item_status.was)) config (c.loop-rest.invariant.seated config seat))
 
@@ -70,7 +124,7 @@ returns-in-Fault-clause-ok g c config seat =
     let contents = g.W.Sink.contents in
     at_fault config c.args.script.now (contents c.args.writer.now) (contents c.loop-rest.writer) c.loop-rest.replies (progress_of (view_of c.loop-rest.pass)) c.in-Some.text.now
     c.loop-rest.number c.loop-rest.status (rw c.in-Some.is at c.loop-rest.invariant.stands config seat)
-    (item_read c.loop-rest.number c.in-Ok.next.item) (option_copied c.in-Ok.next.rest) c.in-Ok.next.number c.in-Ok.ensures.read
+    (item_read c.loop-rest.number c.in-Ok-next_item.next.item) (option_copied c.in-Ok-next_item.next.rest) c.in-Ok-next_item.next.number c.in-Ok-next_item.ensures.read
     (contents c.do_item-back.new.writer) c.do_item-back.new.replies (progress_of (view_of c.do_item-back.result.0)) c.in_ok-item_status.item_status
     ((rw c.in_ok-item_status.was at c.do_item-back.ensures.done) config (c.loop-rest.invariant.seated config seat)) c.in-Fault.is
 
@@ -84,11 +138,11 @@ loop-rest-preserved g c =
       stands = λ config seat.
           keeps config c.args.script.now (contents c.args.writer.now) (contents c.loop-rest.writer) c.loop-rest.replies (progress_of (view_of c.loop-rest.pass)) c.in-Some.text.now
           c.loop-rest.number c.loop-rest.status (rw c.in-Some.is at c.loop-rest.invariant.stands config seat)
-          (item_read c.loop-rest.number c.in-Ok.next.item) (option_copied c.in-Ok.next.rest) c.in-Ok.next.number c.in-Ok.ensures.read
+          (item_read c.loop-rest.number c.in-Ok-next_item.next.item) (option_copied c.in-Ok-next_item.next.rest) c.in-Ok-next_item.next.number c.in-Ok-next_item.ensures.read
           (contents c.do_item-back.new.writer) c.do_item-back.new.replies (progress_of (view_of c.do_item-back.result.0)) c.in_ok-item_status.item_status
           ((rw c.in_ok-item_status.was at done.done) config (c.loop-rest.invariant.seated config seat))
-          c.with_item-status.result c.in_default-2.not-Fault c.with_item-status.ensures.refused c.with_item-status.ensures.other;
-      room = omega (arith, rw c.in-Some.is at c.loop-rest.invariant.room, c.in-Ok.ensures.room);
+          c.with_item-status-in_default-2.result c.in_default-2.not-Fault c.with_item-status-in_default-2.ensures.refused c.with_item-status-in_default-2.ensures.other;
+      room = omega (arith, rw c.in-Some.is at c.loop-rest.invariant.room, c.in-Ok-next_item.ensures.room);
       unfailed = (rw c.in_ok-item_status.was at done.failures) ∙ c.loop-rest.invariant.unfailed;
     }
 

@@ -11,7 +11,7 @@ use Rattle.trace_book.proofs.Alike.{state_alike-stands}
 use Rattle.trace_book.proofs.Usable.{few_from_stands, few_rows_from_stands, usable_from_stands}
 use Rattle.trace_book.proofs.Histories.{length-past_of, past_of-push, answer-done, answer-full, refused-reply, refused-early, late-done, IsLegal-push}
 use Rattle.trace_book.proofs.Stands.{stands_after_emission}
-use Rattle.trace_book.proofs.book.Book.ask_emission.Goals as goal
+use Rattle.trace_book.proofs.book.Book.ask_any.Goals as goal
 
 pub prepare_emission-requires-clause-usable : goal.prepare_emission-requires-clause-usable
 prepare_emission-requires-clause-usable c =

@@ -1,0 +1,76 @@
+use Rattle.std.proofs.Common.{[], ◌∷◌, ◌++◌, All, subst, ◌≡◌, ◌<◌, length, arith, rules, refl, ap, sym, ◌∙◌, to_z, of_z, w32}
+use Rattle.std.proofs.lemmas.Int.{to_z-of_z}
+use Rattle.trace_command.specs.Requests.{request_of}
+use Rattle.trace_history.specs.History.{past_of}
+use Rattle.trace_log.specs.HistorySeen.{HistorySeen}
+use Rattle.trace_book.specs.BookSeen.{BookSeen}
+use Rattle.trace_command.specs.declared.command.Entry.{Entry}
+use Rattle.trace_book.specs.private.Plain.{IsPreparedPlain}
+use Rattle.trace_book.proofs.Usable.{few_from_stands, usable_from_stands}
+use Rattle.trace_book.proofs.Histories.{length-past_of}
+use Rattle.trace_book.proofs.PlainRuns.{IsRun, answered, plain-run}
+use Rattle.trace_book.proofs.book.Book.ask_plain.Goals as goal
+
+pub prepare_plain-requires-clause-usable : goal.prepare_plain-requires-clause-usable
+prepare_plain-requires-clause-usable c =
+    let book = c.self.inside in
+    usable_from_stands book.config book.state (past_of book.history.entries) c.self.invariant.in_range c.self.invariant.stands
+    (omega (arith, length-past_of book.history.entries, c.self.invariant.few))
+
+pub deliver_plain-requires-clause-usable : goal.deliver_plain-requires-clause-usable
+deliver_plain-requires-clause-usable c =
+    let book = c.self.inside in
+    usable_from_stands book.config book.state (past_of book.history.entries) c.self.invariant.in_range c.self.invariant.stands
+    (omega (arith, length-past_of book.history.entries, c.self.invariant.few))
+
+pub deliver_plain-requires-clause-early : goal.deliver_plain-requires-clause-early
+deliver_plain-requires-clause-early c =
+    let book = c.self.inside in
+    omega (arith, c.self.invariant.stands.early, length-past_of book.history.entries, c.len.ensures, c.self.invariant.in_range.few_entries)
+
+pub deliver_plain-requires-clause-few : goal.deliver_plain-requires-clause-few
+deliver_plain-requires-clause-few c =
+    let book = c.self.inside in
+    few_from_stands book.config book.state (past_of book.history.entries) c.self.invariant.stands
+    (omega (arith, length-past_of book.history.entries, c.len.ensures, c.self.invariant.in_range.few_entries))
+
+pub invariant_of-self-2 : goal.invariant_of-self-2
+invariant_of-self-2 c =
+    let book = c.self.inside in
+    let entries = book.history.entries in
+    let entry : Entry = record { ticket = c.args.ticket; by = c.args.by; command = c.args.emission.now } in
+    let written : c.write_emission_ahead.new.self.ahead ≡ entry ∷ [] = search rules in
+    let items : c.append_written.new.self.entries ≡ entries ++ entry ∷ [] =
+    ap (λ (h : HistorySeen). h.entries) c.append_written.ensures ∙ rw (c.write_emission_ahead.ensures.entries, written) refl in
+    let room : length entries < book.config.history_limit = omega (arith, c.len.ensures) in
+    let pid : to_z w32 (of_z w32 c.parts-cpu.result.2) ≡ c.parts-cpu.result.2 = to_z-of_z w32 c.parts-cpu.result.2 (search rules) in
+    let prepared : IsPreparedPlain book.config book.state (request_of entry.command) c.parts-cpu.result.1 c.parts-cpu.result.2 c.in-Some.index
+    c.prepare_plain.new.pending = rw c.parts-cpu.ensures (rw pid at c.in-Some.ensures) in
+    let Below : BookSeen → Type 0 = λ seen. All (λ (e : Entry). e.ticket < c.args.ticket) seen.entries in
+    let below : All (λ (e : Entry). e.ticket < c.args.ticket) entries = subst Below (sym c.self.view_is) c.requires in
+    let run : IsRun book.config (entries ++ entry ∷ []) c.deliver_plain.new.self =
+    plain-run book.config entries entry book.state c.deliver_plain.new.self c.parts-cpu.result.1 c.parts-cpu.result.2 c.in-Some.index
+    c.prepare_plain.new.pending c.self.invariant.in_range c.self.invariant.legal c.self.invariant.stands room c.ranges.ticket.fits c.ranges.by.fits below
+    prepared c.deliver_plain.ensures in
+    record {
+      in_range = c.self.invariant.in_range;
+      few = rw items run.few;
+      legal = rw items run.legal;
+      stands = rw items run.stands;
+    }
+
+pub returns-clause-reply : goal.returns-clause-reply
+returns-clause-reply c = λ on.
+    let book = c.self.inside in
+    let past = past_of book.history.entries in
+    let request = request_of c.args.emission.now in
+    let room : length past < book.config.history_limit =
+    omega (arith, length-past_of book.history.entries, c.len.ensures) in
+    let pid : to_z w32 (of_z w32 c.parts-cpu.result.2) ≡ c.parts-cpu.result.2 = to_z-of_z w32 c.parts-cpu.result.2 (search rules) in
+    let prepared : IsPreparedPlain book.config book.state request c.parts-cpu.result.1 c.parts-cpu.result.2 c.in-Some.index
+    c.prepare_plain.new.pending = rw c.parts-cpu.ensures (rw pid at c.in-Some.ensures) in
+    rw (← c.self.view_is) (answered book.config book.state past request c.parts-cpu.result.1 c.parts-cpu.result.2 c.in-Some.index
+    c.prepare_plain.new.pending c.self.invariant.stands prepared room)
+
+pub returns-clause-legal : goal.returns-clause-legal
+returns-clause-legal c = (invariant_of-self-2 c).legal

@@ -1,0 +1,153 @@
+//! Emissions of the plain kind, which most are: the only instance is the top one, and it records the event, which has no filter and no triggers
+//! there. Their record is made from the pairs at once, in memory that is kept, with no row and no delivery to each instance.
+
+ghost use Rattle.std.specs.Prelude.{◌≡◌, ℕ, ℤ, ◌+◌, ◌<◌, ◌≤◌, ◌^◌, true, length, All, Some, IfSome};
+ghost use Rattle.trace_command.specs.Configs.{IsInRange};
+ghost use Rattle.trace_command.specs.Requests.{Emission};
+ghost use Rattle.trace_format.specs.Cells.{Cells, payload_size_of, record_size_of};
+ghost use Rattle.trace_format.specs.Rows.{row_of};
+ghost use Rattle.trace_record.specs.Record.{IsRecord};
+ghost use Rattle.trace_book.specs.States as states;
+ghost use Rattle.trace_book.specs.States.{IsUsable};
+ghost use Rattle.trace_book.specs.private.Plain as plain;
+
+use crate::change::{Pending, Reach};
+use crate::resolve::{Found, find_likely};
+use crate::row::write_given_record;
+use crate::state::{Named, State};
+use trace_command::Config;
+use trace_format::{BorrowedPair, payload_size};
+use trace_record::{Head, record_size};
+
+impl State {
+    /// Prepares an emission of the plain kind: its record. The index of its event; `None` if it is not plain, has no right row, or memory is refused.
+    #[inline(always)]
+    pub(crate) fn prepare_plain(
+        &self,
+        likely: u16,
+        pending: &mut Pending,
+        config: &Config,
+        name: &[u8],
+        cpu: u32,
+        pid: i32,
+        pairs: &[BorrowedPair<'_>],
+    ) -> Option<usize>
+        requires usable { IsUsable config.now self.now }
+        requires in_range { IsInRange config.now }
+        ensures { IfSome result (λ event.
+            plain.IsPreparedPlain config.now self.now (Emission name.now cpu pid pairs.now) cpu pid event pending.new) }
+    {
+        if cpu >= config.cpus {
+            return None;
+        }
+        let found = find_likely(&self.catalog, likely, name)?;
+        if !is_plain(&self.instances, found.index) {
+            return None;
+        }
+        if !write_plain(self.clock + 1, pid, found, pairs, &mut pending.bytes) {
+            return None;
+        }
+        pending.cpu = cpu;
+        Some(found.index)
+    }
+
+    /// Delivers an emission of the plain kind: writes its record into the only instance. Allocates nothing.
+    #[inline(always)]
+    pub(crate) fn deliver_plain(&mut self, config: &Config, pending: &Pending)
+        requires usable { IsUsable config.now self.old }
+        requires one { length self.old.instances.items ≡ 1 }
+        requires ready { states.CanBeWritten config.now self.old.instances.items (Some pending.now) }
+        requires early { self.old.clock < 2 ^ 32 }
+        requires few { All (λ n. states.HasFew n.instance) self.old.instances.items }
+        ensures { (event : ℕ) (row : Cells) (cpu : ℕ) (pid : ℤ) → plain.IsPlainIn event self.old.instances.items
+            → states.IsEmitted self.old self.new (plain.plain_delivery event row cpu pid pending.now) }
+    {
+        self.clock += 1;
+        write_first(&mut self.instances, pending);
+    }
+}
+
+// Whether the event at this index is plain: there is one instance, and it records the event and does nothing else.
+#[inline(always)]
+fn is_plain(instances: &[Named], event: usize) -> bool
+    requires enabled { All (λ n. event < length n.instance.enabled) instances.now }
+    requires filters { All (λ n. event < length n.instance.filters) instances.now }
+    requires triggers { All (λ n. event < length n.instance.triggers) instances.now }
+    requires hists { All (λ n. event < length n.instance.hists) instances.now }
+    ensures { result ≡ true → plain.IsPlainIn event instances.now }
+{
+    if instances.len() != 1 {
+        return false;
+    }
+    instances[0].instance.is_plain(event)
+}
+
+// Makes the record of a plain emission of this event in memory that is kept. Whether it did: the pairs name the event's fields in order, and memory
+// is there.
+#[inline(always)]
+fn write_plain(
+    timestamp: u64,
+    pid: i32,
+    found: Found<'_>,
+    pairs: &[BorrowedPair<'_>],
+    bytes: &mut Vec<u8>,
+) -> bool
+    requires index { found.index < 64 }
+    requires fields { length found.event.now.fields ≤ 16 }
+    ensures length { result ≡ true → length bytes.new.items ≡ record_size_of found.entry.event.now }
+    ensures bytes { result ≡ true → plain.IsRecordOf (record {
+      ts = timestamp;
+      pid = pid;
+      event = found.entry.index + 1;
+      payload = payload_size_of found.entry.event.now;
+    }) bytes.new.items (row_of found.entry.event.now pairs.now) }
+    ensures is_record { result ≡ true → IsRecord bytes.new.items }
+{
+    let size = payload_size(found.event);
+    if !fit(bytes, record_size(size)) {
+        return false;
+    }
+    let head = Head {
+        ts: timestamp,
+        pid,
+        event: found.index as u16 + 1,
+        payload: size as u16,
+    };
+    write_given_record(head, found.event, pairs, size, bytes)
+}
+
+// Gives the bytes this length. Whether memory is there.
+#[inline(always)]
+fn fit(bytes: &mut Vec<u8>, len: usize) -> bool
+    ensures { result ≡ true → length bytes.new.items ≡ len }
+{
+    if bytes.len() == len {
+        return true;
+    }
+    resize(bytes, len)
+}
+
+// Likewise, where they have another length: the event is not that of the emission before.
+#[inline(never)]
+fn resize(bytes: &mut Vec<u8>, len: usize) -> bool
+    ensures { result ≡ true → length bytes.new.items ≡ len }
+{
+    bytes.clear();
+    bytes.resize(len, 0).is_ok()
+}
+
+// Writes a record into the first instance, which is the only one.
+#[inline(always)]
+fn write_first(instances: &mut [Named], pending: &Pending)
+    requires one { length instances.old ≡ 1 }
+    requires record { All (λ n. states.IsWritable (Some pending.now) n.instance) instances.old }
+    requires few { All (λ n. states.HasFew n.instance) instances.old }
+    ensures { (event : ℕ) (row : Cells) (cpu : ℕ) (pid : ℤ) → plain.IsPlainIn event instances.old
+        → states.EachDelivered (plain.plain_delivery event row cpu pid pending.now) instances.old instances.new }
+{
+    let recorded = Reach {
+        records: true,
+        fires: false,
+    };
+    instances[0].instance.write(pending, recorded);
+}
