@@ -10,7 +10,7 @@ use Rattle.trace_format.specs.declared.kind.Kind.{Kind}
 use Rattle.trace_format.specs.declared.kind.Kind.TheVariants.{Number, Char}
 use Rattle.trace_format.specs.declared.pair.Pair.{Pair}
 use Rattle.trace_explain.specs.declared.cause.Cause.{Cause}
-use Rattle.trace_explain.specs.declared.cause.Cause.TheVariants.{NoField, Repeated, Missing, NoNumber, OutOfRange, TooLong, NotPrintable}
+use Rattle.trace_explain.specs.declared.cause.Cause.TheVariants.{NotKnown, NoField, Repeated, Missing, NoNumber, OutOfRange, TooLong, NotPrintable}
 
 -- why a number is none of those between two others, if it is none
 abbrev pub range_misfit : ℤ → ℤ → Option ℤ → Option Cause
@@ -34,3 +34,8 @@ cause_of_pair fields (Some pair) name = cause_at (field_named fields name) pair
 -- what is wrong at the name: no pair has it, no field has it, the first pair's value is wrong, or else another pair has it too
 abbrev pub cause_of : List Field → List Pair → List ℕ → Cause
 cause_of fields pairs name = cause_of_pair fields (pair_named pairs name) name
+
+-- of an event that is not known it can be told only that no pair has the name
+abbrev pub cause_without_event : Option Pair → Cause
+cause_without_event None = Missing
+cause_without_event (Some pair) = NotKnown

@@ -4,6 +4,7 @@ use Rattle.std.specs.List.{prefix_len}
 use Rattle.std.specs.Str.{bytes_eq}
 use Rattle.trace_lex.specs.Blanks.{is_blank}
 use Rattle.trace_lex.specs.Names.{is_name}
+use Rattle.trace_explain.specs.HistDue.{ends_with}
 use Rattle.trace_explain.specs.declared.declaration_due.DeclarationDue.{DeclarationDue}
 use Rattle.trace_explain.specs.declared.declaration_due.DeclarationDue.TheVariants.{Event, EventName, FieldType, TypeOnU, Unsigned, SecondWord, CharName, TypeName, CharField, Field, FieldName, Joint}
 
@@ -44,7 +45,9 @@ taken_words word = if is_reserved word then codes "this name is reserved" else c
 
 -- where the name of a field that is no string is due, and this word stands there
 abbrev pub field_words : List ℕ → List ℕ
-field_words word = if is_name word then taken_words word else codes "expected a field's name"
+field_words word =
+    if ends_with 44 word then codes "expected a field's name, and `;` in place of `,`"
+    else (if is_name word then taken_words word else codes "expected a field's name")
 
 -- where a declaration is wrong: it stands so, and these bytes follow
 abbrev pub declaration_due_words : DeclarationDue → List ℕ → List ℕ

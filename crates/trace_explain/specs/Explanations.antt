@@ -1,6 +1,7 @@
 -- What is told of a line, after the lines before it.
 use Rattle.std.specs.Prelude.{ℕ, List, [], ◌∷◌, ◌++◌, Option, Some, None, option_map, codes}
 use Rattle.trace_format.specs.Definitions.{Definition}
+use Rattle.trace_format.specs.Rows.{pair_named}
 use Rattle.trace_format.specs.declared.pair.Pair.{Pair}
 use Rattle.trace_command.specs.Refusals.{name_of}
 use Rattle.trace_command.specs.declared.command.Command.{Command}
@@ -15,7 +16,7 @@ use Rattle.trace_explain.specs.declared.cause.Cause.{Cause}
 use Rattle.trace_explain.specs.declared.cause.Cause.TheVariants.{NotKnown}
 use Rattle.trace_explain.specs.declared.place.Place.{Place}
 use Rattle.trace_explain.specs.declared.place.Place.TheVariants.{Nowhere}
-use Rattle.trace_explain.specs.Causes.{cause_of}
+use Rattle.trace_explain.specs.Causes.{cause_of, cause_without_event}
 use Rattle.trace_explain.specs.Events.{command_of, event_named}
 use Rattle.trace_explain.specs.Hints.{written_in, command_meant, line_meant}
 use Rattle.trace_explain.specs.Layout.{shown_bytes, shown}
@@ -27,7 +28,7 @@ use Rattle.trace_explain.specs.Wording.{command_subject, refusal_words, cause_wo
 -- what is wrong with pairs for the event, at this field
 abbrev pub cause_in : Option Definition → List Pair → List ℕ → Cause
 cause_in (Some event) pairs field = cause_of event.fields pairs field
-cause_in None pairs field = NotKnown
+cause_in None pairs field = cause_without_event (pair_named pairs field)
 
 -- what is wrong with a command at a field of its row
 abbrev pub row_cause : List Definition → Command → List ℕ → Cause

@@ -1,6 +1,7 @@
 -- What was meant, if something that is near is there.
 use Rattle.std.specs.Prelude.{ℕ, ◌+◌, Bool, nat_lt, ◌&&◌, ◌==◌, if◌then◌else◌, List, [], ◌∷◌, ◌++◌, length, take, drop, Option, Some, None, unwrap_or, codes}
 use Rattle.std.specs.List.{prefix_len}
+use Rattle.trace_lex.specs.Blanks.{trimmed}
 use Rattle.trace_lex.specs.Names.{is_name_byte}
 use Rattle.trace_lex.specs.Prefixes.{is_not}
 use Rattle.trace_trigger.specs.TriggerTexts.{begins}
@@ -9,13 +10,20 @@ use Rattle.trace_command.specs.Paths.{File, OfEvent, address_of}
 use Rattle.trace_command.specs.declared.command.Command.{Command}
 use Rattle.trace_command.specs.declared.command.Command.TheVariants.{Emit, Write, Read}
 use Rattle.trace_command.specs.declared.refusal.Refusal.{Refusal}
-use Rattle.trace_command.specs.declared.refusal.Refusal.TheVariants.{NoSuchFile, NoSuchEvent, FilterSyntax, NoSuchField, BadRow}
+use Rattle.trace_command.specs.declared.refusal.Refusal.TheVariants.{NoSuchFile, BadValue, NoSuchEvent, BadDefinition, FilterSyntax, NoSuchField, HistSyntax, BadRow}
 use Rattle.trace_script.specs.declared.fault.ScriptFault.{ScriptFault}
 use Rattle.trace_script.specs.declared.fault.ScriptFault.TheVariants.{UnknownCommand}
+use Rattle.trace_explain.specs.DeclarationDue.{due_from as declared_from, is_in_word}
 use Rattle.trace_explain.specs.Events.{event_named}
 use Rattle.trace_explain.specs.FilterDue.{operator_meant}
-use Rattle.trace_explain.specs.Near.{near_event, near_field, near_command, near_file, near_top_file, near_event_file}
+use Rattle.trace_explain.specs.HistDue.{first_part, wrong_attribute}
+use Rattle.trace_explain.specs.Near.{near_event, near_field, near_common, near_command, near_option, near_trigger, near_type, near_attribute, near_file, near_top_file, near_event_file}
+use Rattle.trace_explain.specs.TriggerDue.{mark_len}
 use Rattle.trace_explain.specs.Wording.{command_subject, filter_due_at}
+use Rattle.trace_explain.specs.declared.declaration_due.DeclarationDue.{DeclarationDue}
+use Rattle.trace_explain.specs.declared.declaration_due.DeclarationDue.TheVariants.{Event, FieldType}
+use Rattle.trace_explain.specs.declared.wording.Subject.{Subject}
+use Rattle.trace_explain.specs.declared.wording.Subject.TheVariants as subject
 
 -- ---- paths
 
@@ -87,6 +95,14 @@ abbrev pub field_meant : List Definition → Option (List ℕ) → List ℕ → 
 field_meant events None field = []
 field_meant events (Some name) field = field_of_event (event_named events name) field
 
+-- a field, or else one that each event has
+abbrev pub or_common : List ℕ → List ℕ → List ℕ
+or_common [] name = near_common name
+or_common (b ∷ bs) name = b ∷ bs
+
+abbrev pub operand_meant : List Definition → Option (List ℕ) → List ℕ → List ℕ
+operand_meant events event name = or_common (field_meant events event name) name
+
 -- the name that some bytes begin with
 abbrev pub name_at : List ℕ → List ℕ
 name_at rest = take (prefix_len is_name_byte rest) rest
@@ -105,11 +121,34 @@ path_meant events _ = []
 abbrev pub operator_of : Command → ℕ → List ℕ
 operator_of command at = operator_meant (filter_due_at (command_subject command) (written_in command) at) (drop at (written_in command))
 
+-- ---- what is written
+
+-- by what is no value for its file
+abbrev pub value_meant : Subject → List ℕ → List ℕ
+value_meant subject.Options text = near_option (trimmed text)
+value_meant subject.Trigger text = near_trigger (first_part (drop (mark_len text) text))
+value_meant _ text = []
+
+-- by these bytes of a declaration
+abbrev pub type_meant : DeclarationDue → List ℕ → List ℕ
+type_meant FieldType rest = near_type (take (prefix_len is_in_word rest) rest)
+type_meant _ rest = []
+
+abbrev pub declaration_meant : List ℕ → ℕ → List ℕ
+declaration_meant text at = type_meant (declared_from Event (take at text)) (drop at text)
+
+-- by an attribute of a hist trigger
+abbrev pub attribute_meant : List ℕ → ℕ → List ℕ
+attribute_meant text at = near_attribute (wrong_attribute (take at text) (drop at text))
+
 -- what was meant by a refused command; nothing, if nothing is near
 unfoldable pub command_meant : List Definition → Command → Refusal → List ℕ
 command_meant events command NoSuchFile = path_meant events command
 command_meant events command NoSuchEvent = event_meant events (event_of command)
-command_meant events command (NoSuchField at) = field_meant events (event_of command) (name_at (drop at (written_in command)))
+command_meant events command BadValue = value_meant (command_subject command) (written_in command)
+command_meant events command (BadDefinition at) = declaration_meant (written_in command) at
+command_meant events command (NoSuchField at) = operand_meant events (event_of command) (name_at (drop at (written_in command)))
+command_meant events command (HistSyntax at) = attribute_meant (written_in command) at
 command_meant events command (BadRow field) = field_meant events (event_of command) field
 command_meant events command (FilterSyntax at) = operator_of command at
 command_meant events command _ = []

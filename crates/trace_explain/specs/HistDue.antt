@@ -35,6 +35,16 @@ is_values part = begins (codes "values=") part || (begins (codes "vals=") part |
 abbrev pub is_action : List ℕ → Bool
 is_action part = (bytes_eq part (codes "pause") || bytes_eq part (codes "continue")) || (bytes_eq part (codes "cont") || bytes_eq part (codes "clear"))
 
+-- a part begins as an attribute does
+abbrev pub is_attribute_name : List ℕ → Bool
+is_attribute_name part =
+    (begins (codes "size=") part || is_action part)
+    || ((is_keys part || is_values part) || (begins (codes "sort=") part || begins (codes "name=") part))
+
+-- how an attribute begins: up to its `=`, if it has one
+abbrev pub attribute_name : List ℕ → List ℕ
+attribute_name part = take (prefix_len (is_not 61) part + 1) part
+
 -- what is wrong with this attribute
 unfoldable pub attribute_words : List ℕ → List ℕ
 attribute_words part =
@@ -53,12 +63,18 @@ key_words part =
 abbrev pub value_words : List ℕ → List ℕ
 value_words part = if ends_with 44 part then codes "expected another field" else codes "expected a field"
 
+-- a name to sort by is due
+abbrev pub sort_words : List ℕ → List ℕ
+sort_words part =
+    if ends_with 44 part then codes "expected another key or value, or `hitcount`, alone or with `.ascending` or `.descending`"
+    else codes "expected `hitcount`, a key or a value, alone or with `.ascending` or `.descending`"
+
 -- what is wrong after this beginning of an attribute, where an item is due
 unfoldable pub item_words : List ℕ → List ℕ
 item_words part =
     if is_keys part then key_words part
     else (if is_values part then value_words part
-    else (if begins (codes "sort=") part then codes "expected `hitcount`, a key or a value, alone or with `.ascending` or `.descending`"
+    else (if begins (codes "sort=") part then sort_words part
     else codes "expected a table's name"))
 
 -- after these bytes, the last of which are of this attribute, and before these
@@ -71,6 +87,14 @@ part_words (b ∷ bs) rest =
 abbrev pub hist_due_words : List ℕ → List ℕ → List ℕ
 hist_due_words front rest =
     if has_blank front then codes "expected `if` and a filter" else part_words (last_part front) rest
+
+-- what is written in place of an attribute, where a hist trigger is wrong; nothing, if something else is wrong
+abbrev pub wrong_attribute_at : List ℕ → List ℕ → List ℕ
+wrong_attribute_at [] part = if is_attribute_name part then [] else attribute_name part
+wrong_attribute_at (b ∷ bs) part = []
+
+abbrev pub wrong_attribute : List ℕ → List ℕ → List ℕ
+wrong_attribute front rest = if has_blank front then [] else wrong_attribute_at (last_part front) (first_part rest)
 
 -- what is wrong with a field that a hist trigger names after these bytes, if it is not in the filter
 abbrev pub field_words : List ℕ → List ℕ

@@ -73,6 +73,32 @@ near_command given =
     or_near given (codes "emit") (or_near given (codes "echo") (or_near given (codes "cat") (or_near given (codes "take") (or_near given (codes "mkdir")
     (or_near given (codes "rmdir") (or_near given (codes "parallel") (or_near given (codes "thread") (or_near given (codes "end") []))))))))
 
+-- the first attribute of hist triggers that is near; nothing, if none is
+unfoldable pub near_attribute : List ℕ → List ℕ
+near_attribute given =
+    or_near given (codes "keys=") (or_near given (codes "values=") (or_near given (codes "vals=") (or_near given (codes "sort=")
+    (or_near given (codes "size=") (or_near given (codes "name=") (or_near given (codes "pause") (or_near given (codes "continue")
+    (or_near given (codes "clear") []))))))))
+
+-- the first type of fields that is near, without `int` and `long`, which `uint` and `ulong` are near to; nothing, if none is
+unfoldable pub near_type : List ℕ → List ℕ
+near_type given =
+    or_near given (codes "s64") (or_near given (codes "s32") (or_near given (codes "s16") (or_near given (codes "u64")
+    (or_near given (codes "u32") (or_near given (codes "u16") (or_near given (codes "char") (or_near given (codes "pid_t")
+    (or_near given (codes "unsigned") []))))))))
+
+-- the word for an option that is near; nothing, if none is
+unfoldable pub near_option : List ℕ → List ℕ
+near_option given = or_near given (codes "nooverwrite") (or_near given (codes "overwrite") [])
+
+-- the beginning of a trigger that is near; nothing, if none is
+unfoldable pub near_trigger : List ℕ → List ℕ
+near_trigger given = if is_near given (codes "hist") then codes "hist:" else or_near given (codes "snapshot") []
+
+-- the field of each event that is near; nothing, if none is
+unfoldable pub near_common : List ℕ → List ℕ
+near_common given = or_near given (codes "common_pid") (or_near given (codes "common_cpu") [])
+
 -- the first file of a CPU whose path is near; nothing, if none is
 unfoldable pub near_cpu_file : List ℕ → List ℕ
 near_cpu_file given =

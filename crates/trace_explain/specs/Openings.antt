@@ -4,7 +4,7 @@ use Rattle.std.specs.List.{prefix_len}
 use Rattle.trace_lex.specs.Blanks.{is_blank}
 use Rattle.trace_explain.specs.FilterDue.{due_after}
 use Rattle.trace_explain.specs.declared.filter_due.FilterDue.{FilterDue}
-use Rattle.trace_explain.specs.declared.filter_due.FilterDue.TheVariants.{Operand, Bare, Joint}
+use Rattle.trace_explain.specs.declared.filter_due.FilterDue.TheVariants.{Operand, Signs, Bare, Signed, Joint}
 
 abbrev pub is_bang : ℕ → Bool
 is_bang b = b == 33
@@ -20,7 +20,9 @@ without_group opened = without_bangs (take (length opened - 1) opened)
 -- what is open after one more byte
 abbrev pub opened_after : FilterDue → ℕ → List ℕ → List ℕ
 opened_after Operand b opened = if b == 33 || b == 40 then opened ++ b ∷ [] else (if is_blank b then opened else without_bangs opened)
+opened_after Signs b opened = if b == 41 then without_group opened else opened
 opened_after Bare b opened = if b == 41 then without_group opened else opened
+opened_after Signed b opened = if b == 41 then without_group opened else opened
 opened_after Joint b opened = if b == 41 then without_group opened else opened
 opened_after _ b opened = opened
 

@@ -199,7 +199,7 @@ refusal_words subject text Worn = codes "all tickets are drawn"
 
 -- what is wrong with a field
 unfoldable pub cause_words : Cause → List ℕ
-cause_words cause.NotKnown = codes "expected each field of the event once, with a value of its type"
+cause_words cause.NotKnown = codes "no field of the event, or repeated, or its value is none of its type"
 cause_words cause.NoField = codes "the event has no field of this name"
 cause_words cause.Repeated = codes "the field is repeated"
 cause_words cause.Missing = codes "the field is missing"
@@ -251,7 +251,7 @@ unfoldable pub block_words : List ℕ → List ℕ
 block_words name =
     if bytes_eq name (codes "thread") then codes "no parallel part is open here"
     else (if bytes_eq name (codes "end") then codes "no parallel part is open here"
-    else (if bytes_eq name (codes "parallel") then codes "expected `parallel` outside a part, with an `end` after it"
+    else (if bytes_eq name (codes "parallel") then codes "a part is open already, or no `end` follows"
     else codes "expected `thread` before the first command of a part"))
 
 -- what is wrong with a line that is no command, and begins with a word of this name

@@ -5,7 +5,7 @@ ghost use Rattle.std.specs.List.{list_all};
 ghost use Rattle.std.specs.Option.{option_copied};
 ghost use Rattle.trace_format.specs.Cells.{is_printable};
 ghost use Rattle.trace_format.specs.Rows.{field_named, pair_named};
-ghost use Rattle.trace_explain.specs.Causes.{misfit_of, cause_of};
+ghost use Rattle.trace_explain.specs.Causes.{misfit_of, cause_of, cause_without_event};
 
 use trace_format::{Field, Kind, Pair};
 use trace_lex::number;
@@ -87,5 +87,15 @@ pub(crate) fn cause_at_name(fields: &[Field], pairs: &[Pair], name: &[u8]) -> Ca
     match misfit(field.kind, pair.value.as_bytes()) {
         Some(cause) => cause,
         None => Cause::Repeated,
+    }
+}
+
+/// Likewise, where the event is not known.
+pub(crate) fn cause_without_event(pairs: &[Pair], name: &[u8]) -> Cause
+    ensures { result ≡ cause_without_event (pair_named pairs.now name.now) }
+{
+    match pair_of(pairs, name) {
+        Some(_) => Cause::NotKnown,
+        None => Cause::Missing,
     }
 }

@@ -1,10 +1,11 @@
 //! What a declaration may go on with.
 
-ghost use Rattle.std.specs.Prelude.{◌≡◌, ◌≤◌, false, length};
+ghost use Rattle.std.specs.Prelude.{◌≡◌, ◌≤◌, false, length, take};
 ghost use Rattle.std.specs.List.{prefix_len};
 ghost use Rattle.trace_lex.specs.Blanks as blanks;
 ghost use Rattle.trace_explain.specs.DeclarationDue.{in_type, due_after, due_from, is_reserved, is_in_word, field_words, declaration_due_words};
 
+use crate::hist_due::ends_with;
 use trace_lex::{is_blank, is_name};
 
 /// What comes next, after bytes with which a declaration can begin.
@@ -111,10 +112,19 @@ fn word_len(text: &[u8]) -> usize
         .count()
 }
 
+/// What comes before the first blank or `;`.
+pub(crate) fn first_word(text: &[u8]) -> &[u8]
+    ensures { result.now ≡ take (prefix_len is_in_word text.now) text.now }
+{
+    &text[..word_len(text)]
+}
+
 fn field_words(word: &[u8]) -> &'static str
     ensures { result.now ≡ field_words word.now }
 {
-    if !is_name(word) {
+    if ends_with(b',', word) {
+        "expected a field's name, and `;` in place of `,`"
+    } else if !is_name(word) {
         "expected a field's name"
     } else if is_reserved(word) {
         "this name is reserved"
@@ -136,6 +146,6 @@ pub(crate) fn declaration_due_words(due: DeclarationDue, rest: &[u8]) -> &'stati
             "expected a new field's name and its length, as `name[16]`"
         }
         DeclarationDue::FieldName | DeclarationDue::Joint => "expected `;`",
-        _ => field_words(&rest[..word_len(rest)]),
+        _ => field_words(first_word(rest)),
     }
 }

@@ -6,7 +6,7 @@ ghost use Rattle.trace_explain.specs.Events as events_of;
 ghost use Rattle.trace_explain.specs.Events.{declared_by};
 ghost use Rattle.trace_explain.specs.Explanations as told;
 
-use crate::cause::{Cause, cause_at_name};
+use crate::cause::{Cause, cause_at_name, cause_without_event};
 use crate::event::{command_of, declared, event_named};
 use crate::fault_place::fault_offset;
 use crate::fault_words::{fault_words, name_of};
@@ -43,7 +43,7 @@ fn cause_in(events: &[EventDef], event: &[u8], pairs: &[Pair], field: &[u8]) -> 
 {
     match event_named(events, event) {
         Some(event) => cause_at_name(event.fields(), pairs, field),
-        None => Cause::NotKnown,
+        None => cause_without_event(pairs, field),
     }
 }
 

@@ -103,7 +103,7 @@ fn block_words(name: &[u8]) -> &'static str
     if name == b"thread".as_slice() || name == b"end".as_slice() {
         "no parallel part is open here"
     } else if name == b"parallel".as_slice() {
-        "expected `parallel` outside a part, with an `end` after it"
+        "a part is open already, or no `end` follows"
     } else {
         "expected `thread` before the first command of a part"
     }

@@ -2,9 +2,10 @@
 
 ghost use Rattle.std.specs.Prelude.{◌≡◌};
 ghost use Rattle.trace_script.specs.Tokens as tokens;
-ghost use Rattle.trace_explain.specs.FilterDue.{takes_equal, after_operator, after_value, due_after, due_from, quoted_words, value_due_words, joint_words, filter_due_words, meant_by_equal, operator_meant_at, operator_meant};
+ghost use Rattle.trace_explain.specs.FilterDue.{takes_equal, is_sign, after_operator, after_value, ends_value, after_bare, due_after, due_from, quoted_words, number_words, value_due_words, joint_words, signed_words, filter_due_words, meant_by_equal, meant_by_word, meant_by_half, meant_after_name, operator_meant};
 
 use crate::cut::has_byte;
+use crate::hist_due::begins;
 use trace_lex::{is_blank, is_name_byte};
 
 /// What comes next, after bytes with which a filter can begin.
@@ -18,10 +19,14 @@ pub(crate) enum FilterDue {
     /// More of an operator that begins with this byte, or a value.
     Compared(u8),
     Value,
+    /// More of a value that has only bytes of operators so far, or what may follow it.
+    Signs,
     /// More of a value without quotes, or what may follow it.
     Bare,
     /// More of a value in these quotes.
     Quoted(u8),
+    /// `&&`, `||` or `)` after a value that has only bytes of operators.
+    Signed,
     /// `&&`, `||` or `)`.
     Joint,
     /// The second byte of `&&` or `||`.
@@ -41,6 +46,13 @@ fn takes_equal(first: u8) -> bool
     matches!(first, b'=' | b'!' | b'<' | b'>')
 }
 
+/// Whether operators other than `&` have this byte.
+fn is_sign(byte: u8) -> bool
+    ensures { result ≡ is_sign byte }
+{
+    takes_equal(byte) || byte == b'~'
+}
+
 fn after_operator(byte: u8) -> FilterDue
     ensures { result ≡ after_operator byte }
 {
@@ -48,6 +60,8 @@ fn after_operator(byte: u8) -> FilterDue
         FilterDue::Value
     } else if is_quote(byte) {
         FilterDue::Quoted(byte)
+    } else if is_sign(byte) {
+        FilterDue::Signs
     } else {
         FilterDue::Bare
     }
@@ -60,6 +74,35 @@ fn after_value(byte: u8) -> FilterDue
         FilterDue::Joint
     } else {
         FilterDue::Joined
+    }
+}
+
+/// Whether a value without quotes ends before this byte.
+fn ends_value(byte: u8) -> bool
+    ensures { result ≡ ends_value byte }
+{
+    is_blank(byte) || matches!(byte, b')' | b'&' | b'|')
+}
+
+fn after_bare(byte: u8) -> FilterDue
+    ensures { result ≡ after_bare byte }
+{
+    if ends_value(byte) {
+        after_value(byte)
+    } else {
+        FilterDue::Bare
+    }
+}
+
+fn after_signs(byte: u8) -> FilterDue
+    ensures { result ≡ due_after FilterDue.Signs byte }
+{
+    if is_blank(byte) {
+        FilterDue::Signed
+    } else if is_sign(byte) {
+        FilterDue::Signs
+    } else {
+        after_bare(byte)
     }
 }
 
@@ -87,13 +130,12 @@ pub(crate) fn due_after(due: FilterDue, byte: u8) -> FilterDue
         FilterDue::Operator => FilterDue::Compared(byte),
         FilterDue::Compared(first) if byte == b'=' && takes_equal(first) => FilterDue::Value,
         FilterDue::Compared(_) | FilterDue::Value => after_operator(byte),
-        FilterDue::Bare if is_blank(byte) || matches!(byte, b')' | b'&' | b'|') => after_value(
-            byte,
-        ),
-        FilterDue::Bare => due,
+        FilterDue::Signs => after_signs(byte),
+        FilterDue::Bare => after_bare(byte),
         FilterDue::Quoted(quote) if byte == quote => FilterDue::Joint,
         FilterDue::Quoted(_) => due,
-        FilterDue::Joint => after_value(byte),
+        FilterDue::Signed if is_blank(byte) => due,
+        FilterDue::Signed | FilterDue::Joint => after_value(byte),
         FilterDue::Joined => FilterDue::Operand,
     }
 }
@@ -120,6 +162,19 @@ fn quoted_words(quote: u8, rest: &[u8]) -> &'static str
     }
 }
 
+/// What is wrong where a number is due, and this byte is there.
+fn number_words(byte: u8) -> &'static str
+    ensures { result.now ≡ number_words byte }
+{
+    if byte.is_ascii_digit() {
+        "expected a number of 64 bits, as `10`, `0xa` or octal `012`"
+    } else if is_sign(byte) {
+        "expected one operator and a number"
+    } else {
+        "expected a number"
+    }
+}
+
 fn value_due_words(rest: &[u8]) -> &'static str
     ensures { result.now ≡ value_due_words rest.now }
 {
@@ -127,7 +182,7 @@ fn value_due_words(rest: &[u8]) -> &'static str
         [] => "expected a value",
         [quote, rest @ ..] if is_quote(*quote) => quoted_words(*quote, rest),
         [b'(' | b')' | b'&' | b'|', ..] => "expected a value",
-        _ => "expected a number",
+        [byte, ..] => number_words(*byte),
     }
 }
 
@@ -141,6 +196,16 @@ fn joint_words(rest: &[u8]) -> &'static str
     }
 }
 
+/// What is wrong after a value that has only bytes of operators: more of an operator, if another value follows.
+fn signed_words(rest: &[u8]) -> &'static str
+    ensures { result.now ≡ signed_words rest.now }
+{
+    match rest {
+        [] | [b')' | b'&' | b'|', ..] => joint_words(rest),
+        _ => "expected one operator before this value",
+    }
+}
+
 /// What is wrong with a filter where these bytes follow.
 pub(crate) fn filter_due_words(due: FilterDue, rest: &[u8]) -> &'static str
     ensures { result.now ≡ filter_due_words due rest.now }
@@ -149,6 +214,7 @@ pub(crate) fn filter_due_words(due: FilterDue, rest: &[u8]) -> &'static str
         FilterDue::Operand | FilterDue::Joined => "expected a field, `!` or `(`",
         FilterDue::Name | FilterDue::Operator => "expected an operator",
         FilterDue::Compared(_) | FilterDue::Value => value_due_words(rest),
+        FilterDue::Signs | FilterDue::Signed => signed_words(rest),
         FilterDue::Bare | FilterDue::Quoted(_) | FilterDue::Joint => joint_words(rest),
     }
 }
@@ -160,28 +226,54 @@ fn meant_by_equal(rest: &[u8]) -> &'static str
     match rest {
         [b'>', ..] => ">=",
         [b'<', ..] => "<=",
+        [b'!', ..] => "!=",
         [b'~', ..] => "~",
         _ => "==",
     }
 }
 
-fn operator_meant_at(due: FilterDue, byte: u8, rest: &[u8]) -> &'static str
-    ensures { result.now ≡ operator_meant_at due byte rest.now }
+/// The operator between two tests that is meant by a word.
+fn meant_by_word(text: &[u8]) -> &'static str
+    ensures { result.now ≡ meant_by_word text.now }
 {
-    match (due, byte) {
-        (FilterDue::Name | FilterDue::Operator, b'=') => meant_by_equal(rest),
-        (FilterDue::Bare | FilterDue::Joint, b'&') => "&&",
-        (FilterDue::Bare | FilterDue::Joint, b'|') => "||",
+    if begins(b"and ", text) {
+        "&&"
+    } else if begins(b"or ", text) {
+        "||"
+    } else {
+        ""
+    }
+}
+
+/// The operator between two tests that is meant by half of it, or by a word.
+fn meant_by_half(text: &[u8]) -> &'static str
+    ensures { result.now ≡ meant_by_half text.now }
+{
+    match text {
+        [] => "",
+        [b'&', ..] => "&&",
+        [b'|', ..] => "||",
+        _ => meant_by_word(text),
+    }
+}
+
+/// The operator that is meant after a field.
+fn meant_after_name(rest: &[u8]) -> &'static str
+    ensures { result.now ≡ meant_after_name rest.now }
+{
+    match rest {
+        [b'=', rest @ ..] => meant_by_equal(rest),
         _ => "",
     }
 }
 
-/// The operator that is meant where half of one is written, or one with its bytes exchanged; empty, if none is.
+/// The operator that is meant where half of one is written, or one with its bytes exchanged, or its name; empty, if none is.
 pub(crate) fn operator_meant(due: FilterDue, rest: &[u8]) -> &'static str
     ensures { result.now ≡ operator_meant due rest.now }
 {
-    match rest {
-        [] => "",
-        [byte, rest @ ..] => operator_meant_at(due, *byte, rest),
+    match due {
+        FilterDue::Name | FilterDue::Operator => meant_after_name(rest),
+        FilterDue::Bare | FilterDue::Joint => meant_by_half(rest),
+        _ => "",
     }
 }

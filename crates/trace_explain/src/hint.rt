@@ -7,17 +7,20 @@ ghost use Rattle.trace_command.specs.FileNames.{bytes_now};
 ghost use Rattle.trace_explain.specs.Hints as hints;
 
 use crate::cut::{after, up_to};
+use crate::declaration_due::{DeclarationDue, declaration_due, first_word};
 use crate::event::event_named;
 use crate::filter_due::operator_meant;
-use crate::hist_due::begins;
+use crate::hist_due::{begins, first_part, wrong_attribute};
 use crate::near::{
-    near_command, near_event, near_event_file, near_field, near_file, near_top_file,
+    near_attribute, near_command, near_common, near_event, near_event_file, near_field, near_file,
+    near_option, near_top_file, near_trigger, near_type,
 };
-use crate::wording::{command_subject, filter_due_at};
+use crate::trigger_due::mark_len;
+use crate::wording::{Subject, command_subject, filter_due_at};
 use std::alloc::{AllocError, Global};
 use trace_command::{Command, FileName, Refusal, address_of};
 use trace_format::EventDef;
-use trace_lex::{is_name_byte, len_before};
+use trace_lex::{is_name_byte, len_before, trim};
 use trace_script::ScriptFault;
 
 /// How many bytes `instances/NAME/` has, where this follows its first `/`; 0, if it is no such path.
@@ -164,6 +167,18 @@ fn field_meant<'a>(events: &'a [EventDef], event: Option<&[u8]>, field: &[u8]) -
     }
 }
 
+/// The field whose name is near, or else one that each event has; empty, if none is.
+fn operand_meant<'a>(events: &'a [EventDef], event: Option<&[u8]>, name: &[u8]) -> &'a [u8]
+    ensures { result.now ≡ hints.operand_meant events.now (option_map bytes_now event.entry) name.now }
+{
+    let field = field_meant(events, event, name);
+    if field.is_empty() {
+        near_common(name).as_bytes()
+    } else {
+        field
+    }
+}
+
 fn name_len(rest: &[u8]) -> usize
     ensures value { result ≡ prefix_len names.is_name_byte rest.now }
     ensures bound { result ≤ length rest.now }
@@ -209,6 +224,34 @@ fn operator_of(command: &Command, at: usize) -> &'static str
     )
 }
 
+/// What was meant by what is no value for its file.
+fn value_meant(subject: Subject, text: &[u8]) -> &'static str
+    ensures { result.now ≡ hints.value_meant subject text.now }
+{
+    match subject {
+        Subject::Options => near_option(trim(text)),
+        Subject::Trigger => near_trigger(first_part(after(mark_len(text), text))),
+        _ => "",
+    }
+}
+
+/// The type that was meant in a declaration.
+fn declaration_meant(text: &[u8], at: usize) -> &'static str
+    ensures { result.now ≡ hints.declaration_meant text.now at }
+{
+    match declaration_due(up_to(at, text)) {
+        DeclarationDue::FieldType => near_type(first_word(after(at, text))),
+        _ => "",
+    }
+}
+
+/// The attribute that was meant in a hist trigger.
+fn attribute_meant(text: &[u8], at: usize) -> &'static str
+    ensures { result.now ≡ hints.attribute_meant text.now at }
+{
+    near_attribute(wrong_attribute(up_to(at, text), after(at, text)))
+}
+
 /// What was meant by a refused command; empty, if nothing is near.
 #[tactic(auto, unfolding(crate::specs::Hints::command_meant))]
 pub(crate) fn command_meant(
@@ -222,9 +265,12 @@ pub(crate) fn command_meant(
     let meant = match refusal {
         Refusal::NoSuchFile => return path_meant(alloc, events, command),
         Refusal::NoSuchEvent => event_meant(events, event_of(command)),
+        Refusal::BadValue => value_meant(command_subject(command), written_in(command)).as_bytes(),
+        Refusal::BadDefinition { at } => declaration_meant(written_in(command), *at).as_bytes(),
+        Refusal::HistSyntax { at } => attribute_meant(written_in(command), *at).as_bytes(),
         Refusal::NoSuchField { at } => {
-            let field = name_at(after(*at, written_in(command)));
-            field_meant(events, event_of(command), field)
+            let name = name_at(after(*at, written_in(command)));
+            operand_meant(events, event_of(command), name)
         }
         Refusal::BadRow { field } => field_meant(events, event_of(command), field.as_bytes()),
         Refusal::FilterSyntax { at } => operator_of(command, *at).as_bytes(),

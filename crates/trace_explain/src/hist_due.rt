@@ -79,6 +79,25 @@ fn is_action(part: &[u8]) -> bool
         || part == b"clear".as_slice()
 }
 
+/// Whether a part begins as an attribute does.
+fn is_attribute_name(part: &[u8]) -> bool
+    ensures { result ≡ due.is_attribute_name part.now }
+{
+    begins(b"size=", part)
+        || is_action(part)
+        || is_keys(part)
+        || is_values(part)
+        || begins(b"sort=", part)
+        || begins(b"name=", part)
+}
+
+/// How an attribute begins: up to its `=`, if it has one.
+fn attribute_name(part: &[u8]) -> &[u8]
+    ensures { result.now ≡ due.attribute_name part.now }
+{
+    up_to(len_before(b'=', part) + 1, part)
+}
+
 /// What is wrong with an attribute.
 #[tactic(auto, unfolding(crate::specs::HistDue::attribute_words))]
 fn attribute_words(part: &[u8]) -> &'static str
@@ -115,6 +134,16 @@ fn value_words(part: &[u8]) -> &'static str
     }
 }
 
+fn sort_words(part: &[u8]) -> &'static str
+    ensures { result.now ≡ due.sort_words part.now }
+{
+    if ends_with(b',', part) {
+        "expected another key or value, or `hitcount`, alone or with `.ascending` or `.descending`"
+    } else {
+        "expected `hitcount`, a key or a value, alone or with `.ascending` or `.descending`"
+    }
+}
+
 /// What is wrong after this beginning of an attribute.
 #[tactic(auto, unfolding(crate::specs::HistDue::item_words))]
 fn item_words(part: &[u8]) -> &'static str
@@ -125,7 +154,7 @@ fn item_words(part: &[u8]) -> &'static str
     } else if is_values(part) {
         value_words(part)
     } else if begins(b"sort=", part) {
-        "expected `hitcount`, a key or a value, alone or with `.ascending` or `.descending`"
+        sort_words(part)
     } else {
         "expected a table's name"
     }
@@ -149,6 +178,18 @@ pub(crate) fn hist_due_words(front: &[u8], rest: &[u8]) -> &'static str
         "expected `if` and a filter"
     } else {
         part_words(last_part(front), rest)
+    }
+}
+
+/// What is written in place of an attribute after these bytes, and before these; empty, if something else is wrong.
+pub(crate) fn wrong_attribute<'a>(front: &[u8], rest: &'a [u8]) -> &'a [u8]
+    ensures { result.now ≡ due.wrong_attribute front.now rest.now }
+{
+    let part = first_part(rest);
+    if has_blank(front) || !last_part(front).is_empty() || is_attribute_name(part) {
+        b""
+    } else {
+        attribute_name(part)
     }
 }
 

@@ -150,6 +150,104 @@ pub(crate) fn near_command(given: &[u8]) -> &'static str
     }
 }
 
+/// The first attribute of hist triggers that is near; empty, if none is.
+#[tactic(auto, unfolding(crate::specs::Near::near_attribute))]
+pub(crate) fn near_attribute(given: &[u8]) -> &'static str
+    ensures { result.now ≡ near.near_attribute given.now }
+{
+    if is_near(given, b"keys=") {
+        "keys="
+    } else if is_near(given, b"values=") {
+        "values="
+    } else if is_near(given, b"vals=") {
+        "vals="
+    } else if is_near(given, b"sort=") {
+        "sort="
+    } else if is_near(given, b"size=") {
+        "size="
+    } else if is_near(given, b"name=") {
+        "name="
+    } else if is_near(given, b"pause") {
+        "pause"
+    } else if is_near(given, b"continue") {
+        "continue"
+    } else if is_near(given, b"clear") {
+        "clear"
+    } else {
+        ""
+    }
+}
+
+/// The first type of fields that is near, without `int` and `long`, which `uint` and `ulong` are near to; empty, if none is.
+#[tactic(auto, unfolding(crate::specs::Near::near_type))]
+pub(crate) fn near_type(given: &[u8]) -> &'static str
+    ensures { result.now ≡ near.near_type given.now }
+{
+    if is_near(given, b"s64") {
+        "s64"
+    } else if is_near(given, b"s32") {
+        "s32"
+    } else if is_near(given, b"s16") {
+        "s16"
+    } else if is_near(given, b"u64") {
+        "u64"
+    } else if is_near(given, b"u32") {
+        "u32"
+    } else if is_near(given, b"u16") {
+        "u16"
+    } else if is_near(given, b"char") {
+        "char"
+    } else if is_near(given, b"pid_t") {
+        "pid_t"
+    } else if is_near(given, b"unsigned") {
+        "unsigned"
+    } else {
+        ""
+    }
+}
+
+/// The word for an option that is near; empty, if none is.
+#[tactic(auto, unfolding(crate::specs::Near::near_option))]
+pub(crate) fn near_option(given: &[u8]) -> &'static str
+    ensures { result.now ≡ near.near_option given.now }
+{
+    if is_near(given, b"nooverwrite") {
+        "nooverwrite"
+    } else if is_near(given, b"overwrite") {
+        "overwrite"
+    } else {
+        ""
+    }
+}
+
+/// The beginning of a trigger that is near; empty, if none is.
+#[tactic(auto, unfolding(crate::specs::Near::near_trigger))]
+pub(crate) fn near_trigger(given: &[u8]) -> &'static str
+    ensures { result.now ≡ near.near_trigger given.now }
+{
+    if is_near(given, b"hist") {
+        "hist:"
+    } else if is_near(given, b"snapshot") {
+        "snapshot"
+    } else {
+        ""
+    }
+}
+
+/// The field of each event that is near; empty, if none is.
+#[tactic(auto, unfolding(crate::specs::Near::near_common))]
+pub(crate) fn near_common(given: &[u8]) -> &'static str
+    ensures { result.now ≡ near.near_common given.now }
+{
+    if is_near(given, b"common_pid") {
+        "common_pid"
+    } else if is_near(given, b"common_cpu") {
+        "common_cpu"
+    } else {
+        ""
+    }
+}
+
 /// The first file of a CPU whose path is near; empty, if none is.
 #[tactic(auto, unfolding(crate::specs::Near::near_cpu_file))]
 fn near_cpu_file(given: &[u8]) -> &'static str

@@ -73,7 +73,8 @@ impl Openings {
         match self.due {
             FilterDue::Operand if byte == b'!' || byte == b'(' => self.opened.push(byte),
             FilterDue::Operand if !is_blank(byte) => self.close_bangs(),
-            FilterDue::Bare | FilterDue::Joint if byte == b')' => self.close_group(),
+            FilterDue::Signs | FilterDue::Bare | FilterDue::Signed | FilterDue::Joint
+                if byte == b')' => self.close_group(),
             _ => {}
         }
         self.due = due_after(self.due, byte);

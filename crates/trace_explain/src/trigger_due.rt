@@ -99,7 +99,7 @@ fn due_offset(due: TriggerDue, body: &[u8]) -> usize
     }
 }
 
-fn mark_len(text: &[u8]) -> usize
+pub(crate) fn mark_len(text: &[u8]) -> usize
     ensures value { result ≡ triggers.mark_len text.now }
     ensures bound { result ≤ 1 }
 {

@@ -350,7 +350,7 @@ pub(crate) fn cause_words(cause: Cause) -> &'static str
     ensures { result.now ≡ wording.cause_words cause }
 {
     match cause {
-        Cause::NotKnown => "expected each field of the event once, with a value of its type",
+        Cause::NotKnown => "no field of the event, or repeated, or its value is none of its type",
         Cause::NoField => "the event has no field of this name",
         Cause::Repeated => "the field is repeated",
         Cause::Missing => "the field is missing",
