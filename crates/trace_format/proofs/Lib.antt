@@ -9,6 +9,7 @@ pub mod OperandLemmas
 pub mod OrderLemmas
 pub mod PairLemmas
 pub mod PartLemmas
+pub mod PatternLemmas
 pub mod Patterns
 pub mod PayloadLemmas
 pub mod Payloads

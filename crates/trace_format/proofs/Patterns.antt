@@ -2,7 +2,7 @@
 use Rattle.std.proofs.Common.{◌≡◌, ℕ, zero, suc, ◌+◌, ◌-◌, ◌*◌, ◌/◌, ◌%◌, ◌^◌, ◌<◌, ◌≤◌, ℤ, pos, negsuc, neg_ℤ, ◌≤ℤ◌, true, false, nat_lt, nat_le, if◌then◌else◌, ◌⊎◌, List, [], ◌∷◌, ◌++◌, length, set, take, refl, sym, ap, ◌∙◌, subst, inl, inr, ⊎_elim, arith, pow-suc, leb-true, lt-ltb, le-ltb, length-set, append_assoc}
 use Rattle.std.proofs.lemmas.Bool.{agree_below_at, cond-true, cond-false, cases_lt}
 use Rattle.std.proofs.lemmas.Int.{ints}
-use Rattle.std.specs.Int.{w64, to_le_bytes}
+use Rattle.std.specs.Int.{w32, w64, to_le_bytes}
 use Rattle.std.proofs.lemmas.List.{take_more_set}
 use Rattle.trace_format.specs.declared.kind.NumberType.{NumberType}
 use Rattle.trace_format.specs.declared.kind.NumberType.TheVariants.{U8, U16, U32, U64, S8, S16, S32, S64, Int, PidT, UnsignedInt, Long, UnsignedLong}
@@ -195,3 +195,13 @@ eight_bytes n =
     let seventh : n / 256 ^ 6 % 256 ≡ n / 256 / 256 / 256 / 256 / 256 / 256 % 256 = omega arith in
     let eighth : n / 256 ^ 7 % 256 ≡ n / 256 / 256 / 256 / 256 / 256 / 256 / 256 % 256 = omega arith in
     (λ i. n % 256 ∷ n / 256 % 256 ∷ third i ∷ fourth i ∷ fifth i ∷ sixth i ∷ seventh i ∷ eighth i ∷ [])
+
+-- ---- and four
+
+pub four_bytes : (n : ℕ) → to_le_bytes w32 (n % 2 ^ 32) ≡ little_endian 4 n
+four_bytes n =
+    let first : n % 2 ^ 32 % 256 ≡ n % 256 = omega arith in
+    let second : n % 2 ^ 32 / 256 % 256 ≡ n / 256 % 256 = omega arith in
+    let third : n % 2 ^ 32 / 256 ^ 2 % 256 ≡ n / 256 / 256 % 256 = omega arith in
+    let fourth : n % 2 ^ 32 / 256 ^ 3 % 256 ≡ n / 256 / 256 / 256 % 256 = omega arith in
+    (λ i. first i ∷ second i ∷ third i ∷ fourth i ∷ [])

@@ -2,17 +2,20 @@
 
 ghost use Rattle.std.specs.Prelude.{◌≡◌, ◌≤◌, ◌+◌, ◌↔◌, ◌++◌, if◌then◌else◌, true, length, map, take, Some, None, option_map};
 ghost use Rattle.std.specs.List.{AllZip};
+ghost use Rattle.trace_format.specs.declared.kind.Kind.TheVariants as kinds;
 ghost use Rattle.trace_format.specs.Kinds.{size_of};
 ghost use Rattle.trace_format.specs.Cells.{field_bytes, size_of_all, payload_size_of};
 ghost use Rattle.trace_format.specs.Rows.{value_of, row_of, IsPayloadOf};
 ghost use Rattle.trace_format.specs.Pairs.{GivesValue};
 ghost use Rattle.trace_format.specs.private.InOrder.{named_bytes, bytes_in_order};
+ghost use Rattle.trace_format.specs.private.NumberPatterns.{pattern_of, magnitude_in};
 
 use crate::borrowed_pair::BorrowedPair;
 use crate::event::{EventDef, Field};
-use crate::kind::Kind;
-use crate::payload::{encode_number, encode_text};
+use crate::kind::{Kind, NumberType};
+use crate::payload::{encode_text, encode_unsigned, pattern};
 use crate::value::{is_text_value, number_value};
+use trace_lex::magnitude;
 
 /// Writes the payload of the row that these pairs give, where they name the event's fields in order. Whether it did; if not, what the bytes hold
 /// doesn't matter.
@@ -75,9 +78,9 @@ fn write_value(kind: Kind, text: &[u8], out: &mut [u8]) -> bool
     ensures written { (if result then Some out.new else None) ≡ option_map (field_bytes kind) (value_of kind text.now) }
 {
     match kind {
-        Kind::Number(number_type) => match number_value(number_type, text) {
-            Some(number) => {
-                encode_number(number_type, number, out);
+        Kind::Number(number_type) => match number_pattern(number_type, text) {
+            Some(pattern) => {
+                encode_unsigned(pattern, out);
                 true
             }
             None => false,
@@ -89,5 +92,35 @@ fn write_value(kind: Kind, text: &[u8], out: &mut [u8]) -> bool
             }
             fits
         }
+    }
+}
+
+/// The pattern of the number of a type that a text writes, in two's complement. Without a `-` it is the number itself, and is read as one of 64 bits.
+fn number_pattern(number_type: NumberType, text: &[u8]) -> Option<u64>
+    ensures { result ≡ option_map (pattern_of number_type) (value_of (kinds.Number number_type) text.now) }
+{
+    match text {
+        [b'-', ..] => signed_pattern(number_type, text),
+        _ => held_magnitude(number_type, text),
+    }
+}
+
+/// The same pattern, by way of a signed number of 128 bits.
+fn signed_pattern(number_type: NumberType, text: &[u8]) -> Option<u64>
+    ensures { result ≡ option_map (pattern_of number_type) (value_of (kinds.Number number_type) text.now) }
+{
+    match number_value(number_type, text) {
+        Some(number) => Some(pattern(number_type, number)),
+        None => None,
+    }
+}
+
+/// The value of a numeral without a sign, if the type has it.
+fn held_magnitude(number_type: NumberType, text: &[u8]) -> Option<u64>
+    ensures { result ≡ magnitude_in number_type text.now }
+{
+    match magnitude(text) {
+        Some(value) if value <= number_type.greatest_magnitude() => Some(value),
+        _ => None,
     }
 }

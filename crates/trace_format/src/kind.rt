@@ -82,15 +82,22 @@ impl NumberType {
     pub fn greatest(self) -> i128
         ensures { result ≡ greatest_of self }
     {
+        i128::from(self.greatest_magnitude())
+    }
+
+    /// The greatest number, which no type has below 0.
+    pub(crate) fn greatest_magnitude(self) -> u64
+        ensures { pos result ≡ greatest_of self }
+    {
         match self {
-            NumberType::U8 => i128::from(u8::MAX),
-            NumberType::U16 => i128::from(u16::MAX),
-            NumberType::U32 | NumberType::UnsignedInt => i128::from(u32::MAX),
-            NumberType::U64 | NumberType::UnsignedLong => i128::from(u64::MAX),
-            NumberType::S8 => i128::from(i8::MAX),
-            NumberType::S16 => i128::from(i16::MAX),
-            NumberType::S32 | NumberType::Int | NumberType::PidT => i128::from(i32::MAX),
-            NumberType::S64 | NumberType::Long => i128::from(i64::MAX),
+            NumberType::U8 => u64::from(u8::MAX),
+            NumberType::U16 => u64::from(u16::MAX),
+            NumberType::U32 | NumberType::UnsignedInt => u64::from(u32::MAX),
+            NumberType::U64 | NumberType::UnsignedLong => u64::MAX,
+            NumberType::S8 => i8::MAX as u64,
+            NumberType::S16 => i16::MAX as u64,
+            NumberType::S32 | NumberType::Int | NumberType::PidT => i32::MAX as u64,
+            NumberType::S64 | NumberType::Long => i64::MAX as u64,
         }
     }
 

@@ -43,7 +43,7 @@ fn encode_field(kind: Kind, value: &Value, out: &mut [u8], at: usize)
 }
 
 /// Writes a number of a type.
-pub(crate) fn encode_number(number_type: NumberType, number: i128, out: &mut [u8])
+fn encode_number(number_type: NumberType, number: i128, out: &mut [u8])
     requires held { Holds (kinds.Number number_type) (Whole number) }
     requires size { length out.old ≡ number_size number_type }
     ensures { out.new ≡ field_bytes (kinds.Number number_type) (Whole number) }
@@ -52,7 +52,7 @@ pub(crate) fn encode_number(number_type: NumberType, number: i128, out: &mut [u8
 }
 
 /// The two's complement of a number in as many bytes as its type has.
-fn pattern(number_type: NumberType, number: i128) -> u64
+pub(crate) fn pattern(number_type: NumberType, number: i128) -> u64
     requires { Holds (kinds.Number number_type) (Whole number) }
     ensures { result ≡ two's_complement (number_size number_type) number }
 {
@@ -63,12 +63,15 @@ fn pattern(number_type: NumberType, number: i128) -> u64
     }
 }
 
-/// Writes the low bytes of a number, the lowest first. Eight bytes are written at once.
-fn encode_unsigned(number: u64, out: &mut [u8])
+/// Writes the low bytes of a number, the lowest first. Eight bytes are written at once, and so are four.
+pub(crate) fn encode_unsigned(number: u64, out: &mut [u8])
     ensures { out.new ≡ little_endian (length out.old) number }
 {
     if out.len() == size_of::<u64>() {
         out.copy_from_slice(&number.to_le_bytes());
+    } else if out.len() == size_of::<u32>() {
+        let low = (number % (1 << 32)) as u32;
+        out.copy_from_slice(&low.to_le_bytes());
     } else {
         encode_low_bytes(number, out);
     }

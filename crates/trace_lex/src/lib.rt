@@ -13,6 +13,6 @@ mod text;
 pub use blanks::{blanks_len, is_blank, trim, trim_end};
 pub use decimal::{all_digits, decimal_number, digits_value, has_leading_zero, written_number};
 pub use name::{is_name, is_name_byte};
-pub use numeral::number;
+pub use numeral::{magnitude, number};
 pub use prefix::{len_before, rest_of};
 pub use text::Text;

@@ -72,8 +72,9 @@ fn decimal_digits(text: &[u8]) -> Option<u64>
     }
 }
 
-/// The value of a numeral without a sign, if it fits.
-fn magnitude(text: &[u8]) -> Option<u64>
+/// The value of a numeral without a sign, if it fits in 64 bits: hexadecimal behind `0x`, octal behind another `0` (which may stand alone), and else
+/// decimal. Where no `-` comes first, it is what [`number`] gives.
+pub fn magnitude(text: &[u8]) -> Option<u64>
     ensures { result ≡ below (2 ^ 64) (magnitude_of text.now) }
 {
     match text {

@@ -1,18 +1,12 @@
-use Rattle.std.proofs.Common.{rules, arith, ◌≡◌, length, Some, sym, ap, ◌∙◌, subst, SFits}
-use Rattle.std.proofs.lemmas.Int.{to_z-of_z}
-use Rattle.std.specs.Int.{w128}
+use Rattle.std.proofs.Common.{rules, arith, ◌≡◌, length, Some, option_map, sym, ap, ◌∙◌}
 use Rattle.trace_format.specs.declared.kind.Kind.TheVariants.{Number, Char}
-use Rattle.trace_format.specs.Kinds.{size_of}
-use Rattle.trace_format.specs.Cells.{Whole, Bytes, Holds}
+use Rattle.trace_format.specs.Kinds.{size_of, number_size}
+use Rattle.trace_format.specs.Cells.{Bytes, field_bytes, little_endian}
 use Rattle.trace_format.specs.Rows.{value_of}
+use Rattle.trace_format.specs.private.NumberPatterns.{pattern_of}
 use Rattle.trace_format.proofs.BuildLemmas.{value_of-holds}
+use Rattle.trace_format.proofs.PatternLemmas.{pattern_bytes}
 use Rattle.trace_format.proofs.given_payload.write_value.Goals as goal
-
-pub encode_number-requires-clause-held : goal.encode_number-requires-clause-held
-encode_number-requires-clause-held c =
-    let fits : SFits w128 c.in-Some.number = search rules in
-    let read : value_of (Number c.in-Number.number_type) c.args.text.now ≡ Some (Whole c.in-Some.number) = search rules in
-    subst (λ n. Holds (Number c.in-Number.number_type) (Whole n)) (sym (to_z-of_z w128 c.in-Some.number fits)) (value_of-holds (Number c.in-Number.number_type) c.args.text.now (Whole c.in-Some.number) read)
 
 pub encode_text-requires : goal.encode_text-requires
 encode_text-requires c =
@@ -20,3 +14,15 @@ encode_text-requires c =
     let held = value_of-holds (Char c.in-Char.length) c.args.text.now (Bytes c.args.text.now) read in
     let size : length c.args.out.now ≡ c.in-Char.length = c.requires.size ∙ ap size_of c.in-Char.is in
     omega (arith, held.0, size)
+
+pub returns-in-Some-clause-written : goal.returns-in-Some-clause-written
+returns-in-Some-clause-written c =
+    let text = c.args.text.now in
+    let t = c.in-Number.number_type in
+    let pattern = c.in-Some.pattern in
+    let size : length c.args.out.now ≡ number_size t = c.requires.size ∙ ap size_of c.in-Number.is in
+    let read : option_map (pattern_of t) (value_of (Number t) text) ≡ Some pattern = sym c.number_pattern.ensures ∙ c.in-Some.is in
+    ap Some (c.encode_unsigned.ensures ∙ ap (λ n. little_endian n pattern) size)
+    ∙ sym (ap (option_map (little_endian (number_size t))) read)
+    ∙ sym (pattern_bytes t text)
+    ∙ sym (ap (λ kind. option_map (field_bytes kind) (value_of kind text)) c.in-Number.is)
