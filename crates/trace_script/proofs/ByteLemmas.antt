@@ -18,7 +18,7 @@ later_le (suc at) (suc last) [] h = omega arith
 later_le (suc at) zero (b ∷ bs) h = omega (arith, later_le at zero bs (omega arith))
 later_le (suc at) (suc last) (b ∷ bs) h = later_le at last bs (omega (arith, h))
 
-split : (size : ℕ) (bytes : List ℕ) → highest_rank bytes ≡ max (highest_rank (take size bytes)) (highest_rank (drop size bytes))
+pub split : (size : ℕ) (bytes : List ℕ) → highest_rank bytes ≡ max (highest_rank (take size bytes)) (highest_rank (drop size bytes))
 split zero bytes = omega arith
 split (suc size) [] = refl
 split (suc size) (b ∷ bs) = omega (arith, split size bs)

@@ -1,4 +1,6 @@
 pub mod ByteLemmas
+pub mod BlockLemmas
+pub mod PrefixLemmas
 pub mod TokenLemmas
 pub mod WordLemmas
 pub mod TakingLemmas

@@ -3,12 +3,16 @@
 //! Many bytes are looked at at a time: a line is taken in blocks of 16 bytes, or of 8 where it has fewer than 16, for each of which the compiler
 //! tests all its bytes by the same few instructions. The last block overlaps the one before it, so that no byte is left over; the bytes of the
 //! overlap are looked at twice. A line of fewer than 8 bytes is looked at byte by byte.
+//!
+//! Whether all bytes of a line have rank 0 takes less than their highest rank: a block then gives a bit for each byte that has another rank.
 
-ghost use Rattle.std.specs.Prelude.{◌≡◌, ◌<◌, ◌≤◌, length};
+ghost use Rattle.std.specs.Prelude.{◌≡◌, ◌<◌, ◌≤◌, ◌==◌, length, map};
+ghost use Rattle.std.specs.Simd.Lanes.{mask_l};
 ghost use Rattle.trace_script.specs.Lines.{is_line_byte};
-ghost use Rattle.trace_script.specs.private.Bytes.{rank, highest_rank};
+ghost use Rattle.trace_script.specs.private.Bytes.{rank, highest_rank, is_rare};
 
 use crate::token::is_quote;
+use std::simd::prelude::*;
 
 /// The rank of a `>`. Bytes of a word and blanks have rank 0.
 pub(crate) const ARROW: u8 = 1;
@@ -74,4 +78,36 @@ pub(crate) fn highest_rank(line: &[u8]) -> u8
         8..=15 => highest_in_blocks(line, 8),
         _ => highest_of(line),
     }
+}
+
+/// How many bytes [`is_bare`] looks at at a time.
+const BLOCK: usize = 16;
+
+/// A bit for each byte of a block that has another rank than 0.
+#[inline(always)]
+fn rare_bits(block: u8x16) -> u64
+    ensures { result ≡ mask_l (map is_rare block) }
+{
+    let outside = block.simd_lt(u8x16::splat(b' ')) | block.simd_gt(u8x16::splat(b'~'));
+    let other = outside & block.simd_ne(u8x16::splat(b'\t'));
+    let quote = block.simd_eq(u8x16::splat(b'\'')) | block.simd_eq(u8x16::splat(b'"'));
+    (other | quote | block.simd_eq(u8x16::splat(b'>'))).to_bitmask()
+}
+
+/// Whether all bytes of a line have rank 0.
+pub(crate) fn is_bare(line: &[u8]) -> bool
+    ensures { result ≡ (highest_rank line.now == 0) }
+{
+    if line.len() < BLOCK {
+        return highest_rank(line) == 0;
+    }
+    let last = line.len() - BLOCK;
+    let mut at = 0;
+    while at < last {
+        if rare_bits(u8x16::from_slice(&line[at..])) != 0 {
+            return false;
+        }
+        at += BLOCK;
+    }
+    rare_bits(u8x16::from_slice(&line[last..])) == 0
 }

@@ -15,11 +15,12 @@ ghost use Rattle.trace_script.specs.private.Bytes.{highest_rank};
 ghost use Rattle.trace_script.specs.private.Emissions.{asked_after_emit, asked_by_emission, emission_in, pairs_in, tokens_in};
 ghost use Rattle.trace_script.specs.declared.token.Token.TheVariants.{Word as IsWord};
 
-use crate::bytes::highest_rank;
+use crate::bytes::is_bare;
 use crate::command::{emission_with, pair};
 use crate::fault::LineError;
 use crate::line::{Line, MOST_BYTES};
 use crate::number::{cpu_number, process_id};
+use crate::prefix::len_before;
 use std::alloc::{AllocError, Global};
 use trace_command::Pairs;
 use trace_format::BorrowedPair;
@@ -45,21 +46,21 @@ pub(crate) struct EmissionWords<'a> {
 }
 
 /// How many bytes a string begins with that are above a space.
+#[tactic(auto, using(crate::proofs::PrefixLemmas::word_run))]
 fn word_len(text: &[u8]) -> usize
     ensures value { result ≡ prefix_len (λ b. nat_lt 32 b) text.now }
     ensures bound { result ≤ length text.now }
 {
-    text.iter().take_while(|byte| **byte > b' ').count()
+    len_before(text, b' ')
 }
 
 /// How many bytes a string begins with that are above a space and no `=`.
+#[tactic(auto, using(crate::proofs::PrefixLemmas::name_run))]
 fn name_len(text: &[u8]) -> usize
     ensures value { result ≡ prefix_len (λ b. nat_lt 32 b && not (b == 61)) text.now }
     ensures bound { result ≤ length text.now }
 {
-    text.iter()
-        .take_while(|byte| **byte > b' ' && **byte != b'=')
-        .count()
+    len_before(text, b'=')
 }
 
 /// The word that a line begins with, and what follows the blank after it; nothing, if it begins with a blank or no blank follows.
@@ -180,7 +181,7 @@ fn bare_after_emit(line: &[u8]) -> Option<&[u8]>
     ensures none { IfNone result (IsPlainEmission line.now → ⊥) }
 {
     let rest = after_emit(line)?;
-    if line.len() > MOST_BYTES || highest_rank(line) > 0 {
+    if line.len() > MOST_BYTES || !is_bare(line) {
         return None;
     }
     Some(rest)

@@ -9,6 +9,7 @@ pub mod laws;
 mod line;
 mod number;
 mod outcome;
+mod prefix;
 mod token;
 mod tokens;
 mod word;
