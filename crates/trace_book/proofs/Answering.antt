@@ -27,7 +27,7 @@ use Rattle.trace_history.specs.Triggers.{trigger_of}
 use Rattle.trace_history.proofs.Members.{IsIn}
 use Rattle.trace_book.specs.private.Attaching.{AreKept, IsAttached, IsChangeOf, kept_count}
 use Rattle.trace_book.specs.Instances as instances
-use Rattle.trace_book.specs.Instances.{TablesFit, kept_trigger}
+use Rattle.trace_book.specs.Instances.{TablesFit}
 use Rattle.trace_book.specs.KeptHists.{attached_as, kept_hists, says_same}
 use Rattle.trace_book.specs.declared.attach.EventTriggers.{EventTriggers}
 use Rattle.trace_book.specs.declared.change.TriggerChange.TheVariants.{Keep, Attach, Detach}

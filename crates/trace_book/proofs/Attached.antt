@@ -19,7 +19,7 @@ use Rattle.trace_command.specs.declared.file_name.EventFile.TheVariants as per_e
 use Rattle.trace_history.specs.HistTriggers.{HistTrigger, Written, asked_by, asked_in, asked_of, counted_by, empties, has_same, hist_triggers, hists_after, hists_of, hists_said, hits_of, is_paused, kept_by, left_by, met_in, new_hist, paused_after, says_same, speaks_of, written_for, written_to}
 use Rattle.trace_history.specs.Settings.{event_named}
 use Rattle.trace_history.specs.Triggers as triggers
-use Rattle.trace_history.specs.Triggers.{times_left, trigger_of, written_trigger}
+use Rattle.trace_history.specs.Triggers.{trigger_of, written_trigger}
 use Rattle.trace_history.proofs.EventHists.{hists_of-after, own_after, own_said}
 use Rattle.trace_history.proofs.HistTriggers.{same-back}
 use Rattle.trace_history.proofs.OwnFiles.{OwnWritten, as_written, own-declared, own_written, trigger_after, trigger_of-after}

@@ -1,10 +1,10 @@
 -- What an emission that is prepared leaves of the instances is what the requests say of it.
-use Rattle.std.proofs.Common.{◌≡◌, ℕ, zero, suc, ℤ, ◌+◌, ◌<◌, ◌≤◌, Bool, false, ◌&&◌, List, [], ◌∷◌, ◌++◌, length, take, get_or, All, Option, Some, None, Ok, refl, sym, ap, ◌∙◌, subst, arith}
+use Rattle.std.proofs.Common.{◌≡◌, ℕ, zero, suc, ℤ, ◌+◌, ◌<◌, ◌≤◌, Bool, false, ◌&&◌, List, [], ◌∷◌, ◌++◌, length, take, get_or, All, Option, Some, None, Result, Ok, Err, OnErr, refl, sym, ap, ◌∙◌, subst, arith}
 use Rattle.std.proofs.Math.Seq.{take-append_seam}
 use Rattle.std.specs.List.{AllByRecursion}
 use Rattle.std.specs.Option.{option_map}
 use Rattle.std.proofs.lemmas.List.{get_or-map}
-use Rattle.std.proofs.lemmas.Bool.{lt-ltb}
+use Rattle.std.proofs.lemmas.Bool.{false≢true, lt-ltb}
 use Rattle.trace_record.specs.Record.{IsRecord}
 use Rattle.trace_filter.specs.Filters.{Parsed, parsed_of}
 use Rattle.trace_format.specs.Cells.{Cells}
@@ -12,13 +12,14 @@ use Rattle.trace_format.specs.Operands.{Emission as Row}
 use Rattle.trace_format.specs.Definitions.{Definition}
 use Rattle.trace_format.specs.Rows.{row_of}
 use Rattle.trace_format.specs.declared.pair.Pair.{Pair}
+use Rattle.trace_command.specs.Refusals.{IsFoundEarly}
 use Rattle.trace_command.specs.Requests.{Request, Emission}
 use Rattle.trace_command.specs.declared.command.Config.{Config}
 use Rattle.trace_command.specs.declared.command.Reply.TheVariants as reply
 use Rattle.trace_history.specs.Declarations.{IsFit, IsIndexOf}
 use Rattle.trace_history.specs.Settings.{NumberedEvent, declared_events, event_named, event_named_in, filter_of, is_enabled, kept_filter, now_of}
 use Rattle.trace_history.specs.Emissions.{Emitted, filter_holds, is_recorded, record_bytes}
-use Rattle.trace_history.specs.History.{emission_answer}
+use Rattle.trace_history.specs.History.{emission_answer, row_answer}
 use Rattle.trace_history.specs.Snapshots.{is_exchanged_by}
 use Rattle.trace_history.specs.Triggers as triggers
 use Rattle.trace_history.specs.Triggers.{acts, is_left, passes, times_left, trigger_of}
@@ -126,6 +127,21 @@ pub answers-emission : (g : Config) (past : List Request) (name : List ℕ) (cpu
     → event_named name past ≡ Some k → row_of k.event pairs ≡ Ok row → emission_answer g past name cpu pairs ≡ Ok reply.Done
 unfolding emission_answer
 answers-emission g past name cpu pairs k row inside there built = rw (lt-ltb cpu g.cpus inside, there, built) refl
+
+-- what holds anyway holds where a result is an error
+pub on-err : {A E P : Type 0} (r : Result A E) → P → OnErr r P
+on-err (Ok x) is = tt
+on-err (Err e) is = is
+
+-- one that is refused where its CPU and its event are there is not refused early
+pub found-late : (g : Config) (past : List Request) (name : List ℕ) (cpu : ℕ) (pairs : List Pair) (k : NumberedEvent) → cpu < g.cpus
+    → event_named name past ≡ Some k → IsFoundEarly (emission_answer g past name cpu pairs) → ⊥
+unfolding emission_answer
+found-late g past name cpu pairs k inside there early = by (row_of k.event pairs) (rw (lt-ltb cpu g.cpus inside, there) at early)
+  where
+    by : (row : Result Cells (List ℕ)) → IsFoundEarly (row_answer row) → ⊥
+    by (Ok row) late = late
+    by (Err field) late = false≢true late
 
 -- what is written ahead is the record of the emission
 pub is-emission : (g : Config) (old new : State) (past : List Request) (name : List ℕ) (cpu : ℕ) (pid : ℤ) (pairs : List Pair) (found : Found) (row : Cells)

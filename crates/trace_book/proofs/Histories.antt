@@ -74,7 +74,7 @@ pub refused-reply : (g : Config) (past : List Request) (request : Request) (stat
 refused-reply g past request state refusal prepared = λ other. answer-refused g past request refusal (prepared.0 other)
 
 -- what is found early is found whether there is room in the history or not
-early-with_room : (g : Config) (past : List Request) (request : Request) → IsFoundEarly (answer g past request) → IsFoundEarly (answer_with_room g past request)
+pub early-with_room : (g : Config) (past : List Request) (request : Request) → IsFoundEarly (answer g past request) → IsFoundEarly (answer_with_room g past request)
 unfolding answer
 early-with_room g past request early = by (answer_with_room g past request) early
   where

@@ -19,7 +19,7 @@
 
 mod plain;
 
-ghost use Rattle.std.specs.Prelude.{◌≡◌, ℕ, ◌+◌, ◌^◌, ◌≤◌, ◌<◌, [], ◌∷◌, ◌++◌, All, drop, length, map, is_none, is_some, IfOk, IfErr, IfSome, OnOk, OnErr, ◌≢◌, true, false};
+ghost use Rattle.std.specs.Prelude.{◌≡◌, ◌+◌, ◌<◌, [], ◌∷◌, ◌++◌, All, drop, length, is_some, IfOk, IfErr, IfSome, OnOk, OnErr, ◌≢◌};
 ghost use Rattle.std.specs.List.{slice_get};
 ghost use Rattle.std.specs.Option.{option_and_then, option_copied, option_map};
 ghost use Rattle.trace_command.specs.FileNames.{bytes_now};
@@ -176,7 +176,7 @@ impl Book {
         ensures config { self.new.config ≡ self.old.config }
         ensures legal { IsLegal self.new.config self.new.entries }
     {
-        if self.ask_plain(ticket, by, emission) {
+        if self.ask_plain(ticket, by, emission)? {
             return Ok(Reply::Done);
         }
         self.ask_any(ticket, by, emission)

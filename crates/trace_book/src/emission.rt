@@ -3,8 +3,7 @@
 
 mod plain;
 
-ghost use Rattle.std.specs.Prelude.{◌≡◌, ℕ, ◌+◌, ◌<◌, ◌≤◌, ◌^◌, true, List, [], length, All, slice_index_or, Some, IfOk, OnOk};
-ghost use Rattle.trace_buffer.specs.Buffers as buffers;
+ghost use Rattle.std.specs.Prelude.{◌≡◌, ◌+◌, ◌<◌, ◌≤◌, ◌^◌, List, [], length, All, slice_index_or, Some, IfOk, OnOk};
 ghost use Rattle.trace_command.specs.Configs.{IsInRange};
 ghost use Rattle.trace_command.specs.Refusals.{IsRefusal};
 ghost use Rattle.trace_command.specs.Requests as requests;

@@ -1,6 +1,6 @@
 //! The hist triggers of an event, as an instance keeps them (histogram.rst, "hist triggers").
 
-ghost use Rattle.std.specs.Prelude.{◌≡◌, ℕ, ◌+◌, ◌<◌, ◌≤◌, ◌^◌, true, if◌then◌else◌, [], ◌∷◌, ◌++◌, length, position, All, IfOk, IfSome, OnOk, OnErr, option_copied, is_some};
+ghost use Rattle.std.specs.Prelude.{◌≡◌, ℕ, ◌+◌, ◌<◌, ◌≤◌, true, if◌then◌else◌, [], ◌∷◌, ◌++◌, length, position, All, IfOk, OnOk, OnErr, option_copied, is_some};
 ghost use Rattle.std.specs.List.{find, remove};
 ghost use Rattle.trace_book.specs.private.Commands.{shown_attached};
 ghost use Rattle.trace_book.specs.private.SharedTables as sharing;

@@ -2,7 +2,7 @@
 
 mod delivery;
 
-ghost use Rattle.std.specs.Prelude.{◌≡◌, ℕ, ◌%◌, ◌≤◌, ◌<◌, true, false, not, is_some, None, if◌then◌else◌, List, [], length, slice_index_or, option_copied, replicate, IfOk, OnOk, OnErr};
+ghost use Rattle.std.specs.Prelude.{◌≡◌, ◌%◌, ◌≤◌, ◌<◌, true, false, not, is_some, None, if◌then◌else◌, List, [], length, slice_index_or, option_copied, replicate, IfOk, OnOk, OnErr};
 ghost use Rattle.std.specs.List.{list_all, list_any};
 ghost use Rattle.page_ring.specs.Events as event;
 ghost use Rattle.trace_buffer.specs.Buffers as buffers;

@@ -1,6 +1,6 @@
 //! Reads of the files of an instance.
 
-ghost use Rattle.std.specs.Prelude.{◌≡◌, ℕ, ◌+◌, ◌<◌, ◌≤◌, List, [], length, map, slice_index_or, option_copied, Option, Some, None, IfOk, IfSome};
+ghost use Rattle.std.specs.Prelude.{◌≡◌, ℕ, ◌+◌, ◌<◌, ◌≤◌, List, [], length, map, slice_index_or, Option, Some, None, IfOk, IfSome};
 ghost use Rattle.trace_command.specs.Requests.{Request};
 ghost use Rattle.trace_command.specs.Paths as paths;
 ghost use Rattle.trace_command.specs.declared.command.Config.{Config};
@@ -11,7 +11,6 @@ ghost use Rattle.trace_history.specs.History as history;
 ghost use Rattle.trace_history.specs.Settings.{declared_events};
 ghost use Rattle.trace_buffer.specs.Buffers as buffers;
 ghost use Rattle.trace_format.specs.Definitions.{Definition};
-ghost use Rattle.std.specs.Option.{option_to_list};
 ghost use Rattle.trace_text.specs.FormatText as texts;
 ghost use Rattle.trace_text.specs.TriggerText.{trigger_text as trigger_text_of};
 ghost use Rattle.trace_text.specs.HistText.{hist_text as hist_text_of};

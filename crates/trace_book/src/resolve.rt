@@ -1,6 +1,6 @@
 //! Looking up paths, once: the instance, the CPU and the event that a path names, in the order of refusals.
 
-ghost use Rattle.std.specs.Prelude.{◌≡◌, ◌≢◌, ℕ, ◌<◌, ◌≤◌, List, length, slice_index_or, position, nat_lt, if◌then◌else◌, Some, None, IfSome, IfOk, IfErr};
+ghost use Rattle.std.specs.Prelude.{◌≡◌, ◌≢◌, ℕ, ◌<◌, ◌≤◌, List, length, slice_index_or, position, Some, None, IfSome, IfOk, IfErr};
 ghost use Rattle.std.specs.Option.{option_map};
 ghost use Rattle.trace_lex.specs.Decimals.{value_after};
 ghost use Rattle.trace_command.specs.Paths as paths;

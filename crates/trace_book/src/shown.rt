@@ -1,6 +1,6 @@
 //! The triggers of an event as its files show them.
 
-ghost use Rattle.std.specs.Prelude.{◌≡◌, ◌++◌, nat_lt, not, map, slice_index_or, OnOk, IfOk, option_copied};
+ghost use Rattle.std.specs.Prelude.{◌≡◌, ◌++◌, nat_lt, not, map, IfOk, option_copied};
 ghost use Rattle.std.specs.List.{filter};
 ghost use Rattle.trace_text.specs.ShownTriggers.{shown_trigger};
 ghost use Rattle.trace_book.specs.private.Commands.{AreThere, kept_in_order, shown_attached};

@@ -1,7 +1,6 @@
 //! The state that a book's requests lead to: the events, the clock and the instances.
 
-ghost use Rattle.std.specs.Prelude.{◌≡◌, ℕ, ◌+◌, ◌^◌, ◌≤◌, ◌<◌, List, [], ◌∷◌, ◌++◌, length, take, drop, slice_index_or, All, IfErr, IfSome, OnOk, OnErr, Option, Some, None};
-ghost use Rattle.trace_record.specs.Record.{IsRecord};
+ghost use Rattle.std.specs.Prelude.{◌≡◌, ◌+◌, ◌^◌, ◌≤◌, ◌<◌, [], length, slice_index_or, All, IfErr, OnOk, OnErr, Option};
 ghost use Rattle.trace_command.specs.declared.refusal.Refusal.TheVariants as refusal;
 ghost use Rattle.trace_book.specs.States as states;
 ghost use Rattle.trace_book.specs.declared.state.Named.{Named};

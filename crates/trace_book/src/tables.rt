@@ -1,6 +1,6 @@
 //! The tables of an instance's hist triggers (histogram.rst, "hist triggers"): a trigger counts in one, and triggers of one name share one.
 
-ghost use Rattle.std.specs.Prelude.{◌≡◌, ℕ, ◌==◌, ◌+◌, ◌∷◌, true, if◌then◌else◌, position, slice_index_or, option_map, option_copied, IfSome, OnOk};
+ghost use Rattle.std.specs.Prelude.{◌≡◌, ℕ, ◌==◌, if◌then◌else◌, position, option_map, option_copied, IfSome, OnOk};
 ghost use Rattle.std.specs.List.{filter};
 ghost use Rattle.trace_hist.specs.Hists.{HasRoom, IsReservedAs};
 ghost use Rattle.trace_book.specs.KeptHists as kept;

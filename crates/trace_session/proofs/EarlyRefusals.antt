@@ -1,5 +1,5 @@
 -- Refusals that are found before any memory is taken, asked for by the pass of a session.
-use Rattle.std.proofs.Common.{◌≡◌, ◌⊎◌, inl, inr, List, ◌++◌, Result, Ok, Err, IsErr, IfErr, append-nil, refl, ap, sym, subst, ◌∙◌}
+use Rattle.std.proofs.Common.{◌≡◌, inl, inr, List, ◌++◌, Result, Ok, Err, IsErr, IfErr, append-nil, refl, ap, sym, subst, ◌∙◌}
 use Rattle.ticket_lock.specs.Calls.{IsWorn}
 use Rattle.ticket_lock.specs.declared.views.View.{View}
 use Rattle.trace_command.specs.Refusals.{IsFoundEarly}

@@ -1,5 +1,5 @@
 -- A line of a part, asked by its thread.
-use Rattle.std.proofs.Common.{◌≡◌, ◌≢◌, List, [], ◌++◌, Result, Ok, Err, IfOk, IfErr, refl, sym, ap, subst, ◌∙◌, append-nil, arith}
+use Rattle.std.proofs.Common.{◌≡◌, ◌≢◌, [], Result, Ok, Err, IfOk, IfErr, refl, sym, subst, ◌∙◌, append-nil, arith}
 use Rattle.ticket_lock.specs.declared.views.View.{View}
 use Rattle.trace_workers.specs.Asks.{GoesOn, IsDone, IsRefused, IsUndone}
 use Rattle.trace_command.specs.declared.command.Command.{Command}

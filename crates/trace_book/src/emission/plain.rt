@@ -1,26 +1,30 @@
 //! Emissions of the plain kind, which most are: the only instance is the top one, and it records the event, which has no filter and no triggers
 //! there. Their record is made from the pairs at once, in memory that is kept, with no row and no delivery to each instance.
 
-ghost use Rattle.std.specs.Prelude.{◌≡◌, ℕ, ℤ, ◌+◌, ◌<◌, ◌≤◌, ◌^◌, true, length, All, Some, IfSome};
+ghost use Rattle.std.specs.Prelude.{◌≡◌, ℕ, ℤ, ◌+◌, ◌<◌, ◌≤◌, ◌^◌, true, List, length, All, Some, IfSome, IfOk, OnOk, OnErr};
 ghost use Rattle.trace_command.specs.Configs.{IsInRange};
-ghost use Rattle.trace_command.specs.Requests.{Emission};
+ghost use Rattle.trace_command.specs.Refusals.{IsFoundEarly};
+ghost use Rattle.trace_command.specs.Requests.{Request, Emission};
 ghost use Rattle.trace_format.specs.Cells.{Cells, payload_size_of, record_size_of};
 ghost use Rattle.trace_format.specs.Rows.{row_of};
+ghost use Rattle.trace_history.specs.History.{emission_answer};
 ghost use Rattle.trace_record.specs.Record.{IsRecord};
 ghost use Rattle.trace_book.specs.States as states;
-ghost use Rattle.trace_book.specs.States.{IsUsable};
+ghost use Rattle.trace_book.specs.States.{StandsFor, IsUsable};
 ghost use Rattle.trace_book.specs.private.Plain as plain;
 
 use crate::change::{Pending, Reach};
 use crate::resolve::{Found, find_likely};
 use crate::row::write_given_record;
 use crate::state::{Named, State};
+use std::alloc::AllocError;
 use trace_command::Config;
 use trace_format::{BorrowedPair, payload_size};
 use trace_record::{Head, record_size};
 
 impl State {
-    /// Prepares an emission of the plain kind: its record. The index of its event; `None` if it is not plain, has no right row, or memory is refused.
+    /// Prepares an emission of the plain kind: its record. The index of its event; `None` if it is not plain or has no right row. It fails only if
+    /// memory is refused, and then its CPU and its event are there.
     #[inline(always)]
     pub(crate) fn prepare_plain(
         &self,
@@ -31,24 +35,29 @@ impl State {
         cpu: u32,
         pid: i32,
         pairs: &[BorrowedPair<'_>],
-    ) -> Option<usize>
+    ) -> Result<Option<usize>, AllocError>
         requires usable { IsUsable config.now self.now }
         requires in_range { IsInRange config.now }
-        ensures { IfSome result (λ event.
-            plain.IsPreparedPlain config.now self.now (Emission name.now cpu pid pairs.now) cpu pid event pending.new) }
+        ensures prepared { IfOk result (λ index. IfSome index (λ event.
+            plain.IsPreparedPlain config.now self.now (Emission name.now cpu pid pairs.now) cpu pid event pending.new)) }
+        ensures refused { (past : List Request) → StandsFor config.now self.now past
+            → OnErr result (¬ IsFoundEarly (emission_answer config.now past name.now cpu pairs.now)) }
     {
         if cpu >= config.cpus {
-            return None;
+            return Ok(None);
         }
-        let found = find_likely(&self.catalog, likely, name)?;
+        let Some(found) = find_likely(&self.catalog, likely, name) else {
+            return Ok(None);
+        };
         if !is_plain(&self.instances, found.index) {
-            return None;
+            return Ok(None);
         }
-        if !write_plain(self.clock + 1, pid, found, pairs, &mut pending.bytes) {
-            return None;
+        let written = write_plain(self.clock + 1, pid, found, pairs, &mut pending.bytes)?;
+        if !written {
+            return Ok(None);
         }
         pending.cpu = cpu;
-        Some(found.index)
+        Ok(Some(found.index))
     }
 
     /// Delivers an emission of the plain kind: writes its record into the only instance. Allocates nothing.
@@ -82,8 +91,7 @@ fn is_plain(instances: &[Named], event: usize) -> bool
     instances[0].instance.is_plain(event)
 }
 
-// Makes the record of a plain emission of this event in memory that is kept. Whether it did: the pairs name the event's fields in order, and memory
-// is there.
+// Makes the record of a plain emission of this event in memory that is kept. Whether it did: the pairs name the event's fields in order.
 #[inline(always)]
 fn write_plain(
     timestamp: u64,
@@ -91,49 +99,47 @@ fn write_plain(
     found: Found<'_>,
     pairs: &[BorrowedPair<'_>],
     bytes: &mut Vec<u8>,
-) -> bool
+) -> Result<bool, AllocError>
     requires index { found.index < 64 }
     requires fields { length found.event.now.fields ≤ 16 }
-    ensures length { result ≡ true → length bytes.new.items ≡ record_size_of found.entry.event.now }
-    ensures bytes { result ≡ true → plain.IsRecordOf (record {
+    ensures length { IfOk result (λ written. written ≡ true → length bytes.new.items ≡ record_size_of found.entry.event.now) }
+    ensures bytes { IfOk result (λ written. written ≡ true → plain.IsRecordOf (record {
       ts = timestamp;
       pid = pid;
       event = found.entry.index + 1;
       payload = payload_size_of found.entry.event.now;
-    }) bytes.new.items (row_of found.entry.event.now pairs.now) }
-    ensures is_record { result ≡ true → IsRecord bytes.new.items }
+    }) bytes.new.items (row_of found.entry.event.now pairs.now)) }
+    ensures is_record { IfOk result (λ written. written ≡ true → IsRecord bytes.new.items) }
 {
     let size = payload_size(found.event);
-    if !fit(bytes, record_size(size)) {
-        return false;
-    }
+    fit(bytes, record_size(size))?;
     let head = Head {
         ts: timestamp,
         pid,
         event: found.index as u16 + 1,
         payload: size as u16,
     };
-    write_given_record(head, found.event, pairs, size, bytes)
+    Ok(write_given_record(head, found.event, pairs, size, bytes))
 }
 
-// Gives the bytes this length. Whether memory is there.
+// Gives the bytes this length.
 #[inline(always)]
-fn fit(bytes: &mut Vec<u8>, len: usize) -> bool
-    ensures { result ≡ true → length bytes.new.items ≡ len }
+fn fit(bytes: &mut Vec<u8>, len: usize) -> Result<(), AllocError>
+    ensures { OnOk result (length bytes.new.items ≡ len) }
 {
     if bytes.len() == len {
-        return true;
+        return Ok(());
     }
     resize(bytes, len)
 }
 
 // Likewise, where they have another length: the event is not that of the emission before.
 #[inline(never)]
-fn resize(bytes: &mut Vec<u8>, len: usize) -> bool
-    ensures { result ≡ true → length bytes.new.items ≡ len }
+fn resize(bytes: &mut Vec<u8>, len: usize) -> Result<(), AllocError>
+    ensures { OnOk result (length bytes.new.items ≡ len) }
 {
     bytes.clear();
-    bytes.resize(len, 0).is_ok()
+    bytes.resize(len, 0)
 }
 
 // Writes a record into the first instance, which is the only one.

@@ -1,13 +1,15 @@
 use Rattle.std.proofs.Common.{[], ◌∷◌, ◌++◌, All, subst, ◌≡◌, ◌<◌, length, arith, rules, refl, ap, sym, ◌∙◌, to_z, of_z, w32}
 use Rattle.std.proofs.lemmas.Int.{to_z-of_z}
 use Rattle.trace_command.specs.Requests.{request_of}
+use Rattle.trace_command.specs.declared.command.Reply.TheVariants.{Done}
 use Rattle.trace_history.specs.History.{past_of}
 use Rattle.trace_log.specs.HistorySeen.{HistorySeen}
 use Rattle.trace_book.specs.BookSeen.{BookSeen}
 use Rattle.trace_command.specs.declared.command.Entry.{Entry}
 use Rattle.trace_book.specs.private.Plain.{IsPreparedPlain}
+use Rattle.trace_book.proofs.Emitting.{on-err}
 use Rattle.trace_book.proofs.Usable.{few_from_stands, usable_from_stands}
-use Rattle.trace_book.proofs.Histories.{length-past_of}
+use Rattle.trace_book.proofs.Histories.{length-past_of, early-with_room, late-done}
 use Rattle.trace_book.proofs.PlainRuns.{IsRun, answered, plain-run}
 use Rattle.trace_book.proofs.book.Book.ask_plain.Goals as goal
 
@@ -34,6 +36,25 @@ deliver_plain-requires-clause-few c =
     few_from_stands book.config book.state (past_of book.history.entries) c.self.invariant.stands
     (omega (arith, length-past_of book.history.entries, c.len.ensures, c.self.invariant.in_range.few_entries))
 
+pub returns-in_err-prepared-clause-early : goal.returns-in_err-prepared-clause-early
+returns-in_err-prepared-clause-early c =
+    let book = c.self.inside in
+    let past = past_of book.history.entries in
+    let request = request_of c.args.emission.now in
+    let late = c.in_err-prepared.ensures.refused past c.self.invariant.stands in
+    rw (← c.self.view_is) (on-err c.from_residual.result (λ early. late (rw c.parts-cpu.ensures at (early-with_room book.config past request early))))
+
+pub returns-in_err-write_emission_ahead-clause-early : goal.returns-in_err-write_emission_ahead-clause-early
+returns-in_err-write_emission_ahead-clause-early c =
+    let book = c.self.inside in
+    let past = past_of book.history.entries in
+    let request = request_of c.args.emission.now in
+    let pid : to_z w32 (of_z w32 c.parts-cpu.result.2) ≡ c.parts-cpu.result.2 = to_z-of_z w32 c.parts-cpu.result.2 (search rules) in
+    let prepared : IsPreparedPlain book.config book.state request c.parts-cpu.result.1 c.parts-cpu.result.2 c.in-Some.index
+    c.prepare_plain.new.pending = rw c.parts-cpu.ensures (rw (pid, c.in-Some.is) at c.in_ok-prepared.ensures.prepared) in
+    rw (← c.self.view_is) (on-err c.from_residual-in_err-write_emission_ahead.result
+    (late-done book.config past request Done (prepared.prepared past c.self.invariant.stands).0))
+
 pub invariant_of-self-2 : goal.invariant_of-self-2
 invariant_of-self-2 c =
     let book = c.self.inside in
@@ -45,7 +66,7 @@ invariant_of-self-2 c =
     let room : length entries < book.config.history_limit = omega (arith, c.len.ensures) in
     let pid : to_z w32 (of_z w32 c.parts-cpu.result.2) ≡ c.parts-cpu.result.2 = to_z-of_z w32 c.parts-cpu.result.2 (search rules) in
     let prepared : IsPreparedPlain book.config book.state (request_of entry.command) c.parts-cpu.result.1 c.parts-cpu.result.2 c.in-Some.index
-    c.prepare_plain.new.pending = rw c.parts-cpu.ensures (rw pid at c.in-Some.ensures) in
+    c.prepare_plain.new.pending = rw c.parts-cpu.ensures (rw (pid, c.in-Some.is) at c.in_ok-prepared.ensures.prepared) in
     let Below : BookSeen → Type 0 = λ seen. All (λ (e : Entry). e.ticket < c.args.ticket) seen.entries in
     let below : All (λ (e : Entry). e.ticket < c.args.ticket) entries = subst Below (sym c.self.view_is) c.requires in
     let run : IsRun book.config (entries ++ entry ∷ []) c.deliver_plain.new.self =
@@ -68,7 +89,7 @@ returns-clause-reply c = λ on.
     omega (arith, length-past_of book.history.entries, c.len.ensures) in
     let pid : to_z w32 (of_z w32 c.parts-cpu.result.2) ≡ c.parts-cpu.result.2 = to_z-of_z w32 c.parts-cpu.result.2 (search rules) in
     let prepared : IsPreparedPlain book.config book.state request c.parts-cpu.result.1 c.parts-cpu.result.2 c.in-Some.index
-    c.prepare_plain.new.pending = rw c.parts-cpu.ensures (rw pid at c.in-Some.ensures) in
+    c.prepare_plain.new.pending = rw c.parts-cpu.ensures (rw (pid, c.in-Some.is) at c.in_ok-prepared.ensures.prepared) in
     rw (← c.self.view_is) (answered book.config book.state past request c.parts-cpu.result.1 c.parts-cpu.result.2 c.in-Some.index
     c.prepare_plain.new.pending c.self.invariant.stands prepared room)
 
