@@ -113,16 +113,15 @@ impl Book {
         ensures config { self.new.config ≡ self.old.config }
         ensures legal { IsLegal self.new.config self.new.entries }
     {
-        let Command::Emit {
-            event,
-            cpu,
-            pid,
-            pairs,
-        } = &command
-        else {
-            return self.ask_other(ticket, by, command);
+        let answer = match &command {
+            Command::Emit {
+                event,
+                cpu,
+                pid,
+                pairs,
+            } => self.ask_pairs(ticket, by, event.as_bytes(), *cpu, *pid, pairs.as_slice()),
+            _ => self.ask_other(ticket, by, &command),
         };
-        let answer = self.ask_pairs(ticket, by, event.as_bytes(), *cpu, *pid, pairs.as_slice());
         let_go(command);
         answer
     }
@@ -225,34 +224,44 @@ impl Book {
         Ok(Reply::Done)
     }
 
-    // As `ask`, for a command other than an emission. The limit of the history is checked before memory is allocated for one more entry.
-    fn ask_other(&mut self, ticket: u64, by: u32, command: Command) -> Result<Reply, Refusal>
+    // As `ask`, for a command other than an emission. The limit of the history is checked before memory is allocated for one more entry. Errors are
+    // matched, and what was prepared is dropped by a call, since with `?` the proof of this function takes five times as long.
+    fn ask_other(&mut self, ticket: u64, by: u32, command: &Command) -> Result<Reply, Refusal>
         requires rises { All (λ entry. entry.ticket < ticket) self.old.entries }
-        requires other { ticks (request_of command) ≡ 0 }
-        ensures reply { OrMemory result (answer_to self.old.config self.old.entries command) }
-        ensures early { IsFoundEarly (answer_to self.old.config self.old.entries command)
-            → result ≡ answer_to self.old.config self.old.entries command }
-        ensures late_memory { TakesMemoryLate (request_of command)
-            → IfErr (answer_to self.old.config self.old.entries command) (λ r. result ≡ Err r) }
+        requires other { ticks (request_of command.now) ≡ 0 }
+        ensures reply { OrMemory result (answer_to self.old.config self.old.entries command.now) }
+        ensures early { IsFoundEarly (answer_to self.old.config self.old.entries command.now)
+            → result ≡ answer_to self.old.config self.old.entries command.now }
+        ensures late_memory { TakesMemoryLate (request_of command.now)
+            → IfErr (answer_to self.old.config self.old.entries command.now) (λ r. result ≡ Err r) }
         ensures done { OnOk result (self.new.entries
-            ≡ self.old.entries ++ record { ticket = ticket; by = by; command = command } ∷ []) }
+            ≡ self.old.entries ++ record { ticket = ticket; by = by; command = command.now } ∷ []) }
         ensures refused { OnErr result (self.new.entries ≡ self.old.entries) }
         ensures config { self.new.config ≡ self.old.config }
         ensures legal { IsLegal self.new.config self.new.entries }
     {
-        let Prepared { change, reply } = self.state.prepare(
+        let prepared = match self.state.prepare(
             self.alloc,
             &self.config,
             self.history.len() as u64,
-            &command,
-        )?;
+            command,
+        ) {
+            Ok(prepared) => prepared,
+            Err(refusal) => return Err(refusal),
+        };
         if self.history.len() as u64 >= self.config.history_limit {
-            return Err(Refusal::HistoryFull);
+            return refuse(prepared, Refusal::HistoryFull);
         }
-        self.history.write_ahead(ticket, by, &command)?;
-        self.state.commit(&self.config, change)?;
-        self.history.append_written();
-        Ok(reply)
+        let Ok(()) = self.history.write_ahead(ticket, by, command) else {
+            return refuse(prepared, Refusal::Memory);
+        };
+        match self.state.carry_out(&self.config, prepared) {
+            Ok(reply) => {
+                self.history.append_written();
+                Ok(reply)
+            }
+            Err(refusal) => Err(refusal),
+        }
     }
 
     /// The history, oldest entry first. It is legal: tickets rise, and each entry was done after those before it.
@@ -338,6 +347,13 @@ fn made_name(instances: &[Named], index: usize) -> Option<&[u8]>
 // Drops a command, out of line.
 #[inline(never)]
 fn let_go(_command: Command) {}
+
+// Drops what was prepared for a command that is refused.
+fn refuse(_prepared: Prepared, refusal: Refusal) -> Result<Reply, Refusal>
+    ensures { result ≡ Err refusal }
+{
+    Err(refusal)
+}
 
 // Drops the delivery prepared for an emission that is refused. Out of line, so that emissions that are done don't pay for the code that drops it.
 #[cold]

@@ -1,6 +1,6 @@
 //! The state that a book's requests lead to: the events, the clock and the instances.
 
-ghost use Rattle.std.specs.Prelude.{◌≡◌, ◌+◌, ◌^◌, ◌≤◌, ◌<◌, [], length, slice_index_or, All, IfErr, OnOk, OnErr, Option};
+ghost use Rattle.std.specs.Prelude.{◌≡◌, ◌+◌, ◌^◌, ◌≤◌, ◌<◌, [], length, slice_index_or, All, IfOk, IfErr, OnOk, OnErr, Option};
 ghost use Rattle.trace_command.specs.declared.refusal.Refusal.TheVariants as refusal;
 ghost use Rattle.trace_book.specs.States as states;
 ghost use Rattle.trace_book.specs.declared.state.Named.{Named};
@@ -58,6 +58,24 @@ impl State {
             Change::Instance(index, change) => change_one(&mut self.instances, index, change)?,
         }
         Ok(())
+    }
+
+    /// Applies the change of a prepared command, as `commit` does, and returns its reply.
+    pub(crate) fn carry_out(
+        &mut self,
+        config: &Config,
+        prepared: Prepared,
+    ) -> Result<Reply, Refusal>
+        requires usable { states.IsUsable config.now self.old }
+        requires ready { states.IsReady config.now self.old prepared.change }
+        ensures done { OnOk result (states.IsStep self.old self.new prepared.change) }
+        ensures reply { IfOk result (λ r. r ≡ prepared.reply) }
+        ensures refused { OnErr result (states.IsUnchanged self.old self.new) }
+        ensures memory { IfErr result (λ r. r ≡ refusal.Memory) }
+    {
+        let Prepared { change, reply } = prepared;
+        self.commit(config, change)?;
+        Ok(reply)
     }
 
     /// Delivers an emission to all instances. Allocates nothing.
