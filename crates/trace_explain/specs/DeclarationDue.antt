@@ -4,6 +4,7 @@ use Rattle.std.specs.List.{prefix_len}
 use Rattle.std.specs.Str.{bytes_eq}
 use Rattle.trace_lex.specs.Blanks.{is_blank}
 use Rattle.trace_lex.specs.Names.{is_name}
+use Rattle.trace_trigger.specs.TriggerTexts.{begins}
 use Rattle.trace_explain.specs.HistDue.{ends_with}
 use Rattle.trace_explain.specs.declared.declaration_due.DeclarationDue.{DeclarationDue}
 use Rattle.trace_explain.specs.declared.declaration_due.DeclarationDue.TheVariants.{Event, EventName, FieldType, TypeOnU, Unsigned, SecondWord, CharName, TypeName, CharField, Field, FieldName, Joint}
@@ -49,11 +50,17 @@ field_words word =
     if ends_with 44 word then codes "expected a field's name, and `;` in place of `,`"
     else (if is_name word then taken_words word else codes "expected a field's name")
 
+-- where a type is due, and these bytes follow
+abbrev pub type_words : List ℕ → List ℕ
+type_words rest =
+    if begins (codes "char[") rest then codes "expected the length after the field's name, as `char name[16]`"
+    else codes "expected a type, as `u64` or `char`"
+
 -- where a declaration is wrong: it stands so, and these bytes follow
 abbrev pub declaration_due_words : DeclarationDue → List ℕ → List ℕ
 declaration_due_words Event rest = codes "expected the event's name"
 declaration_due_words EventName rest = codes "expected a type, as `u64` or `char`"
-declaration_due_words FieldType rest = codes "expected a type, as `u64` or `char`"
+declaration_due_words FieldType rest = type_words rest
 declaration_due_words Unsigned rest = codes "expected `int` or `long`"
 declaration_due_words SecondWord rest = codes "expected `int` or `long`"
 declaration_due_words CharName rest = codes "expected a new field's name and its length, as `name[16]`"

@@ -1,5 +1,5 @@
--- The events that lines declared, and the commands that lines ask for.
-use Rattle.std.specs.Prelude.{ℕ, List, [], ◌∷◌, Option, Some, None, Result, Ok, Err, option_and_then, find, bytes_eq}
+-- What is known of a session by the lines that were heard: the events that they declared, and the commands that they ask for.
+use Rattle.std.specs.Prelude.{ℕ, ◌-◌, ◌==◌, Bool, List, [], ◌∷◌, ◌++◌, Option, Some, None, Result, Ok, Err, option_and_then, find, bytes_eq}
 use Rattle.trace_format.specs.Definitions.{Definition}
 use Rattle.trace_format.specs.Reading.{definition_of}
 use Rattle.trace_command.specs.Paths.{File, SyntheticEvents, address_of}
@@ -49,3 +49,24 @@ declared_by line _ = []
 -- the event of a name, among those that are remembered
 abbrev pub event_named : List Definition → List ℕ → Option Definition
 event_named events name = find (λ event. bytes_eq event.name name) events
+
+-- what is known: the events that were declared, and the number of the last line that was heard, before the first 0
+pub record Known : Type 0 where
+  pub events : List Definition
+  pub last : ℕ
+
+abbrev pub nothing_known : Known
+nothing_known = record { events = []; last = 0 }
+
+-- of a line without an outcome nothing is declared
+abbrev pub declared_if : List ℕ → Option Outcome → List Definition
+declared_if line None = []
+declared_if line (Some outcome) = declared_by line outcome
+
+-- after one more line of this number
+abbrev pub known_after : Known → ℕ → List ℕ → Option Outcome → Known
+known_after known number line outcome = record { events = known.events ++ declared_if line outcome; last = number }
+
+-- The line before one of this number was heard. No line of a part is heard before the part is done, so that none is open then.
+abbrev pub is_next : Known → ℕ → Bool
+is_next known number = number - 1 == known.last

@@ -1,5 +1,5 @@
 -- What is told of a line, after the lines before it.
-use Rattle.std.specs.Prelude.{ℕ, List, [], ◌∷◌, ◌++◌, Option, Some, None, option_map, codes}
+use Rattle.std.specs.Prelude.{ℕ, Bool, List, [], ◌∷◌, ◌++◌, Option, Some, None, option_map, codes}
 use Rattle.trace_format.specs.Definitions.{Definition}
 use Rattle.trace_format.specs.Rows.{pair_named}
 use Rattle.trace_format.specs.declared.pair.Pair.{Pair}
@@ -17,11 +17,11 @@ use Rattle.trace_explain.specs.declared.cause.Cause.TheVariants.{NotKnown}
 use Rattle.trace_explain.specs.declared.place.Place.{Place}
 use Rattle.trace_explain.specs.declared.place.Place.TheVariants.{Nowhere}
 use Rattle.trace_explain.specs.Causes.{cause_of, cause_without_event}
-use Rattle.trace_explain.specs.Events.{command_of, event_named}
+use Rattle.trace_explain.specs.Events.{Known, is_next, command_of, event_named}
 use Rattle.trace_explain.specs.Hints.{written_in, command_meant, line_meant}
 use Rattle.trace_explain.specs.Layout.{shown_bytes, shown}
 use Rattle.trace_explain.specs.Places.{refusal_place, row_place, offset_of, fault_offset}
-use Rattle.trace_explain.specs.Wording.{command_subject, refusal_words, cause_words, fault_words, name_of as first_name}
+use Rattle.trace_explain.specs.Wording.{command_subject, path_of, refusal_words, cause_words, fault_words, name_of as first_name}
 
 -- ---- words
 
@@ -38,7 +38,7 @@ row_cause events _ field = NotKnown
 -- what is wrong with a refused command
 unfoldable pub command_words : List Definition → Command → Refusal → List ℕ
 command_words events command (BadRow field) = shown_bytes field ++ codes ": " ++ cause_words (row_cause events command field)
-command_words events command refusal = refusal_words (command_subject command) (written_in command) refusal
+command_words events command refusal = refusal_words (command_subject command) (path_of command) (written_in command) refusal
 
 -- ---- places
 
@@ -64,14 +64,14 @@ abbrev pub told_of_refusal : List ℕ → ℕ → List Definition → List ℕ �
 told_of_refusal script number events line None refusal = []
 told_of_refusal script number events line (Some command) refusal = told_of_command script number events line command refusal
 
--- what is told of a line that is no command
-unfoldable pub told_of_fault : List ℕ → ℕ → List ℕ → ScriptFault → List ℕ
-told_of_fault script number line fault =
-    shown script number line (fault_offset (first_name line) line fault) (fault_name fault) (fault_words (first_name line) fault)
+-- what is told of a line that is no command; and whether the line before it was heard
+unfoldable pub told_of_fault : List ℕ → ℕ → Bool → List ℕ → ScriptFault → List ℕ
+told_of_fault script number is_next line fault =
+    shown script number line (fault_offset (first_name line) line fault) (fault_name fault) (fault_words is_next (first_name line) fault)
     (line_meant (first_name line) fault)
 
--- what is told of the line of this number in the script of this name, where these events were declared before it
-abbrev pub explanation : List ℕ → ℕ → List Definition → List ℕ → Outcome → List ℕ
-explanation script number events line (Replied reply) = []
-explanation script number events line (Refused refusal) = told_of_refusal script number events line (command_of line) refusal
-explanation script number events line (Fault fault) = told_of_fault script number line fault
+-- what is told of the line of this number in the script of this name, where this is known by the lines before it
+abbrev pub explanation : List ℕ → ℕ → Known → List ℕ → Outcome → List ℕ
+explanation script number known line (Replied reply) = []
+explanation script number known line (Refused refusal) = told_of_refusal script number known.events line (command_of line) refusal
+explanation script number known line (Fault fault) = told_of_fault script number (is_next known number) line fault

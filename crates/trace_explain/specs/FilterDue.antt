@@ -1,7 +1,9 @@
 -- What a filter may go on with, by the bytes before.
-use Rattle.std.specs.Prelude.{ℕ, Bool, ◌||◌, ◌&&◌, ◌==◌, if◌then◌else◌, List, [], ◌∷◌, codes}
+use Rattle.std.specs.Prelude.{ℕ, ◌-◌, Bool, not, ◌||◌, ◌&&◌, ◌==◌, if◌then◌else◌, List, [], ◌∷◌, length, take, drop, codes}
+use Rattle.std.specs.List.{list_all}
+use Rattle.std.specs.Str.{bytes_eq}
 use Rattle.trace_explain.specs.Bytes.{has_byte}
-use Rattle.trace_lex.specs.Blanks.{is_blank}
+use Rattle.trace_lex.specs.Blanks.{is_blank, without_end}
 use Rattle.trace_lex.specs.Decimals.{is_digit}
 use Rattle.trace_lex.specs.Names.{is_name_byte}
 use Rattle.trace_trigger.specs.TriggerTexts.{begins}
@@ -115,10 +117,23 @@ abbrev pub meant_after_name : List ℕ → List ℕ
 meant_after_name [] = []
 meant_after_name (b ∷ bs) = if b == 61 then meant_by_equal bs else []
 
--- the operator that is meant where half of one is written, or one with its bytes exchanged, or its name; nothing, if none is
-abbrev pub operator_meant : FilterDue → List ℕ → List ℕ
-operator_meant Name rest = meant_after_name rest
-operator_meant Operator rest = meant_after_name rest
-operator_meant Bare rest = meant_by_half rest
-operator_meant Joint rest = meant_by_half rest
-operator_meant _ rest = []
+-- the name that a string ends with is `not`
+abbrev pub is_unnamed : ℕ → Bool
+is_unnamed b = not (is_name_byte b)
+
+abbrev pub ends_with_not : List ℕ → Bool
+ends_with_not front =
+    bytes_eq (drop (length front - 3) front) (codes "not") && list_all is_unnamed (drop (length front - 4) (take (length front - 3) front))
+
+-- by the name that comes before, if by nothing else
+abbrev pub or_not : List ℕ → List ℕ → List ℕ
+or_not [] front = if ends_with_not front then codes "!(..)" else []
+or_not (b ∷ bs) front = b ∷ bs
+
+-- the operator that is meant between these bytes, where half of one is written, or one with its bytes exchanged, or its name; nothing, if none is
+abbrev pub operator_meant : FilterDue → List ℕ → List ℕ → List ℕ
+operator_meant Name front rest = or_not (meant_after_name rest) (without_end front)
+operator_meant Operator front rest = or_not (meant_after_name rest) (without_end front)
+operator_meant Bare front rest = meant_by_half rest
+operator_meant Joint front rest = meant_by_half rest
+operator_meant _ front rest = []

@@ -1,11 +1,13 @@
 -- What was meant, if something that is near is there.
 use Rattle.std.specs.Prelude.{ℕ, ◌+◌, Bool, nat_lt, ◌&&◌, ◌==◌, if◌then◌else◌, List, [], ◌∷◌, ◌++◌, length, take, drop, Option, Some, None, unwrap_or, codes}
 use Rattle.std.specs.List.{prefix_len}
+use Rattle.std.specs.Option.{is_some}
 use Rattle.trace_lex.specs.Blanks.{trimmed}
 use Rattle.trace_lex.specs.Names.{is_name_byte}
 use Rattle.trace_lex.specs.Prefixes.{is_not}
 use Rattle.trace_trigger.specs.TriggerTexts.{begins}
 use Rattle.trace_format.specs.Definitions.{Definition}
+use Rattle.trace_format.specs.Rows.{field_named}
 use Rattle.trace_command.specs.Paths.{File, OfEvent, address_of}
 use Rattle.trace_command.specs.declared.command.Command.{Command}
 use Rattle.trace_command.specs.declared.command.Command.TheVariants.{Emit, Write, Read}
@@ -87,9 +89,10 @@ abbrev pub event_meant : List Definition → Option (List ℕ) → List ℕ
 event_meant events None = []
 event_meant events (Some name) = unwrap_or (near_event name events) []
 
+-- by the name of none of its fields
 abbrev pub field_of_event : Option Definition → List ℕ → List ℕ
 field_of_event None field = []
-field_of_event (Some event) field = unwrap_or (near_field field event.fields) []
+field_of_event (Some event) field = if is_some (field_named event.fields field) then [] else unwrap_or (near_field field event.fields) []
 
 abbrev pub field_meant : List Definition → Option (List ℕ) → List ℕ → List ℕ
 field_meant events None field = []
@@ -119,7 +122,8 @@ path_meant events (Read path limit) = near_path events path
 path_meant events _ = []
 
 abbrev pub operator_of : Command → ℕ → List ℕ
-operator_of command at = operator_meant (filter_due_at (command_subject command) (written_in command) at) (drop at (written_in command))
+operator_of command at =
+    operator_meant (filter_due_at (command_subject command) (written_in command) at) (take at (written_in command)) (drop at (written_in command))
 
 -- ---- what is written
 

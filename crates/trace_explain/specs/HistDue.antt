@@ -86,7 +86,7 @@ part_words (b ∷ bs) rest =
 -- where a hist trigger is wrong: after these bytes, and before these
 abbrev pub hist_due_words : List ℕ → List ℕ → List ℕ
 hist_due_words front rest =
-    if has_blank front then codes "expected `if` and a filter" else part_words (last_part front) rest
+    if has_blank front then codes "expected `if`, a blank and a filter" else part_words (last_part front) rest
 
 -- what is written in place of an attribute, where a hist trigger is wrong; nothing, if something else is wrong
 abbrev pub wrong_attribute_at : List ℕ → List ℕ → List ℕ

@@ -1,8 +1,11 @@
 -- Names that are near another one, for `did you mean ..?`.
 use Rattle.std.specs.Prelude.{ℕ, ◌+◌, ◌-◌, Bool, false, not, nat_le, ◌&&◌, ◌||◌, ◌==◌, if◌then◌else◌, List, [], ◌∷◌, ◌++◌, length, drop, Option, Some, None, find, option_map, codes}
 use Rattle.std.specs.Str.{bytes_eq}
+use Rattle.trace_lex.specs.Decimals.{is_digit}
 use Rattle.trace_format.specs.Definitions.{Definition}
 use Rattle.trace_format.specs.declared.event.Field.{Field}
+use Rattle.trace_trigger.specs.TriggerTexts.{begins}
+use Rattle.trace_explain.specs.Bytes.{lacks_byte}
 
 -- how many bytes two strings begin with alike
 abbrev pub common_len : List ℕ → List ℕ → ℕ
@@ -45,11 +48,21 @@ unfoldable pub is_near : List ℕ → List ℕ → Bool
 is_near given name =
     not (bytes_eq given name) && is_near_end (length given) (drop (common_len given name) given) (drop (common_len given name) name)
 
+-- a path that a string begins has no further `/` (47), and the string doesn't end with one: it is no folder's
+abbrev pub begins_file : List ℕ → List ℕ → Bool
+begins_file given path = lacks_byte 47 (drop (length given - 1) path)
+
+-- a string is a path without some bytes in a row, by what is left of both without what they begin with alike
+abbrev pub is_shortened : List ℕ → List ℕ → List ℕ → List ℕ → Bool
+is_shortened given path [] rest = begins_file given path
+is_shortened given path (b ∷ bs) rest = ends_so (b ∷ bs) rest
+
 -- or the given string is the name without some bytes in a row
 unfoldable pub is_near_path : List ℕ → List ℕ → Bool
 is_near_path given name =
     is_near given name
-    || ((not (bytes_eq given name) && nat_le 4 (length given)) && ends_so (drop (common_len given name) given) (drop (common_len given name) name))
+    || ((not (bytes_eq given name) && nat_le 4 (length given))
+    && is_shortened given name (drop (common_len given name) given) (drop (common_len given name) name))
 
 -- the first of these events whose name is near
 abbrev pub near_event : List ℕ → List Definition → Option (List ℕ)
@@ -80,16 +93,27 @@ near_attribute given =
     (or_near given (codes "size=") (or_near given (codes "name=") (or_near given (codes "pause") (or_near given (codes "continue")
     (or_near given (codes "clear") []))))))))
 
+-- a type of C or Rust that fields don't have, near to one that they do
+abbrev pub is_other_type : List ℕ → Bool
+is_other_type given =
+    (bytes_eq given (codes "signed") || bytes_eq given (codes "uchar"))
+    || ((bytes_eq given (codes "uid_t") || bytes_eq given (codes "gid_t")) || begins (codes "f") given)
+
 -- the first type of fields that is near, without `int` and `long`, which `uint` and `ulong` are near to; nothing, if none is
 unfoldable pub near_type : List ℕ → List ℕ
 near_type given =
-    or_near given (codes "s64") (or_near given (codes "s32") (or_near given (codes "s16") (or_near given (codes "u64")
+    if is_other_type given then []
+    else or_near given (codes "s64") (or_near given (codes "s32") (or_near given (codes "s16") (or_near given (codes "u64")
     (or_near given (codes "u32") (or_near given (codes "u16") (or_near given (codes "char") (or_near given (codes "pid_t")
     (or_near given (codes "unsigned") []))))))))
 
--- the word for an option that is near; nothing, if none is
+abbrev pub or_same : List ℕ → List ℕ → List ℕ → List ℕ
+or_same given name other = if bytes_eq given name then name else other
+
+-- the word for an option, if it is given, as between blanks, or else that is near; nothing, if none is
 unfoldable pub near_option : List ℕ → List ℕ
-near_option given = or_near given (codes "nooverwrite") (or_near given (codes "overwrite") [])
+near_option given =
+    or_same given (codes "nooverwrite") (or_same given (codes "overwrite") (or_near given (codes "nooverwrite") (or_near given (codes "overwrite") [])))
 
 -- the beginning of a trigger that is near; nothing, if none is
 unfoldable pub near_trigger : List ℕ → List ℕ
@@ -99,10 +123,19 @@ near_trigger given = if is_near given (codes "hist") then codes "hist:" else or_
 unfoldable pub near_common : List ℕ → List ℕ
 near_common given = or_near given (codes "common_pid") (or_near given (codes "common_cpu") [])
 
+-- a path of a CPU whose number begins with `0` and goes on: another CPU may be meant
+abbrev pub begins_with_digit : List ℕ → Bool
+begins_with_digit [] = false
+begins_with_digit (b ∷ bs) = is_digit b
+
+abbrev pub is_other_cpu : List ℕ → Bool
+is_other_cpu given = begins (codes "per_cpu/cpu0") given && begins_with_digit (drop 12 given)
+
 -- the first file of a CPU whose path is near; nothing, if none is
 unfoldable pub near_cpu_file : List ℕ → List ℕ
 near_cpu_file given =
-    or_near_path given (codes "per_cpu/cpu0/stats") (or_near_path given (codes "per_cpu/cpu0/trace")
+    if is_other_cpu given then []
+    else or_near_path given (codes "per_cpu/cpu0/stats") (or_near_path given (codes "per_cpu/cpu0/trace")
     (or_near_path given (codes "per_cpu/cpu0/trace_pipe") []))
 
 -- or else, before these, of all events below their system
@@ -114,10 +147,15 @@ near_system_file given =
 unfoldable pub near_lower_file : List ℕ → List ℕ
 near_lower_file given = or_near_path given (codes "options/overwrite") (or_near_path given (codes "events/enable") (near_system_file given))
 
+-- a path with the name of what a file turns on, for turning it off
+abbrev pub is_opposite : List ℕ → Bool
+is_opposite given = begins (codes "options/no") given || begins (codes "tracing_of") given
+
 -- the first file of an instance, but of no event, whose path is near; nothing, if none is
 unfoldable pub near_file : List ℕ → List ℕ
 near_file given =
-    or_near_path given (codes "trace") (or_near_path given (codes "trace_pipe") (or_near_path given (codes "tracing_on")
+    if is_opposite given then []
+    else or_near_path given (codes "trace") (or_near_path given (codes "trace_pipe") (or_near_path given (codes "tracing_on")
     (or_near_path given (codes "trace_options") (or_near_path given (codes "snapshot") (near_lower_file given)))))
 
 -- or else, before these, the one that only the top has

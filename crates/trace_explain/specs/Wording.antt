@@ -1,5 +1,5 @@
 -- What is wrong, in words.
-use Rattle.std.specs.Prelude.{ℕ, ◌+◌, Bool, false, nat_lt, not, ◌||◌, ◌==◌, if◌then◌else◌, List, [], ◌∷◌, ◌++◌, length, take, drop, codes, Option, Some}
+use Rattle.std.specs.Prelude.{ℕ, ◌+◌, Bool, true, false, nat_lt, not, ◌||◌, ◌==◌, if◌then◌else◌, List, [], ◌∷◌, ◌++◌, length, take, drop, codes, Option, Some}
 use Rattle.std.specs.List.{count_by, prefix_len}
 use Rattle.std.specs.Option.{is_some}
 use Rattle.std.specs.Str.{bytes_eq}
@@ -65,10 +65,22 @@ command_subject (Rmdir path) = subject.Instance
 command_subject (Write path append text) = written_subject (address_of path).file
 command_subject (Read path limit) = subject.Read
 
+-- the path that a command names
+abbrev pub path_of : Command → List ℕ
+path_of (Emit event cpu pid pairs) = []
+path_of (Mkdir path) = path
+path_of (Rmdir path) = path
+path_of (Write path append text) = path
+path_of (Read path limit) = path
+
 -- N1
-abbrev pub path_words : Subject → List ℕ
-path_words subject.Instance = codes "expected `instances/` and a name"
-path_words _ = codes "no file has this path"
+abbrev pub unknown_words : Subject → List ℕ
+unknown_words subject.Instance = codes "expected `instances/` and a name"
+unknown_words _ = codes "no file has this path"
+
+abbrev pub path_words : Subject → List ℕ → List ℕ
+path_words subject path =
+    if begins (codes "/sys/kernel/debug/tracing/") path then codes "paths begin below `/sys/kernel/debug/tracing/`" else unknown_words subject
 
 -- N4
 unfoldable pub value_words : Subject → List ℕ → List ℕ
@@ -76,7 +88,7 @@ value_words subject.Instance text = codes "an instance can't have this name"
 value_words subject.Read text = codes "only a pipe is read by `take`"
 value_words subject.Switch text = codes "expected `0` or `1`"
 value_words subject.Options text = codes "expected `overwrite` or `nooverwrite`"
-value_words subject.Number text = codes "expected a number"
+value_words subject.Number text = codes "expected a decimal number below 2^64"
 value_words subject.Trigger text = trigger_due_words (trigger_due text)
 value_words _ text = codes "the file doesn't take what is written"
 
@@ -112,6 +124,11 @@ wrong_operator_words subject.Trigger text at =
     if has_blank (take at text) then operator_words (drop at text) else hist_field_words (take at text)
 wrong_operator_words _ text at = operator_words (drop at text)
 
+-- N10: in the filter of all events none is named
+abbrev pub field_unknown_words : Subject → List ℕ
+field_unknown_words subject.AllFilters = codes "an event has no field of this name"
+field_unknown_words _ = codes "the event has no field of this name"
+
 -- N7
 abbrev pub declaration_words : List ℕ → ℕ → List ℕ
 declaration_words text at = declaration_due_words (declared_from Event (take at text)) (drop at text)
@@ -122,6 +139,11 @@ exists_words text =
     if begins (codes "snapshot") text then codes "the event has a snapshot trigger already"
     else (if is_some (attribute_at (codes ":name=") (first_word text)) then codes "expected a trigger that is new to the event and fits the table of its name"
     else codes "the event has this trigger already")
+
+-- N15: one that goes on or is cleared is never there after `>`
+abbrev pub no_trigger_words : List ℕ → List ℕ
+no_trigger_words text =
+    if begins (codes "!") text then codes "the event has no such trigger" else codes "expected `>>` and a trigger that the event has"
 
 -- N16, of a declaration: its `;` say how many fields there are
 abbrev pub is_semicolon : ℕ → Bool
@@ -170,32 +192,32 @@ unfoldable pub busy_words : Subject → List ℕ
 busy_words subject.Declaration = codes "an event is declared already; declare more by `>>`"
 busy_words _ = codes "an event of the instance has a snapshot trigger"
 
--- what is wrong with a command about this that writes this; that of a row is told by its field
-unfoldable pub refusal_words : Subject → List ℕ → Refusal → List ℕ
-refusal_words subject text NoSuchFile = path_words subject
-refusal_words subject text NotReadable = codes "the file can't be read"
-refusal_words subject text NotWritable = codes "the file can't be written"
-refusal_words subject text BadValue = value_words subject text
-refusal_words subject text NoSuchEvent = event_words subject
-refusal_words subject text EventExists = codes "an event of this name is declared already"
-refusal_words subject text (BadDefinition at) = declaration_words text at
-refusal_words subject text TooBig = codes "a record of the event would be longer than a page"
-refusal_words subject text (FilterSyntax at) = filter_words subject text at
-refusal_words subject text (NoSuchField at) = codes "the event has no field of this name"
-refusal_words subject text (WrongOperator at) = wrong_operator_words subject text at
-refusal_words subject text (HistSyntax at) = hist_due_words (take at text) (drop at text)
-refusal_words subject text BadSize = codes "expected a size from 65 to 131072"
-refusal_words subject text TriggerExists = exists_words text
-refusal_words subject text NoSuchTrigger = codes "the event has no such trigger"
-refusal_words subject text TooMany = most_words subject text
-refusal_words subject text InstanceExists = codes "there is an instance of this name already"
-refusal_words subject text NoSuchInstance = codes "there is no instance of this name"
-refusal_words subject text Busy = busy_words subject
-refusal_words subject text NoSuchCpu = codes "no CPU has this number"
-refusal_words subject text (BadRow field) = codes "the pairs are no row of the event"
-refusal_words subject text HistoryFull = codes "the history is full"
-refusal_words subject text Memory = codes "out of memory"
-refusal_words subject text Worn = codes "all tickets are drawn"
+-- what is wrong with a command about this that names this path and writes this; that of a row is told by its field
+unfoldable pub refusal_words : Subject → List ℕ → List ℕ → Refusal → List ℕ
+refusal_words subject path text NoSuchFile = path_words subject path
+refusal_words subject path text NotReadable = codes "the file can't be read"
+refusal_words subject path text NotWritable = codes "the file can't be written"
+refusal_words subject path text BadValue = value_words subject text
+refusal_words subject path text NoSuchEvent = event_words subject
+refusal_words subject path text EventExists = codes "an event of this name is declared already"
+refusal_words subject path text (BadDefinition at) = declaration_words text at
+refusal_words subject path text TooBig = codes "a record of the event would be longer than a page"
+refusal_words subject path text (FilterSyntax at) = filter_words subject text at
+refusal_words subject path text (NoSuchField at) = field_unknown_words subject
+refusal_words subject path text (WrongOperator at) = wrong_operator_words subject text at
+refusal_words subject path text (HistSyntax at) = hist_due_words (take at text) (drop at text)
+refusal_words subject path text BadSize = codes "expected a size from 65 to 131072"
+refusal_words subject path text TriggerExists = exists_words text
+refusal_words subject path text NoSuchTrigger = no_trigger_words text
+refusal_words subject path text TooMany = most_words subject text
+refusal_words subject path text InstanceExists = codes "there is an instance of this name already"
+refusal_words subject path text NoSuchInstance = codes "there is no instance of this name"
+refusal_words subject path text Busy = busy_words subject
+refusal_words subject path text NoSuchCpu = codes "no CPU has this number"
+refusal_words subject path text (BadRow field) = codes "the pairs are no row of the event"
+refusal_words subject path text HistoryFull = codes "the history is full"
+refusal_words subject path text Memory = codes "out of memory"
+refusal_words subject path text Worn = codes "all tickets are drawn"
 
 -- what is wrong with a field
 unfoldable pub cause_words : Cause → List ℕ
@@ -203,7 +225,7 @@ cause_words cause.NotKnown = codes "no field of the event, or repeated, or its v
 cause_words cause.NoField = codes "the event has no field of this name"
 cause_words cause.Repeated = codes "the field is repeated"
 cause_words cause.Missing = codes "the field is missing"
-cause_words cause.NoNumber = codes "its value is no number"
+cause_words cause.NoNumber = codes "its value is no number from -2^63 to 2^64 - 1"
 cause_words cause.OutOfRange = codes "its value is out of the range of its type"
 cause_words cause.TooLong = codes "its value is too long"
 cause_words cause.NotPrintable = codes "its value has a byte that is not from 0x20 to 0x7e"
@@ -246,21 +268,26 @@ usage_words name =
     else (if bytes_eq name (codes "rmdir") then codes "expected `rmdir PATH`"
     else codes "expected nothing more")))))
 
+-- what a `parallel` can't do where it is: if the line before it was heard, no part is open
+abbrev pub parallel_words : Bool → List ℕ
+parallel_words false = codes "expected an `end` after each `parallel`, before the next one"
+parallel_words true = codes "no `end` follows"
+
 -- what a line of this name can't do where it is
-unfoldable pub block_words : List ℕ → List ℕ
-block_words name =
+unfoldable pub block_words : Bool → List ℕ → List ℕ
+block_words is_next name =
     if bytes_eq name (codes "thread") then codes "no parallel part is open here"
     else (if bytes_eq name (codes "end") then codes "no parallel part is open here"
-    else (if bytes_eq name (codes "parallel") then codes "a part is open already, or no `end` follows"
+    else (if bytes_eq name (codes "parallel") then parallel_words is_next
     else codes "expected `thread` before the first command of a part"))
 
--- what is wrong with a line that is no command, and begins with a word of this name
-unfoldable pub fault_words : List ℕ → ScriptFault → List ℕ
-fault_words name LineTooLong = codes "the line has over 4,096 bytes"
-fault_words name BadByte = codes "this byte is neither a tab nor one from 0x20 to 0x7e"
-fault_words name UnclosedQuote = codes "this quote is not closed"
-fault_words name UnknownCommand = codes "unknown command"
-fault_words name WrongWords = usage_words name
-fault_words name BadNumber = codes "expected a number in its range"
-fault_words name BlockOutOfPlace = block_words name
-fault_words name TooManyThreads = codes "a parallel part has at most eight threads"
+-- what is wrong with a line that is no command, and begins with a word of this name; and whether the line before it was heard
+unfoldable pub fault_words : Bool → List ℕ → ScriptFault → List ℕ
+fault_words is_next name LineTooLong = codes "the line has over 4,096 bytes"
+fault_words is_next name BadByte = codes "this byte is neither a tab nor one from 0x20 to 0x7e"
+fault_words is_next name UnclosedQuote = codes "this quote is not closed"
+fault_words is_next name UnknownCommand = codes "unknown command"
+fault_words is_next name WrongWords = usage_words name
+fault_words is_next name BadNumber = codes "expected a number in its range"
+fault_words is_next name BlockOutOfPlace = block_words is_next name
+fault_words is_next name TooManyThreads = codes "a parallel part has at most eight threads"

@@ -32,7 +32,7 @@ pub enum Cause {
 }
 
 /// The field of a name.
-fn field_of<'a>(fields: &'a [Field], name: &[u8]) -> Option<&'a Field>
+pub(crate) fn field_of<'a>(fields: &'a [Field], name: &[u8]) -> Option<&'a Field>
     ensures { option_copied result ≡ field_named fields.now name.now }
 {
     fields.iter().find(|field| field.name.as_bytes() == name)

@@ -40,7 +40,8 @@ pub(crate) fn first_word(text: &[u8]) -> &[u8]
     &text[..word_len(text)]
 }
 
-fn lacks_byte(byte: u8, text: &[u8]) -> bool
+/// Whether a byte is not there.
+pub(crate) fn lacks_byte(byte: u8, text: &[u8]) -> bool
     ensures { result ≡ bytes.lacks_byte byte text.now }
 {
     text.iter().all(|other| *other != byte)

@@ -3,9 +3,9 @@
 ghost use Rattle.std.specs.Prelude.{◌≡◌, ◌≤◌, false, length, take};
 ghost use Rattle.std.specs.List.{prefix_len};
 ghost use Rattle.trace_lex.specs.Blanks as blanks;
-ghost use Rattle.trace_explain.specs.DeclarationDue.{in_type, due_after, due_from, is_reserved, is_in_word, field_words, declaration_due_words};
+ghost use Rattle.trace_explain.specs.DeclarationDue.{in_type, due_after, due_from, is_reserved, is_in_word, field_words, type_words, declaration_due_words};
 
-use crate::hist_due::ends_with;
+use crate::hist_due::{begins, ends_with};
 use trace_lex::{is_blank, is_name};
 
 /// What comes next, after bytes with which a declaration can begin.
@@ -133,14 +133,25 @@ fn field_words(word: &[u8]) -> &'static str
     }
 }
 
+/// What is wrong where a type is due, and these bytes follow.
+fn type_words(rest: &[u8]) -> &'static str
+    ensures { result.now ≡ type_words rest.now }
+{
+    if begins(b"char[", rest) {
+        "expected the length after the field's name, as `char name[16]`"
+    } else {
+        "expected a type, as `u64` or `char`"
+    }
+}
+
 /// What is wrong with a declaration where these bytes follow.
 pub(crate) fn declaration_due_words(due: DeclarationDue, rest: &[u8]) -> &'static str
     ensures { result.now ≡ declaration_due_words due rest.now }
 {
     match due {
         DeclarationDue::Event => "expected the event's name",
-        DeclarationDue::EventName | DeclarationDue::FieldType =>
-            "expected a type, as `u64` or `char`",
+        DeclarationDue::EventName => "expected a type, as `u64` or `char`",
+        DeclarationDue::FieldType => type_words(rest),
         DeclarationDue::Unsigned | DeclarationDue::SecondWord => "expected `int` or `long`",
         DeclarationDue::CharName | DeclarationDue::CharField => {
             "expected a new field's name and its length, as `name[16]`"

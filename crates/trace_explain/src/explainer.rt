@@ -1,9 +1,8 @@
 //! What is told of the lines of a script, one after the other.
 
-ghost use Rattle.std.specs.Prelude.{◌≡◌, ◌++◌, [], IfOk, OnOk, OnErr};
-ghost use Rattle.trace_format.specs.Definitions.{Definition};
+ghost use Rattle.std.specs.Prelude.{◌≡◌, IfOk, OnOk, OnErr};
 ghost use Rattle.trace_explain.specs.Events as events_of;
-ghost use Rattle.trace_explain.specs.Events.{declared_by};
+ghost use Rattle.trace_explain.specs.Events.{Known, nothing_known, as_list, declared_if, known_after};
 ghost use Rattle.trace_explain.specs.Explanations as told;
 
 use crate::cause::{Cause, cause_at_name, cause_without_event};
@@ -14,27 +13,28 @@ use crate::hint::{command_meant, line_meant, written_in};
 use crate::layout::{shown, shown_bytes};
 use crate::place::{Place, offset_of, refusal_place, row_place};
 use crate::script_line::ScriptLine;
-use crate::wording::{cause_words, command_subject, refusal_words};
+use crate::wording::{cause_words, command_subject, path_of, refusal_words};
 use std::alloc::{AllocError, Global};
 use std::marker::Model;
 use trace_command::{Command, Refusal};
 use trace_format::{EventDef, Pair};
 use trace_script::{Outcome, ScriptFault};
 
-/// Tells people what is wrong with the lines of a script, and remembers for that the events that were declared.
+/// Tells people what is wrong with the lines of a script, and remembers for that the events that were declared, and the number of the last line
+/// that was heard.
 #[derive(Drop)]
 pub struct Explainer {
     alloc: Global,
     events: Vec<EventDef>,
+    last: usize,
 }
 
 impl Model for Explainer {
-    ghost use Rattle.std.specs.Prelude.{List};
-    ghost use Rattle.trace_format.specs.Definitions.{Definition};
+    ghost use Rattle.trace_explain.specs.Events.{Known};
 
-    ghost Value = { List Definition };
+    ghost Value = { Known };
 
-    ghost view = { λ explainer. explainer.events.items };
+    ghost view = { λ explainer. record { events = explainer.events.items; last = explainer.last } };
 }
 
 /// What is wrong with pairs at a field.
@@ -78,7 +78,8 @@ fn command_words(
             Ok(words)
         }
         _ => {
-            let words = refusal_words(command_subject(command), written_in(command), refusal);
+            let subject = command_subject(command);
+            let words = refusal_words(subject, path_of(command), written_in(command), refusal);
             Vec::from_slice(alloc, words.as_bytes())
         }
     }
@@ -130,13 +131,14 @@ fn told_of_command(
 fn told_of_fault(
     alloc: Global,
     line: ScriptLine<'_>,
+    is_next: bool,
     fault: ScriptFault,
 ) -> Result<Vec<u8>, AllocError>
-    ensures { IfOk result (λ text. text.items ≡ told.told_of_fault line.entry.script.now line.entry.number line.entry.text.now fault) }
+    ensures { IfOk result (λ text. text.items ≡ told.told_of_fault line.entry.script.now line.entry.number is_next line.entry.text.now fault) }
 {
     let name = name_of(alloc, line.text)?;
     let caret = fault_offset(alloc, &name, line.text, fault)?;
-    let words = fault_words(&name, fault);
+    let words = fault_words(is_next, &name, fault);
     let meant = line_meant(&name, fault);
     shown(
         alloc,
@@ -151,28 +153,47 @@ fn told_of_fault(
 impl Explainer {
     /// One that has heard no line.
     pub fn new(alloc: Global) -> Explainer
-        ensures { result ≡ [] }
+        ensures { result ≡ nothing_known }
     {
         Explainer {
             alloc,
             events: Vec::new(alloc),
+            last: 0,
         }
     }
 
-    /// Hears what became of a line, and remembers the event, if it declared one. Out of memory it may forget that event.
-    pub fn hear(&mut self, line: &[u8], outcome: &Outcome) -> Result<(), AllocError>
-        ensures ok { OnOk result (self.new ≡ self.old ++ declared_by line.now outcome.now) }
+    /// The event that a line declared, if it is done and declared one.
+    fn declared_by(
+        &self,
+        line: &[u8],
+        outcome: &Option<Outcome>,
+    ) -> Result<Option<EventDef>, AllocError>
+        ensures { IfOk result (λ found. as_list found ≡ declared_if line.now outcome.now) }
+    {
+        let Some(Outcome::Replied(_)) = outcome else {
+            return Ok(None);
+        };
+        match command_of(self.alloc, line)? {
+            Some(command) => declared(self.alloc, &command),
+            None => Ok(None),
+        }
+    }
+
+    /// Hears what became of the line of a number, if anything did, and remembers the event, if it declared one. Out of memory it remembers
+    /// nothing of the line.
+    pub fn hear(
+        &mut self,
+        number: usize,
+        line: &[u8],
+        outcome: &Option<Outcome>,
+    ) -> Result<(), AllocError>
+        ensures ok { OnOk result (self.new ≡ known_after self.old number line.now outcome.now) }
         ensures err { OnErr result (self.new ≡ self.old) }
     {
-        let Outcome::Replied(_) = outcome else {
-            return Ok(());
-        };
-        let Some(command) = command_of(self.alloc, line)? else {
-            return Ok(());
-        };
-        if let Some(event) = declared(self.alloc, &command)? {
+        if let Some(event) = self.declared_by(line, outcome)? {
             self.events.push(event)?;
         }
+        self.last = number;
         Ok(())
     }
 
@@ -183,7 +204,10 @@ impl Explainer {
     {
         match outcome {
             Outcome::Replied(_) => Ok(Vec::new(self.alloc)),
-            Outcome::Fault(fault) => told_of_fault(self.alloc, line, *fault),
+            Outcome::Fault(fault) => {
+                let is_next = line.number.saturating_sub(1) == self.last;
+                told_of_fault(self.alloc, line, is_next, *fault)
+            }
             Outcome::Refused(refusal) => match command_of(self.alloc, line.text)? {
                 Some(command) => {
                     told_of_command(self.alloc, &self.events, line, &command, refusal)

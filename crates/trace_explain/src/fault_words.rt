@@ -96,23 +96,33 @@ fn usage_words(name: &[u8]) -> &'static str
     }
 }
 
+fn parallel_words(is_next: bool) -> &'static str
+    ensures { result.now ≡ wording.parallel_words is_next }
+{
+    if is_next {
+        "no `end` follows"
+    } else {
+        "expected an `end` after each `parallel`, before the next one"
+    }
+}
+
 #[tactic(auto, unfolding(crate::specs::Wording::block_words))]
-fn block_words(name: &[u8]) -> &'static str
-    ensures { result.now ≡ wording.block_words name.now }
+fn block_words(is_next: bool, name: &[u8]) -> &'static str
+    ensures { result.now ≡ wording.block_words is_next name.now }
 {
     if name == b"thread".as_slice() || name == b"end".as_slice() {
         "no parallel part is open here"
     } else if name == b"parallel".as_slice() {
-        "a part is open already, or no `end` follows"
+        parallel_words(is_next)
     } else {
         "expected `thread` before the first command of a part"
     }
 }
 
-/// What is wrong with a line that is no command, and begins with a word of this name.
+/// What is wrong with a line that is no command, and begins with a word of this name; and whether the line before it was heard.
 #[tactic(auto, unfolding(crate::specs::Wording::fault_words))]
-pub(crate) fn fault_words(name: &[u8], fault: ScriptFault) -> &'static str
-    ensures { result.now ≡ wording.fault_words name.now fault }
+pub(crate) fn fault_words(is_next: bool, name: &[u8], fault: ScriptFault) -> &'static str
+    ensures { result.now ≡ wording.fault_words is_next name.now fault }
 {
     match fault {
         ScriptFault::LineTooLong => "the line has over 4,096 bytes",
@@ -121,7 +131,7 @@ pub(crate) fn fault_words(name: &[u8], fault: ScriptFault) -> &'static str
         ScriptFault::UnknownCommand => "unknown command",
         ScriptFault::WrongWords => usage_words(name),
         ScriptFault::BadNumber => "expected a number in its range",
-        ScriptFault::BlockOutOfPlace => block_words(name),
+        ScriptFault::BlockOutOfPlace => block_words(is_next, name),
         ScriptFault::TooManyThreads => "a parallel part has at most eight threads",
     }
 }

@@ -1,12 +1,14 @@
 //! What a filter may go on with.
 
 ghost use Rattle.std.specs.Prelude.{◌≡◌};
+ghost use Rattle.std.specs.List.{list_all};
+ghost use Rattle.trace_lex.specs.Blanks.{without_end};
 ghost use Rattle.trace_script.specs.Tokens as tokens;
-ghost use Rattle.trace_explain.specs.FilterDue.{takes_equal, is_sign, after_operator, after_value, ends_value, after_bare, due_after, due_from, quoted_words, number_words, value_due_words, joint_words, signed_words, filter_due_words, meant_by_equal, meant_by_word, meant_by_half, meant_after_name, operator_meant};
+ghost use Rattle.trace_explain.specs.FilterDue.{takes_equal, is_sign, after_operator, after_value, ends_value, after_bare, due_after, due_from, quoted_words, number_words, value_due_words, joint_words, signed_words, filter_due_words, meant_by_equal, meant_by_word, meant_by_half, meant_after_name, is_unnamed, ends_with_not, or_not, operator_meant};
 
-use crate::cut::has_byte;
+use crate::cut::{after, has_byte, up_to};
 use crate::hist_due::begins;
-use trace_lex::{is_blank, is_name_byte};
+use trace_lex::{is_blank, is_name_byte, trim_end};
 
 /// What comes next, after bytes with which a filter can begin.
 #[derive(Clone, Copy, PartialEq, Eq)]
@@ -267,12 +269,39 @@ fn meant_after_name(rest: &[u8]) -> &'static str
     }
 }
 
-/// The operator that is meant where half of one is written, or one with its bytes exchanged, or its name; empty, if none is.
-pub(crate) fn operator_meant(due: FilterDue, rest: &[u8]) -> &'static str
-    ensures { result.now ≡ operator_meant due rest.now }
+fn are_unnamed(text: &[u8]) -> bool
+    ensures { result ≡ list_all is_unnamed text.now }
+{
+    text.iter().all(|byte| !is_name_byte(*byte))
+}
+
+/// Whether the name that a string ends with is `not`.
+fn ends_with_not(front: &[u8]) -> bool
+    ensures { result ≡ ends_with_not front.now }
+{
+    let start = front.len().saturating_sub(3);
+    after(start, front) == b"not".as_slice()
+        && are_unnamed(after(front.len().saturating_sub(4), up_to(start, front)))
+}
+
+/// What is meant after a field, or after the word `not`.
+fn meant_between(front: &[u8], rest: &[u8]) -> &'static str
+    ensures { result.now ≡ or_not (meant_after_name rest.now) (without_end front.now) }
+{
+    let meant = meant_after_name(rest);
+    if meant.is_empty() && ends_with_not(trim_end(front)) {
+        "!(..)"
+    } else {
+        meant
+    }
+}
+
+/// The operator that is meant between these bytes, where half of one is written, or one with its bytes exchanged, or its name; empty, if none is.
+pub(crate) fn operator_meant(due: FilterDue, front: &[u8], rest: &[u8]) -> &'static str
+    ensures { result.now ≡ operator_meant due front.now rest.now }
 {
     match due {
-        FilterDue::Name | FilterDue::Operator => meant_after_name(rest),
+        FilterDue::Name | FilterDue::Operator => meant_between(front, rest),
         FilterDue::Bare | FilterDue::Joint => meant_by_half(rest),
         _ => "",
     }

@@ -6,6 +6,7 @@ ghost use Rattle.trace_lex.specs.Names as names;
 ghost use Rattle.trace_command.specs.FileNames.{bytes_now};
 ghost use Rattle.trace_explain.specs.Hints as hints;
 
+use crate::cause::field_of;
 use crate::cut::{after, up_to};
 use crate::declaration_due::{DeclarationDue, declaration_due, first_word};
 use crate::event::event_named;
@@ -148,10 +149,14 @@ fn event_meant<'a>(events: &'a [EventDef], name: Option<&[u8]>) -> &'a [u8]
     }
 }
 
+/// The field whose name is near that of no field; empty, if none is.
 fn field_of_event<'a>(event: &'a EventDef, field: &[u8]) -> &'a [u8]
     ensures { result.now ≡ hints.field_of_event (Some event.now) field.now }
 {
-    near_field(field, event.fields()).unwrap_or(b"")
+    match field_of(event.fields(), field) {
+        Some(_) => b"",
+        None => near_field(field, event.fields()).unwrap_or(b""),
+    }
 }
 
 /// The field whose name is near; empty, if none is.
@@ -220,6 +225,7 @@ fn operator_of(command: &Command, at: usize) -> &'static str
     let text = written_in(command);
     operator_meant(
         filter_due_at(command_subject(command), text, at),
+        up_to(at, text),
         after(at, text),
     )
 }

@@ -175,7 +175,7 @@ pub(crate) fn hist_due_words(front: &[u8], rest: &[u8]) -> &'static str
     ensures { result.now ≡ due.hist_due_words front.now rest.now }
 {
     if has_blank(front) {
-        "expected `if` and a filter"
+        "expected `if`, a blank and a filter"
     } else {
         part_words(last_part(front), rest)
     }

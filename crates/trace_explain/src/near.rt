@@ -4,7 +4,8 @@ ghost use Rattle.std.specs.Prelude.{◌≡◌, IfOk, option_map};
 ghost use Rattle.std.specs.Option.{option_copied};
 ghost use Rattle.trace_explain.specs.Near as near;
 
-use crate::cut::after;
+use crate::cut::{after, lacks_byte};
+use crate::hist_due::begins;
 use std::alloc::{AllocError, Global};
 use trace_format::{EventDef, Field};
 
@@ -89,6 +90,24 @@ fn is_near(given: &[u8], name: &[u8]) -> bool
     (given.len() >= 3 && is_one_off(a, b)) || (given.len() >= 6 && is_two_off(a, b))
 }
 
+/// Whether the path that a string begins has no further `/`, and the string doesn't end with one.
+fn begins_file(given: &[u8], path: &[u8]) -> bool
+    ensures { result ≡ near.begins_file given.now path.now }
+{
+    lacks_byte(b'/', after(given.len().saturating_sub(1), path))
+}
+
+/// Whether a string is a path without some bytes in a row, by what is left of both without what they begin with alike. The path of a folder is none.
+fn is_shortened(given: &[u8], path: &[u8], left: &[u8], rest: &[u8]) -> bool
+    ensures { result ≡ near.is_shortened given.now path.now left.now rest.now }
+{
+    if left.is_empty() {
+        begins_file(given, path)
+    } else {
+        ends_so(left, rest)
+    }
+}
+
 /// Whether a string is near a path, or is the path without some bytes in a row.
 #[tactic(auto, unfolding(crate::specs::Near::is_near_path))]
 fn is_near_path(given: &[u8], name: &[u8]) -> bool
@@ -101,7 +120,7 @@ fn is_near_path(given: &[u8], name: &[u8]) -> bool
         return false;
     }
     let common = common_len(given, name);
-    ends_so(after(common, given), after(common, name))
+    is_shortened(given, name, after(common, given), after(common, name))
 }
 
 /// The first of these events whose name is near.
@@ -178,12 +197,25 @@ pub(crate) fn near_attribute(given: &[u8]) -> &'static str
     }
 }
 
+/// Whether a type is one that fields don't have, though near to one that they do.
+fn is_other_type(given: &[u8]) -> bool
+    ensures { result ≡ near.is_other_type given.now }
+{
+    given == b"signed".as_slice()
+        || given == b"uchar".as_slice()
+        || given == b"uid_t".as_slice()
+        || given == b"gid_t".as_slice()
+        || begins(b"f", given)
+}
+
 /// The first type of fields that is near, without `int` and `long`, which `uint` and `ulong` are near to; empty, if none is.
 #[tactic(auto, unfolding(crate::specs::Near::near_type))]
 pub(crate) fn near_type(given: &[u8]) -> &'static str
     ensures { result.now ≡ near.near_type given.now }
 {
-    if is_near(given, b"s64") {
+    if is_other_type(given) {
+        ""
+    } else if is_near(given, b"s64") {
         "s64"
     } else if is_near(given, b"s32") {
         "s32"
@@ -206,12 +238,16 @@ pub(crate) fn near_type(given: &[u8]) -> &'static str
     }
 }
 
-/// The word for an option that is near; empty, if none is.
+/// The word for an option, if it is given, as between blanks, or else that is near; empty, if none is.
 #[tactic(auto, unfolding(crate::specs::Near::near_option))]
 pub(crate) fn near_option(given: &[u8]) -> &'static str
     ensures { result.now ≡ near.near_option given.now }
 {
-    if is_near(given, b"nooverwrite") {
+    if given == b"nooverwrite".as_slice() {
+        "nooverwrite"
+    } else if given == b"overwrite".as_slice() {
+        "overwrite"
+    } else if is_near(given, b"nooverwrite") {
         "nooverwrite"
     } else if is_near(given, b"overwrite") {
         "overwrite"
@@ -248,12 +284,25 @@ pub(crate) fn near_common(given: &[u8]) -> &'static str
     }
 }
 
+/// Whether a path is of a CPU whose number begins with `0` and goes on, so that another CPU may be meant.
+fn is_other_cpu(given: &[u8]) -> bool
+    ensures { result ≡ near.is_other_cpu given.now }
+{
+    begins(b"per_cpu/cpu0", given)
+        && match after(12, given) {
+            [byte, ..] => byte.is_ascii_digit(),
+            [] => false,
+        }
+}
+
 /// The first file of a CPU whose path is near; empty, if none is.
 #[tactic(auto, unfolding(crate::specs::Near::near_cpu_file))]
 fn near_cpu_file(given: &[u8]) -> &'static str
     ensures { result.now ≡ near.near_cpu_file given.now }
 {
-    if is_near_path(given, b"per_cpu/cpu0/stats") {
+    if is_other_cpu(given) {
+        ""
+    } else if is_near_path(given, b"per_cpu/cpu0/stats") {
         "per_cpu/cpu0/stats"
     } else if is_near_path(given, b"per_cpu/cpu0/trace") {
         "per_cpu/cpu0/trace"
@@ -292,12 +341,21 @@ fn near_lower_file(given: &[u8]) -> &'static str
     }
 }
 
+/// Whether a path has the name of what a file turns on, for turning it off.
+fn is_opposite(given: &[u8]) -> bool
+    ensures { result ≡ near.is_opposite given.now }
+{
+    begins(b"options/no", given) || begins(b"tracing_of", given)
+}
+
 /// The first file of an instance, but of no event, whose path is near; empty, if none is.
 #[tactic(auto, unfolding(crate::specs::Near::near_file))]
 pub(crate) fn near_file(given: &[u8]) -> &'static str
     ensures { result.now ≡ near.near_file given.now }
 {
-    if is_near_path(given, b"trace") {
+    if is_opposite(given) {
+        ""
+    } else if is_near_path(given, b"trace") {
         "trace"
     } else if is_near_path(given, b"trace_pipe") {
         "trace_pipe"

@@ -17,6 +17,8 @@ pub(crate) enum TriggerDue {
     Unblank,
     /// `hist:` or `snapshot`.
     Word,
+    /// What follows `hist`: `:keys=` and a field.
+    Keys,
     /// The end of the word, or `:` and a count.
     Colon,
     Count,
@@ -72,6 +74,17 @@ fn after_gap(body: &[u8]) -> usize
     word + blanks_len(rest_of(body, word))
 }
 
+/// What is due by a first word that doesn't begin with `snapshot`.
+fn word_due(word: &[u8]) -> TriggerDue
+    ensures { result ≡ triggers.word_due word.now }
+{
+    if word == b"hist".as_slice() {
+        TriggerDue::Keys
+    } else {
+        TriggerDue::Word
+    }
+}
+
 /// What is due by all that follows an optional `!`.
 fn body_due(body: &[u8]) -> TriggerDue
     ensures { result ≡ triggers.body_due body.now }
@@ -82,7 +95,7 @@ fn body_due(body: &[u8]) -> TriggerDue
         let tail = after(word_len(body), body);
         count_due(after(8, first_word(body)), after(blanks_len(tail), tail))
     } else {
-        TriggerDue::Word
+        word_due(first_word(body))
     }
 }
 
@@ -92,6 +105,7 @@ fn due_offset(due: TriggerDue, body: &[u8]) -> usize
 {
     match due {
         TriggerDue::Unblank | TriggerDue::Word => 0,
+        TriggerDue::Keys => 4,
         TriggerDue::Colon => 8,
         TriggerDue::Count => 9,
         TriggerDue::Condition => after_gap(body),
@@ -131,9 +145,10 @@ fn due_words(due: TriggerDue) -> &'static str
     match due {
         TriggerDue::Unblank => "no blank may come before `hist:` or `snapshot`",
         TriggerDue::Word => "expected `hist:` or `snapshot`",
+        TriggerDue::Keys => "expected `:keys=` and a field",
         TriggerDue::Colon => "expected a blank, or `:` and a count",
         TriggerDue::Count => "expected a count from 1 to 4,294,967,295",
-        TriggerDue::Condition => "expected `if` and a filter",
+        TriggerDue::Condition => "expected `if`, a blank and a filter",
         TriggerDue::Filter => "expected a filter",
     }
 }

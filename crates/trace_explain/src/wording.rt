@@ -93,12 +93,33 @@ pub(crate) fn command_subject(command: &Command) -> Subject
     }
 }
 
-fn path_words(subject: Subject) -> &'static str
-    ensures { result.now ≡ wording.path_words subject }
+/// The path that a command names.
+pub(crate) fn path_of(command: &Command) -> &[u8]
+    ensures { result.now ≡ wording.path_of command.now }
+{
+    match command {
+        Command::Emit { .. } => b"",
+        Command::Mkdir(path) | Command::Rmdir(path) => path.as_bytes(),
+        Command::Write { path, .. } | Command::Read { path, .. } => path.as_bytes(),
+    }
+}
+
+fn unknown_words(subject: Subject) -> &'static str
+    ensures { result.now ≡ wording.unknown_words subject }
 {
     match subject {
         Subject::Instance => "expected `instances/` and a name",
         _ => "no file has this path",
+    }
+}
+
+fn path_words(subject: Subject, path: &[u8]) -> &'static str
+    ensures { result.now ≡ wording.path_words subject path.now }
+{
+    if begins(b"/sys/kernel/debug/tracing/", path) {
+        "paths begin below `/sys/kernel/debug/tracing/`"
+    } else {
+        unknown_words(subject)
     }
 }
 
@@ -111,7 +132,7 @@ fn value_words(subject: Subject, text: &[u8]) -> &'static str
         Subject::Read => "only a pipe is read by `take`",
         Subject::Switch => "expected `0` or `1`",
         Subject::Options => "expected `overwrite` or `nooverwrite`",
-        Subject::Number => "expected a number",
+        Subject::Number => "expected a decimal number below 2^64",
         Subject::Trigger => trigger_due_words(text),
         _ => "the file doesn't take what is written",
     }
@@ -305,19 +326,43 @@ fn busy_words(subject: Subject) -> &'static str
     }
 }
 
+fn field_unknown_words(subject: Subject) -> &'static str
+    ensures { result.now ≡ wording.field_unknown_words subject }
+{
+    match subject {
+        Subject::AllFilters => "an event has no field of this name",
+        _ => "the event has no field of this name",
+    }
+}
+
 fn declaration_words(text: &[u8], at: usize) -> &'static str
     ensures { result.now ≡ wording.declaration_words text.now at }
 {
     declaration_due_words(declaration_due(up_to(at, text)), after(at, text))
 }
 
-/// What is wrong with a command about this that writes this.
+fn no_trigger_words(text: &[u8]) -> &'static str
+    ensures { result.now ≡ wording.no_trigger_words text.now }
+{
+    if begins(b"!", text) {
+        "the event has no such trigger"
+    } else {
+        "expected `>>` and a trigger that the event has"
+    }
+}
+
+/// What is wrong with a command about this that names this path and writes this.
 #[tactic(auto, unfolding(crate::specs::Wording::refusal_words))]
-pub(crate) fn refusal_words(subject: Subject, text: &[u8], refusal: &Refusal) -> &'static str
-    ensures { result.now ≡ wording.refusal_words subject text.now refusal.now }
+pub(crate) fn refusal_words(
+    subject: Subject,
+    path: &[u8],
+    text: &[u8],
+    refusal: &Refusal,
+) -> &'static str
+    ensures { result.now ≡ wording.refusal_words subject path.now text.now refusal.now }
 {
     match refusal {
-        Refusal::NoSuchFile => path_words(subject),
+        Refusal::NoSuchFile => path_words(subject, path),
         Refusal::NotReadable => "the file can't be read",
         Refusal::NotWritable => "the file can't be written",
         Refusal::BadValue => value_words(subject, text),
@@ -326,12 +371,12 @@ pub(crate) fn refusal_words(subject: Subject, text: &[u8], refusal: &Refusal) ->
         Refusal::BadDefinition { at } => declaration_words(text, *at),
         Refusal::TooBig => "a record of the event would be longer than a page",
         Refusal::FilterSyntax { at } => filter_words(subject, text, *at),
-        Refusal::NoSuchField { .. } => "the event has no field of this name",
+        Refusal::NoSuchField { .. } => field_unknown_words(subject),
         Refusal::WrongOperator { at } => wrong_operator_words(subject, text, *at),
         Refusal::HistSyntax { at } => hist_due_words(up_to(*at, text), after(*at, text)),
         Refusal::BadSize => "expected a size from 65 to 131072",
         Refusal::TriggerExists => exists_words(text),
-        Refusal::NoSuchTrigger => "the event has no such trigger",
+        Refusal::NoSuchTrigger => no_trigger_words(text),
         Refusal::TooMany => most_words(subject, text),
         Refusal::InstanceExists => "there is an instance of this name already",
         Refusal::NoSuchInstance => "there is no instance of this name",
@@ -354,7 +399,7 @@ pub(crate) fn cause_words(cause: Cause) -> &'static str
         Cause::NoField => "the event has no field of this name",
         Cause::Repeated => "the field is repeated",
         Cause::Missing => "the field is missing",
-        Cause::NoNumber => "its value is no number",
+        Cause::NoNumber => "its value is no number from -2^63 to 2^64 - 1",
         Cause::OutOfRange => "its value is out of the range of its type",
         Cause::TooLong => "its value is too long",
         Cause::NotPrintable => "its value has a byte that is not from 0x20 to 0x7e",

@@ -1,8 +1,8 @@
 //! A session's output, with what is wrong with each refused line told beside it.
 
-ghost use Rattle.std.specs.Prelude.{◌≡◌, ◌++◌, None, OnOk};
+ghost use Rattle.std.specs.Prelude.{◌≡◌, None, OnOk};
 ghost use Rattle.std.specs.Io.KnownBytes.{Appends};
-ghost use Rattle.trace_explain.specs.Events.{declared_by};
+ghost use Rattle.trace_explain.specs.Events.{known_after};
 ghost use Rattle.trace_explain.specs.Explanations.{explanation};
 
 use std::alloc::Global;
@@ -32,11 +32,11 @@ impl<'a, W: Write, E: Write> Explained<'a, W, E> {
         }
     }
 
-    /// Tells what is wrong with a line, if anything is, and remembers an event that it declared.
+    /// Tells what is wrong with a line, if anything is.
     fn explain(&mut self, number: usize, line: &[u8], outcome: &Outcome) -> io::Result<()>
         ensures told { OnOk result (Appends (E.contents self.old.errors) (E.contents self.new.errors)
             (explanation self.old.script.now number self.old.explainer line.now outcome.now)) }
-        ensures heard { OnOk result (self.new.explainer ≡ self.old.explainer ++ declared_by line.now outcome.now) }
+        ensures explainer { self.new.explainer ≡ self.old.explainer }
         ensures output { self.new.output ≡ self.old.output }
     {
         let script = self.script.as_bytes();
@@ -46,8 +46,15 @@ impl<'a, W: Write, E: Write> Explained<'a, W, E> {
             text: line,
         };
         let text = self.explainer.explain(at, outcome)?;
-        self.errors.write_all(&text)?;
-        self.explainer.hear(line, outcome)?;
+        self.errors.write_all(&text)
+    }
+
+    /// Remembers what became of a line, for those after it.
+    fn remember(&mut self, number: usize, line: &[u8], outcome: &Option<Outcome>) -> io::Result<()>
+        ensures heard { OnOk result (self.new.explainer ≡ known_after self.old.explainer number line.now outcome.now) }
+        ensures output { self.new.output ≡ self.old.output }
+    {
+        self.explainer.hear(number, line, outcome)?;
         Ok(())
     }
 }
@@ -72,5 +79,6 @@ impl<'a, W: Write, E: Write> Sink for Explained<'a, W, E> {
             // What can't be told stops nothing: the session is its output.
             let _ = self.explain(number, line, outcome);
         }
+        let _ = self.remember(number, line, outcome);
     }
 }
