@@ -3,6 +3,7 @@
 ghost use Rattle.std.specs.Prelude.{◌≡◌, ◌<◌, ◌^◌, pos, ◌&&◌, int_le};
 ghost use Rattle.trace_format.specs.declared.kind.Kind.TheVariants as kind;
 ghost use Rattle.trace_format.specs.Kinds.{number_size, is_signed as is_signed_type, least as least_of, greatest as greatest_of, size_of, is_signed_kind, is_text_kind, type_name_of, type_of, unsigned_type_of};
+ghost use Rattle.trace_format.specs.private.TypeWords.{signed_type_of, c_type_of};
 
 /// A type of numbers, after the field types of "Synthetic events" (histogram.rst). `u` and `s` are unsigned and signed, with their bits.
 #[derive(Clone, Copy, PartialEq, Eq)]
@@ -137,7 +138,16 @@ impl NumberType {
             Some(NumberType::U32)
         } else if word == b"u64".as_slice() {
             Some(NumberType::U64)
-        } else if word == b"s8".as_slice() {
+        } else {
+            NumberType::signed_from_word(word)
+        }
+    }
+
+    /// The type with a sign that one word spells.
+    fn signed_from_word(word: &[u8]) -> Option<NumberType>
+        ensures { result ≡ signed_type_of word.now }
+    {
+        if word == b"s8".as_slice() {
             Some(NumberType::S8)
         } else if word == b"s16".as_slice() {
             Some(NumberType::S16)
@@ -145,7 +155,16 @@ impl NumberType {
             Some(NumberType::S32)
         } else if word == b"s64".as_slice() {
             Some(NumberType::S64)
-        } else if word == b"int".as_slice() {
+        } else {
+            NumberType::c_type_from_word(word)
+        }
+    }
+
+    /// The type of C that one word spells.
+    fn c_type_from_word(word: &[u8]) -> Option<NumberType>
+        ensures { result ≡ c_type_of word.now }
+    {
+        if word == b"int".as_slice() {
             Some(NumberType::Int)
         } else if word == b"pid_t".as_slice() {
             Some(NumberType::PidT)
