@@ -97,13 +97,17 @@ closed_read definition is =
     ap (option_and_then (λ next. run next (flat_map field_spelling definition.fields))) (cond-true _ _ _ is.named)
     ∙ fields_read definition.name [] definition.fields is.fields
 
+-- where no step is, none leads anywhere
+no_step : {P : Type 0} (next : Standing) → ◌≡◌ {A = Option Standing} None (Some next) → P
+no_step next h = absurd (cc)
+
 -- a `;` leads to the same end
 semicolon_at : (d : Due) (name : List ℕ) (fields : List Field) (next : Standing) → step_at d (record { due = d; name = name; fields = fields }) semicolon ≡ Some next → finish (record { due = d; name = name; fields = fields }) ≡ finish next
-semicolon_at due.Name name fields next h = absurd (cc)
-semicolon_at due.Type name fields next h = absurd (cc)
-semicolon_at due.Unsigned name fields next h = absurd (cc)
-semicolon_at (due.NumberField t) name fields next h = absurd (cc)
-semicolon_at due.TextField name fields next h = absurd (cc)
+semicolon_at due.Name name fields next h = no_step next h
+semicolon_at due.Type name fields next h = no_step next h
+semicolon_at due.Unsigned name fields next h = no_step next h
+semicolon_at (due.NumberField t) name fields next h = no_step next h
+semicolon_at due.TextField name fields next h = no_step next h
 semicolon_at due.Joint name fields next h = ap finish (some_is h)
 
 semicolon_step : (standing next : Standing) → step standing semicolon ≡ Some next → finish standing ≡ finish next
