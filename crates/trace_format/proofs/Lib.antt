@@ -3,6 +3,7 @@ pub mod CatalogLemmas
 pub mod FieldNames
 pub mod FreshNames
 pub mod Lengths
+pub mod LoopLemmas
 pub mod MapLemmas
 pub mod NewFields
 pub mod OperandLemmas

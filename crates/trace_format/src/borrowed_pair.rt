@@ -57,7 +57,7 @@ pub fn borrowed<'a>(alloc: Global, pairs: &'a [Pair]) -> Result<Vec<BorrowedPair
 {
     let mut list = Vec::with_capacity(alloc, pairs.len())?;
     for pair in pairs {
-        list.push(BorrowedPair::of(pair))?;
+        list.push_reserved(BorrowedPair::of(pair));
     }
     Ok(list)
 }

@@ -1,6 +1,6 @@
 //! The values that pairs of names and texts give to fields.
 
-ghost use Rattle.std.specs.Prelude.{◌≡◌, [], None, map, filter_map, IfOk, IfSome, IfNone, IsSome, is_some, option_map, option_copied};
+ghost use Rattle.std.specs.Prelude.{◌≡◌, [], None, true, false, map, filter_map, IfOk, IsSome, is_some, option_map, option_copied};
 ghost use Rattle.trace_format.specs.Cells.{Datum, datum_of};
 ghost use Rattle.trace_format.specs.Rows.{field_named, pair_named, new_field as new_field_of, all_new, is_right, first_wrong, first_missing, given, IsBadRow};
 
@@ -109,24 +109,27 @@ fn given_value(
     }
 }
 
-/// The values that the pairs give to fields, in order, if they give each field one.
+/// Fills a list with the values that the pairs give to fields, in order, and tells whether they give each field one. Otherwise what the list
+/// holds doesn't matter. A list that has had as many elements before takes no allocation.
 pub(crate) fn given_values(
     alloc: Global,
     fields: &[Field],
     pairs: &[BorrowedPair<'_>],
-) -> Result<Option<Vec<Value>>, AllocError>
-    ensures all { IfOk result (λ found. IfSome found (λ v. first_missing fields.now pairs.now ≡ None)) }
-    ensures values { IfOk result (λ found. IfSome found (λ v. map datum_of v.items ≡ filter_map (given pairs.now) fields.now)) }
-    ensures missing { IfOk result (λ found. IfNone found (IsSome (first_missing fields.now pairs.now))) }
+    values: &mut Vec<Value>,
+) -> Result<bool, AllocError>
+    ensures all { IfOk result (λ complete. complete ≡ true → first_missing fields.now pairs.now ≡ None) }
+    ensures values { IfOk result (λ complete. complete ≡ true → map datum_of values.new.items ≡ filter_map (given pairs.now) fields.now) }
+    ensures missing { IfOk result (λ complete. complete ≡ false → IsSome (first_missing fields.now pairs.now)) }
 {
-    let mut values = Vec::with_capacity(alloc, fields.len())?;
+    values.clear();
+    values.reserve_exact(fields.len())?;
     for field in fields {
         let Some(value) = given_value(alloc, pairs, field)? else {
-            return Ok(None);
+            return Ok(false);
         };
-        values.push(value)?;
+        values.push_reserved(value);
     }
-    Ok(Some(values))
+    Ok(true)
 }
 
 /// The refusal at a field.

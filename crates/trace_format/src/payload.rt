@@ -1,6 +1,6 @@
 //! The bytes of fields.
 
-ghost use Rattle.std.specs.Prelude.{◌≡◌, ◌<◌, ◌≤◌, ◌+◌, ◌-◌, ◌^◌, ◌++◌, ℤ, pos, neg_ℤ, ◌≤ℤ◌, ◌<ℤ◌, IfOk, length, take, drop, map, replicate, option_map};
+ghost use Rattle.std.specs.Prelude.{◌≡◌, ◌<◌, ◌≤◌, ◌+◌, ◌-◌, ◌^◌, ◌++◌, ℤ, pos, neg_ℤ, ◌≤ℤ◌, ◌<ℤ◌, IfOk, if◌then◌else◌, Some, None, length, take, drop, map, replicate, option_map};
 ghost use Rattle.std.specs.List.{AllZip, list_all};
 ghost use Rattle.trace_format.specs.declared.kind.Kind.TheVariants as kinds;
 ghost use Rattle.trace_format.specs.Kinds.{size_of, number_size};
@@ -98,14 +98,15 @@ pub(crate) fn encode_text(text: &[u8], out: &mut [u8])
     back.fill(0);
 }
 
-/// The values whose bytes stand one behind the other, in a list that is given for them. One that has had as many elements takes no allocation.
+/// Fills a list with the values whose bytes stand one behind the other, and tells whether the bytes are such. Otherwise what the list holds
+/// doesn't matter. A list that has had as many elements before takes no allocation.
 pub(crate) fn decode_values(
     alloc: Global,
-    mut values: Vec<Value>,
     fields: &[Field],
     bytes: &[u8],
-) -> Result<Option<Vec<Value>>, AllocError>
-    ensures { IfOk result (λ found. option_map (λ v. map datum_of v.items) found ≡ values_from (map (λ f. f.kind) fields.now) bytes.now) }
+    values: &mut Vec<Value>,
+) -> Result<bool, AllocError>
+    ensures { IfOk result (λ found. (if found then Some (map datum_of values.new.items) else None) ≡ values_from (map (λ f. f.kind) fields.now) bytes.now) }
 {
     values.clear();
     values.reserve_exact(fields.len())?;
@@ -113,16 +114,16 @@ pub(crate) fn decode_values(
     for field in fields {
         let size = field.kind.size();
         if rest.len() < size {
-            return Ok(None);
+            return Ok(false);
         }
         let (front, back) = rest.split_at(size);
         let Some(value) = decode_field(alloc, field.kind, front)? else {
-            return Ok(None);
+            return Ok(false);
         };
-        values.push(value)?;
+        values.push_reserved(value);
         rest = back;
     }
-    Ok(if rest.is_empty() { Some(values) } else { None })
+    Ok(rest.is_empty())
 }
 
 /// The value that the bytes of a field are.

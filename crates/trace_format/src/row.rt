@@ -1,6 +1,7 @@
 //! Rows: the values of an event's fields.
 
-ghost use Rattle.std.specs.Prelude.{◌≡◌, ◌≤◌, ◌↔◌, List, ℕ, [], IfOk, IfErr, IfSome, IsSome, OnErr, Some, None, Ok, Err, length, map};
+ghost use Rattle.std.specs.Prelude.{◌≡◌, ◌≤◌, ◌↔◌, List, ℕ, [], IfOk, IfErr, IfSome, IsSome, OnOk, Some, None, Ok, Err, length, map};
+ghost use Rattle.trace_format.specs.Cells.{IsRow, datum_of};
 ghost use Rattle.trace_format.specs.Rows.{first_wrong, first_missing, row_of, IsBuilt};
 
 use crate::borrowed_pair::{BorrowedPair, borrowed};
@@ -124,27 +125,31 @@ impl Row {
     {
         let fields = def.fields();
         if read_in_order(alloc, fields, pairs, &mut memory.kinds, &mut memory.values)? {
-            let kinds = mem::replace(&mut memory.kinds, Vec::new(alloc));
-            let values = mem::replace(&mut memory.values, Vec::new(alloc));
-            return Ok(Row { kinds, values });
+            return Ok(row_in(alloc, &mut memory.kinds, &mut memory.values));
         }
-        Row::read(alloc, def, pairs)
+        Row::read(alloc, memory, def, pairs)
     }
 
     /// The row, field by field.
-    fn read(alloc: Global, def: &EventDef, pairs: &[BorrowedPair<'_>]) -> Result<Row, RowFault>
+    fn read(
+        alloc: Global,
+        memory: &mut RowMemory,
+        def: &EventDef,
+        pairs: &[BorrowedPair<'_>],
+    ) -> Result<Row, RowFault>
         ensures definition { IsDefinition def.now }
         ensures row { IfOk result (IsRowOf def.now) }
         ensures exact { IsBuilt result (row_of def.now pairs.now) }
     {
-        let Some(values) = given_values(alloc, def.fields(), pairs)? else {
-            return Err(refusal(alloc, def, pairs));
-        };
-        if !are_new(def.fields(), pairs) {
+        let fields = def.fields();
+        if !given_values(alloc, fields, pairs, &mut memory.values)? {
             return Err(refusal(alloc, def, pairs));
         }
-        let kinds = kinds_of(Vec::new(alloc), def.fields())?;
-        Ok(Row { kinds, values })
+        if !are_new(fields, pairs) {
+            return Err(refusal(alloc, def, pairs));
+        }
+        fill_kinds(fields, &mut memory.kinds)?;
+        Ok(row_in(alloc, &mut memory.kinds, &mut memory.values))
     }
 
     /// Writes the row's payload: the fields in order of declaration with nothing between them, numbers in two's complement with the
@@ -179,15 +184,12 @@ impl Row {
         ensures names { IfOk result (λ found. IfSome found (λ row. StandByName def.now.fields row.values)) }
         ensures exact { IfOk result (λ found. found ≡ row_from def.now bytes.now) }
     {
-        let values = mem::replace(&mut memory.values, Vec::new(alloc));
-        let Some(values) = decode_values(alloc, values, def.fields(), bytes)? else {
+        let fields = def.fields();
+        if !decode_values(alloc, fields, bytes, &mut memory.values)? {
             return Ok(None);
-        };
-        let kinds = kinds_of(
-            mem::replace(&mut memory.kinds, Vec::new(alloc)),
-            def.fields(),
-        )?;
-        Ok(Some(Row { kinds, values }))
+        }
+        fill_kinds(fields, &mut memory.kinds)?;
+        Ok(Some(row_in(alloc, &mut memory.kinds, &mut memory.values)))
     }
 
     /// The values, in order of declaration.
@@ -213,14 +215,26 @@ fn refusal(alloc: Global, def: &EventDef, pairs: &[BorrowedPair<'_>]) -> RowFaul
     }
 }
 
-/// The types of fields, in a list that is given for them.
-fn kinds_of(mut kinds: Vec<Kind>, fields: &[Field]) -> Result<Vec<Kind>, AllocError>
-    ensures { IfOk result (λ v. v.items ≡ map (λ f. f.kind) fields.now) }
+/// Fills a list with the types of fields. One that has had as many elements before takes no allocation.
+fn fill_kinds(fields: &[Field], kinds: &mut Vec<Kind>) -> Result<(), AllocError>
+    ensures { OnOk result (kinds.new.items ≡ map (λ f. f.kind) fields.now) }
 {
     kinds.clear();
     kinds.reserve_exact(fields.len())?;
     for field in fields {
-        kinds.push(field.kind)?;
+        kinds.push_reserved(field.kind);
     }
-    Ok(kinds)
+    Ok(())
+}
+
+/// The row of types and values, whose lists are left without room.
+#[inline(always)]
+fn row_in(alloc: Global, kinds: &mut Vec<Kind>, values: &mut Vec<Value>) -> Row
+    requires { IsRow (record { kinds = kinds.old.items; values = map datum_of values.old.items }) }
+    ensures { result ≡ record { kinds = kinds.old.items; values = map datum_of values.old.items } }
+{
+    Row {
+        kinds: mem::replace(kinds, Vec::new(alloc)),
+        values: mem::replace(values, Vec::new(alloc)),
+    }
 }
