@@ -1,5 +1,5 @@
 -- The table of events by their names.
-use Rattle.std.proofs.Common.{◌≡◌, ℕ, zero, suc, ◌+◌, ◌<◌, ◌≤◌, Bool, true, false, not, cond, nat_le, nat_lt, if◌then◌else◌, List, [], ◌∷◌, ◌++◌, length, take, map, bytes_eq, slice_get, position, Option, None, Some, is_some, option_map, Result, Ok, Err, Vec, Global, refl, sym, ap, ◌∙◌, subst, arith, append_assoc, append-nil, add-one, one-add, ⊎_elim}
+use Rattle.std.proofs.Common.{◌≡◌, ℕ, zero, suc, ◌+◌, ◌<◌, ◌≤◌, Bool, true, false, not, cond, nat_le, nat_lt, if◌then◌else◌, List, [], ◌∷◌, ◌++◌, length, take, map, bytes_eq, slice_get, position, Option, None, Some, is_some, option_map, Result, Ok, Err, Vec, Global, refl, sym, ap, ◌∙◌, subst, arith, append_assoc, append-nil, add-one, one-add, ⊎_elim, ltb-false}
 use Rattle.std.specs.List.{AllByRecursion, position_or_len}
 use Rattle.std.proofs.lemmas.List.{length-map, length_push, map-append}
 use Rattle.std.proofs.lemmas.Bool.{cond-true, cond-false, cases_lt, true≢false, lt-ltb, le-ltb}
@@ -10,7 +10,8 @@ use Rattle.indexmap.specs.IndexMap.{insert_entry}
 use Rattle.indexmap.proofs.MapLemmas.{some_index}
 use Rattle.trace_format.specs.Definitions.{Definition, IsDefinition}
 use Rattle.trace_format.specs.declared.fault.CatalogFault.{CatalogFault}
-use Rattle.trace_format.specs.declared.fault.CatalogFault.TheVariants.{EventExists, TooMany}
+use Rattle.trace_format.specs.declared.fault.CatalogFault.TheVariants.{EventExists, TooBig, TooMany}
+use Rattle.trace_format.specs.Cells.{record_size_of}
 use Rattle.trace_format.specs.Catalogs.{id_of, event_of, id_for, IsCatalog, IsEvent, AreEvents}
 use Rattle.trace_lex.proofs.Lists.{AllByRecursion-push}
 use Rattle.trace_lex.proofs.Options.{map_some, some_is}
@@ -102,6 +103,14 @@ id_for_next events definition page_bytes id h =
       few = let no = wide.0 in grind (arith, nat_tests);
       room = let no = full.0 in grind (arith, nat_tests);
     }
+
+-- its record is no larger than a page
+pub id_for_fits : (events : List Definition) (definition : Definition) (page_bytes id : ℕ) → id_for events definition page_bytes ≡ Ok id → record_size_of definition ≤ page_bytes
+id_for_fits events definition page_bytes id h =
+    let named = no_fault (is_some (id_of events definition.name)) _ EventExists id h in
+    let wide = no_fault (nat_lt 16 (length definition.fields)) _ TooMany id named.1 in
+    let full = no_fault (nat_le 64 (length events)) _ TooMany id wide.1 in
+    ltb-false _ _ (no_fault (nat_lt page_bytes (record_size_of definition)) _ TooBig id full.1).0
 
 -- an entry whose key is new goes last
 insert_last : (entries : List Entry) (key : Vec ℕ Global) (event : Definition) → lookup (λ (k : Vec ℕ Global). bytes_eq key.items k.items) entries ≡ None

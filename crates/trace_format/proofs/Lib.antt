@@ -23,3 +23,4 @@ pub mod TextFields
 pub mod Types
 pub mod Verdicts
 pub mod WordLemmas
+pub mod WritingLemmas

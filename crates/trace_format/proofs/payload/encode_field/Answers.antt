@@ -1,9 +1,9 @@
-use Rattle.std.proofs.Common.{◌≡◌, ◌+◌, ◌-◌, ◌++◌, take, drop, sym, ap, ◌∙◌, arith, rules, append_assoc, drop-drop, SFits}
+use Rattle.std.proofs.Common.{◌≡◌, ◌+◌, ◌-◌, ◌++◌, take, drop, sym, ap, ◌∙◌, subst, arith, rules, append_assoc, drop-drop, SFits}
 use Rattle.std.proofs.lemmas.Int.{to_z-of_z}
 use Rattle.std.specs.Int.{w128}
 use Rattle.trace_format.specs.declared.kind.Kind.TheVariants.{Number}
 use Rattle.trace_format.specs.Kinds.{size_of}
-use Rattle.trace_format.specs.Cells.{Whole, datum_of, field_bytes}
+use Rattle.trace_format.specs.Cells.{Whole, Holds, datum_of, field_bytes}
 use Rattle.trace_format.proofs.payload.encode_field.Goals as goal
 
 pub returns-in-Number-Num : goal.returns-in-Number-Num
@@ -18,3 +18,11 @@ returns-in-Number-Num c =
     (λ i. take at out ++ (written i ++ drop (size i) (drop at out)))
     ∙ sym (append_assoc (take at out) (field_bytes c.args.kind (datum_of c.args.value.now)) (drop (size_of c.args.kind) (drop at out)))
     ∙ ap (λ rest. take at out ++ field_bytes c.args.kind (datum_of c.args.value.now) ++ rest) (drop-drop (size_of c.args.kind) at out)
+
+pub encode_number-requires-clause-held : goal.encode_number-requires-clause-held
+encode_number-requires-clause-held c =
+    let number_type = c.in-Number-Num.number_type in
+    let number = c.in-Number-Num.number in
+    let fits : SFits w128 number = search rules in
+    let held = subst (λ value. Holds (Number number_type) (datum_of value)) c.in-Number-Num.is-1 (subst (λ kind. Holds kind (datum_of c.args.value.now)) c.in-Number-Num.is-0 c.requires.held) in
+    subst (λ n. Holds (Number number_type) (Whole n)) (sym (to_z-of_z w128 number fits)) held

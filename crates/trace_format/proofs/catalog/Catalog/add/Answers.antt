@@ -1,6 +1,6 @@
 use Rattle.std.proofs.Common.{sym, ◌∙◌, subst}
 use Rattle.trace_format.specs.Definitions.{IsDefinition}
-use Rattle.trace_format.proofs.CatalogLemmas.{id_for_next, put_catalog, put_events}
+use Rattle.trace_format.proofs.CatalogLemmas.{id_for_fits, id_for_next, put_catalog, put_events}
 use Rattle.trace_format.proofs.catalog.Catalog.add.Goals as goal
 
 pub invariant_of-self-2 : goal.invariant_of-self-2
@@ -22,3 +22,6 @@ returns-clause-ok c =
       named = c.in_ok-name.ensures.items ∙ c.name.ensures;
       put = c.in_ok-insert.ensures.entries;
     })
+
+pub returns-clause-fits : goal.returns-clause-fits
+returns-clause-fits c = id_for_fits c.args.self.now c.args.def _ c.in_ok-id.id (sym c.next_id.ensures ∙ c.in_ok-id.was)
