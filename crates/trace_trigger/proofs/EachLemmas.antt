@@ -7,6 +7,17 @@ use Rattle.trace_trigger.specs.declared.fault.TriggerFault.TheVariants.{BadText,
 use Rattle.trace_trigger.specs.TriggerAnswers.{◌>>=◌, IsTold}
 use Rattle.trace_trigger.specs.HistMeanings.{each}
 
+-- a fault that the definition gives may be told
+pub told_is : {A : Type 0} (fault : TriggerFault) (answer : Result A TriggerFault) → answer ≡ Err fault → IsTold fault answer
+told_is BadText answer e = e
+told_is (HistSyntax at) answer e = e
+told_is TooMany answer e = e
+told_is (NoSuchField at) answer e = e
+told_is (WrongOperator at) answer e = e
+told_is BadSize answer e = e
+told_is (FilterSyntax at) answer e = e
+told_is Memory answer e = tt
+
 module _ {A B : Type 0} (read : A → Result B TriggerFault) where
   -- what is found up to an element, and what the rest comes to
   abbrev pub each_from : List A → ℕ → List B → Result (List B) TriggerFault
@@ -36,13 +47,29 @@ module _ {A B : Type 0} (read : A → Result B TriggerFault) where
       ∙ found_more (each read (drop (i + 1) xs)) y found
       ∙ ap (λ f. each read (drop (i + 1) xs) >>= λ ys. Ok (f ++ ys)) (sym grown)
 
-  pub each_refused : (xs : List A) (i : ℕ) (x : A) (fault : TriggerFault) (found : List B) (whole : Result (List B) TriggerFault) → i < length xs → x ≡ get_or xs i x
+  each_refused : (xs : List A) (i : ℕ) (x : A) (fault : TriggerFault) (found : List B) (whole : Result (List B) TriggerFault) → i < length xs → x ≡ get_or xs i x
       → read x ≡ Err fault → whole ≡ each_from xs i found → whole ≡ Err fault
   unfolding with_read
   each_refused xs i x fault found whole within is refused so_far =
       so_far
       ∙ ap (λ r. each read r >>= λ ys. Ok (found ++ ys)) (step xs i x within is)
       ∙ ap (λ one. with_read one (drop (i + 1) xs) found) refused
+
+  -- the fault of an element is the list's
+  pub each_at_fault : (xs : List A) (i : ℕ) (x : A) (fault : TriggerFault) (found : List B) (whole : Result (List B) TriggerFault) → i < length xs → x ≡ get_or xs i x
+      → read x ≡ Err fault → whole ≡ each_from xs i found → IsTold fault whole
+  each_at_fault xs i x fault found whole within is refused so_far = told_is fault whole (each_refused xs i x fault found whole within is refused so_far)
+
+  pub each_told : (xs : List A) (i : ℕ) (x : A) (fault : TriggerFault) (found : List B) (whole : Result (List B) TriggerFault) → i < length xs → x ≡ get_or xs i x
+      → IsTold fault (read x) → whole ≡ each_from xs i found → IsTold fault whole
+  each_told xs i x BadText found whole within is told so_far = each_refused xs i x BadText found whole within is told so_far
+  each_told xs i x TooMany found whole within is told so_far = each_refused xs i x TooMany found whole within is told so_far
+  each_told xs i x (FilterSyntax at) found whole within is told so_far = each_refused xs i x (FilterSyntax at) found whole within is told so_far
+  each_told xs i x (NoSuchField at) found whole within is told so_far = each_refused xs i x (NoSuchField at) found whole within is told so_far
+  each_told xs i x (WrongOperator at) found whole within is told so_far = each_refused xs i x (WrongOperator at) found whole within is told so_far
+  each_told xs i x (HistSyntax at) found whole within is told so_far = each_refused xs i x (HistSyntax at) found whole within is told so_far
+  each_told xs i x BadSize found whole within is told so_far = each_refused xs i x BadSize found whole within is told so_far
+  each_told xs i x Memory found whole within is told so_far = tt
 
   pub each_end : (xs : List A) (i : ℕ) (found : List B) (whole : Result (List B) TriggerFault) → length xs ≤ i → whole ≡ each_from xs i found → whole ≡ Ok found
   each_end xs i found whole past so_far =
@@ -64,14 +91,3 @@ module _ {A B : Type 0} (read : A → Result B TriggerFault) where
 
   pub each_few : (xs : List A) (ys : List B) (most : ℕ) → each read xs ≡ Ok ys → length xs ≤ most → length ys ≤ most
   each_few xs ys most e few = omega (arith, each_len xs ys e, few)
-
--- a fault that the definition gives may be told
-pub told_is : {A : Type 0} (fault : TriggerFault) (answer : Result A TriggerFault) → answer ≡ Err fault → IsTold fault answer
-told_is BadText answer e = e
-told_is (HistSyntax at) answer e = e
-told_is TooMany answer e = e
-told_is (NoSuchField at) answer e = e
-told_is (WrongOperator at) answer e = e
-told_is BadSize answer e = e
-told_is (FilterSyntax at) answer e = e
-told_is Memory answer e = tt

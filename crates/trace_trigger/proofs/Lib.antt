@@ -23,6 +23,7 @@ pub mod ModifierLaws
 pub mod NameLaws
 pub mod KeyLaws
 pub mod MeaningLaws
+pub mod MeantLaws
 pub mod PartLaws
 pub mod PieceLemmas
 pub mod OffsetLemmas

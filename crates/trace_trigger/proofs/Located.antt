@@ -1,11 +1,12 @@
 -- The parts of a string, and its attributes, end where the string ends or before.
-use Rattle.std.proofs.Common.{◌≡◌, refl, ℕ, ◌+◌, ◌-◌, ◌<◌, ◌≤◌, ◌^◌, Bool, true, false, ◌==◌, if◌then◌else◌, List, [], ◌∷◌, length, arith}
+use Rattle.std.proofs.Common.{◌≡◌, refl, ℕ, ◌+◌, ◌-◌, ◌<◌, ◌≤◌, ◌^◌, Bool, true, false, ◌==◌, if◌then◌else◌, List, [], ◌∷◌, length, sym, subst, arith}
 use Rattle.std.specs.List.{All}
 use Rattle.std.proofs.lemmas.Bool.Decides.{nat_tests}
 use Rattle.std.proofs.lemmas.List.{length-drop}
 use Rattle.std.proofs.lemmas.List.Elements.{All-nil, All-cons, All-map}
 use Rattle.std.proofs.lemmas.List.Sums.{prefix_len-le-length}
 use Rattle.trace_lex.specs.Prefixes.{is_not}
+use Rattle.trace_trigger.specs.declared.attribute.Attribute.{Attribute}
 use Rattle.trace_trigger.specs.declared.piece.ListItem.{ListItem}
 use Rattle.trace_trigger.specs.HistPieces.{lengthened, pieces_of}
 use Rattle.trace_trigger.specs.HistAttributes.{head_len, attribute_of, attributes_at, IsLocated}
@@ -45,7 +46,10 @@ located piece h = omega (arith, h, length-drop (head_len piece.bytes) piece.byte
     head_within : (written : List ℕ) → head_len written ≤ length written
     head_within written = grind (arith, nat_tests, prefix_len-le-length (is_not 61) written)
 
-pub attributes_located : (at : ℕ) (text : List ℕ) → at + length text < 2 ^ 64 → All IsLocated (attributes_at at text)
+attributes_located : (at : ℕ) (text : List ℕ) → at + length text < 2 ^ 64 → All IsLocated (attributes_at at text)
 attributes_located at text h =
     let within : All (IsWithin (2 ^ 64 - 1)) (pieces_of 58 at text) = pieces_within 58 (2 ^ 64 - 1) at text (omega (arith, h)) in
     All-map IsLocated attribute_of (pieces_of 58 at text) (λ k d inside. located _ (within k d inside))
+
+pub found_located : (found : List Attribute) (at : ℕ) (text : List ℕ) → found ≡ attributes_at at text → at + length text < 2 ^ 64 → All IsLocated found
+found_located found at text is h = subst (All IsLocated) (sym is) (attributes_located at text h)

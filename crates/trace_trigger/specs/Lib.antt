@@ -22,3 +22,4 @@ pub mod HistTexts
 pub mod Modifiers
 pub mod SameSpecs
 pub mod TriggerFaultTexts
+pub mod private

@@ -1,6 +1,6 @@
 //! The attributes of a hist trigger: what stands between the `:` of its first word.
 
-ghost use Rattle.std.specs.Prelude.{◌≡◌, ◌≤◌, ◌<◌, ◌+◌, ◌^◌, IfOk, length};
+ghost use Rattle.std.specs.Prelude.{◌≡◌, ◌≤◌, ◌<◌, ◌+◌, ◌^◌, IfOk, length, map};
 ghost use Rattle.std.specs.List.{All};
 ghost use Rattle.trace_trigger.specs.HistAttributes as attributes;
 
@@ -96,7 +96,19 @@ fn attribute_of(alloc: Global, piece: &ListItem) -> Result<Attribute, AllocError
     })
 }
 
+/// The attributes that pieces are.
+fn attributes_of(alloc: Global, pieces: &[ListItem]) -> Result<Vec<Attribute>, AllocError>
+    ensures { IfOk result (λ found. found.items ≡ map attributes.attribute_of pieces.now) }
+{
+    let mut found = Vec::with_capacity(alloc, pieces.len())?;
+    for piece in pieces {
+        found.push(attribute_of(alloc, piece)?)?;
+    }
+    Ok(found)
+}
+
 /// The attributes of a string that begins at an offset.
+#[tactic(auto, using(crate::proofs::Located::found_located))]
 pub(crate) fn attributes_at(
     alloc: Global,
     at: usize,
@@ -107,9 +119,5 @@ pub(crate) fn attributes_at(
     ensures located { IfOk result (λ found. All attributes.IsLocated found.items) }
 {
     let pieces = cut_at(alloc, b':', at, text)?;
-    let mut found = Vec::with_capacity(alloc, pieces.len())?;
-    for piece in &pieces {
-        found.push(attribute_of(alloc, piece)?)?;
-    }
-    Ok(found)
+    attributes_of(alloc, &pieces)
 }

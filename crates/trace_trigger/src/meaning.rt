@@ -1,12 +1,12 @@
 //! What the names of a trigger come to in an event.
 
-ghost use Rattle.std.specs.Prelude.{◌≡◌, Ok, MatchResult, IfOk, bytes_eq, map};
+ghost use Rattle.std.specs.Prelude.{◌≡◌, Ok, MatchResult, IfOk, bytes_eq, codes, false, map};
 ghost use Rattle.std.specs.List.{position};
 ghost use Rattle.trace_trigger.specs.declared.key.Key.{Key as KeySeen};
 ghost use Rattle.trace_trigger.specs.HistMeanings as meanings;
 ghost use Rattle.trace_trigger.specs.HistLists as lists;
 ghost use Rattle.trace_trigger.specs.HistSpecs.{key_names};
-ghost use Rattle.trace_trigger.specs.TriggerAnswers.{IsTold};
+ghost use Rattle.trace_trigger.specs.TriggerAnswers.{IsAnswered, IsTold};
 
 use crate::fault::TriggerFault;
 use crate::key::Key;
@@ -85,8 +85,16 @@ fn key_as(alloc: Global, key: &ListItem, operand: Operand) -> Result<Key, AllocE
     })
 }
 
+/// A key; or the fault for which it means nothing.
+fn key_in(alloc: Global, fields: &[Field], key: &ListItem) -> Result<Key, TriggerFault>
+    ensures { IsAnswered result (meanings.key_in fields.now key.now) }
+{
+    let operand = key_operand(fields, key)?;
+    Ok(key_as(alloc, key, operand)?)
+}
+
 /// The keys; or the fault of the first that means nothing.
-#[tactic(auto, using(crate::proofs::EachLemmas::each_more, crate::proofs::EachLemmas::each_refused, crate::proofs::EachLemmas::each_end, crate::proofs::EachLemmas::told_is))]
+#[tactic(auto, using(crate::proofs::EachLemmas::each_more, crate::proofs::EachLemmas::each_told, crate::proofs::EachLemmas::each_end))]
 pub(crate) fn keys_of(
     alloc: Global,
     fields: &[Field],
@@ -98,8 +106,7 @@ pub(crate) fn keys_of(
 {
     let mut read = Vec::with_capacity(alloc, keys.len())?;
     for key in keys {
-        let operand = key_operand(fields, key)?;
-        read.push(key_as(alloc, key, operand)?)?;
+        read.push(key_in(alloc, fields, key)?)?;
     }
     Ok(read)
 }
@@ -116,7 +123,7 @@ fn value_source(fields: &[Field], value: &ListItem) -> Result<Operand, TriggerFa
 }
 
 /// Where each value is found; or the fault of the first that means nothing or is a string.
-#[tactic(auto, using(crate::proofs::EachLemmas::each_more, crate::proofs::EachLemmas::each_refused, crate::proofs::EachLemmas::each_end, crate::proofs::EachLemmas::told_is))]
+#[tactic(auto, using(crate::proofs::EachLemmas::each_more, crate::proofs::EachLemmas::each_at_fault, crate::proofs::EachLemmas::each_end))]
 pub(crate) fn value_sources(
     alloc: Global,
     fields: &[Field],
@@ -172,20 +179,34 @@ fn sort_key_of(alloc: Global, item: &ListItem) -> Result<SortKey, AllocError>
     })
 }
 
-/// The sort keys; by `hitcount`, where none are written.
-#[tactic(auto, using(crate::proofs::SortKeyLemmas::sort_keys_some, crate::proofs::SortKeyLemmas::sort_keys_none))]
-pub(crate) fn sort_keys(alloc: Global, items: &[ListItem]) -> Result<Vec<SortKey>, AllocError>
-    ensures { IfOk result (λ keys. keys.items ≡ lists.sort_keys items.now) }
+fn hitcount_key(alloc: Global) -> Result<SortKey, AllocError>
+    ensures { IfOk result (λ key. key ≡ record { name = codes "hitcount"; descending = false }) }
+{
+    Ok(SortKey {
+        name: Text::from_slice(alloc, b"hitcount")?,
+        descending: false,
+    })
+}
+
+/// The sort keys that are written.
+fn written_sort_keys(alloc: Global, items: &[ListItem]) -> Result<Vec<SortKey>, AllocError>
+    ensures { IfOk result (λ keys. keys.items ≡ map lists.sort_key_of items.now) }
 {
     let mut keys = Vec::with_capacity(alloc, items.len())?;
     for item in items {
         keys.push(sort_key_of(alloc, item)?)?;
     }
+    Ok(keys)
+}
+
+/// The sort keys; by `hitcount`, where none are written.
+#[tactic(auto, using(crate::proofs::SortKeyLemmas::sort_keys_some, crate::proofs::SortKeyLemmas::sort_keys_none))]
+fn sort_keys(alloc: Global, items: &[ListItem]) -> Result<Vec<SortKey>, AllocError>
+    ensures { IfOk result (λ keys. keys.items ≡ lists.sort_keys items.now) }
+{
+    let mut keys = written_sort_keys(alloc, items)?;
     if keys.is_empty() {
-        keys.push(SortKey {
-            name: Text::from_slice(alloc, b"hitcount")?,
-            descending: false,
-        })?;
+        keys.push(hitcount_key(alloc)?)?;
     }
     Ok(keys)
 }
@@ -228,7 +249,7 @@ fn sort_rule(keys: &[Key], values: &[Text], key: &SortKey) -> SortRule
 }
 
 /// What each sort key means.
-pub(crate) fn sort_rules(
+fn sort_rules(
     alloc: Global,
     keys: &[Key],
     values: &[Text],
@@ -241,4 +262,19 @@ pub(crate) fn sort_rules(
         rules.push(sort_rule(keys, values, key))?;
     }
     Ok(rules)
+}
+
+/// The sort keys, and what each means.
+pub(crate) fn sort_of(
+    alloc: Global,
+    keys: &[Key],
+    values: &[Text],
+    items: &[ListItem],
+) -> Result<(Vec<SortKey>, Vec<SortRule>), AllocError>
+    ensures sort { IfOk result (λ found. found.0.items ≡ lists.sort_keys items.now) }
+    ensures rules { IfOk result (λ found. found.1.items ≡ map (meanings.sort_rule (key_names keys.now) values.now) (lists.sort_keys items.now)) }
+{
+    let sort = sort_keys(alloc, items)?;
+    let rules = sort_rules(alloc, keys, values, &sort)?;
+    Ok((sort, rules))
 }

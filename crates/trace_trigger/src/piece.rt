@@ -14,6 +14,15 @@ pub(crate) struct ListItem {
     pub(crate) bytes: Text,
 }
 
+fn list_item(alloc: Global, at: usize, bytes: &[u8]) -> Result<ListItem, AllocError>
+    ensures { IfOk result (λ item. item ≡ record { at = at; bytes = bytes.now }) }
+{
+    Ok(ListItem {
+        at,
+        bytes: Text::from_slice(alloc, bytes)?,
+    })
+}
+
 /// The parts of a string that begins at an offset, between the bytes that separate them. There is one part more than separators.
 pub(crate) fn cut_at(
     alloc: Global,
@@ -29,11 +38,8 @@ pub(crate) fn cut_at(
     loop {
         let rest = rest_of(text, from);
         let len = len_before(separator, rest);
-        let bytes = Text::from_slice(alloc, &rest[..len])?;
-        pieces.push(ListItem {
-            at: at + from,
-            bytes,
-        })?;
+        let item = list_item(alloc, at + from, &rest[..len])?;
+        pieces.push(item)?;
         if len == rest.len() {
             return Ok(pieces);
         }

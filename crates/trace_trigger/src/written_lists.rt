@@ -5,6 +5,7 @@ ghost use Rattle.std.specs.List.{All};
 ghost use Rattle.std.specs.Option.{option_copied};
 ghost use Rattle.trace_trigger.specs.HistAttributes.{IsLocated};
 ghost use Rattle.trace_trigger.specs.HistLists as lists;
+ghost use Rattle.trace_trigger.specs.declared.attribute.Topic.TheVariants as topics;
 
 use crate::attribute::{Attribute, Topic};
 use crate::piece::{ListItem, cut_at};
@@ -48,12 +49,15 @@ impl WrittenLists {
         requires { All IsLocated attributes.now }
         ensures { IfOk result (λ written. written ≡ lists.lists_of attributes.now) }
     {
+        let name = value_of(first_about(Topic::Name, attributes))?;
+        let size = value_of(first_about(Topic::Size, attributes))?;
+        let (keys, values, sort) = items_of_each(alloc, attributes)?;
         Ok(WrittenLists {
-            name: value_of(first_about(Topic::Name, attributes))?,
-            keys: items_about(alloc, Topic::Keys, attributes)?,
-            values: items_about(alloc, Topic::Values, attributes)?,
-            sort: items_about(alloc, Topic::Sort, attributes)?,
-            size: value_of(first_about(Topic::Size, attributes))?,
+            name,
+            keys,
+            values,
+            sort,
+            size,
             action: action_in(first_about(Topic::Asked(Action::Attach), attributes)),
         })
     }
@@ -108,6 +112,22 @@ fn items_about(
         }
         None => Ok(Vec::new(alloc)),
     }
+}
+
+/// The items of the keys, of the values, and of what is sorted by.
+fn items_of_each(
+    alloc: Global,
+    attributes: &[Attribute],
+) -> Result<(Vec<ListItem>, Vec<ListItem>, Vec<ListItem>), AllocError>
+    requires { All IsLocated attributes.now }
+    ensures keys { IfOk result (λ items. items.0.items ≡ lists.items_in (lists.first_about topics.Keys attributes.now)) }
+    ensures values { IfOk result (λ items. items.1.items ≡ lists.items_in (lists.first_about topics.Values attributes.now)) }
+    ensures sort { IfOk result (λ items. items.2.items ≡ lists.items_in (lists.first_about topics.Sort attributes.now)) }
+{
+    let keys = items_about(alloc, Topic::Keys, attributes)?;
+    let values = items_about(alloc, Topic::Values, attributes)?;
+    let sort = items_about(alloc, Topic::Sort, attributes)?;
+    Ok((keys, values, sort))
 }
 
 /// A copy of the value of an attribute.

@@ -11,7 +11,7 @@ returns-then-len-rest c =
     let whole : found ++ pieces_of c.args.separator (c.args.at + c.loop-pieces.from) c.rest_of-rest.result.now ≡ pieces_of c.args.separator c.args.at c.args.text.now =
     ap (λ r. c.loop-pieces.pieces.items ++ pieces_of c.args.separator (c.args.at + c.loop-pieces.from) r) c.rest_of-rest.ensures ∙ c.loop-pieces.invariant.1 in
     let grown : c.push.new.self.items ≡ c.loop-pieces.pieces.items ++ record { at = c.args.at + c.loop-pieces.from; bytes = take c.len_before-len.result c.rest_of-rest.result.now } ∷ [] =
-    c.in_ok-push.ensures.items ∙ ap (λ b. c.loop-pieces.pieces.items ++ record { at = c.args.at + c.loop-pieces.from; bytes = b } ∷ []) c.in_ok-bytes.ensures in
+    c.in_ok-push.ensures.items ∙ ap (λ item. c.loop-pieces.pieces.items ++ item ∷ []) c.in_ok-item.ensures in
     pieces-ended c.args.separator _ _ _ _ c.rest_of-rest.result.now _ whole (sym c.len_before-len.ensures.value) c.if-len-rest.true grown
 
 pub loop-pieces-preserved : goal.loop-pieces-preserved
@@ -22,7 +22,7 @@ loop-pieces-preserved c =
     let within : length c.rest_of-rest.result.now + c.loop-pieces.from ≡ length c.args.text.now =
     omega (arith, ap (λ r. length r) c.rest_of-rest.ensures, length-drop c.loop-pieces.from c.args.text.now, c.loop-pieces.invariant.0) in
     let grown : c.push.new.self.items ≡ c.loop-pieces.pieces.items ++ record { at = c.args.at + c.loop-pieces.from; bytes = take c.len_before-len.result c.rest_of-rest.result.now } ∷ [] =
-    c.in_ok-push.ensures.items ∙ ap (λ b. c.loop-pieces.pieces.items ++ record { at = c.args.at + c.loop-pieces.from; bytes = b } ∷ []) c.in_ok-bytes.ensures in
+    c.in_ok-push.ensures.items ∙ ap (λ item. c.loop-pieces.pieces.items ++ item ∷ []) c.in_ok-item.ensures in
     let more = pieces-more c.args.separator _ _ _ _ c.rest_of-rest.result.now _ whole (sym c.len_before-len.ensures.value) fewer grown in
     let offset : c.args.at + c.loop-pieces.from + 1 + c.len_before-len.result ≡ c.args.at + (c.loop-pieces.from + (c.len_before-len.result + 1)) = omega arith in
     let one : suc c.len_before-len.result ≡ c.len_before-len.result + 1 = omega arith in
