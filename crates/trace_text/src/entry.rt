@@ -1,6 +1,6 @@
 //! The line of an entry of a histogram.
 
-ghost use Rattle.std.specs.Prelude.{◌≡◌, ◌++◌, ◌-◌, ◌≤◌, map, replicate, codes, IfOk, OnOk};
+ghost use Rattle.std.specs.Prelude.{◌≡◌, ◌++◌, ◌-◌, ◌≤◌, map, replicate, codes, string_bytes, OnOk};
 ghost use Rattle.std.specs.List.{flat_map, join_by, zip};
 ghost use Rattle.trace_format.specs.Cells.{datum_of};
 ghost use Rattle.trace_hist.specs.Buckets.{pattern_of as spec_pattern_of};
@@ -8,7 +8,7 @@ ghost use Rattle.trace_hist.specs.PrintOrder.{row_in};
 ghost use Rattle.trace_text.specs.EntryText as texts;
 
 use itoa::{Buffer, Integer};
-use std::alloc::{AllocError, Global};
+use std::alloc::AllocError;
 use trace_format::{Text, Value};
 use trace_hist::{HistRow, HistSpec, Key, Modifier};
 
@@ -44,17 +44,26 @@ fn pattern_of(number: i128) -> u64
     number.rem_euclid(1 << 64) as u64
 }
 
-/// The least and the greatest number of a bucket.
-fn range_text(alloc: Global, size: u32, lowest: i128) -> Result<Vec<u8>, AllocError>
-    ensures { IfOk result (λ text. text.items ≡ texts.bucket_text (Modifier.Buckets size) lowest) }
+/// Appends a string on the right of 10 columns.
+fn push_string_on_the_right(out: &mut Vec<u8>, text: String) -> Result<(), AllocError>
+    ensures { OnOk result (out.new.items ≡ out.old.items ++ texts.on_the_right 10 (string_bytes text)) }
 {
+    push_on_the_right(out, text.as_bytes())
+}
+
+/// Appends the least and the greatest number of a bucket on the right of 10 columns.
+fn push_range(out: &mut Vec<u8>, size: u32, lowest: i128) -> Result<(), AllocError>
+    ensures { OnOk result (out.new.items
+        ≡ out.old.items ++ texts.on_the_right 10 (texts.bucket_text (Modifier.Buckets size) lowest)) }
+{
+    let alloc = *out.allocator();
     let more = size.saturating_sub(1);
     if lowest < 0 {
         let highest = lowest + i128::from(more);
-        Ok(format!(in alloc; "~ {lowest}-{highest}")?.into_bytes())
+        push_string_on_the_right(out, format!(in alloc; "~ {lowest}-{highest}")?)
     } else {
         let highest = lowest.unsigned_abs() + u128::from(more);
-        Ok(format!(in alloc; "~ {lowest}-{highest}")?.into_bytes())
+        push_string_on_the_right(out, format!(in alloc; "~ {lowest}-{highest}")?)
     }
 }
 
@@ -64,16 +73,15 @@ fn push_bucket(out: &mut Vec<u8>, modifier: Modifier, number: i128) -> Result<()
         ≡ out.old.items ++ texts.on_the_right 10 (texts.bucket_text modifier number)) }
 {
     let alloc = *out.allocator();
-    let text = match modifier {
-        Modifier::Plain => return push_number_on_the_right(out, number),
+    match modifier {
+        Modifier::Plain => push_number_on_the_right(out, number),
         Modifier::Hex => {
             let pattern = pattern_of(number);
-            format!(in alloc; "{pattern:x}")?.into_bytes()
+            push_string_on_the_right(out, format!(in alloc; "{pattern:x}")?)
         }
-        Modifier::Log2 => format!(in alloc; "~ 2^{number}")?.into_bytes(),
-        Modifier::Buckets(size) => range_text(alloc, size, number)?,
-    };
-    push_on_the_right(out, &text)
+        Modifier::Log2 => push_string_on_the_right(out, format!(in alloc; "~ 2^{number}")?),
+        Modifier::Buckets(size) => push_range(out, size, number),
+    }
 }
 
 /// Appends the value of a key: a bucket, or a string.

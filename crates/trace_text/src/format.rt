@@ -1,6 +1,7 @@
 //! The text of a `format` file.
 
-ghost use Rattle.std.specs.Prelude.{◌≡◌, ◌++◌, OnOk, OnErr};
+ghost use Rattle.std.specs.Prelude.{◌≡◌, ◌++◌, codes, OnOk, OnErr};
+ghost use Rattle.std.specs.Fmt.{decimal};
 ghost use Rattle.trace_text.specs.FormatText as texts;
 
 use crate::append::{append_text, push_number};
@@ -63,9 +64,31 @@ fn push_field_lines(out: &mut Vec<u8>, fields: &[Field]) -> Result<(), AllocErro
 fn push_common_pid_line(out: &mut Vec<u8>) -> Result<(), AllocError>
     ensures { OnOk result (out.new.items ≡ out.old.items ++ texts.common_pid_line) }
 {
-    out.extend_from_slice(b"\tfield:".as_slice())?;
-    out.extend_from_slice(b"s32 common_pid".as_slice())?;
+    out.extend_from_slice(b"\tfield:s32 common_pid".as_slice())?;
     push_layout(out, 8, 4, true)
+}
+
+/// Appends an event's name and number.
+fn push_event(out: &mut Vec<u8>, id: u16, def: &EventDef) -> Result<(), AllocError>
+    ensures { OnOk result (out.new.items
+        ≡ out.old.items ++ codes "name: " ++ def.now.name ++ codes "\nID: " ++ decimal id) }
+{
+    out.extend_from_slice(b"name: ".as_slice())?;
+    out.extend_from_slice(def.name())?;
+    out.extend_from_slice(b"\nID: ".as_slice())?;
+    push_number(out, id)
+}
+
+/// Appends the whole text.
+#[tactic(auto, unfolding(crate::specs::FormatText::format_text))]
+fn push_format(out: &mut Vec<u8>, id: u16, def: &EventDef) -> Result<(), AllocError>
+    ensures { OnOk result (out.new.items ≡ out.old.items ++ texts.format_text id def.now) }
+{
+    push_event(out, id, def)?;
+    out.extend_from_slice(b"\nformat:\n".as_slice())?;
+    push_common_pid_line(out)?;
+    out.extend_from_slice(b"\n".as_slice())?;
+    push_field_lines(out, def.fields())
 }
 
 /// Appends the text of `events/synthetic/NAME/format` ("Event formats" of events.rst): the event's name and number, then a line for the pid
@@ -73,7 +96,6 @@ fn push_common_pid_line(out: &mut Vec<u8>) -> Result<(), AllocError>
 /// 1 where it holds numbers below 0, else 0.
 ///
 /// It is refused only if it runs out of memory, and `out` is then as it was.
-#[tactic(auto, unfolding(crate::specs::FormatText::format_text))]
 pub fn format_text(
     alloc: Global,
     id: u16,
@@ -84,13 +106,6 @@ pub fn format_text(
     ensures refused { OnErr result (out.new.items ≡ out.old.items) }
 {
     let mut text = Vec::new(alloc);
-    text.extend_from_slice(b"name: ".as_slice())?;
-    text.extend_from_slice(def.name())?;
-    text.extend_from_slice(b"\nID: ".as_slice())?;
-    push_number(&mut text, id)?;
-    text.extend_from_slice(b"\nformat:\n".as_slice())?;
-    push_common_pid_line(&mut text)?;
-    text.extend_from_slice(b"\n".as_slice())?;
-    push_field_lines(&mut text, def.fields())?;
+    push_format(&mut text, id, def)?;
     append_text(out, text)
 }

@@ -2,7 +2,7 @@
 
 ghost use Rattle.std.specs.Prelude.{◌≡◌, ◌++◌, codes, map, OnOk, OnErr};
 ghost use Rattle.std.specs.List.{flat_map, filter_map, join_by};
-ghost use Rattle.trace_hist.specs.PrintOrder.{row_in};
+ghost use Rattle.trace_hist.specs.PrintOrder.{row_in, printed};
 ghost use Rattle.trace_text.specs.EntryText.{entry_line};
 ghost use Rattle.trace_text.specs.HistText as texts;
 ghost use Rattle.trace_text.specs.ShownTriggers.{shown_hist, shown_trigger};
@@ -60,15 +60,23 @@ fn push_totals(out: &mut Vec<u8>, hist: &Hist) -> Result<(), AllocError>
     push_total(out, "Dropped", totals.dropped)
 }
 
+/// Appends the entries of a histogram in print order.
+fn push_rows(out: &mut Vec<u8>, spec: &HistSpec, hist: &Hist) -> Result<(), AllocError>
+    ensures { OnOk result (out.new.items ≡ out.old.items ++ flat_map (entry_line spec.now.keys spec.now.values)
+        (printed hist.now.spec.sort_sources hist.now.table.entries)) }
+{
+    let entries = hist.rows()?;
+    push_entries(out, spec, &entries)
+}
+
 /// Appends a trigger with its entries and totals.
 #[tactic(auto, unfolding(crate::specs::HistText::one_hist))]
 fn push_hist(out: &mut Vec<u8>, spec: &HistSpec, hist: &Hist) -> Result<(), AllocError>
     ensures { OnOk result (out.new.items
         ≡ out.old.items ++ texts.one_hist (shown_hist spec.now hist.now)) }
 {
-    let entries = hist.rows()?;
     push_hist_head(out, spec, hist)?;
-    push_entries(out, spec, &entries)?;
+    push_rows(out, spec, hist)?;
     out.extend_from_slice(b"\n".as_slice())?;
     push_totals(out, hist)
 }

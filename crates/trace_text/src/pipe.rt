@@ -48,6 +48,7 @@ fn push_taken_lines(
 /// Appends the lines of all records.
 fn push_taken(
     alloc: Global,
+    memory: &mut RowMemory,
     out: &mut Vec<u8>,
     catalog: &Catalog,
     taken: &[Taken<'_>],
@@ -55,9 +56,8 @@ fn push_taken(
     ensures { OnOk result (out.new.items
         ≡ out.old.items ++ flat_map (files.taken_lines catalog.now) (map taken_reading taken.now)) }
 {
-    let mut memory = RowMemory::new(alloc);
     for record in taken {
-        push_taken_lines(alloc, &mut memory, out, catalog, record)?;
+        push_taken_lines(alloc, memory, out, catalog, record)?;
     }
     Ok(())
 }
@@ -77,7 +77,8 @@ pub fn pipe_text(
         ≡ out.old.items ++ files.pipe_text catalog.now (map taken_reading taken.now)) }
     ensures refused { OnErr result (out.new.items ≡ out.old.items) }
 {
+    let mut memory = RowMemory::new(alloc);
     let mut text = Vec::new(alloc);
-    push_taken(alloc, &mut text, catalog, taken)?;
+    push_taken(alloc, &mut memory, &mut text, catalog, taken)?;
     append_text(out, text)
 }

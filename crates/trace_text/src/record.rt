@@ -1,9 +1,8 @@
 //! The line of a record in the `trace` and `trace_pipe` files.
 
-ghost use Rattle.std.specs.Prelude.{◌≡◌, ◌++◌, map, OnOk, OnErr};
+ghost use Rattle.std.specs.Prelude.{◌≡◌, ◌++◌, map, OnOk};
 ghost use Rattle.trace_format.specs.Cells.{datum_of};
 ghost use Rattle.trace_format.specs.Decoding.{row_from};
-ghost use Rattle.trace_text.specs.private.Fronts.{BeginWith};
 ghost use Rattle.trace_text.specs.RecordText as texts;
 
 use crate::append::push_number;
@@ -12,10 +11,8 @@ use trace_format::{Catalog, EventDef, Field, Row, RowMemory, Value};
 use trace_record::{Head, payload_in, read_head};
 
 /// Appends a number below 1,000 in three digits.
-#[tactic(auto, using(crate::proofs::FrontLemmas::appending))]
 fn push_three_digits(out: &mut Vec<u8>, n: u32) -> Result<(), AllocError>
-    ensures text { OnOk result (out.new.items ≡ out.old.items ++ texts.three_digits n) }
-    ensures kept { OnErr result (BeginWith out.old.items out.new.items) }
+    ensures { OnOk result (out.new.items ≡ out.old.items ++ texts.three_digits n) }
 {
     let digits = [
         b'0' + (n / 100 % 10) as u8,
@@ -26,10 +23,9 @@ fn push_three_digits(out: &mut Vec<u8>, n: u32) -> Result<(), AllocError>
 }
 
 /// Appends who wrote a record, where and when.
-#[tactic(auto, using(crate::proofs::FrontLemmas::appending), unfolding(crate::specs::RecordText::line_start))]
+#[tactic(auto, unfolding(crate::specs::RecordText::line_start))]
 fn push_line_start(out: &mut Vec<u8>, cpu: u32, head: &Head) -> Result<(), AllocError>
-    ensures text { OnOk result (out.new.items ≡ out.old.items ++ texts.line_start cpu head.now) }
-    ensures kept { OnErr result (BeginWith out.old.items out.new.items) }
+    ensures { OnOk result (out.new.items ≡ out.old.items ++ texts.line_start cpu head.now) }
 {
     push_number(out, head.pid)?;
     out.extend_from_slice(b" [".as_slice())?;
@@ -40,10 +36,8 @@ fn push_line_start(out: &mut Vec<u8>, cpu: u32, head: &Head) -> Result<(), Alloc
 }
 
 /// Appends a number in decimal, or a text as it is.
-#[tactic(auto, using(crate::proofs::FrontLemmas::appending))]
 fn push_value(out: &mut Vec<u8>, value: &Value) -> Result<(), AllocError>
-    ensures text { OnOk result (out.new.items ≡ out.old.items ++ texts.value_text (datum_of value.now)) }
-    ensures kept { OnErr result (BeginWith out.old.items out.new.items) }
+    ensures { OnOk result (out.new.items ≡ out.old.items ++ texts.value_text (datum_of value.now)) }
 {
     match value {
         Value::Num(number) => push_number(out, *number),
@@ -52,10 +46,9 @@ fn push_value(out: &mut Vec<u8>, value: &Value) -> Result<(), AllocError>
 }
 
 /// Appends a field and its value.
-#[tactic(auto, using(crate::proofs::FrontLemmas::appending), unfolding(crate::specs::RecordText::cell_text))]
+#[tactic(auto, unfolding(crate::specs::RecordText::cell_text))]
 fn push_cell(out: &mut Vec<u8>, field: &Field, value: &Value) -> Result<(), AllocError>
-    ensures text { OnOk result (out.new.items ≡ out.old.items ++ texts.cell_text field.now (datum_of value.now)) }
-    ensures kept { OnErr result (BeginWith out.old.items out.new.items) }
+    ensures { OnOk result (out.new.items ≡ out.old.items ++ texts.cell_text field.now (datum_of value.now)) }
 {
     out.extend_from_slice(b" ".as_slice())?;
     out.extend_from_slice(field.name.as_bytes())?;
@@ -64,10 +57,8 @@ fn push_cell(out: &mut Vec<u8>, field: &Field, value: &Value) -> Result<(), Allo
 }
 
 /// Appends fields, each with its value.
-#[tactic(auto, using(crate::proofs::FrontLemmas::appending))]
 fn push_cells(out: &mut Vec<u8>, fields: &[Field], values: &[Value]) -> Result<(), AllocError>
-    ensures text { OnOk result (out.new.items ≡ out.old.items ++ texts.cells_text fields.now (map datum_of values.now)) }
-    ensures kept { OnErr result (BeginWith out.old.items out.new.items) }
+    ensures { OnOk result (out.new.items ≡ out.old.items ++ texts.cells_text fields.now (map datum_of values.now)) }
 {
     for (field, value) in fields.iter().zip(values) {
         push_cell(out, field, value)?;
@@ -76,7 +67,7 @@ fn push_cells(out: &mut Vec<u8>, fields: &[Field], values: &[Value]) -> Result<(
 }
 
 /// Appends the line of a row.
-#[tactic(auto, using(crate::proofs::FrontLemmas::appending), unfolding(crate::specs::RecordText::row_line))]
+#[tactic(auto, unfolding(crate::specs::RecordText::row_line))]
 fn push_row_line(
     out: &mut Vec<u8>,
     cpu: u32,
@@ -84,8 +75,7 @@ fn push_row_line(
     def: &EventDef,
     row: &Row,
 ) -> Result<(), AllocError>
-    ensures text { OnOk result (out.new.items ≡ out.old.items ++ texts.row_line cpu head.now def.now row.now.values) }
-    ensures kept { OnErr result (BeginWith out.old.items out.new.items) }
+    ensures { OnOk result (out.new.items ≡ out.old.items ++ texts.row_line cpu head.now def.now row.now.values) }
 {
     push_line_start(out, cpu, head)?;
     out.extend_from_slice(def.name())?;
@@ -95,7 +85,6 @@ fn push_row_line(
 }
 
 /// Appends the line of a record of an event.
-#[tactic(auto, using(crate::proofs::FrontLemmas::appending))]
 fn push_event_line(
     alloc: Global,
     memory: &mut RowMemory,
@@ -105,15 +94,14 @@ fn push_event_line(
     def: &EventDef,
     payload: &[u8],
 ) -> Result<(), AllocError>
-    ensures text { OnOk result (out.new.items ≡ out.old.items ++ texts.line_of_row cpu head.now def.now (row_from def.now payload.now)) }
-    ensures kept { OnErr result (BeginWith out.old.items out.new.items) }
+    ensures { OnOk result (out.new.items ≡ out.old.items ++ texts.line_of_row cpu head.now def.now (row_from def.now payload.now)) }
 {
     let Some(row) = Row::decode_in(alloc, memory, def, payload)? else {
         return Ok(());
     };
-    push_row_line(out, cpu, head, def, &row)?;
+    let pushed = push_row_line(out, cpu, head, def, &row);
     *memory = RowMemory::from(row);
-    Ok(())
+    pushed
 }
 
 /// Appends the line of a record in `trace` and `trace_pipe` ("Output format" of ftrace.rst): pid, CPU in three digits, timestamp in ticks of
@@ -121,7 +109,7 @@ fn push_event_line(
 ///
 /// `rec` is the record's bytes: its head, which names an event of the catalog, the payload of a row of that event, and what fills it up. Bytes
 /// with no head, of no such event, or with no row of it have no line. The row is made in the memory of an earlier one.
-#[tactic(auto, using(crate::proofs::FrontLemmas::appending), unfolding(crate::specs::RecordText::record_line))]
+#[tactic(auto, unfolding(crate::specs::RecordText::record_line))]
 pub(crate) fn push_record_line(
     alloc: Global,
     memory: &mut RowMemory,
@@ -130,8 +118,7 @@ pub(crate) fn push_record_line(
     cpu: u32,
     rec: &[u8],
 ) -> Result<(), AllocError>
-    ensures text { OnOk result (out.new.items ≡ out.old.items ++ texts.record_line catalog.now cpu rec.now) }
-    ensures kept { OnErr result (BeginWith out.old.items out.new.items) }
+    ensures { OnOk result (out.new.items ≡ out.old.items ++ texts.record_line catalog.now cpu rec.now) }
 {
     let Some(head) = read_head(rec) else {
         return Ok(());

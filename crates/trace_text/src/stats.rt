@@ -16,11 +16,25 @@ fn push_line(out: &mut String, label: &str, n: u64) -> Result<(), AllocError>
     writeln!(out, "{label}{n}")
 }
 
+/// Appends all lines.
+#[tactic(auto, unfolding(crate::specs::StatsText::stats_text))]
+fn push_lines(out: &mut String, stats: RingStats, now: u64) -> Result<(), AllocError>
+    ensures { OnOk result (string_bytes out.new ≡ string_bytes out.old ++ texts.stats_text stats now) }
+{
+    push_line(out, "entries: ", stats.entries)?;
+    push_line(out, "overrun: ", stats.overrun)?;
+    push_line(out, "commit overrun: ", 0)?;
+    push_line(out, "bytes: ", stats.bytes)?;
+    push_line(out, "oldest event ts: ", stats.oldest)?;
+    push_line(out, "now ts: ", now)?;
+    push_line(out, "dropped events: ", stats.dropped)?;
+    push_line(out, "read events: ", stats.read)
+}
+
 /// Appends the text of `per_cpu/cpuN/stats` ("The File System" of ftrace.rst): the statistics of a CPU's ring and the clock, a line each.
 /// `bytes` adds up the sizes of the kept records; `oldest` and `now` are ticks of the clock, which counts emissions.
 ///
 /// It is refused only if it runs out of memory, and `out` is then as it was.
-#[tactic(auto, unfolding(crate::specs::StatsText::stats_text))]
 pub fn stats_text(
     alloc: Global,
     stats: RingStats,
@@ -31,13 +45,6 @@ pub fn stats_text(
     ensures refused { OnErr result (out.new.items ≡ out.old.items) }
 {
     let mut text = String::new(alloc);
-    push_line(&mut text, "entries: ", stats.entries)?;
-    push_line(&mut text, "overrun: ", stats.overrun)?;
-    push_line(&mut text, "commit overrun: ", 0)?;
-    push_line(&mut text, "bytes: ", stats.bytes)?;
-    push_line(&mut text, "oldest event ts: ", stats.oldest)?;
-    push_line(&mut text, "now ts: ", now)?;
-    push_line(&mut text, "dropped events: ", stats.dropped)?;
-    push_line(&mut text, "read events: ", stats.read)?;
+    push_lines(&mut text, stats, now)?;
     append_text(out, text.into_bytes())
 }

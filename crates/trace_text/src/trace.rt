@@ -77,6 +77,7 @@ fn counts_of_all(buffer: &Buffer) -> Counts
 /// Appends the lines of records of several CPUs.
 fn push_merged(
     alloc: Global,
+    memory: &mut RowMemory,
     out: &mut Vec<u8>,
     catalog: &Catalog,
     records: &[(u32, Kept<'_>)],
@@ -84,9 +85,8 @@ fn push_merged(
     ensures { OnOk result (out.new.items
         ≡ out.old.items ++ flat_map (files.reading_line catalog.now) (map kept_reading records.now)) }
 {
-    let mut memory = RowMemory::new(alloc);
     for (cpu, kept) in records {
-        push_record_line(alloc, &mut memory, out, catalog, *cpu, kept.rec)?;
+        push_record_line(alloc, memory, out, catalog, *cpu, kept.rec)?;
     }
     Ok(())
 }
@@ -94,6 +94,7 @@ fn push_merged(
 /// Appends the lines of records of one CPU.
 fn push_kept(
     alloc: Global,
+    memory: &mut RowMemory,
     out: &mut Vec<u8>,
     catalog: &Catalog,
     cpu: u32,
@@ -102,9 +103,8 @@ fn push_kept(
     ensures { OnOk result (out.new.items
         ≡ out.old.items ++ flat_map (λ (r : Reading). record_line catalog.now cpu r.rec) records.entry) }
 {
-    let mut memory = RowMemory::new(alloc);
     for kept in records {
-        push_record_line(alloc, &mut memory, out, catalog, cpu, kept.rec)?;
+        push_record_line(alloc, memory, out, catalog, cpu, kept.rec)?;
     }
     Ok(())
 }
@@ -124,7 +124,8 @@ fn push_trace_of_all(
     let written = counts.kept + counts.overrun;
     push_trace_head(out, counts.kept, written, buffer.cpus())?;
     let records = buffer.merged()?;
-    push_merged(alloc, out, catalog, &records)
+    let mut memory = RowMemory::new(alloc);
+    push_merged(alloc, &mut memory, out, catalog, &records)
 }
 
 /// Appends the trace of one CPU.
@@ -144,7 +145,8 @@ fn push_trace_of_cpu(
     let kept = u128::from(stats.entries);
     let written = kept + u128::from(stats.overrun);
     push_trace_head(out, kept, written, buffer.cpus())?;
-    push_kept(alloc, out, catalog, cpu, buffer.cpu_kept(cpu))
+    let mut memory = RowMemory::new(alloc);
+    push_kept(alloc, &mut memory, out, catalog, cpu, buffer.cpu_kept(cpu))
 }
 
 /// Appends what `trace` shows of all CPUs, or `per_cpu/cpuN/trace` of one ("The File System" and "Output format" of ftrace.rst): the head,

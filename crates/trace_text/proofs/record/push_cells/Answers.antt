@@ -19,11 +19,11 @@ none_left (field ∷ fields) [] (suc i) h = none_without_values (drop i fields)
 none_left (field ∷ fields) (value ∷ values) zero h = absurd (omega (arith, h))
 none_left (field ∷ fields) (value ∷ values) (suc i) h = none_left fields values i (omega (arith, h))
 
-pub returns-clause-text : goal.returns-clause-text
-returns-clause-text c =
+pub returns : goal.returns
+returns c =
     let fields = c.args.fields.now in
     let values = c.args.values.now in
     let turns : length c.loop-field.yielded ≡ min (length fields) (length values) =
     zip_end fields values c.loop-field.yielded c.into_iter-field-iterator.result c.loop-field.field-iterator c.next.new.self c.next.result (cc) (cc) c.loop-field.yielded_by c.in-None.is c.next.ensures.steps in
     let end : min (length fields) (length values) ≤ length c.loop-field.yielded = omega (arith, turns) in
-    sym (append-nil c.loop-field.out.items) ∙ ap (λ rest. c.loop-field.out.items ++ rest) (sym (none_left fields values (length c.loop-field.yielded) end)) ∙ c.loop-field.invariant.all
+    sym (append-nil c.loop-field.out.items) ∙ ap (λ rest. c.loop-field.out.items ++ rest) (sym (none_left fields values (length c.loop-field.yielded) end)) ∙ c.loop-field.invariant
