@@ -1,19 +1,29 @@
 -- What bytes a string has.
-use Rattle.std.specs.Prelude.{ℕ, Bool, not, List}
-use Rattle.std.specs.List.{list_all}
+use Rattle.std.specs.Prelude.{ℕ, Bool, false, not, nat_lt, ◌||◌, ◌==◌, List, [], ◌∷◌, length, take}
+use Rattle.std.specs.List.{prefix_len}
+use Rattle.std.specs.Str.{bytes_eq}
+use Rattle.trace_lex.specs.Blanks.{is_blank}
 use Rattle.trace_lex.specs.Prefixes.{is_not}
 use Rattle.trace_trigger.specs.Frames.{is_unblank}
 
-abbrev pub lacks_byte : ℕ → List ℕ → Bool
-lacks_byte byte text = list_all (is_not byte) text
-
--- a byte is there
+-- a byte is there: before the first one, the string has fewer bytes than it has in all
 abbrev pub has_byte : ℕ → List ℕ → Bool
-has_byte byte text = not (lacks_byte byte text)
+has_byte byte text = nat_lt (prefix_len (is_not byte) text) (length text)
 
-abbrev pub lacks_blank : List ℕ → Bool
-lacks_blank text = list_all is_unblank text
-
--- a blank is there
+-- likewise for a blank
 abbrev pub has_blank : List ℕ → Bool
-has_blank text = not (lacks_blank text)
+has_blank text = nat_lt (prefix_len is_unblank text) (length text)
+
+abbrev pub is_same_byte : ℕ → ℕ → Bool
+is_same_byte byte b = b == byte
+
+-- what comes before the first blank, and before the first byte of this value
+abbrev pub is_inside : ℕ → ℕ → Bool
+is_inside byte b = not (is_blank b || b == byte)
+
+abbrev pub part_before : ℕ → List ℕ → List ℕ
+part_before byte text = take (prefix_len (is_inside byte) text) text
+
+abbrev pub is_one_of : List ℕ → List (List ℕ) → Bool
+is_one_of text [] = false
+is_one_of text (word ∷ words) = bytes_eq text word || is_one_of text words

@@ -1,10 +1,9 @@
 -- What a declaration may go on with, by the bytes before.
-use Rattle.std.specs.Prelude.{ℕ, Bool, not, ◌||◌, ◌==◌, if◌then◌else◌, List, [], ◌∷◌, take, codes}
-use Rattle.std.specs.List.{prefix_len}
-use Rattle.std.specs.Str.{bytes_eq}
+use Rattle.std.specs.Prelude.{ℕ, Bool, ◌||◌, ◌==◌, if◌then◌else◌, List, [], ◌∷◌, codes}
 use Rattle.trace_lex.specs.Blanks.{is_blank}
 use Rattle.trace_lex.specs.Names.{is_name}
 use Rattle.trace_trigger.specs.TriggerTexts.{begins}
+use Rattle.trace_explain.specs.Bytes.{is_one_of, part_before}
 use Rattle.trace_explain.specs.HistDue.{ends_with}
 use Rattle.trace_explain.specs.declared.declaration_due.DeclarationDue.{DeclarationDue}
 use Rattle.trace_explain.specs.declared.declaration_due.DeclarationDue.TheVariants.{Event, EventName, FieldType, TypeOnU, Unsigned, SecondWord, CharName, TypeName, CharField, Field, FieldName, Joint}
@@ -35,10 +34,7 @@ due_from due (b ∷ bs) = due_from (due_after due b) bs
 -- ---- words
 
 abbrev pub is_reserved : List ℕ → Bool
-is_reserved word = bytes_eq word (codes "hitcount") || (bytes_eq word (codes "common_pid") || bytes_eq word (codes "common_cpu"))
-
-abbrev pub is_in_word : ℕ → Bool
-is_in_word b = not (is_blank b || b == 59)
+is_reserved word = is_one_of word (codes "hitcount" ∷ codes "common_pid" ∷ codes "common_cpu" ∷ [])
 
 -- a name that no further field can have
 abbrev pub taken_words : List ℕ → List ℕ
@@ -67,4 +63,4 @@ declaration_due_words CharName rest = codes "expected a new field's name and its
 declaration_due_words CharField rest = codes "expected a new field's name and its length, as `name[16]`"
 declaration_due_words FieldName rest = codes "expected `;`"
 declaration_due_words Joint rest = codes "expected `;`"
-declaration_due_words _ rest = field_words (take (prefix_len is_in_word rest) rest)
+declaration_due_words _ rest = field_words (part_before 59 rest)

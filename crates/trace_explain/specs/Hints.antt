@@ -15,7 +15,8 @@ use Rattle.trace_command.specs.declared.refusal.Refusal.{Refusal}
 use Rattle.trace_command.specs.declared.refusal.Refusal.TheVariants.{NoSuchFile, BadValue, NoSuchEvent, BadDefinition, FilterSyntax, NoSuchField, HistSyntax, BadRow}
 use Rattle.trace_script.specs.declared.fault.ScriptFault.{ScriptFault}
 use Rattle.trace_script.specs.declared.fault.ScriptFault.TheVariants.{UnknownCommand}
-use Rattle.trace_explain.specs.DeclarationDue.{due_from as declared_from, is_in_word}
+use Rattle.trace_explain.specs.Bytes.{part_before}
+use Rattle.trace_explain.specs.DeclarationDue.{due_from as declared_from}
 use Rattle.trace_explain.specs.Events.{event_named}
 use Rattle.trace_explain.specs.FilterDue.{operator_meant}
 use Rattle.trace_explain.specs.HistDue.{first_part, wrong_attribute}
@@ -24,8 +25,8 @@ use Rattle.trace_explain.specs.TriggerDue.{mark_len}
 use Rattle.trace_explain.specs.Wording.{command_subject, filter_due_at}
 use Rattle.trace_explain.specs.declared.declaration_due.DeclarationDue.{DeclarationDue}
 use Rattle.trace_explain.specs.declared.declaration_due.DeclarationDue.TheVariants.{Event, FieldType}
-use Rattle.trace_explain.specs.declared.wording.Subject.{Subject}
-use Rattle.trace_explain.specs.declared.wording.Subject.TheVariants as subject
+use Rattle.trace_explain.specs.declared.subject.Subject.{Subject}
+use Rattle.trace_explain.specs.declared.subject.Subject.TheVariants as subject
 
 -- ---- paths
 
@@ -135,7 +136,7 @@ value_meant _ text = []
 
 -- by these bytes of a declaration
 abbrev pub type_meant : DeclarationDue → List ℕ → List ℕ
-type_meant FieldType rest = near_type (take (prefix_len is_in_word rest) rest)
+type_meant FieldType rest = near_type (part_before 59 rest)
 type_meant _ rest = []
 
 abbrev pub declaration_meant : List ℕ → ℕ → List ℕ

@@ -5,18 +5,15 @@ use Rattle.std.specs.Str.{bytes_eq}
 use Rattle.trace_lex.specs.Blanks.{is_blank}
 use Rattle.trace_lex.specs.Prefixes.{is_not}
 use Rattle.trace_trigger.specs.TriggerTexts.{begins}
-use Rattle.trace_explain.specs.Bytes.{has_blank}
+use Rattle.trace_explain.specs.Bytes.{has_blank, is_one_of, is_same_byte, part_before}
 
 -- what follows the last `:`
 abbrev pub last_part : List ℕ → List ℕ
 last_part front = drop (length front - prefix_len (is_not 58) (reverse front)) front
 
 -- the attribute that some bytes begin with
-abbrev pub is_in_attribute : ℕ → Bool
-is_in_attribute b = not (is_blank b || b == 58)
-
 abbrev pub first_part : List ℕ → List ℕ
-first_part rest = take (prefix_len is_in_attribute rest) rest
+first_part rest = part_before 58 rest
 
 abbrev pub is_byte : ℕ → Option ℕ → Bool
 is_byte byte None = false
@@ -33,7 +30,7 @@ abbrev pub is_values : List ℕ → Bool
 is_values part = begins (codes "values=") part || (begins (codes "vals=") part || begins (codes "val=") part)
 
 abbrev pub is_action : List ℕ → Bool
-is_action part = (bytes_eq part (codes "pause") || bytes_eq part (codes "continue")) || (bytes_eq part (codes "cont") || bytes_eq part (codes "clear"))
+is_action part = is_one_of part (codes "pause" ∷ codes "continue" ∷ codes "cont" ∷ codes "clear" ∷ [])
 
 -- a part begins as an attribute does
 abbrev pub is_attribute_name : List ℕ → Bool
@@ -112,12 +109,9 @@ attribute_from attribute at (b ∷ bs) = if is_attribute attribute (b ∷ bs) th
 unfoldable pub attribute_at : List ℕ → List ℕ → Option ℕ
 attribute_at attribute text = attribute_from attribute 0 text
 
-abbrev pub is_comma : ℕ → Bool
-is_comma b = b == 44
-
 abbrev pub items_in : Option ℕ → List ℕ → ℕ
 items_in None text = 0
-items_in (Some at) text = count_by is_comma (first_part (drop (at + 1) text)) + 1
+items_in (Some at) text = count_by (is_same_byte 44) (first_part (drop (at + 1) text)) + 1
 
 -- how many items an attribute has, 0 if it is not there
 abbrev pub items_of : List ℕ → List ℕ → ℕ

@@ -7,7 +7,7 @@ use Rattle.trace_script.specs.Lines.{is_line_byte}
 abbrev pub shown_byte : ℕ → ℕ
 shown_byte b = if is_line_byte b then b else 63
 
-unfoldable pub shown_bytes : List ℕ → List ℕ
+abbrev pub shown_bytes : List ℕ → List ℕ
 shown_bytes bytes = map shown_byte bytes
 
 -- a line as it is shown; of one with more bytes than a line may have, its beginning

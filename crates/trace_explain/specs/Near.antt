@@ -5,7 +5,7 @@ use Rattle.trace_lex.specs.Decimals.{is_digit}
 use Rattle.trace_format.specs.Definitions.{Definition}
 use Rattle.trace_format.specs.declared.event.Field.{Field}
 use Rattle.trace_trigger.specs.TriggerTexts.{begins}
-use Rattle.trace_explain.specs.Bytes.{lacks_byte}
+use Rattle.trace_explain.specs.Bytes.{has_byte, is_one_of}
 
 -- how many bytes two strings begin with alike
 abbrev pub common_len : List ℕ → List ℕ → ℕ
@@ -50,7 +50,7 @@ is_near given name =
 
 -- a path that a string begins has no further `/` (47), and the string doesn't end with one: it is no folder's
 abbrev pub begins_file : List ℕ → List ℕ → Bool
-begins_file given path = lacks_byte 47 (drop (length given - 1) path)
+begins_file given path = not (has_byte 47 (drop (length given - 1) path))
 
 -- a string is a path without some bytes in a row, by what is left of both without what they begin with alike
 abbrev pub is_shortened : List ℕ → List ℕ → List ℕ → List ℕ → Bool
@@ -80,32 +80,29 @@ or_near given name other = if is_near given name then name else other
 abbrev pub or_near_path : List ℕ → List ℕ → List ℕ → List ℕ
 or_near_path given name other = if is_near_path given name then name else other
 
+abbrev pub first_near : List ℕ → List (List ℕ) → List ℕ
+first_near given [] = []
+first_near given (name ∷ names) = if is_near given name then name else first_near given names
+
 -- the first line of a script whose name is near; nothing, if none is
 unfoldable pub near_command : List ℕ → List ℕ
 near_command given =
-    or_near given (codes "emit") (or_near given (codes "echo") (or_near given (codes "cat") (or_near given (codes "take") (or_near given (codes "mkdir")
-    (or_near given (codes "rmdir") (or_near given (codes "parallel") (or_near given (codes "thread") (or_near given (codes "end") []))))))))
+    first_near given (codes "emit" ∷ codes "echo" ∷ codes "cat" ∷ codes "take" ∷ codes "mkdir" ∷ codes "rmdir" ∷ codes "parallel" ∷ codes "thread" ∷ codes "end" ∷ [])
 
 -- the first attribute of hist triggers that is near; nothing, if none is
 unfoldable pub near_attribute : List ℕ → List ℕ
 near_attribute given =
-    or_near given (codes "keys=") (or_near given (codes "values=") (or_near given (codes "vals=") (or_near given (codes "sort=")
-    (or_near given (codes "size=") (or_near given (codes "name=") (or_near given (codes "pause") (or_near given (codes "continue")
-    (or_near given (codes "clear") []))))))))
+    first_near given (codes "keys=" ∷ codes "values=" ∷ codes "vals=" ∷ codes "sort=" ∷ codes "size=" ∷ codes "name=" ∷ codes "pause" ∷ codes "continue" ∷ codes "clear" ∷ [])
 
 -- a type of C or Rust that fields don't have, near to one that they do
 abbrev pub is_other_type : List ℕ → Bool
-is_other_type given =
-    (bytes_eq given (codes "signed") || bytes_eq given (codes "uchar"))
-    || ((bytes_eq given (codes "uid_t") || bytes_eq given (codes "gid_t")) || begins (codes "f") given)
+is_other_type given = is_one_of given (codes "signed" ∷ codes "uchar" ∷ codes "uid_t" ∷ codes "gid_t" ∷ []) || begins (codes "f") given
 
 -- the first type of fields that is near, without `int` and `long`, which `uint` and `ulong` are near to; nothing, if none is
 unfoldable pub near_type : List ℕ → List ℕ
 near_type given =
     if is_other_type given then []
-    else or_near given (codes "s64") (or_near given (codes "s32") (or_near given (codes "s16") (or_near given (codes "u64")
-    (or_near given (codes "u32") (or_near given (codes "u16") (or_near given (codes "char") (or_near given (codes "pid_t")
-    (or_near given (codes "unsigned") []))))))))
+    else first_near given (codes "s64" ∷ codes "s32" ∷ codes "s16" ∷ codes "u64" ∷ codes "u32" ∷ codes "u16" ∷ codes "char" ∷ codes "pid_t" ∷ codes "unsigned" ∷ [])
 
 abbrev pub or_same : List ℕ → List ℕ → List ℕ → List ℕ
 or_same given name other = if bytes_eq given name then name else other
@@ -113,7 +110,7 @@ or_same given name other = if bytes_eq given name then name else other
 -- the word for an option, if it is given, as between blanks, or else that is near; nothing, if none is
 unfoldable pub near_option : List ℕ → List ℕ
 near_option given =
-    or_same given (codes "nooverwrite") (or_same given (codes "overwrite") (or_near given (codes "nooverwrite") (or_near given (codes "overwrite") [])))
+    or_same given (codes "nooverwrite") (or_same given (codes "overwrite") (first_near given (codes "nooverwrite" ∷ codes "overwrite" ∷ [])))
 
 -- the beginning of a trigger that is near; nothing, if none is
 unfoldable pub near_trigger : List ℕ → List ℕ
@@ -121,7 +118,7 @@ near_trigger given = if is_near given (codes "hist") then codes "hist:" else or_
 
 -- the field of each event that is near; nothing, if none is
 unfoldable pub near_common : List ℕ → List ℕ
-near_common given = or_near given (codes "common_pid") (or_near given (codes "common_cpu") [])
+near_common given = first_near given (codes "common_pid" ∷ codes "common_cpu" ∷ [])
 
 -- a path of a CPU whose number begins with `0` and goes on: another CPU may be meant
 abbrev pub begins_with_digit : List ℕ → Bool
@@ -131,21 +128,27 @@ begins_with_digit (b ∷ bs) = is_digit b
 abbrev pub is_other_cpu : List ℕ → Bool
 is_other_cpu given = begins (codes "per_cpu/cpu0") given && begins_with_digit (drop 12 given)
 
+-- the first of these paths that is near; nothing, if none is
+abbrev pub first_near_path : List ℕ → List (List ℕ) → List ℕ
+first_near_path given [] = []
+first_near_path given (path ∷ paths) = if is_near_path given path then path else first_near_path given paths
+
 -- the first file of a CPU whose path is near; nothing, if none is
 unfoldable pub near_cpu_file : List ℕ → List ℕ
 near_cpu_file given =
     if is_other_cpu given then []
-    else or_near_path given (codes "per_cpu/cpu0/stats") (or_near_path given (codes "per_cpu/cpu0/trace")
-    (or_near_path given (codes "per_cpu/cpu0/trace_pipe") []))
+    else first_near_path given (codes "per_cpu/cpu0/stats" ∷ codes "per_cpu/cpu0/trace" ∷ codes "per_cpu/cpu0/trace_pipe" ∷ [])
 
--- or else, before these, of all events below their system
-unfoldable pub near_system_file : List ℕ → List ℕ
-near_system_file given =
-    or_near_path given (codes "events/synthetic/enable") (or_near_path given (codes "events/synthetic/filter") (near_cpu_file given))
+-- the first near path of an instance or of all its events
+unfoldable pub near_shared_file : List ℕ → List ℕ
+near_shared_file given =
+    first_near_path given
+    (codes "trace" ∷ codes "trace_pipe" ∷ codes "tracing_on" ∷ codes "trace_options" ∷ codes "snapshot" ∷ codes "options/overwrite"
+    ∷ codes "events/enable" ∷ codes "events/synthetic/enable" ∷ codes "events/synthetic/filter" ∷ [])
 
--- or else, before these, of an option or of all events
-unfoldable pub near_lower_file : List ℕ → List ℕ
-near_lower_file given = or_near_path given (codes "options/overwrite") (or_near_path given (codes "events/enable") (near_system_file given))
+abbrev pub or_cpu_file : List ℕ → List ℕ → List ℕ
+or_cpu_file [] given = near_cpu_file given
+or_cpu_file (b ∷ bs) given = b ∷ bs
 
 -- a path with the name of what a file turns on, for turning it off
 abbrev pub is_opposite : List ℕ → Bool
@@ -153,10 +156,7 @@ is_opposite given = begins (codes "options/no") given || begins (codes "tracing_
 
 -- the first file of an instance, but of no event, whose path is near; nothing, if none is
 unfoldable pub near_file : List ℕ → List ℕ
-near_file given =
-    if is_opposite given then []
-    else or_near_path given (codes "trace") (or_near_path given (codes "trace_pipe") (or_near_path given (codes "tracing_on")
-    (or_near_path given (codes "trace_options") (or_near_path given (codes "snapshot") (near_lower_file given)))))
+near_file given = if is_opposite given then [] else or_cpu_file (near_shared_file given) given
 
 -- or else, before these, the one that only the top has
 unfoldable pub near_top_file : List ℕ → List ℕ
@@ -177,12 +177,14 @@ or_else (Some path) other = Some path
 abbrev pub near_event_path : List ℕ → List ℕ → List ℕ → Option (List ℕ)
 near_event_path given event file = if is_near_path given (event_path event file) then Some (event_path event file) else None
 
--- the first file of an event whose path is near
+-- the first of these files of an event whose path is near
+abbrev pub first_near_file : List ℕ → List ℕ → List (List ℕ) → Option (List ℕ)
+first_near_file given event [] = None
+first_near_file given event (file ∷ files) = or_else (near_event_path given event file) (first_near_file given event files)
+
 abbrev pub near_file_of : List ℕ → List ℕ → Option (List ℕ)
 near_file_of given event =
-    or_else (near_event_path given event (codes "enable")) (or_else (near_event_path given event (codes "filter"))
-    (or_else (near_event_path given event (codes "trigger")) (or_else (near_event_path given event (codes "hist"))
-    (near_event_path given event (codes "format")))))
+    first_near_file given event (codes "enable" ∷ codes "filter" ∷ codes "trigger" ∷ codes "hist" ∷ codes "format" ∷ [])
 
 -- the first file of one of these events whose path is near
 abbrev pub near_event_file : List ℕ → List Definition → Option (List ℕ)

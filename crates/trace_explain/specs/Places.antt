@@ -10,7 +10,7 @@ use Rattle.trace_script.specs.Lines.{line_of, is_line_byte}
 use Rattle.trace_script.specs.declared.fault.ScriptFault.{ScriptFault}
 use Rattle.trace_script.specs.declared.fault.ScriptFault.TheVariants.{LineTooLong, BadByte, UnclosedQuote, UnknownCommand, WrongWords, BadNumber, BlockOutOfPlace, TooManyThreads}
 use Rattle.trace_script.specs.declared.line.Line.{Line}
-use Rattle.trace_explain.specs.Bytes.{has_byte}
+use Rattle.trace_explain.specs.Bytes.{has_byte, is_one_of}
 use Rattle.trace_explain.specs.Carets.{written_offset, open_quote}
 use Rattle.trace_explain.specs.Starts.{starts_of}
 use Rattle.trace_explain.specs.HistDue.{attribute_at}
@@ -21,8 +21,8 @@ use Rattle.trace_explain.specs.declared.cause.Cause.{Cause}
 use Rattle.trace_explain.specs.declared.cause.Cause.TheVariants as cause
 use Rattle.trace_explain.specs.declared.place.Place.{Place}
 use Rattle.trace_explain.specs.declared.place.Place.TheVariants.{Nowhere, Path, Word, Written, OfPair}
-use Rattle.trace_explain.specs.declared.wording.Subject.{Subject}
-use Rattle.trace_explain.specs.declared.wording.Subject.TheVariants as subject
+use Rattle.trace_explain.specs.declared.subject.Subject.{Subject}
+use Rattle.trace_explain.specs.declared.subject.Subject.TheVariants as subject
 
 -- ---- refusals
 
@@ -96,13 +96,18 @@ row_place _ pairs name = pair_after 0 (first_pair pairs name)
 
 -- ---- offsets
 
+-- by where each word begins
+abbrev pub start_of : List ℕ → Place → Option ℕ
+start_of starts Path = slice_get starts (length starts - 1)
+start_of starts (Word index) = slice_get starts index
+start_of starts (OfPair from index) = slice_get (drop from (drop 4 starts)) index
+start_of starts _ = None
+
 -- where a place is in a line
 abbrev pub offset_of : List ℕ → Place → Option ℕ
 offset_of line Nowhere = None
-offset_of line Path = slice_get (starts_of line) (length (starts_of line) - 1)
-offset_of line (Word index) = slice_get (starts_of line) index
 offset_of line (Written at) = written_offset line at
-offset_of line (OfPair from index) = slice_get (drop from (drop 4 (starts_of line))) index
+offset_of line place = start_of (starts_of line) place
 
 -- ---- faults
 
@@ -148,7 +153,7 @@ write_place line starts = arrow_place line (drop (prefix_len (is_no_arrow line) 
 -- how many words a line of this name has, its name too
 unfoldable pub word_limit : List ℕ → ℕ
 word_limit name =
-    if bytes_eq name (codes "cat") || (bytes_eq name (codes "mkdir") || bytes_eq name (codes "rmdir")) then 2
+    if is_one_of name (codes "cat" ∷ codes "mkdir" ∷ codes "rmdir" ∷ []) then 2
     else (if bytes_eq name (codes "take") then 3 else 1)
 
 -- where a line of this name has the wrong words

@@ -18,7 +18,7 @@ use Rattle.trace_command.specs.declared.refusal.Refusal.{Refusal}
 use Rattle.trace_command.specs.declared.refusal.Refusal.TheVariants.{NoSuchFile, NotReadable, NotWritable, BadValue, NoSuchEvent, EventExists, BadDefinition, TooBig, FilterSyntax, NoSuchField, WrongOperator, HistSyntax, BadSize, TriggerExists, NoSuchTrigger, TooMany, InstanceExists, NoSuchInstance, Busy, NoSuchCpu, BadRow, HistoryFull, Memory, Worn}
 use Rattle.trace_script.specs.declared.fault.ScriptFault.{ScriptFault}
 use Rattle.trace_script.specs.declared.fault.ScriptFault.TheVariants.{LineTooLong, BadByte, UnclosedQuote, UnknownCommand, WrongWords, BadNumber, BlockOutOfPlace, TooManyThreads}
-use Rattle.trace_explain.specs.Bytes.{has_blank}
+use Rattle.trace_explain.specs.Bytes.{has_blank, is_same_byte}
 use Rattle.trace_explain.specs.Starts.{next_stand}
 use Rattle.trace_explain.specs.declared.caret.Stand.{Stand}
 use Rattle.trace_explain.specs.declared.caret.Stand.TheVariants.{InWord, InQuotes}
@@ -32,8 +32,8 @@ use Rattle.trace_explain.specs.declared.filter_due.FilterDue.TheVariants.{Operan
 use Rattle.trace_explain.specs.declared.declaration_due.DeclarationDue.TheVariants.{Event}
 use Rattle.trace_explain.specs.declared.cause.Cause.{Cause}
 use Rattle.trace_explain.specs.declared.cause.Cause.TheVariants as cause
-use Rattle.trace_explain.specs.declared.wording.Subject.{Subject}
-use Rattle.trace_explain.specs.declared.wording.Subject.TheVariants as subject
+use Rattle.trace_explain.specs.declared.subject.Subject.{Subject}
+use Rattle.trace_explain.specs.declared.subject.Subject.TheVariants as subject
 
 abbrev pub subject_of_event_file : EventFile → Subject
 subject_of_event_file per_event.Enable = subject.Switch
@@ -146,11 +146,8 @@ no_trigger_words text =
     if begins (codes "!") text then codes "the event has no such trigger" else codes "expected `>>` and a trigger that the event has"
 
 -- N16, of a declaration: its `;` say how many fields there are
-abbrev pub is_semicolon : ℕ → Bool
-is_semicolon b = b == 59
-
 abbrev pub has_many_fields : List ℕ → Bool
-has_many_fields text = nat_lt (if ends_with 59 text then 16 else 15) (count_by is_semicolon text)
+has_many_fields text = nat_lt (if ends_with 59 text then 16 else 15) (count_by (is_same_byte 59) text)
 
 abbrev pub declaration_most_words : List ℕ → List ℕ
 declaration_most_words text = if has_many_fields (without_end text) then codes "an event has at most 16 fields" else codes "there are 64 events already"

@@ -11,7 +11,7 @@ use trace_lex::is_blank;
 const ECHO_PLACES: usize = 5;
 
 /// Where a reader of a line stands.
-#[derive(Clone, Copy, PartialEq, Eq)]
+#[derive(Clone, Copy)]
 pub(crate) enum Stand {
     /// Between words.
     Between,
@@ -148,7 +148,7 @@ impl Walk {
     fn finish(mut self) -> Result<Vec<usize>, AllocError>
         ensures { IfOk result (λ offsets. offsets.items ≡ self.offsets.items ++ offsets_from self.stand self.end self.at []) }
     {
-        if self.stand == Stand::InWord {
+        if let Stand::InWord = self.stand {
             self.offsets.push(self.end)?;
         }
         Ok(self.offsets)

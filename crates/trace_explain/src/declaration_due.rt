@@ -1,15 +1,16 @@
 //! What a declaration may go on with.
 
-ghost use Rattle.std.specs.Prelude.{◌≡◌, ◌≤◌, false, length, take};
-ghost use Rattle.std.specs.List.{prefix_len};
+ghost use Rattle.std.specs.Prelude.{◌≡◌, false};
 ghost use Rattle.trace_lex.specs.Blanks as blanks;
-ghost use Rattle.trace_explain.specs.DeclarationDue.{in_type, due_after, due_from, is_reserved, is_in_word, field_words, type_words, declaration_due_words};
+ghost use Rattle.trace_explain.specs.Bytes.{part_before};
+ghost use Rattle.trace_explain.specs.DeclarationDue.{in_type, due_after, due_from, is_reserved, field_words, type_words, declaration_due_words};
 
+use crate::cut::{is_one_of, part_before};
 use crate::hist_due::{begins, ends_with};
 use trace_lex::{is_blank, is_name};
 
 /// What comes next, after bytes with which a declaration can begin.
-#[derive(Clone, Copy, PartialEq, Eq)]
+#[derive(Clone, Copy)]
 pub(crate) enum DeclarationDue {
     Event,
     /// More of the event's name, or what may follow it.
@@ -97,26 +98,14 @@ pub(crate) fn declaration_due(bytes: &[u8]) -> DeclarationDue
 fn is_reserved(word: &[u8]) -> bool
     ensures { result ≡ is_reserved word.now }
 {
-    word == b"hitcount".as_slice()
-        || word == b"common_pid".as_slice()
-        || word == b"common_cpu".as_slice()
-}
-
-/// How many bytes come before the first blank or `;`.
-fn word_len(text: &[u8]) -> usize
-    ensures value { result ≡ prefix_len is_in_word text.now }
-    ensures bound { result ≤ length text.now }
-{
-    text.iter()
-        .take_while(|byte| !(is_blank(**byte) || **byte == b';'))
-        .count()
+    is_one_of(word, &["hitcount", "common_pid", "common_cpu"])
 }
 
 /// What comes before the first blank or `;`.
 pub(crate) fn first_word(text: &[u8]) -> &[u8]
-    ensures { result.now ≡ take (prefix_len is_in_word text.now) text.now }
+    ensures { result.now ≡ part_before 59 text.now }
 {
-    &text[..word_len(text)]
+    part_before(b';', text)
 }
 
 fn field_words(word: &[u8]) -> &'static str

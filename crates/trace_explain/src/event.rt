@@ -4,7 +4,7 @@ ghost use Rattle.std.specs.Prelude.{◌≡◌, IfOk};
 ghost use Rattle.std.specs.Option.{option_copied};
 ghost use Rattle.trace_explain.specs.Events.{command_of, declared_in, event_named};
 
-use crate::wording::{Subject, command_subject};
+use crate::subject::{Subject, command_subject};
 use std::alloc::{AllocError, Global};
 use trace_command::Command;
 use trace_format::{DefinitionFault, EventDef};
@@ -32,9 +32,9 @@ pub(crate) fn command_of(alloc: Global, line: &[u8]) -> Result<Option<Command>, 
 pub(crate) fn declared(alloc: Global, command: &Command) -> Result<Option<EventDef>, AllocError>
     ensures { IfOk result (λ found. found ≡ declared_in command.now) }
 {
-    if command_subject(command) != Subject::Declaration {
+    let Subject::Declaration = command_subject(command) else {
         return Ok(None);
-    }
+    };
     let Command::Write { text, .. } = command else {
         return Ok(None);
     };

@@ -1,19 +1,22 @@
 //! What is told of the lines of a script, one after the other.
 
-ghost use Rattle.std.specs.Prelude.{◌≡◌, IfOk, OnOk, OnErr};
+ghost use Rattle.std.specs.Prelude.{◌≡◌, ◌++◌, codes, IfOk, OnOk, OnErr};
 ghost use Rattle.trace_explain.specs.Events as events_of;
 ghost use Rattle.trace_explain.specs.Events.{Known, nothing_known, as_list, declared_if, known_after};
 ghost use Rattle.trace_explain.specs.Explanations as told;
+ghost use Rattle.trace_explain.specs.Layout.{shown_bytes};
+ghost use Rattle.trace_explain.specs.Wording.{cause_words as words_of_cause};
 
 use crate::cause::{Cause, cause_at_name, cause_without_event};
 use crate::event::{command_of, declared, event_named};
 use crate::fault_place::fault_offset;
 use crate::fault_words::{fault_words, name_of};
 use crate::hint::{command_meant, line_meant, written_in};
-use crate::layout::{shown, shown_bytes};
+use crate::layout::{push_shown, shown};
 use crate::place::{Place, offset_of, refusal_place, row_place};
 use crate::script_line::ScriptLine;
-use crate::wording::{cause_words, command_subject, path_of, refusal_words};
+use crate::subject::{command_subject, path_of};
+use crate::wording::{cause_words, refusal_words};
 use std::alloc::{AllocError, Global};
 use std::marker::Model;
 use trace_command::{Command, Refusal};
@@ -59,6 +62,24 @@ fn row_cause(events: &[EventDef], command: &Command, field: &[u8]) -> Cause
     }
 }
 
+/// Appends a field of a row, and what is wrong with it.
+fn push_row_words(out: &mut Vec<u8>, field: &[u8], cause: Cause) -> Result<(), AllocError>
+    ensures { OnOk result (out.new.items ≡ out.old.items ++ shown_bytes field.now ++ codes ": " ++ words_of_cause cause) }
+{
+    push_shown(out, field)?;
+    out.extend_from_slice(b": ".as_slice())?;
+    out.extend_from_slice(cause_words(cause).as_bytes())
+}
+
+/// What is wrong with a row at a field.
+fn row_words(alloc: Global, field: &[u8], cause: Cause) -> Result<Vec<u8>, AllocError>
+    ensures { IfOk result (λ words. words.items ≡ shown_bytes field.now ++ codes ": " ++ words_of_cause cause) }
+{
+    let mut words = Vec::new(alloc);
+    push_row_words(&mut words, field, cause)?;
+    Ok(words)
+}
+
 /// What is wrong with a refused command.
 #[tactic(auto, unfolding(crate::specs::Explanations::command_words))]
 fn command_words(
@@ -72,10 +93,7 @@ fn command_words(
     match refusal {
         Refusal::BadRow { field } => {
             let cause = row_cause(events, command, field.as_bytes());
-            let mut words = shown_bytes(alloc, field.as_bytes())?;
-            words.extend_from_slice(b": ".as_slice())?;
-            words.extend_from_slice(cause_words(cause).as_bytes())?;
-            Ok(words)
+            row_words(alloc, field.as_bytes(), cause)
         }
         _ => {
             let subject = command_subject(command);

@@ -4,11 +4,11 @@ ghost use Rattle.std.specs.Prelude.{◌≡◌, ◌≤◌, not, IfOk, length, dro
 ghost use Rattle.std.specs.List.{prefix_len};
 ghost use Rattle.std.specs.Option.{option_copied};
 ghost use Rattle.trace_lex.specs.Blanks as blanks;
-ghost use Rattle.trace_script.specs.Lines.{is_line_byte};
+ghost use Rattle.trace_script.specs.Lines.{is_line_byte, line_of};
 ghost use Rattle.trace_explain.specs.Places as places;
 
 use crate::caret::open_quote;
-use crate::cut::{after, has_byte, up_to};
+use crate::cut::{after, has_byte, is_one_of, is_same, joined, up_to};
 use crate::fault_words::word_of;
 use crate::starts::starts;
 use std::alloc::{AllocError, Global};
@@ -147,9 +147,9 @@ fn write_place(line: &[u8], starts: &[usize]) -> usize
 fn word_limit(name: &[u8]) -> usize
     ensures { result ≡ places.word_limit name.now }
 {
-    if name == b"cat".as_slice() || name == b"mkdir".as_slice() || name == b"rmdir".as_slice() {
+    if is_one_of(name, &["cat", "mkdir", "rmdir"]) {
         2
-    } else if name == b"take".as_slice() {
+    } else if is_same(b"take", name) {
         3
     } else {
         1
@@ -161,12 +161,23 @@ fn word_limit(name: &[u8]) -> usize
 fn words_place(name: &[u8], line: &[u8], starts: &[usize]) -> usize
     ensures { result ≡ places.words_place name.now line.now starts.now }
 {
-    if name == b"emit".as_slice() {
+    if is_same(b"emit", name) {
         emission_place(line, starts)
-    } else if name == b"echo".as_slice() {
+    } else if is_same(b"echo", name) {
         write_place(line, starts)
     } else {
         surplus_place(line, starts, word_limit(name))
+    }
+}
+
+/// Whether a line has a number that is out of its range.
+fn is_bad_number(alloc: Global, line: &[u8]) -> Result<bool, AllocError>
+    ensures { IfOk result (λ is_bad. is_bad ≡ places.is_bad_number (line_of line.now)) }
+{
+    match prepare(alloc, line) {
+        Err(LineError::Fault(ScriptFault::BadNumber)) => Ok(true),
+        Err(LineError::Memory) => Err(AllocError),
+        _ => Ok(false),
     }
 }
 
@@ -175,13 +186,8 @@ fn words_place(name: &[u8], line: &[u8], starts: &[usize]) -> usize
 fn has_bad_cpu(alloc: Global, line: &[u8], at: usize) -> Result<bool, AllocError>
     ensures { IfOk result (λ is_bad. is_bad ≡ places.has_bad_cpu line.now at) }
 {
-    let mut text = Vec::from_slice(alloc, up_to(at, line))?;
-    text.extend_from_slice(b" 0 a a=1".as_slice())?;
-    match prepare(alloc, &text) {
-        Err(LineError::Fault(ScriptFault::BadNumber)) => Ok(true),
-        Err(LineError::Memory) => Err(AllocError),
-        _ => Ok(false),
-    }
+    let text = joined(alloc, up_to(at, line), b" 0 a a=1")?;
+    is_bad_number(alloc, &text)
 }
 
 /// The number of a line that is wrong.
@@ -197,7 +203,7 @@ fn number_place(
     let Some(second) = starts.get(2).copied() else {
         return Ok(first);
     };
-    if name == b"emit".as_slice() && !has_bad_cpu(alloc, line, second)? {
+    if is_same(b"emit", name) && !has_bad_cpu(alloc, line, second)? {
         Ok(Some(second))
     } else {
         Ok(first)

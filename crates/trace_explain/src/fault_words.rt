@@ -5,6 +5,7 @@ ghost use Rattle.std.specs.List.{prefix_len};
 ghost use Rattle.trace_explain.specs.Wording as wording;
 
 use crate::caret::{Stand, is_end};
+use crate::cut::is_same;
 use crate::filter_due::is_quote;
 use crate::starts::next_stand;
 use std::alloc::{AllocError, Global};
@@ -49,7 +50,6 @@ fn is_kept(stand: Stand, byte: u8) -> bool
 }
 
 /// The word that some bytes begin with, without its quotes.
-#[tactic(auto, using(crate::proofs::CaretLemmas::more_offsets))]
 fn unquoted(alloc: Global, text: &[u8]) -> Result<Vec<u8>, AllocError>
     ensures { IfOk result (λ word. word.items ≡ wording.unquoted_from Stand.InWord text.now) }
 {
@@ -79,17 +79,17 @@ pub(crate) fn name_of(alloc: Global, line: &[u8]) -> Result<Vec<u8>, AllocError>
 fn usage_words(name: &[u8]) -> &'static str
     ensures { result.now ≡ wording.usage_words name.now }
 {
-    if name == b"emit".as_slice() {
+    if is_same(b"emit", name) {
         "expected `emit CPU PID EVENT FIELD=VALUE ..`"
-    } else if name == b"echo".as_slice() {
+    } else if is_same(b"echo", name) {
         "expected `echo WORD .. > PATH`, or `>>`"
-    } else if name == b"cat".as_slice() {
+    } else if is_same(b"cat", name) {
         "expected `cat PATH`"
-    } else if name == b"take".as_slice() {
+    } else if is_same(b"take", name) {
         "expected `take N PATH`"
-    } else if name == b"mkdir".as_slice() {
+    } else if is_same(b"mkdir", name) {
         "expected `mkdir PATH`"
-    } else if name == b"rmdir".as_slice() {
+    } else if is_same(b"rmdir", name) {
         "expected `rmdir PATH`"
     } else {
         "expected nothing more"
@@ -110,9 +110,9 @@ fn parallel_words(is_next: bool) -> &'static str
 fn block_words(is_next: bool, name: &[u8]) -> &'static str
     ensures { result.now ≡ wording.block_words is_next name.now }
 {
-    if name == b"thread".as_slice() || name == b"end".as_slice() {
+    if is_same(b"thread", name) || is_same(b"end", name) {
         "no parallel part is open here"
-    } else if name == b"parallel".as_slice() {
+    } else if is_same(b"parallel", name) {
         parallel_words(is_next)
     } else {
         "expected `thread` before the first command of a part"

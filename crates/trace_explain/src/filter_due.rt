@@ -6,12 +6,12 @@ ghost use Rattle.trace_lex.specs.Blanks.{without_end};
 ghost use Rattle.trace_script.specs.Tokens as tokens;
 ghost use Rattle.trace_explain.specs.FilterDue.{takes_equal, is_sign, after_operator, after_value, ends_value, after_bare, due_after, due_from, quoted_words, number_words, value_due_words, joint_words, signed_words, filter_due_words, meant_by_equal, meant_by_word, meant_by_half, meant_after_name, is_unnamed, ends_with_not, or_not, operator_meant};
 
-use crate::cut::{after, has_byte, up_to};
+use crate::cut::{after, has_byte, is_same, up_to};
 use crate::hist_due::begins;
 use trace_lex::{is_blank, is_name_byte, trim_end};
 
 /// What comes next, after bytes with which a filter can begin.
-#[derive(Clone, Copy, PartialEq, Eq)]
+#[derive(Clone, Copy)]
 pub(crate) enum FilterDue {
     /// A field's name, `!` or `(`.
     Operand,
@@ -280,7 +280,7 @@ fn ends_with_not(front: &[u8]) -> bool
     ensures { result ≡ ends_with_not front.now }
 {
     let start = front.len().saturating_sub(3);
-    after(start, front) == b"not".as_slice()
+    is_same(b"not", after(start, front))
         && are_unnamed(after(front.len().saturating_sub(4), up_to(start, front)))
 }
 

@@ -7,17 +7,19 @@ ghost use Rattle.trace_command.specs.FileNames.{bytes_now};
 ghost use Rattle.trace_explain.specs.Hints as hints;
 
 use crate::cause::field_of;
-use crate::cut::{after, up_to};
+use crate::cut::{after, joined, up_to};
 use crate::declaration_due::{DeclarationDue, declaration_due, first_word};
 use crate::event::event_named;
 use crate::filter_due::operator_meant;
 use crate::hist_due::{begins, first_part, wrong_attribute};
-use crate::near::{
-    near_attribute, near_command, near_common, near_event, near_event_file, near_field, near_file,
-    near_option, near_top_file, near_trigger, near_type,
+use crate::near_files::{near_event_file, near_file, near_top_file};
+use crate::near_words::{
+    near_attribute, near_command, near_common, near_event, near_field, near_option, near_trigger,
+    near_type,
 };
+use crate::subject::{Subject, command_subject};
 use crate::trigger_due::mark_len;
-use crate::wording::{Subject, command_subject, filter_due_at};
+use crate::wording::filter_due_at;
 use std::alloc::{AllocError, Global};
 use trace_command::{Command, FileName, Refusal, address_of};
 use trace_format::EventDef;
@@ -83,9 +85,7 @@ fn with_front(alloc: Global, front: &[u8], rest: &[u8]) -> Result<Vec<u8>, Alloc
     if rest.is_empty() {
         return Ok(Vec::new(alloc));
     }
-    let mut text = Vec::from_slice(alloc, front)?;
-    text.extend_from_slice(rest)?;
-    Ok(text)
+    joined(alloc, front, rest)
 }
 
 /// The first file below the mount point whose path is near; empty, if none is.

@@ -1,13 +1,13 @@
 //! What a hist trigger may go on with.
 
 ghost use Rattle.std.specs.Prelude.{◌≡◌, ◌≤◌, ◌<◌, IfSome, length, reverse};
-ghost use Rattle.std.specs.List.{prefix_len, count_by};
+ghost use Rattle.std.specs.List.{prefix_len};
 ghost use Rattle.trace_lex.specs.Prefixes as prefixes;
 ghost use Rattle.trace_trigger.specs.TriggerTexts as texts;
 ghost use Rattle.trace_explain.specs.HistDue as due;
 
-use crate::cut::{after, has_blank, up_to};
-use trace_lex::{is_blank, len_before, rest_of};
+use crate::cut::{after, count_of, has_blank, is_one_of, is_same, part_before, up_to};
+use trace_lex::{len_before, rest_of};
 
 /// Whether a string begins so.
 pub(crate) fn begins(beginning: &[u8], text: &[u8]) -> bool
@@ -31,21 +31,11 @@ fn last_part(front: &[u8]) -> &[u8]
     &front[front.len() - last_part_len(front)..]
 }
 
-/// How many bytes come before the first blank or `:`.
-fn first_part_len(rest: &[u8]) -> usize
-    ensures value { result ≡ prefix_len due.is_in_attribute rest.now }
-    ensures bound { result ≤ length rest.now }
-{
-    rest.iter()
-        .take_while(|byte| !(is_blank(**byte) || **byte == b':'))
-        .count()
-}
-
 /// The attribute that some bytes begin with.
 pub(crate) fn first_part(rest: &[u8]) -> &[u8]
     ensures { result.now ≡ due.first_part rest.now }
 {
-    &rest[..first_part_len(rest)]
+    part_before(b':', rest)
 }
 
 /// Whether a part ends with a byte.
@@ -73,10 +63,7 @@ fn is_values(part: &[u8]) -> bool
 fn is_action(part: &[u8]) -> bool
     ensures { result ≡ due.is_action part.now }
 {
-    part == b"pause".as_slice()
-        || part == b"continue".as_slice()
-        || part == b"cont".as_slice()
-        || part == b"clear".as_slice()
+    is_one_of(part, &["pause", "continue", "cont", "clear"])
 }
 
 /// Whether a part begins as an attribute does.
@@ -226,19 +213,12 @@ pub(crate) fn attribute_at(attribute: &[u8], text: &[u8]) -> Option<usize>
     None
 }
 
-fn commas(text: &[u8]) -> usize
-    ensures value { result ≡ count_by due.is_comma text.now }
-    ensures bound { result ≤ length text.now }
-{
-    text.iter().filter(|byte| **byte == b',').count()
-}
-
 /// How many items an attribute has, 0 if it is not there.
 pub(crate) fn items_of(attribute: &[u8], text: &[u8]) -> usize
     ensures { result ≡ due.items_of attribute.now text.now }
 {
     match attribute_at(attribute, text) {
-        Some(at) => commas(first_part(&text[at + 1..])) + 1,
+        Some(at) => count_of(b',', first_part(&text[at + 1..])) + 1,
         None => 0,
     }
 }
@@ -247,7 +227,7 @@ pub(crate) fn items_of(attribute: &[u8], text: &[u8]) -> usize
 fn is_counted(list: &[u8]) -> bool
     ensures { result ≡ due.is_counted list.now }
 {
-    up_to(len_before(b',', list), list) != b"hitcount".as_slice()
+    !is_same(b"hitcount", up_to(len_before(b',', list), list))
 }
 
 /// How many such items follow a comma.

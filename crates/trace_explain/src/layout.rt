@@ -1,10 +1,12 @@
 //! What is wrong, and under it the line with a caret under one of its bytes.
 
-ghost use Rattle.std.specs.Prelude.{◌≡◌, ◌++◌, ◌≤◌, IfOk, map, take, length, codes};
-ghost use Rattle.trace_explain.specs.Layout.{shown_byte, pad_byte, shown_bytes, shown_line, pointer, column, meant_line, heading, shown};
+ghost use Rattle.std.specs.Prelude.{◌≡◌, ◌++◌, ◌≤◌, IfOk, OnOk, map, take, length, codes};
+ghost use Rattle.std.specs.Fmt.{decimal};
+ghost use Rattle.trace_explain.specs.Layout.{shown_byte, pad_byte, shown_bytes, shown_line, pointer, column, meant_line, shown};
 
 use crate::cut::up_to;
 use crate::script_line::ScriptLine;
+use itoa::Buffer;
 use std::alloc::{AllocError, Global};
 
 /// The most bytes that the line of a command has. Of a longer one only so many bytes are shown that it fits a row of a terminal.
@@ -29,111 +31,123 @@ fn pad_byte(byte: u8) -> u8
     if byte == b'\t' { b'\t' } else { b' ' }
 }
 
-/// Bytes as they are shown.
-#[tactic(auto, unfolding(crate::specs::Layout::shown_bytes))]
-pub(crate) fn shown_bytes(alloc: Global, bytes: &[u8]) -> Result<Vec<u8>, AllocError>
-    ensures { IfOk result (λ text. text.items ≡ shown_bytes bytes.now) }
+/// Appends bytes as they are shown.
+pub(crate) fn push_shown(out: &mut Vec<u8>, bytes: &[u8]) -> Result<(), AllocError>
+    ensures { OnOk result (out.new.items ≡ out.old.items ++ shown_bytes bytes.now) }
 {
-    bytes.iter().map(|byte| shown_byte(*byte)).collect(alloc)
+    for byte in bytes {
+        out.push(shown_byte(*byte))?;
+    }
+    Ok(())
 }
 
-/// The beginning of a line as it is shown.
-fn shown_start(alloc: Global, line: &[u8]) -> Result<Vec<u8>, AllocError>
-    requires { SHOWN_BYTES ≤ length line.now }
-    ensures { IfOk result (λ text. text.items ≡ shown_bytes (take SHOWN_BYTES line.now) ++ codes " ..") }
-{
-    let mut text = shown_bytes(alloc, &line[..SHOWN_BYTES])?;
-    text.extend_from_slice(b" ..".as_slice())?;
-    Ok(text)
-}
-
-/// A line as it is shown.
+/// Appends a line as it is shown.
 #[tactic(auto, unfolding(crate::specs::Layout::shown_line))]
-fn shown_line(alloc: Global, line: &[u8]) -> Result<Vec<u8>, AllocError>
-    ensures { IfOk result (λ text. text.items ≡ shown_line line.now) }
+fn push_line(out: &mut Vec<u8>, line: &[u8]) -> Result<(), AllocError>
+    ensures { OnOk result (out.new.items ≡ out.old.items ++ shown_line line.now) }
 {
     if line.len() > MOST_BYTES {
-        return shown_start(alloc, line);
+        push_shown(out, up_to(SHOWN_BYTES, line))?;
+        out.extend_from_slice(b" ..".as_slice())
+    } else {
+        push_shown(out, line)
     }
-    shown_bytes(alloc, line)
 }
 
-/// What stands before a caret.
-fn padding(alloc: Global, line: &[u8], at: usize) -> Result<Vec<u8>, AllocError>
-    ensures { IfOk result (λ text. text.items ≡ map pad_byte (take at line.now)) }
+/// Appends what stands before a caret.
+fn push_padding(out: &mut Vec<u8>, above: &[u8]) -> Result<(), AllocError>
+    ensures { OnOk result (out.new.items ≡ out.old.items ++ map pad_byte above.now) }
 {
-    up_to(at, line)
-        .iter()
-        .map(|byte| pad_byte(*byte))
-        .collect(alloc)
+    for byte in above {
+        out.push(pad_byte(*byte))?;
+    }
+    Ok(())
 }
 
-/// The caret under a byte of a line; nothing, if it stands under none.
+/// Appends the caret under a byte of a line; nothing, if it stands under none.
 #[tactic(auto, unfolding(crate::specs::Layout::pointer))]
-fn pointer(alloc: Global, line: &[u8], caret: Option<usize>) -> Result<Vec<u8>, AllocError>
-    ensures { IfOk result (λ text. text.items ≡ pointer line.now caret) }
+fn push_pointer(out: &mut Vec<u8>, line: &[u8], caret: Option<usize>) -> Result<(), AllocError>
+    ensures { OnOk result (out.new.items ≡ out.old.items ++ pointer line.now caret) }
 {
     let Some(at) = caret else {
-        return Ok(Vec::new(alloc));
+        return Ok(());
     };
-    let mut text = Vec::from_slice(alloc, b"  ".as_slice())?;
-    text.extend_from_slice(&padding(alloc, line, at)?)?;
-    text.extend_from_slice(b"^\n".as_slice())?;
-    Ok(text)
+    out.extend_from_slice(b"  ".as_slice())?;
+    push_padding(out, up_to(at, line))?;
+    out.extend_from_slice(b"^\n".as_slice())
 }
 
-/// The column of the byte above the caret, after a `:`.
+/// Appends a number after a `:`.
+fn push_number(out: &mut Vec<u8>, number: usize) -> Result<(), AllocError>
+    ensures { OnOk result (out.new.items ≡ out.old.items ++ codes ":" ++ decimal number) }
+{
+    out.push(b':')?;
+    out.extend_from_slice(Buffer::new().format(number).as_bytes())
+}
+
+/// Appends the column of the byte above the caret.
 #[tactic(auto, unfolding(crate::specs::Layout::column))]
-fn column(alloc: Global, line: &[u8], caret: Option<usize>) -> Result<Vec<u8>, AllocError>
-    ensures { IfOk result (λ text. text.items ≡ column line.now caret) }
+fn push_column(out: &mut Vec<u8>, line: &[u8], caret: Option<usize>) -> Result<(), AllocError>
+    ensures { OnOk result (out.new.items ≡ out.old.items ++ column line.now caret) }
 {
-    let Some(at) = caret else {
-        return Ok(Vec::new(alloc));
-    };
-    let column = up_to(at, line).len() + 1;
-    Ok(format!(in alloc; ":{column}")?.into_bytes())
-}
-
-/// What was meant, if anything was.
-#[tactic(auto, unfolding(crate::specs::Layout::meant_line))]
-fn meant_line(alloc: Global, meant: &[u8]) -> Result<Vec<u8>, AllocError>
-    ensures { IfOk result (λ text. text.items ≡ meant_line meant.now) }
-{
-    if meant.is_empty() {
-        return Ok(Vec::new(alloc));
+    match caret {
+        Some(at) => push_number(out, up_to(at, line).len() + 1),
+        None => Ok(()),
     }
-    let mut text = Vec::from_slice(alloc, b"  did you mean `".as_slice())?;
-    text.extend_from_slice(&shown_bytes(alloc, meant)?)?;
-    text.extend_from_slice(b"`?\n".as_slice())?;
-    Ok(text)
 }
 
-/// `SCRIPT:LINE:COLUMN: NAME: words`, where the column has its `:` already.
-#[tactic(auto, unfolding(crate::specs::Layout::heading))]
-fn heading(
-    alloc: Global,
+fn push_question(out: &mut Vec<u8>, meant: &[u8]) -> Result<(), AllocError>
+    ensures { OnOk result (out.new.items ≡ out.old.items ++ codes "  did you mean `" ++ shown_bytes meant.now ++ codes "`?\n") }
+{
+    out.extend_from_slice(b"  did you mean `".as_slice())?;
+    push_shown(out, meant)?;
+    out.extend_from_slice(b"`?\n".as_slice())
+}
+
+/// Appends what was meant, if anything was.
+#[tactic(auto, unfolding(crate::specs::Layout::meant_line))]
+fn push_meant(out: &mut Vec<u8>, meant: &[u8]) -> Result<(), AllocError>
+    ensures { OnOk result (out.new.items ≡ out.old.items ++ meant_line meant.now) }
+{
+    match meant {
+        [] => Ok(()),
+        [_, ..] => push_question(out, meant),
+    }
+}
+
+/// Appends `SCRIPT:LINE:COLUMN: NAME: words`, and a newline.
+fn push_heading(
+    out: &mut Vec<u8>,
     at: ScriptLine<'_>,
-    column: &[u8],
+    caret: Option<usize>,
     name: &str,
     words: &[u8],
-) -> Result<Vec<u8>, AllocError>
-    ensures { IfOk result (λ text. text.items ≡ heading at.entry.script.now at.entry.number column.now name.now words.now) }
+) -> Result<(), AllocError>
+    ensures { OnOk result (out.new.items ≡ out.old.items ++ shown_bytes at.entry.script.now ++ codes ":" ++ decimal at.entry.number
+        ++ column at.entry.text.now caret ++ codes ": " ++ name.now ++ codes ": " ++ words.now ++ codes "\n") }
 {
-    let number = at.number;
-    let number = format!(in alloc; ":{number}")?.into_bytes();
-    let mut text = shown_bytes(alloc, at.script)?;
-    text.extend_from_slice(&number)?;
-    text.extend_from_slice(column)?;
-    text.extend_from_slice(b": ".as_slice())?;
-    text.extend_from_slice(name.as_bytes())?;
-    text.extend_from_slice(b": ".as_slice())?;
-    text.extend_from_slice(words)?;
-    text.push(b'\n')?;
-    Ok(text)
+    push_shown(out, at.script)?;
+    push_number(out, at.number)?;
+    push_column(out, at.text, caret)?;
+    out.extend_from_slice(b": ".as_slice())?;
+    out.extend_from_slice(name.as_bytes())?;
+    out.extend_from_slice(b": ".as_slice())?;
+    out.extend_from_slice(words)?;
+    out.extend_from_slice(b"\n".as_slice())
+}
+
+/// Appends the line, and the caret under it.
+fn push_pointed(out: &mut Vec<u8>, line: &[u8], caret: Option<usize>) -> Result<(), AllocError>
+    ensures { OnOk result (out.new.items ≡ out.old.items ++ codes "  " ++ shown_line line.now ++ codes "\n" ++ pointer line.now caret) }
+{
+    out.extend_from_slice(b"  ".as_slice())?;
+    push_line(out, line)?;
+    out.push(b'\n')?;
+    push_pointer(out, line, caret)
 }
 
 /// What is wrong, the line, the caret under it, and what was meant.
-#[tactic(auto, unfolding(crate::specs::Layout::shown))]
+#[tactic(auto, unfolding(crate::specs::Layout::heading, crate::specs::Layout::shown))]
 pub(crate) fn shown(
     alloc: Global,
     at: ScriptLine<'_>,
@@ -144,12 +158,9 @@ pub(crate) fn shown(
 ) -> Result<Vec<u8>, AllocError>
     ensures { IfOk result (λ text. text.items ≡ shown at.entry.script.now at.entry.number at.entry.text.now caret name.now words.now meant.now) }
 {
-    let column = column(alloc, at.text, caret)?;
-    let mut text = heading(alloc, at, &column, name, words)?;
-    text.extend_from_slice(b"  ".as_slice())?;
-    text.extend_from_slice(&shown_line(alloc, at.text)?)?;
-    text.push(b'\n')?;
-    text.extend_from_slice(&pointer(alloc, at.text, caret)?)?;
-    text.extend_from_slice(&meant_line(alloc, meant)?)?;
+    let mut text = Vec::new(alloc);
+    push_heading(&mut text, at, caret, name, words)?;
+    push_pointed(&mut text, at.text, caret)?;
+    push_meant(&mut text, meant)?;
     Ok(text)
 }

@@ -14,11 +14,15 @@ mod filter_due;
 mod hint;
 mod hist_due;
 mod layout;
+mod most_words;
 mod near;
+mod near_files;
+mod near_words;
 mod openings;
 mod place;
 mod script_line;
 mod starts;
+mod subject;
 mod trigger_due;
 mod wording;
 

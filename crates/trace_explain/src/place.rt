@@ -10,15 +10,15 @@ use crate::cause::Cause;
 use crate::cut::first_word;
 use crate::hist_due::attribute_at;
 use crate::starts::starts;
+use crate::subject::Subject;
 use crate::trigger_due::trigger_offset;
-use crate::wording::Subject;
 use std::alloc::{AllocError, Global};
 use trace_command::Refusal;
 use trace_format::Pair;
 use trace_lex::blanks_len;
 
 /// Where a refused line is wrong.
-#[derive(Clone, Copy, PartialEq, Eq)]
+#[derive(Clone, Copy)]
 pub(crate) enum Place {
     Nowhere,
     /// Its last word.
@@ -162,6 +162,18 @@ fn pair_start(starts: &[usize], from: usize, index: usize) -> Option<usize>
     }
 }
 
+/// Where a place is that a word or a pair begins, by where each word begins.
+fn start_of(starts: &[usize], place: Place) -> Option<usize>
+    ensures { result ≡ places.start_of starts.now place }
+{
+    match place {
+        Place::Path => starts.last().copied(),
+        Place::Word(index) => starts.get(index).copied(),
+        Place::OfPair(from, index) => pair_start(starts, from, index),
+        _ => None,
+    }
+}
+
 /// Where a place is in a line.
 pub(crate) fn offset_of(
     alloc: Global,
@@ -172,9 +184,10 @@ pub(crate) fn offset_of(
 {
     match place {
         Place::Nowhere => Ok(None),
-        Place::Path => Ok(starts(alloc, line)?.last().copied()),
-        Place::Word(index) => Ok(starts(alloc, line)?.get(index).copied()),
         Place::Written(at) => written_offset(alloc, line, at),
-        Place::OfPair(from, index) => Ok(pair_start(&starts(alloc, line)?, from, index)),
+        _ => {
+            let starts = starts(alloc, line)?;
+            Ok(start_of(&starts, place))
+        }
     }
 }

@@ -30,7 +30,7 @@ pub(crate) fn next_stand(stand: Stand, byte: u8) -> Stand
 }
 
 /// Where each word and each `>` of a line begins, from the left.
-#[tactic(auto, using(crate::proofs::CaretLemmas::more_offsets), unfolding(crate::specs::Starts::starts_of))]
+#[tactic(auto, unfolding(crate::specs::Starts::starts_of))]
 pub(crate) fn starts(alloc: Global, line: &[u8]) -> Result<Vec<usize>, AllocError>
     ensures { IfOk result (λ starts. starts.items ≡ starts_of line.now) }
 {

@@ -1,17 +1,19 @@
-//! What is wrong with what is written to a `trigger` file, where it is neither a hist trigger nor a snapshot trigger.
+//! What is wrong with what is written to a `trigger` file, where it is neither a hist trigger nor a snapshot trigger; and
+//! where the filter of a trigger begins.
 
-ghost use Rattle.std.specs.Prelude.{◌≡◌, ◌≤◌, ◌+◌, ◌-◌, ◌^◌, length};
+ghost use Rattle.std.specs.Prelude.{◌≡◌, ◌≤◌, ◌+◌, ◌-◌, ◌^◌, length, drop};
 ghost use Rattle.std.specs.List.{list_all};
 ghost use Rattle.trace_lex.specs.Blanks as blanks;
 ghost use Rattle.trace_lex.specs.Decimals as decimals;
 ghost use Rattle.trace_explain.specs.TriggerDue as triggers;
+ghost use Rattle.trace_explain.specs.Wording as wording;
 
-use crate::cut::{after, first_word, word_len};
+use crate::cut::{after, first_word, is_same, word_len};
 use crate::hist_due::begins;
 use trace_lex::{blanks_len, decimal_number, is_blank, rest_of};
 
 /// What is due instead of what is written.
-#[derive(Clone, Copy, PartialEq, Eq)]
+#[derive(Clone, Copy)]
 pub(crate) enum TriggerDue {
     /// `hist:` or `snapshot`, without the blank before it.
     Unblank,
@@ -74,11 +76,25 @@ fn after_gap(body: &[u8]) -> usize
     word + blanks_len(rest_of(body, word))
 }
 
+/// Where the filter of a trigger begins, if it has one: after the first word, `if` and the blanks between.
+pub(crate) fn condition_start(text: &[u8]) -> usize
+    ensures { result ≡ wording.condition_start text.now }
+{
+    after_gap(text) + 2
+}
+
+/// The filter of a trigger, if it has one.
+pub(crate) fn condition(text: &[u8]) -> &[u8]
+    ensures { result.now ≡ drop (wording.condition_start text.now) text.now }
+{
+    after(condition_start(text), text)
+}
+
 /// What is due by a first word that doesn't begin with `snapshot`.
 fn word_due(word: &[u8]) -> TriggerDue
     ensures { result ≡ triggers.word_due word.now }
 {
-    if word == b"hist".as_slice() {
+    if is_same(b"hist", word) {
         TriggerDue::Keys
     } else {
         TriggerDue::Word

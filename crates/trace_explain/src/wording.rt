@@ -1,108 +1,17 @@
 //! What is wrong, in words.
 
-ghost use Rattle.std.specs.Prelude.{◌≡◌, ◌≤◌, length, drop};
-ghost use Rattle.std.specs.List.{count_by, prefix_len};
-ghost use Rattle.trace_lex.specs.Blanks as blanks;
-ghost use Rattle.trace_command.specs.Paths as paths;
-ghost use Rattle.trace_trigger.specs.Frames as frames;
+ghost use Rattle.std.specs.Prelude.{◌≡◌};
 ghost use Rattle.trace_explain.specs.Wording as wording;
 
 use crate::cause::Cause;
-use crate::cut::{after, first_word, has_blank, up_to, word_len};
+use crate::cut::{after, first_word, has_blank, up_to};
 use crate::declaration_due::{declaration_due, declaration_due_words};
 use crate::filter_due::{FilterDue, filter_due, filter_due_words};
-use crate::hist_due::{
-    attribute_at, begins, ends_with, hist_due_words, hist_field_words, items_of, values_of,
-};
-use crate::openings::is_deep;
-use crate::trigger_due::trigger_due_words;
-use trace_command::{Command, EventFile, FileName, Refusal, TopFile, address_of};
-use trace_lex::{blanks_len, is_blank, rest_of, trim, trim_end};
-
-/// What a command is about, as far as the words depend on it.
-#[derive(Clone, Copy, PartialEq, Eq)]
-pub(crate) enum Subject {
-    /// A declaration is written.
-    Declaration,
-    /// An event's filter is written.
-    Filter,
-    /// The filter of all events is written.
-    AllFilters,
-    /// A trigger is written.
-    Trigger,
-    /// A file that takes any number is written.
-    Number,
-    /// A file that takes `0` and `1` is written.
-    Switch,
-    /// `trace_options` is written.
-    Options,
-    /// Another file is written.
-    Write,
-    /// A file is read.
-    Read,
-    /// An instance is made or removed.
-    Instance,
-    /// An event happens.
-    Emission,
-}
-
-fn subject_of_event_file(file: EventFile) -> Subject
-    ensures { result ≡ wording.subject_of_event_file file }
-{
-    match file {
-        EventFile::Enable => Subject::Switch,
-        EventFile::Filter => Subject::Filter,
-        EventFile::Trigger => Subject::Trigger,
-        _ => Subject::Write,
-    }
-}
-
-fn subject_of_top_file(file: TopFile) -> Subject
-    ensures { result ≡ wording.subject_of_top_file file }
-{
-    match file {
-        TopFile::Overwrite | TopFile::EventsEnable => Subject::Switch,
-        TopFile::TraceOptions => Subject::Options,
-        TopFile::TracingOn | TopFile::Snapshot => Subject::Number,
-        TopFile::EventsFilter => Subject::AllFilters,
-        _ => Subject::Write,
-    }
-}
-
-/// What is written to the file of a path.
-fn written_subject(path: &[u8]) -> Subject
-    ensures { result ≡ wording.written_subject (paths.address_of path.now).file }
-{
-    match address_of(path).file {
-        Some(FileName::SyntheticEvents) => Subject::Declaration,
-        Some(FileName::OfEvent(_, file)) => subject_of_event_file(file),
-        Some(FileName::OfInstance(file)) => subject_of_top_file(file),
-        _ => Subject::Write,
-    }
-}
-
-/// What a command is about.
-pub(crate) fn command_subject(command: &Command) -> Subject
-    ensures { result ≡ wording.command_subject command.now }
-{
-    match command {
-        Command::Emit { .. } => Subject::Emission,
-        Command::Mkdir(_) | Command::Rmdir(_) => Subject::Instance,
-        Command::Write { path, .. } => written_subject(path.as_bytes()),
-        Command::Read { .. } => Subject::Read,
-    }
-}
-
-/// The path that a command names.
-pub(crate) fn path_of(command: &Command) -> &[u8]
-    ensures { result.now ≡ wording.path_of command.now }
-{
-    match command {
-        Command::Emit { .. } => b"",
-        Command::Mkdir(path) | Command::Rmdir(path) => path.as_bytes(),
-        Command::Write { path, .. } | Command::Read { path, .. } => path.as_bytes(),
-    }
-}
+use crate::hist_due::{attribute_at, begins, hist_due_words, hist_field_words};
+use crate::most_words::most_words;
+use crate::subject::Subject;
+use crate::trigger_due::{condition_start, trigger_due_words};
+use trace_command::Refusal;
 
 fn unknown_words(subject: Subject) -> &'static str
     ensures { result.now ≡ wording.unknown_words subject }
@@ -145,21 +54,6 @@ fn event_words(subject: Subject) -> &'static str
         Subject::AllFilters => "no event is declared",
         _ => "no event of this name is declared",
     }
-}
-
-/// The filter of a trigger, if it has one: what follows its first word, `if` and the blanks between.
-fn condition(text: &[u8]) -> &[u8]
-    ensures { result.now ≡ drop (wording.condition_start text.now) text.now }
-{
-    after(condition_start(text), text)
-}
-
-/// Where the filter of a trigger begins, if it has one.
-fn condition_start(text: &[u8]) -> usize
-    ensures { result ≡ wording.condition_start text.now }
-{
-    let word = word_len(text);
-    word + blanks_len(rest_of(text, word)) + 2
 }
 
 /// Where a filter begins in what is written.
@@ -224,95 +118,6 @@ fn exists_words(text: &[u8]) -> &'static str
         "expected a trigger that is new to the event and fits the table of its name"
     } else {
         "the event has this trigger already"
-    }
-}
-
-fn semicolons(text: &[u8]) -> usize
-    ensures { result ≡ count_by wording.is_semicolon text.now }
-{
-    text.iter().filter(|byte| **byte == b';').count()
-}
-
-/// Whether a declaration has over 16 fields.
-fn has_many_fields(text: &[u8]) -> bool
-    ensures { result ≡ wording.has_many_fields text.now }
-{
-    let most = if ends_with(b';', text) { 16 } else { 15 };
-    semicolons(text) > most
-}
-
-fn declaration_most_words(text: &[u8]) -> &'static str
-    ensures { result.now ≡ wording.declaration_most_words text.now }
-{
-    if has_many_fields(trim_end(text)) {
-        "an event has at most 16 fields"
-    } else {
-        "there are 64 events already"
-    }
-}
-
-fn filter_most_words(filter: &[u8]) -> &'static str
-    ensures { result.now ≡ wording.filter_most_words filter.now }
-{
-    if trim(filter).len() > 1024 {
-        "a filter has at most 1,024 bytes"
-    } else {
-        "at most 16 `!` and `(` may be open"
-    }
-}
-
-fn condition_most_words(filter: &[u8]) -> &'static str
-    ensures { result.now ≡ wording.condition_most_words filter.now }
-{
-    if trim(filter).len() > 1024 {
-        "a filter has at most 1,024 bytes"
-    } else if is_deep(filter) {
-        "at most 16 `!` and `(` may be open"
-    } else {
-        "the event has four triggers already"
-    }
-}
-
-fn has_over(most: usize, attribute: &[u8], text: &[u8]) -> bool
-    ensures { result ≡ wording.has_over most attribute.now text.now }
-{
-    items_of(attribute, text) > most
-}
-
-fn has_values(attribute: &[u8], text: &[u8]) -> bool
-    ensures { result ≡ wording.has_values attribute.now text.now }
-{
-    values_of(attribute, text) > 3
-}
-
-#[tactic(auto, unfolding(crate::specs::Wording::trigger_most_words))]
-fn trigger_most_words(text: &[u8]) -> &'static str
-    ensures { result.now ≡ wording.trigger_most_words text.now }
-{
-    let word = first_word(text);
-    if has_over(3, b":keys=", word) || has_over(3, b":key=", word) {
-        "a hist trigger has at most three keys"
-    } else if has_values(b":values=", word)
-        || has_values(b":vals=", word)
-        || has_values(b":val=", word)
-    {
-        "a hist trigger has at most three values"
-    } else if has_over(2, b":sort=", word) {
-        "a hist trigger is sorted by at most two names"
-    } else {
-        condition_most_words(condition(text))
-    }
-}
-
-#[tactic(auto, unfolding(crate::specs::Wording::most_words))]
-fn most_words(subject: Subject, text: &[u8]) -> &'static str
-    ensures { result.now ≡ wording.most_words subject text.now }
-{
-    match subject {
-        Subject::Declaration => declaration_most_words(text),
-        Subject::Instance => "there are eight instances already",
-        Subject::Trigger => trigger_most_words(text),
-        _ => filter_most_words(text),
     }
 }
 

@@ -1,0 +1,16 @@
+use Rattle.std.proofs.Common.{ℕ, ◌+◌, ◌++◌, List, drop, sym, ap, ◌∙◌}
+use Rattle.std.proofs.lemmas.List.{drop_more}
+use Rattle.trace_explain.specs.Carets.{offsets_from}
+use Rattle.trace_explain.proofs.caret.offsets.Goals as goal
+
+pub loop-byte-preserved : goal.loop-byte-preserved
+loop-byte-preserved c =
+    let line : List ℕ = c.args.line.now in
+    let index = c.loop-byte.byte-index in
+    let walk = c.loop-byte.walk in
+    record {
+      offsets = c.in_ok-step.ensures.offsets (drop (index + 1) line)
+          ∙ ap (λ (rest : List ℕ). walk.offsets.items ++ offsets_from walk.stand walk.end walk.at rest) (sym (drop_more line index 0 c.loop-byte-test.true))
+          ∙ c.loop-byte.invariant.offsets;
+      at = c.in_ok-step.ensures.at ∙ ap (λ (at : ℕ). at + 1) c.loop-byte.invariant.at;
+    }

@@ -1,0 +1,188 @@
+//! The files whose path is near: those that are always there, and those of the events that are declared.
+
+ghost use Rattle.std.specs.Prelude.{◌≡◌, ◌++◌, IfOk, OnOk, codes, map, option_map};
+ghost use Rattle.trace_explain.specs.Near as near;
+
+use crate::cut::after;
+use crate::hist_due::begins;
+use crate::near::is_near_path;
+use std::alloc::{AllocError, Global};
+use trace_format::EventDef;
+
+/// Whether a path is of a CPU whose number begins with `0` and goes on, so that another CPU may be meant.
+fn is_other_cpu(given: &[u8]) -> bool
+    ensures { result ≡ near.is_other_cpu given.now }
+{
+    begins(b"per_cpu/cpu0", given)
+        && match after(12, given) {
+            [byte, ..] => byte.is_ascii_digit(),
+            [] => false,
+        }
+}
+
+/// The first of these paths that is near; empty, if none is.
+fn first_near_path(given: &[u8], paths: &[&'static str]) -> &'static str
+    ensures { result.now ≡ near.first_near_path given.now (map (λ path. path.now) paths.now) }
+{
+    for path in paths {
+        if is_near_path(given, path.as_bytes()) {
+            return path;
+        }
+    }
+    ""
+}
+
+/// The first file of a CPU whose path is near; empty, if none is.
+#[tactic(auto, unfolding(crate::specs::Near::near_cpu_file))]
+fn near_cpu_file(given: &[u8]) -> &'static str
+    ensures { result.now ≡ near.near_cpu_file given.now }
+{
+    if is_other_cpu(given) {
+        return "";
+    }
+    first_near_path(
+        given,
+        &[
+            "per_cpu/cpu0/stats",
+            "per_cpu/cpu0/trace",
+            "per_cpu/cpu0/trace_pipe",
+        ],
+    )
+}
+
+/// The first file of an instance or of all its events whose path is near; empty, if none is.
+#[tactic(auto, unfolding(crate::specs::Near::near_shared_file))]
+fn near_shared_file(given: &[u8]) -> &'static str
+    ensures { result.now ≡ near.near_shared_file given.now }
+{
+    first_near_path(
+        given,
+        &[
+            "trace",
+            "trace_pipe",
+            "tracing_on",
+            "trace_options",
+            "snapshot",
+            "options/overwrite",
+            "events/enable",
+            "events/synthetic/enable",
+            "events/synthetic/filter",
+        ],
+    )
+}
+
+/// Whether a path has the name of what a file turns on, for turning it off.
+fn is_opposite(given: &[u8]) -> bool
+    ensures { result ≡ near.is_opposite given.now }
+{
+    begins(b"options/no", given) || begins(b"tracing_of", given)
+}
+
+/// The first file of an instance, but of no event, whose path is near; empty, if none is.
+#[tactic(auto, unfolding(crate::specs::Near::near_file))]
+pub(crate) fn near_file(given: &[u8]) -> &'static str
+    ensures { result.now ≡ near.near_file given.now }
+{
+    if is_opposite(given) {
+        return "";
+    }
+    let file = near_shared_file(given);
+    if file.is_empty() {
+        near_cpu_file(given)
+    } else {
+        file
+    }
+}
+
+/// The first file at the top, but of no event, whose path is near; empty, if none is.
+#[tactic(auto, unfolding(crate::specs::Near::near_top_file))]
+pub(crate) fn near_top_file(given: &[u8]) -> &'static str
+    ensures { result.now ≡ near.near_top_file given.now }
+{
+    if is_near_path(given, b"synthetic_events") {
+        "synthetic_events"
+    } else {
+        near_file(given)
+    }
+}
+
+fn push_event_path(out: &mut Vec<u8>, event: &[u8], file: &[u8]) -> Result<(), AllocError>
+    ensures { OnOk result (out.new.items ≡ out.old.items ++ codes "events/synthetic/" ++ event.now ++ codes "/" ++ file.now) }
+{
+    out.extend_from_slice(b"events/synthetic/".as_slice())?;
+    out.extend_from_slice(event)?;
+    out.extend_from_slice(b"/".as_slice())?;
+    out.extend_from_slice(file)
+}
+
+/// The path of an event's file.
+#[tactic(auto, unfolding(crate::specs::Near::event_path))]
+fn event_path(alloc: Global, event: &[u8], file: &[u8]) -> Result<Vec<u8>, AllocError>
+    ensures { IfOk result (λ path. path.items ≡ near.event_path event.now file.now) }
+{
+    let mut path = Vec::new(alloc);
+    push_event_path(&mut path, event, file)?;
+    Ok(path)
+}
+
+/// The path of an event's file, if it is near.
+fn near_event_path(
+    alloc: Global,
+    given: &[u8],
+    event: &[u8],
+    file: &[u8],
+) -> Result<Option<Vec<u8>>, AllocError>
+    ensures { IfOk result (λ found. option_map (λ path. path.items) found ≡ near.near_event_path given.now event.now file.now) }
+{
+    let path = event_path(alloc, event, file)?;
+    if is_near_path(given, &path) {
+        Ok(Some(path))
+    } else {
+        Ok(None)
+    }
+}
+
+/// The first of these files of an event whose path is near.
+fn first_near_file(
+    alloc: Global,
+    given: &[u8],
+    event: &[u8],
+    files: &[&str],
+) -> Result<Option<Vec<u8>>, AllocError>
+    ensures { IfOk result (λ found. option_map (λ path. path.items) found ≡ near.first_near_file given.now event.now (map (λ file. file.now) files.now)) }
+{
+    for file in files {
+        if let Some(path) = near_event_path(alloc, given, event, file.as_bytes())? {
+            return Ok(Some(path));
+        }
+    }
+    Ok(None)
+}
+
+/// The first file of an event whose path is near.
+fn near_file_of(alloc: Global, given: &[u8], event: &[u8]) -> Result<Option<Vec<u8>>, AllocError>
+    ensures { IfOk result (λ found. option_map (λ path. path.items) found ≡ near.near_file_of given.now event.now) }
+{
+    first_near_file(
+        alloc,
+        given,
+        event,
+        &["enable", "filter", "trigger", "hist", "format"],
+    )
+}
+
+/// The first file of one of these events whose path is near.
+pub(crate) fn near_event_file(
+    alloc: Global,
+    given: &[u8],
+    events: &[EventDef],
+) -> Result<Option<Vec<u8>>, AllocError>
+    ensures { IfOk result (λ found. option_map (λ path. path.items) found ≡ near.near_event_file given.now events.now) }
+{
+    for event in events {
+        if let Some(path) = near_file_of(alloc, given, event.name())? {
+            return Ok(Some(path));
+        }
+    }
+    Ok(None)
+}
