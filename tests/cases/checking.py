@@ -29,7 +29,7 @@ def checked(words, commands, settings=(), by=None):
 
 
 def check_cases():
-    counts = {"tests/program": 20, "tests/threads": 3, "tests/allocations": 10, "tests/refused": 4, "tests/devices": 7, "tests/calls": 2, "tests/interleaving": 9, "tests/histograms": 7, "tests/planted": 5, "tests/archive": 1}
+    counts = {"tests/program": 20, "tests/threads": 3, "tests/allocations": 10, "tests/tried": 29, "tests/planted": 5, "tests/archive": 1}
     tests = {name: CHECKED % (name, count, 0, 0) for name, count in counts.items()}
     whole = dict(tests, rt=CHECKED % ("rt", 100, 0, 0))
 
@@ -43,7 +43,7 @@ def check_cases():
         return Case("./check: " + name, right)
 
     jobs = ["RT_JOBS=3"]
-    each = ["rt ci RT_JOBS=3", "tests/archive  RT_JOBS=3", "tests/program  RT_JOBS=3", "tests/threads ", "tests/allocations ", "tests/refused ", "tests/devices ", "tests/calls ", "tests/interleaving ", "tests/histograms "]
+    each = ["rt ci RT_JOBS=3", "tests/archive  RT_JOBS=3", "tests/program  RT_JOBS=3", "tests/threads ", "tests/allocations ", "tests/tried "]
     no_rt = b"check: rt, the command of the Rattle kit, is needed and was not found\n"
     little = b"check: 1953 MiB of memory are free, and the largest crate needs about 4096\n"
     elsewhere = ["CDPATH=.:/", "TMPDIR=/no/such/folder"] + jobs
