@@ -5,6 +5,7 @@ import re
 from collections import namedtuple
 from concurrent.futures import ThreadPoolExecutor
 
+from cases.forking import Run, can_fork, outcomes
 from cases.running import TOP, Case, quoted, run
 from cases.scripts import wanted, words_of
 
@@ -13,7 +14,7 @@ ROWS = TOP / "tests" / "rows"
 # Each beginning of this one is a case; what its lines give where they are cut off is told exactly.
 WHOLE = "lost_line_after_overrun"
 
-# Of these, the beginnings that end in a word, in a quoted string or in a part.
+# Of these, the beginnings that end in a word, in a quoted string or in a part; of a long line one in STEP.
 CUT = """
     bad_emissions buckets cat_alone clear counted_trigger_and_busy cpu_paths declaration_refusals disabled_event
     eight_instances_after_one_emission enable_states end_out_of_place exchange filter_numbers filter_refusals five_emissions format_file full_table
@@ -28,6 +29,7 @@ CUT = """
 
 BLANKS = " \t"
 LONGEST_LINE = 4_096
+LONG_LINE, STEP = 256, 16
 GREATEST_CPU, GREATEST_LIMIT, GREATEST_PID = 2**32 - 1, 2**64 - 1, 2**31 - 1
 
 EVENT_FILES = "enable|filter|trigger|hist|format"
@@ -167,9 +169,11 @@ def lines_of(script):
 
 def is_within(text, end, line):
     """Whether the beginning of a line's text that is so long ends within a word, a quoted string or a part."""
+    if len(text) > LONG_LINE and end % STEP:
+        return False
     if line.part is not None:
         return True
-    return end > 0 and not says_nothing(text[:end]) and (cut(text[:end])[1] or text[end - 1] not in BLANKS + ">")
+    return end > 0 and not says_nothing(text[:end]) and (text[end - 1] not in BLANKS + ">" or cut(text[:end])[1])
 
 
 class Trial:
@@ -179,17 +183,25 @@ class Trial:
         self.path, self.known = path, known
         self.script, self.want = path.read_bytes().decode("latin-1"), wanted(path)
         self.command = [program] + words_of(path)
+        self.given = {}  # what the first bytes give, by how many they are
         self.whole = {}  # what the first lines give, by the number of the line after them
 
-    def ran(self, end):
-        return run(self.command, script=self.script[:end].encode("latin-1"))
+    def give(self, ends):
+        """Gives each of these beginnings to the program: forked where there is a C compiler, and else started."""
+        script = self.script.encode("latin-1")
+        if can_fork():
+            given = [each.outcome for each in outcomes(self.command, script, [Run(end) for end in ends])]
+        else:
+            with ThreadPoolExecutor(os.cpu_count()) as pool:
+                given = list(pool.map(lambda end: run(self.command, script=script[:end]), ends))
+        self.given = dict(zip(ends, given))
 
     def differs(self, end, got, words):
         return ["the first %d bytes give status %d and %s: %s" % (end, got.status, quoted(got.stdout), words)]
 
     def check_lines(self, line):
         """The first lines, all of them whole, give what the whole script begins with."""
-        got = self.whole[line.number] = self.ran(line.start)
+        got = self.whole[line.number] = self.given[line.start]
         right = self.want.stdout.startswith(got.stdout) and got.status in (0, 1, 2) and got.stderr == b""
         return [] if right else self.differs(line.start, got, "the whole script gives %s" % quoted(self.want.stdout))
 
@@ -197,9 +209,9 @@ class Trial:
         """What the beginning of a line gives comes after what the lines before it give."""
         line, length = case
         end, text = line.start + length, line.text[:length]
-        got = self.ran(end)
+        got = self.given[end]
         if line.part is not None and cut(text)[0] == [Word("end")] and not says_nothing(text):
-            before, replies = self.ran(end + 1), [b""]  # the part has its end
+            before, replies = self.given[min(end + 1, len(self.script))], [b""]  # the part has its end
         elif line.part is not None:
             before, replies = self.whole[line.part], [b"! %d: script BlockOutOfPlace\n" % line.part]
         else:
@@ -226,9 +238,9 @@ class Trial:
         lines = list(lines_of(self.script))
         ends = [(line, end) for line in lines for end in range(0 if line.part else 1, len(line.text) + 1)]
         cases = [(line, end) for line, end in ends if is_tried(line.text, end, line)]
-        with ThreadPoolExecutor(os.cpu_count()) as pool:
-            found = sum(pool.map(self.check_lines, [line for line in lines if line.part is None]), [])
-            return found or sum(pool.map(self.check_cut, cases), [])
+        self.give(sorted({line.start for line in lines} | {line.start + end + more for line, end in cases for more in (0, 1)} - {len(self.script) + 1}))
+        found = sum(map(self.check_lines, [line for line in lines if line.part is None]), [])
+        return found or sum(map(self.check_cut, cases), [])
 
 
 # What the lines of WHOLE give that name a file, cut off where they still do; the whole lines themselves are cases, too.

@@ -61,7 +61,7 @@ def replies_before_refusal(program):
     return differences(got, Outcome(3, b"".join(replies[:done]), OUT_OF_MEMORY))
 
 
-PART_SIZES = [1024 * size for size in range(16, 256, 8)]  # KiB: from what a script of a few lines needs to more than parts do
+PART_SIZES = [1024 * size for size in range(16, 256, 20)]  # KiB: from what a script of a few lines needs to more than parts do
 ROUNDS = 40
 ONE_ARENA = ["env", "MALLOC_ARENA_MAX=1"]  # the C library sets aside 64 MiB of address space for each thread, where there are so many: by luck
 
