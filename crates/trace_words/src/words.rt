@@ -7,7 +7,7 @@ ghost use Rattle.trace_command.specs.Configs.{IsInRange};
 use crate::help::{ABOUT, MORE, USAGE};
 use crate::stop::{Stop, told};
 use clap::error::ErrorKind;
-use clap::{Arg, ArgAction, Command, Error, value_parser};
+use clap::{Arg, ArgAction, ArgMatches, Command, Error, value_parser};
 use std::alloc::{AllocError, Global};
 use std::{env, io};
 use trace_command::Config;
@@ -65,101 +65,138 @@ pub struct Words<'a> {
     pub script: Script<'a>,
 }
 
-/// An option that takes a number. It has a default, which help shows.
-fn option<'a>(alloc: Global, name: &'a str, default: &'a str, help: &'a str) -> Arg<'a> {
-    Arg::new(alloc, name)
+/// Appends an argument.
+fn add<'a>(arguments: &mut Vec<Arg<'a>>, argument: Arg<'a>) -> Result<(), AllocError> {
+    Ok(arguments.push(argument)?)
+}
+
+/// Appends an option that takes a number. It has a default, which help shows.
+fn add_option<'a>(
+    alloc: Global,
+    arguments: &mut Vec<Arg<'a>>,
+    name: &'a str,
+    default: &'a str,
+    help: &'a str,
+) -> Result<(), AllocError> {
+    let option = Arg::new(alloc, name)
         .long(name)
         .value_name("N")
         .value_parser(value_parser!(u32))
         .default_value(default)
-        .help(help)
+        .help(help);
+    add(arguments, option)
 }
 
-/// An option that takes no value.
-fn flag<'a>(alloc: Global, name: &'a str, help: &'a str) -> Arg<'a> {
-    Arg::new(alloc, name)
+/// Appends an option that takes no value.
+fn add_flag<'a>(
+    alloc: Global,
+    arguments: &mut Vec<Arg<'a>>,
+    name: &'a str,
+    help: &'a str,
+) -> Result<(), AllocError> {
+    let flag = Arg::new(alloc, name)
         .long(name)
         .action(ArgAction::SetTrue)
-        .help(help)
+        .help(help);
+    add(arguments, flag)
 }
 
-/// A command with the options of the configuration too.
-fn with_config<'a>(alloc: Global, command: Command<'a>) -> Result<Command<'a>, AllocError> {
-    let cpus = option(alloc, CPUS, "1", "Number of CPUs, 1 to 8");
-    let pages = option(alloc, PAGES, "16", "Pages per ring, 2 to 1024");
-    let page_bytes = option(
+/// Appends the options of the configuration.
+fn add_config<'a>(alloc: Global, arguments: &mut Vec<Arg<'a>>) -> Result<(), AllocError> {
+    add_option(alloc, arguments, CPUS, "1", "Number of CPUs, 1 to 8")?;
+    add_option(alloc, arguments, PAGES, "16", "Pages per ring, 2 to 1024")?;
+    add_option(
         alloc,
+        arguments,
         PAGE_BYTES,
         "4080",
         "Bytes per page, 64 to 4080, a multiple of 8",
-    );
-    command.arg(cpus)?.arg(pages)?.arg(page_bytes)
+    )
 }
 
-/// A command with the options that have something told too.
-fn with_notes<'a>(alloc: Global, command: Command<'a>) -> Result<Command<'a>, AllocError> {
-    let explain = flag(
+/// Appends the options that have something told.
+fn add_notes<'a>(alloc: Global, arguments: &mut Vec<Arg<'a>>) -> Result<(), AllocError> {
+    add_flag(
         alloc,
+        arguments,
         EXPLAIN,
         "Explain on standard error what is wrong with a line that is refused or has a fault",
-    );
-    let bars = flag(
+    )?;
+    add_flag(
         alloc,
+        arguments,
         BARS,
         "Draw on standard error each histogram that is read",
-    );
-    let list = flag(
+    )?;
+    add_flag(
         alloc,
+        arguments,
         LIST,
         "After the script, list the files, each with r, w or rw before it",
-    );
-    command.arg(explain)?.arg(bars)?.arg(list)
+    )
 }
 
-/// A command with the option of a first look too.
-fn with_try<'a>(alloc: Global, command: Command<'a>) -> Result<Command<'a>, AllocError> {
-    command.arg(flag(
+/// Appends the option of a first look.
+fn add_try<'a>(alloc: Global, arguments: &mut Vec<Arg<'a>>) -> Result<(), AllocError> {
+    add_flag(
         alloc,
+        arguments,
         TRY,
         "Without a built program, run SCRIPT unproved: at most 60 seconds and 1 MiB of output",
-    ))
+    )
 }
 
-/// A command with the words that say which lines are to be done too: either the script that has them, or the lines themselves.
-fn with_script<'a>(alloc: Global, command: Command<'a>) -> Result<Command<'a>, AllocError> {
+/// Appends the option whose words are the lines to be done.
+fn add_lines<'a>(alloc: Global, arguments: &mut Vec<Arg<'a>>) -> Result<(), AllocError> {
     let lines = Arg::new(alloc, LINE)
         .short('c')
         .value_name(LINE)
         .num_args(1..)
         .action(ArgAction::Append)
-        .conflicts_with(SCRIPT)?
-        .help("Run these lines instead of SCRIPT, one line per argument");
-    let script = Arg::new(alloc, SCRIPT)
-        .required_unless_present(LINE)?
-        .help("A file, or - for standard input");
-    command.arg(lines)?.arg(script)
+        .help("Run these lines instead of SCRIPT, one line per argument")
+        .conflicts_with(SCRIPT)?;
+    add(arguments, lines)
 }
 
-fn command<'a>(alloc: Global) -> Result<Command<'a>, AllocError> {
-    let command = Command::new(alloc, "tracectl")
+/// Appends the script that has the lines to be done, where no word has them.
+fn add_script<'a>(alloc: Global, arguments: &mut Vec<Arg<'a>>) -> Result<(), AllocError> {
+    let script = Arg::new(alloc, SCRIPT)
+        .help("A file, or - for standard input")
+        .required_unless_present(LINE)?;
+    add(arguments, script)
+}
+
+/// Appends all arguments, in the order in which help shows them.
+fn add_all<'a>(alloc: Global, arguments: &mut Vec<Arg<'a>>) -> Result<(), AllocError> {
+    add_config(alloc, arguments)?;
+    add_notes(alloc, arguments)?;
+    add_try(alloc, arguments)?;
+    add_lines(alloc, arguments)?;
+    add_script(alloc, arguments)
+}
+
+/// The command before it has its arguments.
+fn bare_command<'a>(alloc: Global) -> Command<'a> {
+    Command::new(alloc, "tracectl")
         .version(VERSION)
         .about(ABOUT)
         .override_usage(USAGE)
-        .after_help(MORE);
-    let command = with_config(alloc, command)?;
-    let command = with_notes(alloc, command)?;
-    let command = with_try(alloc, command)?;
-    with_script(alloc, command)
+        .after_help(MORE)
 }
 
-/// The error for words that are not all in UTF-8.
+fn command<'a>(alloc: Global) -> Result<Command<'a>, AllocError> {
+    let mut arguments = Vec::new(alloc);
+    add_all(alloc, &mut arguments)?;
+    bare_command(alloc).args(arguments)
+}
+
+/// The error for words that are not all in UTF-8. No argument changes its text.
 fn not_unicode(alloc: Global) -> Result<Error, Error> {
-    let mut command = command(alloc)?;
-    let error = command.error(
+    let error = bare_command(alloc).error(
         ErrorKind::ValueValidation,
         "invalid UTF-8 was detected in one or more arguments",
-    )?;
-    Ok(error)
+    );
+    Ok(error?)
 }
 
 /// The words of the command line, the program's name first. `Told` comes where one of them is not in UTF-8.
@@ -185,37 +222,61 @@ fn script_of(alloc: Global, lines: &[&str]) -> Result<Vec<u8>, AllocError>
     Ok(script)
 }
 
-/// Reads the words, the program's name first, whatever the numbers of the configuration are.
-fn parsed<'a>(alloc: Global, words: &'a [String]) -> Result<Words<'a>, Error>
-    ensures { IfOk result (λ words. words.config.history_limit ≡ 2 ^ 32) }
+/// The configuration, whatever its numbers are.
+fn config_of(matches: &ArgMatches<'_>) -> Config
+    ensures { result.history_limit ≡ 2 ^ 32 }
 {
-    let matches = command(alloc)?.try_get_matches_from(words)?;
-    // Each option has its default, and there are lines or a SCRIPT, so no value is missing. 0 would be out of range, and no file has an
-    // empty name.
+    // Each option has its default, so no value is missing. 0 would be out of range.
     let number = |name| matches.get_one::<u32>(name).unwrap_or(0);
-    let config = Config {
+    Config {
         cpus: number(CPUS),
         pages: number(PAGES),
         page_bytes: number(PAGE_BYTES),
         history_limit: HISTORY_LIMIT,
-    };
-    let script = match matches.get_strs(LINE) {
-        Some(lines) => Script::Lines(script_of(alloc, lines)?),
-        None => match matches.get_str(SCRIPT).unwrap_or("") {
-            "-" => Script::Input,
-            name => Script::File(name),
-        },
-    };
-    let notes = Notes {
+    }
+}
+
+fn notes_of(matches: &ArgMatches<'_>) -> Notes {
+    Notes {
         explains: matches.get_flag(EXPLAIN),
         draws: matches.get_flag(BARS),
         lists: matches.get_flag(LIST),
-    };
+    }
+}
+
+/// Where the script comes from. There are lines or a SCRIPT, so no value is missing, and no file has an empty name.
+fn source_of<'a>(alloc: Global, matches: &ArgMatches<'a>) -> Result<Script<'a>, AllocError> {
+    match matches.get_strs(LINE) {
+        Some(lines) => Ok(Script::Lines(script_of(alloc, lines)?)),
+        None => match matches.get_str(SCRIPT).unwrap_or("") {
+            "-" => Ok(Script::Input),
+            name => Ok(Script::File(name)),
+        },
+    }
+}
+
+/// What the words ask for, once they were matched.
+fn asked<'a>(alloc: Global, matches: &ArgMatches<'a>) -> Result<Words<'a>, AllocError>
+    ensures { IfOk result (λ words. words.config.history_limit ≡ 2 ^ 32) }
+{
+    let script = source_of(alloc, matches)?;
     Ok(Words {
-        config,
-        notes,
+        config: config_of(matches),
+        notes: notes_of(matches),
         script,
     })
+}
+
+fn matched<'a>(alloc: Global, words: &'a [String]) -> Result<ArgMatches<'a>, Error> {
+    command(alloc)?.try_get_matches_from(words)
+}
+
+/// Reads the words, the program's name first, whatever the numbers of the configuration are.
+fn parsed<'a>(alloc: Global, words: &'a [String]) -> Result<Words<'a>, Error>
+    ensures { IfOk result (λ words. words.config.history_limit ≡ 2 ^ 32) }
+{
+    let matches = matched(alloc, words)?;
+    Ok(asked(alloc, &matches)?)
 }
 
 impl<'a> Words<'a> {
