@@ -4,8 +4,8 @@ use Rattle.std.proofs.lemmas.List.{append-nil}
 use Rattle.trace_items.specs.PartReads.{IsLineAt}
 use Rattle.trace_script.specs.declared.outcome.Outcome.{Outcome}
 use Rattle.trace_session.specs.Heard.{Heard, Hears, AreInOrder, heard_each, heard_of, line_at}
-use Rattle.trace_session.specs.PartTexts.{told_if}
-use Rattle.trace_session.specs.declared.part_text.OutcomeAt.{OutcomeAt}
+use Rattle.trace_parts.specs.ThreadTexts.{told_if}
+use Rattle.trace_parts.specs.declared.outcome_at.OutcomeAt.{OutcomeAt}
 
 pub Hears_nothing : (a : Option (List Heard)) → Hears a a []
 Hears_nothing None = tt

@@ -1,5 +1,5 @@
 -- How what is written for the threads of a part is put together.
-use Rattle.std.proofs.Common.{◌≡◌, ℕ, ◌+◌, ◌<◌, Bool, true, false, ◌||◌, if◌then◌else◌, Option, Some, Ok, Err, Vec, List, [], ◌∷◌, ◌++◌, drop, get_or, length, map, All, Result, refl, sym, ap, subst, ◌∙◌, arith, append_assoc}
+use Rattle.std.proofs.Common.{◌≡◌, ℕ, ◌+◌, ◌<◌, Bool, true, false, ◌||◌, if◌then◌else◌, Option, Some, Ok, Err, Vec, List, [], ◌∷◌, ◌++◌, drop, get_or, is_err, length, map, All, Result, refl, sym, ap, subst, ◌∙◌, arith, append_assoc}
 use Rattle.std.proofs.Math.Bool.{or_assoc}
 use Rattle.std.proofs.lemmas.List.{drop_more, map-append}
 use Rattle.std.proofs.lemmas.List.Elements.{All-cons}
@@ -10,20 +10,18 @@ use Rattle.trace_history.specs.Blocks.{IsUnworn}
 use Rattle.trace_items.specs.declared.part.Numbered.{Numbered}
 use Rattle.trace_script.specs.Rendering.{rendered}
 use Rattle.trace_script.specs.declared.outcome.Outcome.{Outcome}
-use Rattle.trace_session.specs.Parts.{outcome_of, outcomes_in, replies_text, thread_line, threads_text}
+use Rattle.trace_parts.proofs.ThreadWriting.{told_append}
+use Rattle.trace_parts.specs.ThreadLines.{outcome_of, thread_line}
+use Rattle.trace_parts.specs.ThreadTexts.{numbered_text, numbered_outcomes, told_if}
+use Rattle.trace_session.specs.Parts.{outcomes_in, replies_text, threads_text}
 use Rattle.trace_session.specs.Sessions.{is_fault, is_refusal, status_of}
-use Rattle.trace_session.specs.declared.part_text.OutcomeAt.{OutcomeAt}
+use Rattle.trace_parts.specs.declared.outcome_at.OutcomeAt.{OutcomeAt}
 use Rattle.trace_session.specs.declared.status.Status.{Status}
 use Rattle.trace_session.specs.declared.status.Status.TheVariants as statuses
-use Rattle.trace_session.specs.PartTexts.{numbered_text, numbered_threads, numbered_outcomes, outcomes_of_threads, refuses, replies_in, items_in, told_if, AreNumbered, AreOutcomesOf}
+use Rattle.trace_session.specs.PartTexts.{numbered_threads, outcomes_of_threads, replies_in, items_in, AreNumbered, AreOutcomesOf}
 use Rattle.trace_command.specs.declared.command.Reply.{Reply}
 use Rattle.trace_command.specs.declared.refusal.Refusal.{Refusal}
 use Rattle.trace_workers.specs.declared.part.Part.{Part}
-
--- what is told of several is what is told of each
-told_append : (is_told : Bool) (ones others : List OutcomeAt) → told_if is_told (ones ++ others) ≡ told_if is_told ones ++ told_if is_told others
-told_append true ones others = refl
-told_append false ones others = refl
 
 module _ (numbers : List (Vec ℕ Global)) (thread : ℕ) (own : Vec ℕ Global) (parts more : List Part) (part : Part)
     (within : thread < length numbers) (at : own ≡ get_or numbers thread own) (next : parts ≡ part ∷ more)
@@ -61,12 +59,12 @@ module _ (numbers : List (Vec ℕ Global)) (thread : ℕ) (own : Vec ℕ Global)
         ∙ ap (λ (outcomes : List OutcomeAt). told ++ outcomes) (sym (told_append is_told these rest))
         ∙ left_is (λ os ps. told ++ told_if is_told (outcomes_of_threads (items_in os) (replies_in ps)) ≡ all) written
 
-    pub refused_later : (before now all : Bool) → (before || list_any (list_any refuses) (replies_in parts)) ≡ all
-        → now ≡ (before || list_any refuses part.replies.items) → (now || list_any (list_any refuses) (replies_in more)) ≡ all
+    pub refused_later : (before now all : Bool) → (before || list_any (list_any is_err) (replies_in parts)) ≡ all
+        → now ≡ (before || list_any is_err part.replies.items) → (now || list_any (list_any is_err) (replies_in more)) ≡ all
     refused_later before now all told grown =
-        ap (λ (b : Bool). b || list_any (list_any refuses) (replies_in more)) grown
-        ∙ or_assoc before (list_any refuses part.replies.items) (list_any (list_any refuses) (replies_in more))
-        ∙ left_is (λ os ps. (before || list_any (list_any refuses) (replies_in ps)) ≡ all) told
+        ap (λ (b : Bool). b || list_any (list_any is_err) (replies_in more)) grown
+        ∙ or_assoc before (list_any is_err part.replies.items) (list_any (list_any is_err) (replies_in more))
+        ∙ left_is (λ os ps. (before || list_any (list_any is_err) (replies_in ps)) ≡ all) told
 
     pub unworn_later : (X : Type 0) → (All IsUnworn (replies_in parts) → X) → IsUnworn part.replies.items → All IsUnworn (replies_in more) → X
     unworn_later X told first others =
@@ -87,19 +85,20 @@ no_fault_in (own ∷ replies) =
     list_any-append is_fault (map (λ (reply : Result Reply Refusal). Some (outcome_of reply)) own) (outcomes_in replies)
     ∙ ap (λ (b : Bool). b || list_any is_fault (outcomes_in replies)) (no_fault own) ∙ no_fault_in replies
 
-refusals : (replies : List (Result Reply Refusal)) → list_any is_refusal (map (λ (reply : Result Reply Refusal). Some (outcome_of reply)) replies) ≡ list_any refuses replies
+refusals : (replies : List (Result Reply Refusal)) → list_any is_refusal (map (λ (reply : Result Reply Refusal). Some (outcome_of reply)) replies) ≡ list_any is_err replies
 refusals [] = refl
-refusals (reply ∷ replies) = ap (λ (b : Bool). refuses reply || b) (refusals replies)
+refusals (Ok reply ∷ replies) = refusals replies
+refusals (Err refusal ∷ replies) = refl
 
-refusals_in : (replies : List (List (Result Reply Refusal))) → list_any is_refusal (outcomes_in replies) ≡ list_any (list_any refuses) replies
+refusals_in : (replies : List (List (Result Reply Refusal))) → list_any is_refusal (outcomes_in replies) ≡ list_any (list_any is_err) replies
 refusals_in [] = refl
 refusals_in (own ∷ replies) =
     list_any-append is_refusal (map (λ (reply : Result Reply Refusal). Some (outcome_of reply)) own) (outcomes_in replies)
     ∙ ap (λ (b : Bool). b || list_any is_refusal (outcomes_in replies)) (refusals own)
-    ∙ ap (λ (b : Bool). list_any refuses own || b) (refusals_in replies)
+    ∙ ap (λ (b : Bool). list_any is_err own || b) (refusals_in replies)
 
 -- the status of a part's commands is told by whether any was refused
-pub status_is : (replies : List (List (Result Reply Refusal))) (refused : Bool) → refused ≡ list_any (list_any refuses) replies
+pub status_is : (replies : List (List (Result Reply Refusal))) (refused : Bool) → refused ≡ list_any (list_any is_err) replies
     → (if refused then statuses.Refused else statuses.Done) ≡ status_of (outcomes_in replies)
 status_is replies refused is =
     let told : Bool → Status = λ b. if b then statuses.Refused else statuses.Done in

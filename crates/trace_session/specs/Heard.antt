@@ -13,7 +13,7 @@ use Rattle.trace_script.specs.declared.outcome.Outcome.TheVariants.{Fault}
 use Rattle.trace_session.specs.Parts.{Given, PartMayGive}
 use Rattle.trace_session.specs.PartTexts.{AreOutcomesOf}
 use Rattle.trace_session.specs.Sessions.{Progress, turn_of}
-use Rattle.trace_session.specs.declared.part_text.OutcomeAt.{OutcomeAt}
+use Rattle.trace_parts.specs.declared.outcome_at.OutcomeAt.{OutcomeAt}
 
 -- what was heard: what became of the line of this number; and the bytes that the sink held by then, where they are known
 pub record Heard : Type 0 where

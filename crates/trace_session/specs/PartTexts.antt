@@ -1,50 +1,26 @@
 -- What the code that writes for a part promises. It no longer has the commands, only the numbers of their lines.
-use Rattle.std.specs.Prelude.{◌≡◌, Vec, ℕ, ◌+◌, Bool, true, false, List, [], ◌∷◌, ◌++◌, map, flat_map, length, Option, Some, Result}
+use Rattle.std.specs.Prelude.{◌≡◌, Vec, ℕ, ◌+◌, List, [], ◌∷◌, ◌++◌, map, flat_map, length, Option, Some, Result}
 use Rattle.std.specs.declared.alloc.Global.{Global}
 use Rattle.trace_command.specs.declared.command.Reply.{Reply}
 use Rattle.trace_command.specs.declared.refusal.Refusal.{Refusal}
 use Rattle.trace_items.specs.declared.part.Numbered.{Numbered}
-use Rattle.trace_script.specs.Rendering.{rendered}
+use Rattle.trace_parts.specs.ThreadLines.{thread_line}
+use Rattle.trace_parts.specs.ThreadTexts.{numbered_text, numbered_outcomes}
+use Rattle.trace_parts.specs.declared.outcome_at.OutcomeAt.{OutcomeAt}
 use Rattle.trace_script.specs.declared.outcome.Outcome.{Outcome}
 use Rattle.trace_command.specs.declared.command.Command.{Command}
 use Rattle.trace_session.specs.declared.part_line.AskedLine.{AskedLine}
-use Rattle.trace_session.specs.Parts.{outcome_of, thread_line}
-use Rattle.trace_session.specs.Sessions.{is_refusal}
-use Rattle.trace_session.specs.declared.part_text.OutcomeAt.{OutcomeAt}
 use Rattle.trace_workers.specs.declared.part.Part.{Part}
 
--- what is written for replies to commands that stand in lines of these numbers
-abbrev pub numbered_text : List ℕ → List (Result Reply Refusal) → List ℕ
-numbered_text (number ∷ numbers) (reply ∷ replies) = rendered number (outcome_of reply) ++ numbered_text numbers replies
-numbered_text _ _ = []
-
--- what became of the command in the line of this number
-abbrev pub outcome_at : ℕ → Result Reply Refusal → OutcomeAt
-outcome_at number reply = record { number = number; outcome = outcome_of reply }
-
--- likewise for commands that stand in lines of these numbers
-abbrev pub numbered_outcomes : List ℕ → List (Result Reply Refusal) → List OutcomeAt
-numbered_outcomes (number ∷ numbers) (reply ∷ replies) = outcome_at number reply ∷ numbered_outcomes numbers replies
-numbered_outcomes _ _ = []
-
--- and of the commands of threads
+-- what became of the commands of threads, which stand in lines of these numbers
 abbrev pub outcomes_of_threads : List (List ℕ) → List (List (Result Reply Refusal)) → List OutcomeAt
 outcomes_of_threads (own ∷ numbers) (replies ∷ more) = numbered_outcomes own replies ++ outcomes_of_threads numbers more
 outcomes_of_threads _ _ = []
-
--- the outcomes, if somebody is told
-abbrev pub told_if : Bool → List OutcomeAt → List OutcomeAt
-told_if true outcomes = outcomes
-told_if false outcomes = []
 
 -- what is written for threads from this one on, whose commands stand in lines of these numbers
 abbrev pub numbered_threads : ℕ → List (List ℕ) → List (List (Result Reply Refusal)) → List ℕ
 numbered_threads thread (own ∷ numbers) (replies ∷ more) = thread_line thread ++ numbered_text own replies ++ numbered_threads (thread + 1) numbers more
 numbered_threads thread _ _ = []
-
--- the reply is a refusal
-abbrev pub refuses : Result Reply Refusal → Bool
-refuses reply = is_refusal (Some (outcome_of reply))
 
 -- the replies of each part of a block
 abbrev pub replies_in : List Part → List (List (Result Reply Refusal))

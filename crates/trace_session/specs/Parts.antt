@@ -1,8 +1,7 @@
 -- What a session may write for a script with parts, and with which status. Each part's threads may have their turns in any order, so a script
 -- may have several lawful sessions. They are told by histories alone.
-use Rattle.std.specs.Prelude.{◌≡◌, ℕ, ◌+◌, ◌≤◌, ◌<◌, Bool, true, false, List, [], ◌∷◌, ◌++◌, map, flat_map, take, All, Option, Some, Result, Ok, Err, codes}
+use Rattle.std.specs.Prelude.{◌≡◌, ℕ, ◌+◌, ◌≤◌, ◌<◌, Bool, true, false, List, [], ◌∷◌, ◌++◌, map, flat_map, take, All, Option, Some, Result}
 use Rattle.std.specs.List.{list_any}
-use Rattle.std.specs.Fmt.{decimal}
 use Rattle.trace_history.specs.Blocks.{Trail, IsBlock, IsUnworn}
 use Rattle.trace_command.specs.declared.command.Config.{Config}
 use Rattle.trace_command.specs.declared.command.Entry.{Entry}
@@ -10,15 +9,11 @@ use Rattle.trace_command.specs.declared.command.Reply.{Reply}
 use Rattle.trace_command.specs.declared.refusal.Refusal.{Refusal}
 use Rattle.trace_items.specs.Items.{Item, Single, Threads, Faulty, items_of}
 use Rattle.trace_items.specs.declared.part.Numbered.{Numbered}
+use Rattle.trace_parts.specs.ThreadLines.{outcome_of, thread_line}
 use Rattle.trace_script.specs.Rendering.{rendered}
 use Rattle.trace_script.specs.declared.outcome.Outcome.{Outcome}
 use Rattle.trace_script.specs.declared.outcome.Outcome.TheVariants as outcomes
 use Rattle.trace_session.specs.Sessions.{Progress, Session, beginning, turn_of, is_fault, text_of, status_of, session}
-
--- what became of a command
-abbrev pub outcome_of : Result Reply Refusal → Outcome
-outcome_of (Ok reply) = outcomes.Replied reply
-outcome_of (Err refusal) = outcomes.Refused refusal
 
 -- ---- a part
 
@@ -35,10 +30,6 @@ pub record IsDonePart (g : Config) (before after : List Entry) (threads : List (
 abbrev pub replies_text : List Numbered → List (Result Reply Refusal) → List ℕ
 replies_text (asked ∷ thread) (reply ∷ replies) = rendered asked.number (outcome_of reply) ++ replies_text thread replies
 replies_text _ _ = []
-
--- `-- thread K`, and a newline
-abbrev pub thread_line : ℕ → List ℕ
-thread_line thread = codes "-- thread " ++ decimal thread ++ codes "\n"
 
 -- what is written for the threads of a part from this one on: its line, and what its commands give
 abbrev pub threads_text : ℕ → List (List Numbered) → List (List (Result Reply Refusal)) → List ℕ

@@ -5,10 +5,11 @@ ghost use Rattle.ticket_lock.specs.Calls.{view_of, IsOf};
 ghost use Rattle.trace_command.specs.declared.command.Config.{Config};
 ghost use Rattle.trace_items.specs.PartReads.{commands_in};
 ghost use Rattle.trace_session.specs.Parts.{Given, PartMayGive};
-ghost use Rattle.trace_session.specs.PartTexts.{AreOutcomesOf, told_if};
+ghost use Rattle.trace_parts.specs.ThreadTexts.{told_if};
+ghost use Rattle.trace_session.specs.PartTexts.{AreOutcomesOf};
 ghost use Rattle.trace_session.specs.Passes.{IsSessionPass, progress_of};
 ghost use Rattle.trace_session.specs.Sessions.{status_of};
-ghost use Rattle.trace_session.specs.declared.part_text.OutcomeAt.{OutcomeAt};
+ghost use Rattle.trace_parts.specs.declared.outcome_at.OutcomeAt.{OutcomeAt};
 
 use crate::environment::Environment;
 use crate::part_split::split_threads;

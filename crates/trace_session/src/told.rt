@@ -9,11 +9,12 @@ ghost use Rattle.trace_session.specs.Sessions.{text_of, status_of};
 
 use crate::device::Sink;
 use crate::output::write_outcome;
-use crate::part_text::{OutcomeAt, PartOutput};
+use crate::part_text::PartOutput;
 use crate::replies::Replies;
 use crate::status::Status;
 use std::alloc::Global;
 use trace_items::{LinesFrom, Stop};
+use trace_parts::OutcomeAt;
 use trace_script::Outcome;
 
 /// The status of a single line.

@@ -1,7 +1,7 @@
-use Rattle.std.proofs.Common.{◌≡◌, ◌<◌, length, arith, rules, All, ap, ◌∙◌}
+use Rattle.std.proofs.Common.{◌≡◌, ◌<◌, length, arith, rules, All, ap, ◌∙◌, is_err}
 use Rattle.std.proofs.lemmas.Grind.{common_steps}
 use Rattle.std.specs.List.{list_any}
-use Rattle.trace_session.specs.PartTexts.{refuses, replies_in}
+use Rattle.trace_session.specs.PartTexts.{replies_in}
 use Rattle.trace_history.specs.Blocks.{IsUnworn}
 use Rattle.trace_session.proofs.PartWriting.{status_is, numbered_later, text_later, outcomes_later, refused_later, unworn_later}
 use Rattle.trace_session.proofs.part_text.write_threads.Goals as goal
@@ -19,11 +19,11 @@ loop-part-preserved c =
     record {
       left = omega (arith, l.invariant.left, ap length next);
       numbered = numbered_later numbers l.thread own left more c.in-Some.part within c.index-numbers-thread.is next l.invariant.numbered;
-      text = text_later numbers l.thread own left more c.in-Some.part within c.index-numbers-thread.is next l.writing.text.items c.add_thread.new.writing.text.items _ l.invariant.text
+      text = text_later numbers l.thread own left more c.in-Some.part within c.index-numbers-thread.is next l.transcript.text.items c.add_thread.new.self.text.items _ l.invariant.text
           (rw (← c.deref.ensures.value) grown.text);
-      outcomes = outcomes_later numbers l.thread own left more c.in-Some.part within c.index-numbers-thread.is next c.args.is_told l.writing.outcomes.items c.add_thread.new.writing.outcomes.items _
+      outcomes = outcomes_later numbers l.thread own left more c.in-Some.part within c.index-numbers-thread.is next c.args.is_told l.transcript.outcomes.items c.add_thread.new.self.outcomes.items _
           l.invariant.outcomes (rw (← c.deref.ensures.value) grown.outcomes);
-      refused = refused_later numbers l.thread own left more c.in-Some.part within c.index-numbers-thread.is next l.writing.is_refused c.add_thread.new.writing.is_refused _ l.invariant.refused
+      refused = refused_later numbers l.thread own left more c.in-Some.part within c.index-numbers-thread.is next l.transcript.is_refused c.add_thread.new.self.is_refused _ l.invariant.refused
           grown.refused;
       unworn = unworn_later numbers l.thread own left more c.in-Some.part within c.index-numbers-thread.is next (All IsUnworn (replies_in c.args.done.items)) l.invariant.unworn
           grown.unworn;
@@ -33,5 +33,5 @@ loop-part-preserved c =
 pub returns-clause-status : goal.returns-clause-status
 returns-clause-status c =
     let replies = replies_in c.args.done.items in
-    let told : c.loop-part.writing.is_refused ≡ list_any (list_any refuses) replies = first_of (search rules, grind (arith, common_steps)) in
-    c.finish.ensures.status ∙ status_is replies c.loop-part.writing.is_refused told
+    let told : c.loop-part.transcript.is_refused ≡ list_any (list_any is_err) replies = first_of (search rules, grind (arith, common_steps)) in
+    c.finish.ensures.status ∙ status_is replies c.loop-part.transcript.is_refused told

@@ -1,0 +1,2 @@
+pub mod ThreadLines
+pub mod ThreadTexts
