@@ -5,7 +5,7 @@
 //     hists common_pid KEYS HITS     the same of one row, the key being a number beside it
 //     prints ENTRIES COUNT           sorts and prints so many entries, so often
 //
-// Rows and lines are those of crates/benches, and so is what is said at the end.
+// Rows and lines are those of bench/crate, and so is what is said at the end.
 #include <algorithm>
 #include <cstdint>
 #include <cstdio>

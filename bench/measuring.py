@@ -12,15 +12,18 @@ import termios
 import time
 
 TOP = os.path.dirname(os.path.dirname(os.path.abspath(__file__)))
+# Of each program where it is built, and by what.
+PROGRAMS = {"tracectl": ("crates/tracectl/out/tracectl", "./tracectl"), "benches": ("bench/out/benches", "bench/build")}
 RUNS = 12
 MOST_SCRIPT_BYTES = 16 * 1024 * 1024  # the program refuses longer scripts
 
 
 def program_of(crate):
     """The built program of a crate."""
-    program = os.path.join(TOP, "crates", crate, "out", crate)
+    path, command = PROGRAMS[crate]
+    program = os.path.join(TOP, path)
     if not os.access(program, os.X_OK):
-        sys.exit("no program at %s: build it first, by rt run in crates/%s" % (os.path.relpath(program), crate))
+        sys.exit("no program at %s: build it first, by %s" % (path, command))
     return program
 
 
