@@ -8,7 +8,7 @@ use std::process::ExitCode;
 use std::sync::Wait;
 use std::thread::Threads;
 use trace_book::{Command, Config, Pairs, Refusal, Reply, Tracer};
-use trace_workers::{BlockFault, OpenGate, history_of};
+use trace_workers::{BlockFault, OpenGate, Part, history_of};
 
 const CONFIG: Config = Config {
     cpus: 1,
@@ -20,23 +20,27 @@ const CONFIG: Config = Config {
 /// The process that the emissions name.
 const PROCESS: i32 = 7;
 
-/// The command `emit 0 7 tick n=NUMBER`.
-fn tick(alloc: Global, number: u32) -> Result<Command, Refusal> {
+/// The pairs `n=NUMBER` of an emission.
+fn pairs(alloc: Global, number: u32) -> Result<Pairs, AllocError> {
     let value = format!(in alloc; "{number}")?;
     let mut pairs = Pairs::new(alloc);
     pairs.push(alloc, b"n", value.as_bytes())?;
-    Ok(Command::emit(alloc, b"tick", 0, PROCESS, pairs)?)
+    Ok(pairs)
 }
 
-/// A tracer whose ring has taken five emissions.
-fn busy_tracer(alloc: Global) -> Result<Tracer, Refusal> {
-    let mut tracer = Tracer::new(alloc, CONFIG)?;
+/// The command `emit 0 7 tick n=NUMBER`.
+fn tick(alloc: Global, number: u32) -> Result<Command, AllocError> {
+    Command::emit(alloc, b"tick", 0, PROCESS, pairs(alloc, number)?)
+}
+
+/// Declares an event, switches it on, and emits it five times.
+fn emit_five(alloc: Global, tracer: &mut Tracer) -> Result<(), Refusal> {
     tracer.ask(Command::append(alloc, b"synthetic_events", b"tick u64 n")?)?;
     tracer.ask(Command::write(alloc, b"events/synthetic/tick/enable", b"1")?)?;
     for number in 1..6 {
         tracer.ask(tick(alloc, number)?)?;
     }
-    Ok(tracer)
+    Ok(())
 }
 
 /// Prints a text, and nothing for a command that has none.
@@ -47,10 +51,10 @@ fn show(rt: &impl Print, reply: Reply) {
     }
 }
 
-/// Consumes the oldest record, and shows it and the statistics of CPU 0 after it.
-fn run(rt: &(impl Print + AllocGlobal)) -> Result<(), Refusal> {
+/// Consumes the oldest record of five, and shows it and the statistics of CPU 0 after it.
+fn trace(rt: &(impl Print + AllocGlobal), tracer: &mut Tracer) -> Result<(), Refusal> {
     let alloc = rt.alloc();
-    let mut tracer = busy_tracer(alloc)?;
+    emit_five(alloc, tracer)?;
     let record = tracer.ask(Command::take(alloc, b"trace_pipe", 1)?)?;
     show(rt, record);
     let statistics = tracer.ask(Command::read(alloc, b"per_cpu/cpu0/stats")?)?;
@@ -58,26 +62,37 @@ fn run(rt: &(impl Print + AllocGlobal)) -> Result<(), Refusal> {
     Ok(())
 }
 
+fn run(rt: &(impl Print + AllocGlobal)) -> Result<(), Refusal> {
+    let mut tracer = Tracer::new(rt.alloc(), CONFIG)?;
+    trace(rt, &mut tracer)
+}
+
+/// A part that makes an instance.
+fn maker(alloc: Global) -> Result<Vec<Command>, AllocError> {
+    Ok(vec![in alloc; Command::mkdir(alloc, b"instances/a")?]?)
+}
+
 /// Three parts, each of which makes the same instance.
 fn makers(alloc: Global) -> Result<Vec<Vec<Command>>, AllocError>
     ensures { IfOk result (λ parts. vec_len parts ≡ 3) }
 {
-    let mut parts = Vec::new(alloc);
-    parts.push(vec![in alloc; Command::mkdir(alloc, b"instances/a")?]?)?;
-    parts.push(vec![in alloc; Command::mkdir(alloc, b"instances/a")?]?)?;
-    parts.push(vec![in alloc; Command::mkdir(alloc, b"instances/a")?]?)?;
-    Ok(parts)
+    Ok(vec![in alloc; maker(alloc)?, maker(alloc)?, maker(alloc)?]?)
+}
+
+/// How many parts were told that all their commands are done.
+fn made_by(done: &[Part]) -> usize {
+    done.iter()
+        .filter(|part| part.replies.iter().all(|reply| reply.is_ok()))
+        .count()
 }
 
 /// How many of three threads that make one instance side by side are told that it is done, and how many entries the history has then.
 fn race<R: Threads + Wait + Sync>(rt: &R, alloc: Global) -> Result<(usize, usize), BlockFault> {
     let parts = makers(alloc).map_err(|_| BlockFault::Memory)?;
-    let (book, done) = history_of(rt, alloc, CONFIG, parts, &OpenGate)?;
-    let made = done
-        .iter()
-        .filter(|part| part.replies.iter().all(|reply| reply.is_ok()))
-        .count();
-    Ok((made, book.entries().len()))
+    history_of(rt, alloc, CONFIG, parts, &OpenGate).map(|(book, done)| (
+        made_by(&done),
+        book.entries().len(),
+    ))
 }
 
 fn main(rt: HostRuntime) -> ExitCode {
