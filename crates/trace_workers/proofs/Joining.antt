@@ -16,7 +16,7 @@ use Rattle.trace_command.specs.declared.command.Config.{Config}
 use Rattle.trace_command.specs.declared.command.Entry.{Entry}
 use Rattle.trace_workers.proofs.Asking.{ahead_of}
 use Rattle.trace_history.proofs.Trailing.{trail-grows}
-use Rattle.trace_workers.proofs.Working.{none_under, without_name, one, only, any_append, of_any}
+use Rattle.trace_workers.proofs.Working.{none_under, without_name, only, any_append, of_any}
 
 -- the middle is between the ends
 middle_between : (low end : ℕ) → low ≤ end → (low ≤ middle_of low end) × (middle_of low end ≤ end)

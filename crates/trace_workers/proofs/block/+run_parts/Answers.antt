@@ -1,6 +1,6 @@
-use Rattle.std.proofs.Common.{◌≡◌, ◌≢◌, inl, inr, Some, ◌∷◌, ◌++◌, ℕ, ◌+◌, ◌<◌, [], map, length, vec_len, List, refl, sym, ap, ◌∙◌, arith, rules}
-use Rattle.std.proofs.lemmas.List.{length-map}
-use Rattle.ticket_lock.specs.Calls.{view_of}
+use Rattle.std.proofs.Common.{◌≡◌, ◌≢◌, inl, inr, Some, ◌∷◌, ◌++◌, ℕ, ◌+◌, ◌<◌, true, [], map, length, vec_len, List, refl, sym, ap, ◌∙◌, arith, rules}
+use Rattle.std.proofs.lemmas.List.{length-map, length_push}
+use Rattle.ticket_lock.specs.Calls.{view_of, IsOf}
 use Rattle.trace_workers.specs.BlockRuns.{commands_of}
 use Rattle.trace_workers.specs.PartRuns.{HasAsked, IsGated, begun_trail, begun_trails}
 use Rattle.trace_command.specs.declared.command.Command.{Command}
@@ -10,7 +10,30 @@ use Rattle.trace_workers.proofs.Joining.{run_meet}
 use Rattle.trace_workers.proofs.Working.{run_none}
 use Rattle.trace_workers.proofs.Blocking.{names_left, map_push, begun_none, begun_push, length-begun, whole_push, told_none}
 use Rattle.trace_workers.proofs.block.+run_parts.Goals as goal
-use Rattle.trace_workers.proofs.block.+run_parts.Goals.{in-Ok-started, in-Err}
+use Rattle.trace_workers.proofs.block.+run_parts.Goals.{in-Ok-started, in-Err, After-push_reserved}
+
+-- What came back for the last part, whether its thread ran it or it was called here.
+came_of : (g : _) (t : _) (c : After-push_reserved g t) → IsOf c.args.lock.now c.match-started.returned.0.pass
+came_of g t c = elim c.match-started.branch [ in-Ok-started w ↦ search rules | in-Err w ↦ search rules ]
+
+came_by : (g : _) (t : _) (c : After-push_reserved g t) → c.match-started.returned.0.part.by ≡ (view_of c.in-Ok.upper).low
+came_by g t c = elim c.match-started.branch [ in-Ok-started w ↦ search rules | in-Err w ↦ search rules ]
+
+came_asked : (g : _) (t : _) (c : After-push_reserved g t)
+    → HasAsked (view_of c.in-Ok.upper) (view_of c.match-started.returned.0.pass) (map g.C.Asked.command c.in-Some.commands.items)
+    c.match-started.returned.0.part.replies.items c.match-started.returned.0.fault
+came_asked g t c = elim c.match-started.branch [ in-Ok-started w ↦ search rules | in-Err w ↦ search rules ]
+
+came_open : (g : _) (t : _) (c : After-push_reserved g t) → g.G.Gate.is_open c.args.gate.now ≡ true → c.match-started.returned.0.fault ≢ Some Stopped
+came_open g t c = elim c.match-started.branch [ in-Ok-started w ↦ search rules | in-Err w ↦ search rules ]
+
+came_gated : (g : _) (t : _) (c : After-push_reserved g t)
+    → IsGated (g.G.Gate.may_answer c.args.gate.now (vec_len c.pop.new.self)) (map g.C.Asked.command c.in-Some.commands.items)
+    c.match-started.returned.0.part.replies.items c.match-started.returned.0.fault
+came_gated g t c = elim c.match-started.branch [ in-Ok-started w ↦ search rules | in-Err w ↦ search rules ]
+
+not_refused : (g : _) (t : _) (c : After-push_reserved g t) → c.match-started.returned.1 ≢ Some Stopped
+not_refused g t c = elim c.match-started.branch [ in-Ok-started w ↦ search rules | in-Err w ↦ search rules ]
 
 -- there are names for each part
 pub unreachable-requires : goal.unreachable-requires
@@ -37,10 +60,8 @@ returns-clause-run g t c =
     let commands = map g.C.Asked.command c.in-Some.commands.items in
     let replies = returned.part.replies.items in
     let before : List (List Command) = commands_of g.C.Asked.command c.pop.new.self.items in
-    let acts : HasAsked b (view_of returned.pass) commands replies returned.fault =
-    elim c.match-started.branch [ in-Ok-started w ↦ search rules | in-Err w ↦ search rules ] in
-    let by : returned.part.by ≡ b.low =
-    elim c.match-started.branch [ in-Ok-started w ↦ search rules | in-Err w ↦ search rules ] in
+    let acts : HasAsked b (view_of returned.pass) commands replies returned.fault = came_asked g t (goal.at.returns-clause-run g t c).After-push_reserved in
+    let by : returned.part.by ≡ b.low = came_by g t (goal.at.returns-clause-run g t c).After-push_reserved in
     let some : v.low + 1 < v.end = c.in-Ok.ensures.ok.0 refl in
     let parts : commands_of g.C.Asked.command c.args.parts.items ≡ before ++ commands ∷ [] =
     map_push (λ part. map g.C.Asked.command part.items) c.args.parts.items c.pop.new.self.items c.in-Some.commands c.in-Some.ensures.items in
@@ -71,8 +92,7 @@ returns-clause-begun g t c =
     let replies = returned.part.replies.items in
     let thread = vec_len c.pop.new.self in
     let before : List (List Command) = commands_of g.C.Asked.command c.pop.new.self.items in
-    let gated : IsGated (may thread) commands replies returned.fault =
-    elim c.match-started.branch [ in-Ok-started w ↦ search rules | in-Err w ↦ search rules ] in
+    let gated : IsGated (may thread) commands replies returned.fault = came_gated g t (goal.at.returns-clause-begun g t c).After-push_reserved in
     let parts : commands_of g.C.Asked.command c.args.parts.items ≡ before ++ commands ∷ [] =
     map_push (λ part. map g.C.Asked.command part.items) c.args.parts.items c.pop.new.self.items c.in-Some.commands c.in-Some.ensures.items in
     let many : length before ≡ length c.pop.new.self.items = length-map c.pop.new.self.items (λ part. map g.C.Asked.command part.items) in
@@ -91,8 +111,7 @@ returns-clause-whole g t c none =
     let returned = c.match-started.returned.0 in
     let commands = map g.C.Asked.command c.in-Some.commands.items in
     let before : List (List Command) = commands_of g.C.Asked.command c.pop.new.self.items in
-    let acts : HasAsked b (view_of returned.pass) commands returned.part.replies.items returned.fault =
-    elim c.match-started.branch [ in-Ok-started w ↦ search rules | in-Err w ↦ search rules ] in
+    let acts : HasAsked b (view_of returned.pass) commands returned.part.replies.items returned.fault = came_asked g t (goal.at.returns-clause-whole g t c).After-push_reserved in
     let parts : commands_of g.C.Asked.command c.args.parts.items ≡ before ++ commands ∷ [] =
     map_push (λ part. map g.C.Asked.command part.items) c.args.parts.items c.pop.new.self.items c.in-Some.commands c.in-Some.ensures.items in
     let all = told_none c.first_of-2.result others.result.fault c.first_of.result c.first_of-2.ensures none in
@@ -111,10 +130,8 @@ returns-clause-gate g t c none =
     let replies = returned.part.replies.items in
     let thread = vec_len c.pop.new.self in
     let before : List (List Command) = commands_of g.C.Asked.command c.pop.new.self.items in
-    let acts : HasAsked b (view_of returned.pass) commands replies returned.fault =
-    elim c.match-started.branch [ in-Ok-started w ↦ search rules | in-Err w ↦ search rules ] in
-    let gated : IsGated (may thread) commands replies returned.fault =
-    elim c.match-started.branch [ in-Ok-started w ↦ search rules | in-Err w ↦ search rules ] in
+    let acts : HasAsked b (view_of returned.pass) commands replies returned.fault = came_asked g t (goal.at.returns-clause-gate g t c).After-push_reserved in
+    let gated : IsGated (may thread) commands replies returned.fault = came_gated g t (goal.at.returns-clause-gate g t c).After-push_reserved in
     let parts : commands_of g.C.Asked.command c.args.parts.items ≡ before ++ commands ∷ [] =
     map_push (λ part. map g.C.Asked.command part.items) c.args.parts.items c.pop.new.self.items c.in-Some.commands c.in-Some.ensures.items in
     let counted : thread ≡ length c.pop.new.self.items = omega (arith, c.pop.new.self.ok.0) in
@@ -134,10 +151,8 @@ returns-clause-stopped g t c told =
     let replies = returned.part.replies.items in
     let thread = vec_len c.pop.new.self in
     let before : List (List Command) = commands_of g.C.Asked.command c.pop.new.self.items in
-    let gated : IsGated (may thread) commands replies returned.fault =
-    elim c.match-started.branch [ in-Ok-started w ↦ search rules | in-Err w ↦ search rules ] in
-    let refused : c.match-started.returned.1 ≢ Some Stopped =
-    elim c.match-started.branch [ in-Ok-started w ↦ search rules | in-Err w ↦ search rules ] in
+    let gated : IsGated (may thread) commands replies returned.fault = came_gated g t (goal.at.returns-clause-stopped g t c).After-push_reserved in
+    let refused : c.match-started.returned.1 ≢ Some Stopped = not_refused g t (goal.at.returns-clause-stopped g t c).After-push_reserved in
     let parts : commands_of g.C.Asked.command c.args.parts.items ≡ before ++ commands ∷ [] =
     map_push (λ part. map g.C.Asked.command part.items) c.args.parts.items c.pop.new.self.items c.in-Some.commands c.in-Some.ensures.items in
     let counted : thread ≡ length c.pop.new.self.items = omega (arith, c.pop.new.self.ok.0) in
@@ -147,5 +162,51 @@ returns-clause-stopped g t c told =
       | inr here ↦ elim (told_stopped c.first_of.result returned.fault c.match-started.returned.1 c.first_of.ensures here) [
         | inl last ↦ stops_last may _ before commands thread replies returned.fault parts many gated last
         | inr other ↦ absurd (refused other)
+      ]
+    ]
+
+-- what the lock and the parts before ask
+pub join-requires-2-clause-first : goal.join-requires-2-clause-first
+join-requires-2-clause-first g t c = c.run_parts-others.ensures.of
+
+pub join-requires-2-clause-second : goal.join-requires-2-clause-second
+join-requires-2-clause-second g t c = came_of g t c
+
+pub join-requires-2-clause-adjacent : goal.join-requires-2-clause-adjacent
+join-requires-2-clause-adjacent g t c =
+    let halves = c.in-Ok.ensures.halves in
+    c.run_parts-others.ensures.run.goes_on.end ∙ halves.lower_end ∙ sym ((came_asked g t c).run.goes_on.low ∙ halves.upper_low)
+
+pub push_reserved-requires : goal.push_reserved-requires
+push_reserved-requires g t c =
+    let others = c.run_parts-others.ensures in
+    omega (arith, others.room.0, others.room.1, c.requires.room, c.in-Some.ensures.cases)
+
+pub returns-clause-of : goal.returns-clause-of
+returns-clause-of g t c = c.join-2.ensures.of
+
+pub returns-clause-length : goal.returns-clause-length
+returns-clause-length g t c =
+    let others = c.run_parts-others in
+    rw (c.push_reserved.ensures.items, c.in-Some.ensures.items)
+    (length_push others.result.done.items c.match-started.returned.0.part ∙ ap (λ (n : ℕ). n + 1) others.ensures.length ∙ sym (length_push c.pop.new.self.items c.in-Some.commands))
+
+pub returns-clause-room : goal.returns-clause-room
+returns-clause-room g t c =
+    let room = c.run_parts-others.ensures.room in
+    (omega (arith, c.push_reserved.ensures.len, room.0, c.in-Some.ensures.cases), c.push_reserved.ensures.capacity ∙ room.1)
+
+pub returns-clause-callers : goal.returns-clause-callers
+returns-clause-callers g t c = inr c.join-2.ensures.met.callers
+
+pub returns-clause-open : goal.returns-clause-open
+returns-clause-open g t c is_open told =
+    let at = (goal.at.returns-clause-open g t c).After-push_reserved in
+    let returned = c.match-started.returned.0 in
+    elim (told_stopped c.first_of-2.result c.run_parts-others.result.fault c.first_of.result c.first_of-2.ensures told) [
+      | inl earlier ↦ c.run_parts-others.ensures.«open» is_open earlier
+      | inr here ↦ elim (told_stopped c.first_of.result returned.fault c.match-started.returned.1 c.first_of.ensures here) [
+        | inl last ↦ came_open g t at is_open last
+        | inr other ↦ not_refused g t at other
       ]
     ]
