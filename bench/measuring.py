@@ -52,6 +52,22 @@ def least_times(runs):
     return [min(of_one) for of_one in zip(*rounds)]
 
 
+def growth(words, paths, counts):
+    """What a line takes in the last of three files beside one in the second, the middle of several rounds: of lines that are counted, the first file
+    has none, and the others have these counts. In a round the second file is run as often as makes about as many lines as the last one has, half of
+    them before it and half after it. (The least time of many short runs is that of a moment when the machine is fast; a long run has no such moment.)"""
+    nothing, short, long = paths
+    often = max(1, round(counts[1] / counts[0]))
+    ratios = []
+    for _ in range(RUNS):
+        before = [run_once(words, short) for _ in range((often + 1) // 2)]
+        idle = sum(run_once(words, nothing) for _ in range(often))
+        taken = run_once(words, long)
+        after = [run_once(words, short) for _ in range(often // 2)]
+        ratios.append((taken - idle / often) / counts[1] / ((sum(before + after) - idle) / (often * counts[0])))
+    return statistics.median(ratios)
+
+
 def processor_time(words):
     """The processor time of one run, in seconds, which other work on the machine changes less than its time by the clock."""
     process = subprocess.Popen(words, stdin=subprocess.DEVNULL, stdout=subprocess.DEVNULL)
