@@ -127,15 +127,15 @@ impl Row {
         if read_in_order(alloc, fields, pairs, &mut memory.kinds, &mut memory.values)? {
             return Ok(row_in(alloc, &mut memory.kinds, &mut memory.values));
         }
-        Row::read(alloc, memory, def, pairs)
+        Row::read(alloc, def, pairs, memory)
     }
 
     /// The row, field by field.
     fn read(
         alloc: Global,
-        memory: &mut RowMemory,
         def: &EventDef,
         pairs: &[BorrowedPair<'_>],
+        memory: &mut RowMemory,
     ) -> Result<Row, RowFault>
         ensures definition { IsDefinition def.now }
         ensures row { IfOk result (IsRowOf def.now) }
