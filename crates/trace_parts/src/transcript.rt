@@ -148,25 +148,26 @@ impl Transcript {
         Ok(())
     }
 
-    /// Appends a thread's line, and the output and the outcomes of its commands, which are in the lines with these numbers. `Worn` counts as out of
-    /// memory. After an error some of it may be there.
-    pub fn add_thread(
-        &mut self,
+    /// With a thread's line at the end, and the output and the outcomes of its commands, which are in the lines with these numbers. `Worn` counts as
+    /// out of memory. An error leaves no transcript.
+    pub fn with_thread(
+        mut self,
         alloc: Global,
         thread: usize,
         numbers: &[usize],
         replies: Vec<Result<Reply, Refusal>>,
         is_told: bool,
-    ) -> Result<(), AllocError>
+    ) -> Result<Transcript, AllocError>
         requires { length numbers.now ≡ length replies.items }
-        ensures text { OnOk result (self.new.text.items
-            ≡ self.old.text.items ++ (thread_line thread ++ numbered_text numbers.now replies.items)) }
-        ensures refused { OnOk result (self.new.is_refused ≡ (self.old.is_refused || list_any is_err replies.items)) }
-        ensures outcomes { OnOk result (self.new.outcomes.items
-            ≡ self.old.outcomes.items ++ told_if is_told (numbered_outcomes numbers.now replies.items)) }
+        ensures text { IfOk result (λ more. more.text.items
+            ≡ self.text.items ++ (thread_line thread ++ numbered_text numbers.now replies.items)) }
+        ensures refused { IfOk result (λ more. more.is_refused ≡ (self.is_refused || list_any is_err replies.items)) }
+        ensures outcomes { IfOk result (λ more. more.outcomes.items
+            ≡ self.outcomes.items ++ told_if is_told (numbered_outcomes numbers.now replies.items)) }
         ensures unworn { OnOk result (All (λ reply. reply ≢ Err Worn) replies.items) }
     {
         add_line(alloc, thread, &mut self.text)?;
-        self.add_replies(alloc, numbers, replies, is_told)
+        self.add_replies(alloc, numbers, replies, is_told)?;
+        Ok(self)
     }
 }

@@ -59,7 +59,13 @@ pub(crate) fn write_threads(
     let mut transcript = Transcript::new(alloc, numbers, is_told)?;
     let mut thread = 0;
     for part in done {
-        transcript.add_thread(alloc, thread, &numbers[thread], part.replies, is_told)?;
+        transcript = transcript.with_thread(
+            alloc,
+            thread,
+            &numbers[thread],
+            part.replies,
+            is_told,
+        )?;
         thread += 1;
     }
     Ok(finish(transcript))

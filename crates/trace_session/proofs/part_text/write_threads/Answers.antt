@@ -15,15 +15,16 @@ loop-part-preserved c =
     let more = c.next.new.self.rest.items in
     let next = c.in-Some.ensures.steps.0 in
     let within : l.thread < length numbers = omega (arith, l.invariant.left, ap length next) in
-    let grown = c.in_ok-add_thread.ensures in
+    let grown = c.in_ok-transcript-2.ensures in
+    let now = c.in_ok-transcript-2.transcript in
     record {
       left = omega (arith, l.invariant.left, ap length next);
       numbered = numbered_later numbers l.thread own left more c.in-Some.part within c.index-numbers-thread.is next l.invariant.numbered;
-      text = text_later numbers l.thread own left more c.in-Some.part within c.index-numbers-thread.is next l.transcript.text.items c.add_thread.new.self.text.items _ l.invariant.text
+      text = text_later numbers l.thread own left more c.in-Some.part within c.index-numbers-thread.is next l.transcript.text.items now.text.items _ l.invariant.text
           (rw (← c.deref.ensures.value) grown.text);
-      outcomes = outcomes_later numbers l.thread own left more c.in-Some.part within c.index-numbers-thread.is next c.args.is_told l.transcript.outcomes.items c.add_thread.new.self.outcomes.items _
+      outcomes = outcomes_later numbers l.thread own left more c.in-Some.part within c.index-numbers-thread.is next c.args.is_told l.transcript.outcomes.items now.outcomes.items _
           l.invariant.outcomes (rw (← c.deref.ensures.value) grown.outcomes);
-      refused = refused_later numbers l.thread own left more c.in-Some.part within c.index-numbers-thread.is next l.transcript.is_refused c.add_thread.new.self.is_refused _ l.invariant.refused
+      refused = refused_later numbers l.thread own left more c.in-Some.part within c.index-numbers-thread.is next l.transcript.is_refused now.is_refused _ l.invariant.refused
           grown.refused;
       unworn = unworn_later numbers l.thread own left more c.in-Some.part within c.index-numbers-thread.is next (All IsUnworn (replies_in c.args.done.items)) l.invariant.unworn
           grown.unworn;
