@@ -10,6 +10,7 @@ pub mod CutLemmas
 pub mod EachLemmas
 pub mod Examples
 pub mod FaultLaws
+pub mod Filling
 pub mod FilterLaws
 pub mod FittingLaws
 pub mod FirstFaults
@@ -28,8 +29,10 @@ pub mod PartLaws
 pub mod PieceLemmas
 pub mod OffsetLemmas
 pub mod Located
+pub mod Looking
 pub mod RefusalLaws
 pub mod RightLaws
+pub mod SaidLemmas
 pub mod SaysLaws
 pub mod SettingLaws
 pub mod SizeLemmas

@@ -22,7 +22,7 @@ abbrev meant_by : Result (List Key) TriggerFault → Result (List Operand) Trigg
 meant_by keys sources size only_if =
     keys >>= λ keys. sources >>= λ sources. size >>= λ size. only_if >>= λ only_if. Ok (record { keys = keys; value_sources = sources; size = size; filter = only_if })
 
-told_as : {A B : Type 0} (fault : TriggerFault) (answer : Result A TriggerFault) (next : A → Result B TriggerFault) → IsTold fault answer → IsTold fault (answer >>= next)
+pub told_as : {A B : Type 0} (fault : TriggerFault) (answer : Result A TriggerFault) (next : A → Result B TriggerFault) → IsTold fault answer → IsTold fault (answer >>= next)
 told_as BadText answer next e = ap (λ a. a >>= next) e
 told_as TooMany answer next e = ap (λ a. a >>= next) e
 told_as (FilterSyntax at) answer next e = ap (λ a. a >>= next) e

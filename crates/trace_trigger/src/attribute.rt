@@ -4,6 +4,7 @@ ghost use Rattle.std.specs.Prelude.{◌≡◌, ◌≤◌, ◌<◌, ◌+◌, ◌^
 ghost use Rattle.std.specs.List.{All};
 ghost use Rattle.trace_trigger.specs.HistAttributes as attributes;
 
+use crate::parts::is_word;
 use crate::piece::{ListItem, cut_at};
 use crate::spec::Action;
 use std::alloc::{AllocError, Global};
@@ -47,11 +48,11 @@ fn head_len(written: &[u8]) -> usize
 fn asked_by(head: &[u8]) -> Topic
     ensures { result ≡ attributes.asked_by head.now }
 {
-    if head == b"pause".as_slice() {
+    if is_word(head, b"pause") {
         Topic::Asked(Action::Pause)
-    } else if head == b"continue".as_slice() || head == b"cont".as_slice() {
+    } else if is_word(head, b"continue") || is_word(head, b"cont") {
         Topic::Asked(Action::Continue)
-    } else if head == b"clear".as_slice() {
+    } else if is_word(head, b"clear") {
         Topic::Asked(Action::Clear)
     } else {
         Topic::Unknown
@@ -61,22 +62,22 @@ fn asked_by(head: &[u8]) -> Topic
 fn is_values(head: &[u8]) -> bool
     ensures { result ≡ attributes.is_values head.now }
 {
-    head == b"values=".as_slice() || head == b"vals=".as_slice() || head == b"val=".as_slice()
+    is_word(head, b"values=") || is_word(head, b"vals=") || is_word(head, b"val=")
 }
 
 /// What an attribute with this head is about.
 fn topic_of(head: &[u8]) -> Topic
     ensures { result ≡ attributes.topic_of head.now }
 {
-    if head == b"keys=".as_slice() || head == b"key=".as_slice() {
+    if is_word(head, b"keys=") || is_word(head, b"key=") {
         Topic::Keys
     } else if is_values(head) {
         Topic::Values
-    } else if head == b"sort=".as_slice() {
+    } else if is_word(head, b"sort=") {
         Topic::Sort
-    } else if head == b"size=".as_slice() {
+    } else if is_word(head, b"size=") {
         Topic::Size
-    } else if head == b"name=".as_slice() {
+    } else if is_word(head, b"name=") {
         Topic::Name
     } else {
         asked_by(head)
@@ -102,7 +103,10 @@ fn attributes_of(alloc: Global, pieces: &[ListItem]) -> Result<Vec<Attribute>, A
 {
     let mut found = Vec::with_capacity(alloc, pieces.len())?;
     for piece in pieces {
-        found.push(attribute_of(alloc, piece)?)?;
+        match attribute_of(alloc, piece) {
+            Ok(attribute) => found.push_reserved(attribute),
+            Err(error) => return Err(error),
+        }
     }
     Ok(found)
 }

@@ -1,6 +1,6 @@
 //! What the names of a trigger come to in an event.
 
-ghost use Rattle.std.specs.Prelude.{◌≡◌, Ok, MatchResult, IfOk, bytes_eq, codes, false, map};
+ghost use Rattle.std.specs.Prelude.{◌≡◌, Ok, MatchResult, IfOk, bytes_eq, [], map};
 ghost use Rattle.std.specs.List.{position};
 ghost use Rattle.trace_trigger.specs.declared.key.Key.{Key as KeySeen};
 ghost use Rattle.trace_trigger.specs.HistMeanings as meanings;
@@ -11,6 +11,7 @@ ghost use Rattle.trace_trigger.specs.TriggerAnswers.{IsAnswered, IsTold};
 use crate::fault::TriggerFault;
 use crate::key::Key;
 use crate::modifier::Modifier;
+use crate::parts::is_word;
 use crate::piece::ListItem;
 use crate::size::rounded_size;
 use crate::sort_rule::{SortRule, SortSource};
@@ -94,7 +95,6 @@ fn key_in(alloc: Global, fields: &[Field], key: &ListItem) -> Result<Key, Trigge
 }
 
 /// The keys; or the fault of the first that means nothing.
-#[tactic(auto, using(crate::proofs::EachLemmas::each_more, crate::proofs::EachLemmas::each_told, crate::proofs::EachLemmas::each_end))]
 pub(crate) fn keys_of(
     alloc: Global,
     fields: &[Field],
@@ -106,7 +106,10 @@ pub(crate) fn keys_of(
 {
     let mut read = Vec::with_capacity(alloc, keys.len())?;
     for key in keys {
-        read.push(key_in(alloc, fields, key)?)?;
+        match key_in(alloc, fields, key) {
+            Ok(meant) => read.push_reserved(meant),
+            Err(fault) => return Err(fault),
+        }
     }
     Ok(read)
 }
@@ -123,7 +126,6 @@ fn value_source(fields: &[Field], value: &ListItem) -> Result<Operand, TriggerFa
 }
 
 /// Where each value is found; or the fault of the first that means nothing or is a string.
-#[tactic(auto, using(crate::proofs::EachLemmas::each_more, crate::proofs::EachLemmas::each_at_fault, crate::proofs::EachLemmas::each_end))]
 pub(crate) fn value_sources(
     alloc: Global,
     fields: &[Field],
@@ -135,13 +137,16 @@ pub(crate) fn value_sources(
 {
     let mut sources = Vec::with_capacity(alloc, values.len())?;
     for value in values {
-        sources.push(value_source(fields, value)?)?;
+        match value_source(fields, value) {
+            Ok(source) => sources.push_reserved(source),
+            Err(fault) => return Err(fault),
+        }
     }
     Ok(sources)
 }
 
 /// The number of entries that digits ask for, rounded, if there may be so many.
-#[tactic(auto, using(crate::proofs::SizeLemmas::size_past, crate::proofs::SizeLemmas::size_read))]
+#[tactic(auto, using(crate::proofs::SizeLemmas::size_past))]
 fn size_written(digits: &[u8]) -> Option<u32>
     ensures { result ≡ meanings.size_written digits.now }
 {
@@ -164,7 +169,10 @@ pub(crate) fn names_of(alloc: Global, items: &[ListItem]) -> Result<Vec<Text>, A
 {
     let mut names = Vec::with_capacity(alloc, items.len())?;
     for item in items {
-        names.push(item.bytes.clone()?)?;
+        match item.bytes.clone() {
+            Ok(name) => names.push_reserved(name),
+            Err(error) => return Err(error),
+        }
     }
     Ok(names)
 }
@@ -179,13 +187,21 @@ fn sort_key_of(alloc: Global, item: &ListItem) -> Result<SortKey, AllocError>
     })
 }
 
-fn hitcount_key(alloc: Global) -> Result<SortKey, AllocError>
-    ensures { IfOk result (λ key. key ≡ record { name = codes "hitcount"; descending = false }) }
+/// The one sort key where none are written.
+fn hitcount_alone(alloc: Global) -> Result<Vec<SortKey>, AllocError>
+    ensures { IfOk result (λ keys. keys.items ≡ lists.sort_keys []) }
 {
-    Ok(SortKey {
-        name: Text::from_slice(alloc, b"hitcount")?,
-        descending: false,
-    })
+    let mut keys = Vec::with_capacity(alloc, 1)?;
+    match Text::from_slice(alloc, b"hitcount") {
+        Ok(name) => {
+            keys.push_reserved(SortKey {
+                name,
+                descending: false,
+            });
+            Ok(keys)
+        }
+        Err(error) => Err(error),
+    }
 }
 
 /// The sort keys that are written.
@@ -194,35 +210,47 @@ fn written_sort_keys(alloc: Global, items: &[ListItem]) -> Result<Vec<SortKey>, 
 {
     let mut keys = Vec::with_capacity(alloc, items.len())?;
     for item in items {
-        keys.push(sort_key_of(alloc, item)?)?;
+        match sort_key_of(alloc, item) {
+            Ok(key) => keys.push_reserved(key),
+            Err(error) => return Err(error),
+        }
     }
     Ok(keys)
 }
 
 /// The sort keys; by `hitcount`, where none are written.
-#[tactic(auto, using(crate::proofs::SortKeyLemmas::sort_keys_some, crate::proofs::SortKeyLemmas::sort_keys_none))]
 fn sort_keys(alloc: Global, items: &[ListItem]) -> Result<Vec<SortKey>, AllocError>
     ensures { IfOk result (λ keys. keys.items ≡ lists.sort_keys items.now) }
 {
-    let mut keys = written_sort_keys(alloc, items)?;
-    if keys.is_empty() {
-        keys.push(hitcount_key(alloc)?)?;
+    if items.is_empty() {
+        hitcount_alone(alloc)
+    } else {
+        written_sort_keys(alloc, items)
     }
-    Ok(keys)
 }
 
 /// The index of a name among others, if it is one of them.
 fn index_of(names: &[Text], name: &[u8]) -> Option<usize>
     ensures { result ≡ meanings.index_of names.now name.now }
 {
-    names.iter().position(|other| name == other.as_bytes())
+    for (index, other) in names.iter().enumerate() {
+        if is_word(name, other.as_bytes()) {
+            return Some(index);
+        }
+    }
+    None
 }
 
 /// The index of the key of a name, if one has it.
 fn index_of_key(keys: &[Key], name: &[u8]) -> Option<usize>
     ensures { result ≡ position (λ (key : KeySeen). bytes_eq name.now key.name) keys.now }
 {
-    keys.iter().position(|key| name == key.name.as_bytes())
+    for (index, key) in keys.iter().enumerate() {
+        if is_word(name, key.name.as_bytes()) {
+            return Some(index);
+        }
+    }
+    None
 }
 
 /// What a name means that entries are sorted by: a value, if it is one, and otherwise `hitcount` or a key.
@@ -259,7 +287,7 @@ fn sort_rules(
 {
     let mut rules = Vec::with_capacity(alloc, sort.len())?;
     for key in sort {
-        rules.push(sort_rule(keys, values, key))?;
+        rules.push_reserved(sort_rule(keys, values, key));
     }
     Ok(rules)
 }

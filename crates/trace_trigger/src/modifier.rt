@@ -3,6 +3,7 @@
 ghost use Rattle.std.specs.Prelude.{◌≡◌};
 ghost use Rattle.trace_trigger.specs.Modifiers.{modifier_of, buckets_of};
 
+use crate::parts::is_word;
 use trace_lex::{decimal_number, has_leading_zero};
 
 /// How a key's values are put into buckets, each of which has an entry, and how a bucket is shown.
@@ -25,9 +26,9 @@ impl Modifier {
     {
         if suffix.is_empty() {
             Some(Modifier::Plain)
-        } else if suffix == b".hex".as_slice() {
+        } else if is_word(suffix, b".hex") {
             Some(Modifier::Hex)
-        } else if suffix == b".log2".as_slice() {
+        } else if is_word(suffix, b".log2") {
             Some(Modifier::Log2)
         } else {
             Modifier::read_buckets(suffix.strip_prefix(b".buckets=".as_slice())?)

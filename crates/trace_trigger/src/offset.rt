@@ -37,9 +37,12 @@ fn is_unknown(topic: Topic) -> bool
 fn is_repeated(before: &[Attribute], attribute: &Attribute) -> bool
     ensures { result ≡ offsets.is_repeated before.now attribute.now }
 {
-    before
-        .iter()
-        .any(|other| is_same_topic(other.topic, attribute.topic))
+    for other in before {
+        if is_same_topic(other.topic, attribute.topic) {
+            return true;
+        }
+    }
+    false
 }
 
 /// Whether a string is decimal digits, one at least.

@@ -1,6 +1,6 @@
 //! The parts of a trigger text: its first word, and the text of its filter.
 
-ghost use Rattle.std.specs.Prelude.{◌≡◌, ◌≤◌, ◌+◌, ◌-◌, ◌^◌, Option, Some, None, Ok, Err, IfOk, IfErr, IfSome, MatchResult, length};
+ghost use Rattle.std.specs.Prelude.{◌≡◌, ◌≤◌, ◌+◌, ◌-◌, ◌^◌, Option, Some, None, Ok, Err, IfOk, IfErr, IfSome, MatchResult, bytes_eq, length};
 ghost use Rattle.std.specs.Option.{option_copied};
 ghost use Rattle.std.specs.List.{prefix_len, list_all};
 ghost use Rattle.trace_lex.specs.Blanks as blanks;
@@ -15,7 +15,7 @@ use trace_lex::{blanks_len, decimal_number, is_blank, rest_of};
 pub(crate) fn is_blank_text(text: &[u8]) -> bool
     ensures { result ≡ list_all blanks.is_blank text.now }
 {
-    text.iter().all(|byte| is_blank(*byte))
+    blanks_len(text) == text.len()
 }
 
 /// Whether a text begins so.
@@ -25,12 +25,24 @@ pub(crate) fn begins(beginning: &[u8], text: &[u8]) -> bool
     text.starts_with(beginning)
 }
 
+/// Whether a text is this word.
+pub(crate) fn is_word(text: &[u8], word: &[u8]) -> bool
+    ensures { result ≡ bytes_eq text.now word.now }
+{
+    text == word
+}
+
 /// How many bytes come before the first blank.
 fn word_len(text: &[u8]) -> usize
     ensures value { result ≡ prefix_len frames.is_unblank text.now }
     ensures bound { result ≤ length text.now }
 {
-    text.iter().take_while(|byte| !is_blank(**byte)).count()
+    for (index, byte) in text.iter().enumerate() {
+        if is_blank(*byte) {
+            return index;
+        }
+    }
+    text.len()
 }
 
 /// The first word, and what follows it.

@@ -176,11 +176,11 @@ impl HistSpec {
         ensures same { IsTrue result ↔ IsSame self.now other.now }
         ensures value { result ≡ is_same self.now other.now }
     {
-        is_same_name(&self.name, &other.name)
+        is_same_text(self.name(), other.name())
             && is_same_keys(&self.keys, &other.keys)
             && is_same_names(&self.values, &other.values)
             && is_same_sort(&self.sort, &other.sort)
-            && is_same_filter(&self.filter, &other.filter)
+            && is_same_text(text_of(&self.filter), text_of(&other.filter))
     }
 
     /// Whether two triggers, perhaps of two events, may count in one table: they have the same keys, each a string in both events or in neither,
@@ -263,25 +263,23 @@ fn is_same_sort(left: &[SortKey], right: &[SortKey]) -> bool
     left == right
 }
 
-/// Whether there are two names that are the same, or none.
-fn is_same_name(left: &Option<Text>, right: &Option<Text>) -> bool
-    ensures value { result ≡ same_text left.now right.now }
-    ensures same { IsTrue result ↔ (left.now ≡ right.now) }
+/// The text of a filter, if there is one.
+fn text_of(filter: &Option<Filter>) -> Option<&[u8]>
+    ensures { option_copied result ≡ filter_text filter.now }
 {
-    match (left, right) {
-        (Some(left), Some(right)) => left == right,
-        (None, None) => true,
-        _ => false,
+    match filter {
+        Some(filter) => Some(filter.text()),
+        None => None,
     }
 }
 
-/// Whether there are two filters of one text, or none.
-fn is_same_filter(left: &Option<Filter>, right: &Option<Filter>) -> bool
-    ensures value { result ≡ same_text (filter_text left.now) (filter_text right.now) }
-    ensures same { IsTrue result ↔ (filter_text left.now ≡ filter_text right.now) }
+/// Whether there are two texts that are the same, or none.
+fn is_same_text(left: Option<&[u8]>, right: Option<&[u8]>) -> bool
+    ensures value { result ≡ same_text (option_copied left.entry) (option_copied right.entry) }
+    ensures same { IsTrue result ↔ (option_copied left.entry ≡ option_copied right.entry) }
 {
     match (left, right) {
-        (Some(left), Some(right)) => left.text() == right.text(),
+        (Some(left), Some(right)) => left == right,
         (None, None) => true,
         _ => false,
     }

@@ -52,10 +52,16 @@ impl TriggerText {
             return Ok(TriggerText::Nothing);
         }
         if begins(b"hist:", text) {
-            return Ok(TriggerText::Hist(HistSpec::parse(alloc, text, event)?));
+            return match HistSpec::parse(alloc, text, event) {
+                Ok(attached) => Ok(TriggerText::Hist(attached)),
+                Err(fault) => Err(fault),
+            };
         }
         if begins(b"!hist:", text) {
-            return Ok(TriggerText::RemoveHist(HistSpec::parse(alloc, text, event)?));
+            return match HistSpec::parse(alloc, text, event) {
+                Ok(removed) => Ok(TriggerText::RemoveHist(removed)),
+                Err(fault) => Err(fault),
+            };
         }
         read_snapshot(alloc, text, event)
     }
@@ -73,7 +79,10 @@ fn read_snapshot(alloc: Global, text: &[u8], event: &EventDef) -> Result<Trigger
             let _removed = read_trigger(alloc, text, body, event)?;
             Ok(TriggerText::Remove)
         }
-        None => Ok(TriggerText::Attach(read_trigger(alloc, text, text, event)?)),
+        None => match read_trigger(alloc, text, text, event) {
+            Ok(trigger) => Ok(TriggerText::Attach(trigger)),
+            Err(fault) => Err(fault),
+        },
     }
 }
 

@@ -8,6 +8,7 @@ ghost use Rattle.trace_trigger.specs.HistLists as lists;
 ghost use Rattle.trace_trigger.specs.declared.attribute.Topic.TheVariants as topics;
 
 use crate::attribute::{Attribute, Topic};
+use crate::parts::is_word;
 use crate::piece::{ListItem, cut_at};
 use crate::spec::Action;
 use std::alloc::{AllocError, Global};
@@ -91,9 +92,12 @@ fn first_about(topic: Topic, attributes: &[Attribute]) -> Option<&Attribute>
     ensures value { option_copied result ≡ lists.first_about topic attributes.now }
     ensures located { All IsLocated attributes.now → IfSome result (λ attribute. IsLocated attribute.now) }
 {
-    attributes
-        .iter()
-        .find(|attribute| is_same_topic(topic, attribute.topic))
+    for attribute in attributes {
+        if is_same_topic(topic, attribute.topic) {
+            return Some(attribute);
+        }
+    }
+    None
 }
 
 /// The items of the first list on a topic; none, if there is no such list.
@@ -157,22 +161,30 @@ fn action_in(attribute: Option<&Attribute>) -> Action
 pub(crate) fn is_listed(items: &[ListItem], name: &[u8]) -> bool
     ensures { result ≡ lists.is_listed items.now name.now }
 {
-    items.iter().any(|item| name == item.bytes.as_bytes())
+    for item in items {
+        if is_word(name, item.bytes.as_bytes()) {
+            return true;
+        }
+    }
+    false
 }
 
 /// Whether an item has this name, with whatever suffix.
 pub(crate) fn is_named(items: &[ListItem], name: &[u8]) -> bool
     ensures { result ≡ lists.is_named items.now name.now }
 {
-    items
-        .iter()
-        .any(|item| name == item_name(item.bytes.as_bytes()))
+    for item in items {
+        if is_word(name, item_name(item.bytes.as_bytes())) {
+            return true;
+        }
+    }
+    false
 }
 
 pub(crate) fn is_hitcount(name: &[u8]) -> bool
     ensures { result ≡ lists.is_hitcount name.now }
 {
-    name == b"hitcount".as_slice()
+    is_word(name, b"hitcount")
 }
 
 /// The name of a key or of a sort key: what comes before the first `.`.
@@ -192,12 +204,12 @@ pub(crate) fn item_suffix(written: &[u8]) -> &[u8]
 pub(crate) fn is_descending(suffix: &[u8]) -> bool
     ensures { result ≡ lists.is_descending suffix.now }
 {
-    suffix == b".descending".as_slice()
+    is_word(suffix, b".descending")
 }
 
 /// Whether a suffix says in which direction to sort, or nothing.
 pub(crate) fn is_direction(suffix: &[u8]) -> bool
     ensures { result ≡ lists.is_direction suffix.now }
 {
-    suffix == b"".as_slice() || suffix == b".ascending".as_slice() || is_descending(suffix)
+    suffix.is_empty() || is_word(suffix, b".ascending") || is_descending(suffix)
 }
