@@ -1,5 +1,8 @@
 -- What callers see of a histogram, by what it has counted.
 use Rattle.std.proofs.Common.{◌≡◌, ℕ, ◌<◌, ◌≢◌, Bool, true, false, List, ◌++◌, ◌∷◌, [], length, sym, ap, ◌∙◌, subst}
+use Rattle.std.specs.Prelude.{Result, Ok, Err, OnOk, OnErr}
+use Rattle.std.specs.declared.alloc.AllocError.{AllocError}
+use Rattle.std.proofs.lemmas.Result.{on_ok_weaker, on_err_weaker}
 use Rattle.trace_format.specs.Operands.{Emission}
 use Rattle.trace_trigger.specs.HistSpecs.{SpecSeen}
 use Rattle.trace_hist.specs.Hits.{Hit, hit_of}
@@ -8,6 +11,9 @@ use Rattle.trace_hist.specs.Hists.{Seen, In, StandsFor, IsPlaceOf, IsReservedAs,
 use Rattle.trace_hist.specs.Stored.{seen_of, Kept}
 use Rattle.trace_hist.specs.private.Steps.{AreOf, after_hit}
 use Rattle.trace_hist.proofs.Counting.{stands-after_row, still-place}
+
+abbrev Unit0 : Type 0
+Unit0 = Unit {0}
 
 module _ (spec : SpecSeen) (paused : Bool) (counts : Kept) (are : AreOf spec counts) where
   -- ---- a row that is counted
@@ -58,6 +64,26 @@ module _ (spec : SpecSeen) (paused : Bool) (counts : Kept) (are : AreOf spec cou
       let sized : IsPlaceOf left.next spec.size counts.table.entries (hit_of by emission).key =
       subst (λ (n : ℕ). IsPlaceOf left.next n counts.table.entries (hit_of by emission).key) are.size place in
       subst (λ (t : Table). IsPlaceOf left.next spec.size t.entries (hit_of by emission).key) (sym same) sized
+
+  -- what a call that reserves tells
+  module _ (now : Seen) (view : seen_of spec paused counts ≡ now) (left : Kept) (by : SpecSeen) (emission : Emission) (result : Result Unit0 AllocError)
+      (same : left.table ≡ counts.table) where
+    pub told-reserved : OnOk result (IsPlaceOf left.next counts.size counts.table.entries (hit_of by emission).key)
+        → OnOk result (IsReservedAs (seen_of spec paused left) by emission)
+    told-reserved place = on_ok_weaker result (reserved-place left by emission same) place
+
+    pub told-unchanged : OnErr result (left ≡ counts) → OnErr result (seen_of spec paused left ≡ now)
+    told-unchanged err = on_err_weaker result (λ e. ap (λ (k : Kept). seen_of spec paused k) e ∙ view) err
+
+    pub told-needed : paused ≡ false → OnErr result (length counts.table.entries < counts.size)
+        → OnErr result (is_among (entry_keys counts.table.entries) (hit_of by emission).key ≡ false)
+        → OnErr result (counts.next ≢ In (hit_of by emission).key) → OnErr result (NeedsEntryAs now by emission)
+    told-needed active room new unreserved = at result room new unreserved
+      where
+        at : (r : Result Unit0 AllocError) → OnErr r (length counts.table.entries < counts.size) → OnErr r (is_among (entry_keys counts.table.entries) (hit_of by emission).key ≡ false)
+            → OnErr r (counts.next ≢ In (hit_of by emission).key) → OnErr r (NeedsEntryAs now by emission)
+        at (Ok value) room new unreserved = tt
+        at (Err error) room new unreserved = needs-entry now view by emission active room new unreserved
 
 -- a paused histogram needs nothing
 pub paused-reserved : (hist : Seen) (by : SpecSeen) (emission : Emission) → hist.paused ≡ true → IsReservedAs hist by emission

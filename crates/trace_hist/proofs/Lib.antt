@@ -1,6 +1,7 @@
 pub mod BucketLaws
 pub mod BucketLemmas
 pub mod Counting
+pub mod Filling
 pub mod GroupLaws
 pub mod Histograms
 pub mod Keys

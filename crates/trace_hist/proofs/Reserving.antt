@@ -1,6 +1,7 @@
 -- Reserving: where a row is counted, and the entries that are shown.
 use Rattle.std.proofs.Common.{◌≡◌, ℕ, zero, suc, ◌+◌, ◌≤◌, ◌<◌, false, ◌||◌, inl, inr, List, [], ◌∷◌, ◌++◌, length, take, drop, slice_get, Some, unwrap_or, refl, sym, ap, ◌∙◌, subst, arith}
 use Rattle.std.specs.Global.{Vec}
+use Rattle.std.specs.Prelude.{Result, Ok, Err, OnErr}
 use Rattle.std.proofs.lemmas.Bool.{cases_Bool}
 use Rattle.std.proofs.lemmas.List.{length-append, length-map, length-take-le}
 use Rattle.trace_format.specs.Cells.{Datum}
@@ -9,6 +10,7 @@ use Rattle.trace_hist.specs.declared.tally.Tally.{Tally}
 use Rattle.trace_hist.specs.Groups.{Entry, same_key, is_among}
 use Rattle.trace_hist.specs.Hists.{entry_keys, IsPlaceOf}
 use Rattle.trace_hist.specs.Stored.{entry_in, entries_in, empty_entry, place_at, IsEnd, AreCounted}
+use Rattle.trace_hist.specs.private.Steps.{StayKept}
 use Rattle.trace_hist.proofs.SumLaws.{within-zeros}
 
 -- ---- where a row is counted
@@ -37,6 +39,11 @@ pub length-shown : (pairs : List (Vec KeyCell × Tally)) (n : ℕ) → n ≤ len
 length-shown pairs n le =
     let all : length (entries_in pairs) ≡ length pairs = length-map pairs entry_in in
     (length-take-le n (entries_in pairs) (omega (arith, le, all)), omega (arith, le, all))
+
+-- what is told of an error is so
+pub on_err : {T E P : Type 0} (r : Result T E) → P → OnErr r P
+on_err (Ok value) fact = tt
+on_err (Err error) fact = fact
 
 -- ---- a new entry after those that are shown
 
@@ -135,3 +142,42 @@ module _ (n : ℕ) (pairs left : List (Vec KeyCell × Tally)) (le : n ≤ length
       found (suc n) [] i lt at = cc
       found (suc n) (e ∷ entries) zero lt at = ap (λ o. unwrap_or o key) at
       found (suc n) (e ∷ entries) (suc i) lt at = found n entries i (omega (arith, lt)) at
+
+  -- where a key is found among the first
+  pub stays-kept : (most width : ℕ) → length pairs ≤ most → StayKept n most width pairs left
+  stays-kept most width fits = record {
+    shown = kept-shown;
+    size = kept-size most fits;
+    same = kept-same;
+    end = kept-end width;
+    counted = kept-counted;
+  }
+
+-- ---- what stays as it is kept
+
+module _ (n most width : ℕ) (pairs : List (Vec KeyCell × Tally)) (le : n ≤ length pairs) where
+  -- where nothing changes
+  pub stays : length pairs ≤ most → IsEnd width (drop n (entries_in pairs)) → (left : List (Vec KeyCell × Tally)) → left ≡ pairs → StayKept n most width pairs left
+  stays fits end left same = subst (λ (l : List (Vec KeyCell × Tally)). StayKept n most width pairs l) (sym same) (record {
+    shown = le;
+    size = fits;
+    same = refl;
+    end = end;
+    counted = λ rows h. h;
+  })
+
+  -- where an entry is reserved
+  pub stays-put : n < most → (key : List Datum) (left : List (Vec KeyCell × Tally)) → entries_in left ≡ take n (entries_in pairs) ++ empty_entry width key ∷ []
+      → StayKept n most width pairs left
+  stays-put below key left put =
+      let entries = entries_in pairs in
+      let last = empty_entry width key in
+      let count = (length-shown pairs n le).1 in
+      let many = put-size n pairs left last le put in
+      record {
+        shown = omega (arith, many);
+        size = omega (arith, many, below);
+        same = ap (take n) put ∙ take-put n entries last count;
+        end = subst (IsEnd width) (sym (ap (drop n) put ∙ drop-put n entries last count)) refl;
+        counted = λ rows h. subst (AreCounted rows) (sym put) (counted-put rows n width key entries h);
+      }

@@ -27,6 +27,22 @@ use Rattle.trace_hist.proofs.SumLaws.{within-more}
 some_same : {X : Type 0} {x y : X} → Some x ≡ Some y → x ≡ y
 some_same {X} {x} {y} e = ap (λ o. unwrap_or o x) e
 
+-- a list of so many elements
+pub one_of : {X : Type 0} (xs : List X) (x : X) → 1 ≤ length xs → length xs < 2 → x ≡ get_or xs 0 x → x ∷ [] ≡ xs
+one_of [] x some few at = absurd (omega (arith, some))
+one_of (a ∷ []) x some few at = ap (λ y. y ∷ []) at
+one_of (a ∷ b ∷ xs) x some few at = absurd (omega (arith, few))
+
+pub two_of : {X : Type 0} (xs : List X) (x y : X) → 2 ≤ length xs → length xs < 3 → x ≡ get_or xs 0 x → y ≡ get_or xs 1 y → x ∷ y ∷ [] ≡ xs
+two_of [] x y some few at also = absurd (omega (arith, some))
+two_of (a ∷ xs) x y some few at also =
+    ap (λ z. z ∷ y ∷ []) at ∙ ap (λ ys. a ∷ ys) (one_of xs y (omega (arith, some)) (omega (arith, few)) also)
+
+pub three_of : {X : Type 0} (xs : List X) (x y z : X) → 3 ≤ length xs → length xs ≤ 3 → x ≡ get_or xs 0 x → y ≡ get_or xs 1 y → z ≡ get_or xs 2 z → x ∷ y ∷ z ∷ [] ≡ xs
+three_of [] x y z some few at also last = absurd (omega (arith, some))
+three_of (a ∷ xs) x y z some few at also last =
+    ap (λ w. w ∷ y ∷ z ∷ []) at ∙ ap (λ ys. a ∷ ys) (two_of xs y z (omega (arith, some)) (omega (arith, few)) also last)
+
 -- ---- keys in the table, and keys as they are read
 
 pub cell-is : (a b : KeyCell) → key_cell_eq.it a b ≡ same_cell (datum_in a) (datum_in b)

@@ -80,7 +80,7 @@ impl Counts {
         ensures unreserved { OnErr result (self.old.next ≢ In (hit_of by.now emission.now).key) }
     {
         let keys = by.keys();
-        self.next = reserve(
+        match reserve(
             &mut self.entries,
             &mut self.hints,
             alloc,
@@ -89,8 +89,13 @@ impl Counts {
             self.width,
             keys,
             emission,
-        )?;
-        Ok(())
+        ) {
+            Ok(next) => {
+                self.next = next;
+                Ok(())
+            }
+            Err(error) => Err(error),
+        }
     }
 
     /// Counts a row of an emission, which a trigger reads, where that was reserved. What was reserved stays so.

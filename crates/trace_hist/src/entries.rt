@@ -35,7 +35,19 @@ fn index_of_cells<'a>(
     entries.get_index_of(cells)
 }
 
-/// The index of the entry of a key of two cells. It is out of line, since a function fills the room of all its cells with zeros first.
+/// The index of the entry of a key of one cell. It is out of line, since a function fills the room of all its cells with zeros first.
+#[inline(never)]
+fn index_of_one(entries: &Entries, key: &Key, emission: &Emission) -> Option<usize>
+    ensures known { IfSome result (λ index. slice_get (entry_keys (entries_in entries.now.entries)) index
+        ≡ Some (key_of (key.now ∷ []) emission.now)) }
+    ensures new { IfNone result (groups.is_among (entry_keys (entries_in entries.now.entries))
+        (key_of (key.now ∷ []) emission.now) ≡ false) }
+{
+    let cells = [borrowed(key_cell(key, emission))];
+    index_of_cells(entries, &cells)
+}
+
+/// The same of a key of two cells.
 #[inline(never)]
 fn index_of_two(entries: &Entries, first: &Key, second: &Key, emission: &Emission) -> Option<usize>
     ensures known { IfSome result (λ index. slice_get (entry_keys (entries_in entries.now.entries)) index
@@ -80,10 +92,7 @@ pub(crate) fn index_of(entries: &Entries, keys: &[Key], emission: &Emission) -> 
 {
     match keys {
         [] => index_of_cells(entries, &[]),
-        [key] => {
-            let cells = [borrowed(key_cell(key, emission))];
-            index_of_cells(entries, &cells)
-        }
+        [key] => index_of_one(entries, key, emission),
         [first, second] => index_of_two(entries, first, second, emission),
         [first, second, third, ..] => index_of_three(entries, first, second, third, emission),
     }
@@ -93,10 +102,15 @@ pub(crate) fn index_of(entries: &Entries, keys: &[Key], emission: &Emission) -> 
 fn is_cell<'a>(kept: &KeyCell<'static>, cell: RowCell<'a>) -> bool
     ensures { result ≡ groups.same_cell (datum_in kept.now) (datum_read cell.entry) }
 {
-    match (kept, cell) {
-        (KeyCell::Num(left), RowCell::Num(right)) => *left == right,
-        (KeyCell::Text(left), RowCell::Text(right)) => left.as_slice() == right,
-        _ => false,
+    match kept {
+        KeyCell::Num(left) => match cell {
+            RowCell::Num(right) => *left == right,
+            RowCell::Text(_) => false,
+        },
+        KeyCell::Text(left) => match cell {
+            RowCell::Text(right) => left.as_slice() == right,
+            RowCell::Num(_) => false,
+        },
     }
 }
 
@@ -153,7 +167,10 @@ fn kept_key(
 {
     let mut cells = Vec::with_capacity(alloc, keys.len())?;
     for key in keys {
-        cells.push(keep(alloc, key_cell(key, emission))?)?;
+        match keep(alloc, key_cell(key, emission)) {
+            Ok(cell) => cells.push_reserved(cell),
+            Err(error) => return Err(error),
+        }
     }
     Ok(cells)
 }
@@ -194,12 +211,16 @@ pub(crate) fn reserve_entry(
         ++ empty_entry width (key_of keys.now emission.now) ∷ []) }
     ensures err { OnErr result (entries.new.entries ≡ entries.old.entries) }
 {
-    let key = kept_key(alloc, keys, emission)?;
-    let tally = Tally::new(alloc, width)?;
     entries.reserve(1)?;
-    entries.truncate(kept);
-    put_last(entries, key, tally);
-    Ok(())
+    let key = kept_key(alloc, keys, emission)?;
+    match Tally::new(alloc, width) {
+        Ok(tally) => {
+            entries.truncate(kept);
+            put_last(entries, key, tally);
+            Ok(())
+        }
+        Err(error) => Err(error),
+    }
 }
 
 /// How many entries are shown, where the entry at an index is one of them: all, if it isn't yet, since at most the last is not shown.
@@ -237,7 +258,10 @@ fn values_of(alloc: Global, cells: &[KeyCell<'static>]) -> Result<Vec<Value>, Al
 {
     let mut values = Vec::with_capacity(alloc, cells.len())?;
     for cell in cells {
-        values.push(value_of(alloc, cell)?)?;
+        match value_of(alloc, cell) {
+            Ok(value) => values.push_reserved(value),
+            Err(error) => return Err(error),
+        }
     }
     Ok(values)
 }
@@ -263,7 +287,10 @@ fn rows_of(alloc: Global, entries: &Entries, count: usize) -> Result<Vec<HistRow
         let Some((key, tally)) = entries.get_index(index) else {
             unreachable!()
         };
-        rows.push(row_of(alloc, key, tally)?)?;
+        match row_of(alloc, key, tally) {
+            Ok(row) => rows.push_reserved(row),
+            Err(error) => return Err(error),
+        }
     }
     Ok(rows)
 }

@@ -108,8 +108,7 @@ impl Hist {
             return Ok(());
         }
         self.counts
-            .reserve(self.alloc, &self.spec, &Emission { row, cpu, pid })?;
-        Ok(())
+            .reserve(self.alloc, &self.spec, &Emission { row, cpu, pid })
     }
 
     /// The same for a row that another trigger of this table reads: an entry for the key that the row has by that trigger.
@@ -136,8 +135,7 @@ impl Hist {
             return Ok(());
         }
         self.counts
-            .reserve(self.alloc, by, &Emission { row, cpu, pid })?;
-        Ok(())
+            .reserve(self.alloc, by, &Emission { row, cpu, pid })
     }
 
     /// Counts a row of the trigger's event, which was emitted on a CPU by a process, unless the trigger is paused. It doesn't look at the

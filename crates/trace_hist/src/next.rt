@@ -1,10 +1,10 @@
 //! Where the next row is counted.
 
-ghost use Rattle.std.specs.Prelude.{◌≡◌, ℕ, ◌<◌, ◌≤◌, false, length, take, drop, IfOk, OnErr};
+ghost use Rattle.std.specs.Prelude.{◌≡◌, ◌<◌, ◌≤◌, false, length, take, drop, IfOk, OnErr};
 ghost use Rattle.trace_hist.specs.Groups.{is_among};
 ghost use Rattle.trace_hist.specs.Hists.{IsPlaceOf, entry_keys};
-ghost use Rattle.trace_hist.specs.Stored.{entries_in, place_in, IsEnd, AreCounted};
-ghost use Rattle.trace_hist.specs.private.Steps.{key_of, IsIndexOf};
+ghost use Rattle.trace_hist.specs.Stored.{entries_in, place_in, IsEnd};
+ghost use Rattle.trace_hist.specs.private.Steps.{key_of, IsIndexOf, StayKept};
 
 use crate::cell::key_cell;
 use crate::entries::{Entries, has_cell_at, has_key_at, index_of, keep_first, reserve_entry};
@@ -97,11 +97,7 @@ pub(crate) fn reserve(
     requires shown { shown ≤ length entries.old.entries }
     requires size { length entries.old.entries ≤ size }
     requires end { IsEnd width (drop shown (entries_in entries.old.entries)) }
-    ensures shown { shown ≤ length entries.new.entries }
-    ensures size { length entries.new.entries ≤ size }
-    ensures same { take shown (entries_in entries.new.entries) ≡ take shown (entries_in entries.old.entries) }
-    ensures end { IsEnd width (drop shown (entries_in entries.new.entries)) }
-    ensures counted { (rows : ℕ) → AreCounted rows (entries_in entries.old.entries) → AreCounted rows (entries_in entries.new.entries) }
+    ensures stays { StayKept shown size width entries.old.entries entries.new.entries }
     ensures place { IfOk result (λ next. IsPlaceOf (place_in (entries_in entries.new.entries) next) size
         (take shown (entries_in entries.old.entries)) (key_of keys.now emission.now)) }
     ensures err { OnErr result (entries.new.entries ≡ entries.old.entries) }

@@ -1,10 +1,10 @@
-use Rattle.std.proofs.Common.{◌≡◌, ◌<◌, ◌≢◌, false, ℤ, to_z, of_z, length, sym, ap, ◌∙◌, subst, rules}
+use Rattle.std.proofs.Common.{◌≡◌, ◌≢◌, false, ℤ, to_z, of_z, sym, ap, ◌∙◌, subst, OnOk, OnErr, rules}
 use Rattle.std.specs.Int.{w32}
 use Rattle.trace_format.specs.Operands.{Emission}
 use Rattle.trace_hist.specs.Groups.{is_among, grouped}
 use Rattle.trace_hist.specs.Hits.{hit_of}
 use Rattle.trace_hist.specs.Hists.{Seen, In, StandsFor, IsPlaceOf, entry_keys}
-use Rattle.trace_hist.proofs.Histograms.{needs-entry, paused-reserved, reserved-place}
+use Rattle.trace_hist.proofs.Histograms.{paused-reserved, told-reserved, told-unchanged, told-needed}
 use Rattle.trace_hist.proofs.hist.Hist.reserve_hit_as.Goals as goal
 
 pub returns-then-self-clause-reserved : goal.returns-then-self-clause-reserved
@@ -20,20 +20,24 @@ returns-clause-reserved c =
     let h = c.self.inside in
     let emission : Emission = record { values = c.args.row.now.values; cpu = c.args.cpu; pid = c.args.pid } in
     let pid : to_z w32 (of_z w32 c.args.pid) ≡ c.args.pid = search rules in
-    let place : IsPlaceOf c.reserve.new.self.next h.counts.size h.counts.table.entries (hit_of c.args.by.now emission).key =
-    subst (λ (n : ℤ). IsPlaceOf c.reserve.new.self.next h.counts.size h.counts.table.entries (hit_of c.args.by.now (record { values = c.args.row.now.values; cpu = c.args.cpu; pid = n })).key) pid
-    c.in_ok-reserve.ensures.place in
-    reserved-place h.spec h.paused h.counts c.self.invariant c.reserve.new.self c.args.by.now emission c.reserve.ensures.table place
+    let place : OnOk c.reserve.result (IsPlaceOf c.reserve.new.self.next h.counts.size h.counts.table.entries (hit_of c.args.by.now emission).key) =
+    subst (λ (n : ℤ). OnOk c.reserve.result (IsPlaceOf c.reserve.new.self.next h.counts.size h.counts.table.entries (hit_of c.args.by.now (record { values = c.args.row.now.values; cpu = c.args.cpu; pid = n })).key)) pid
+    c.reserve.ensures.place in
+    told-reserved h.spec h.paused h.counts c.self.invariant c.args.self.now c.self.view_is c.reserve.new.self c.args.by.now emission c.reserve.result c.reserve.ensures.table place
 
-pub returns-in_err-reserve-clause-memory : goal.returns-in_err-reserve-clause-memory
-returns-in_err-reserve-clause-memory c =
+pub returns-clause-err : goal.returns-clause-err
+returns-clause-err c =
+    let h = c.self.inside in
+    let emission : Emission = record { values = c.args.row.now.values; cpu = c.args.cpu; pid = c.args.pid } in
+    told-unchanged h.spec h.paused h.counts c.self.invariant c.args.self.now c.self.view_is c.reserve.new.self c.args.by.now emission c.reserve.result c.reserve.ensures.table c.reserve.ensures.err
+
+pub returns-clause-memory : goal.returns-clause-memory
+returns-clause-memory c =
     let h = c.self.inside in
     let emission : Emission = record { values = c.args.row.now.values; cpu = c.args.cpu; pid = c.args.pid } in
     let pid : to_z w32 (of_z w32 c.args.pid) ≡ c.args.pid = search rules in
-    let room : length h.counts.table.entries < h.counts.size = search rules in
-    let new : is_among (entry_keys h.counts.table.entries) (hit_of c.args.by.now emission).key ≡ false =
-    subst (λ (n : ℤ). is_among (entry_keys h.counts.table.entries) (hit_of c.args.by.now (record { values = c.args.row.now.values; cpu = c.args.cpu; pid = n })).key ≡ false) pid c.in_err-reserve.ensures.new in
-    let unreserved : h.counts.next ≢ In (hit_of c.args.by.now emission).key =
-    subst (λ (n : ℤ). h.counts.next ≢ In (hit_of c.args.by.now (record { values = c.args.row.now.values; cpu = c.args.cpu; pid = n })).key) pid c.in_err-reserve.ensures.unreserved in
-    let needs = needs-entry h.spec h.paused h.counts c.self.invariant c.args.self.now c.self.view_is c.args.by.now emission c.if-self.false room new unreserved in
-    search rules
+    let new : OnErr c.reserve.result (is_among (entry_keys h.counts.table.entries) (hit_of c.args.by.now emission).key ≡ false) =
+    subst (λ (n : ℤ). OnErr c.reserve.result (is_among (entry_keys h.counts.table.entries) (hit_of c.args.by.now (record { values = c.args.row.now.values; cpu = c.args.cpu; pid = n })).key ≡ false)) pid c.reserve.ensures.new in
+    let unreserved : OnErr c.reserve.result (h.counts.next ≢ In (hit_of c.args.by.now emission).key) =
+    subst (λ (n : ℤ). OnErr c.reserve.result (h.counts.next ≢ In (hit_of c.args.by.now (record { values = c.args.row.now.values; cpu = c.args.cpu; pid = n })).key)) pid c.reserve.ensures.unreserved in
+    told-needed h.spec h.paused h.counts c.self.invariant c.args.self.now c.self.view_is c.reserve.new.self c.args.by.now emission c.reserve.result c.reserve.ensures.table c.if-self.false c.reserve.ensures.room new unreserved
