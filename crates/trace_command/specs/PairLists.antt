@@ -7,3 +7,8 @@ use Rattle.trace_command.specs.declared.pairs.PairList.TheVariants.{One, Many}
 abbrev pub pairs_in : PairList → List Pair
 pairs_in (One pair) = pair ∷ []
 pairs_in (Many pairs) = pairs.items
+
+-- there is one, which takes no block of its own
+abbrev pub IsOne : PairList → Type 0
+IsOne (One pair) = Unit {0}
+IsOne (Many pairs) = ⊥

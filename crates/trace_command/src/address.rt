@@ -6,7 +6,7 @@ ghost use Rattle.trace_command.specs.Paths as paths;
 ghost use Rattle.trace_command.specs.FileNames.{address_at, bytes_now, cpu_at, file_at, parts_of};
 
 use crate::file_name::{
-    FileName, cpu_file, event_file, events_file, option_file, system_file, top_file,
+    FileName, cpu_file, event_file, events_file, is, option_file, system_file, top_file,
 };
 use trace_lex::{all_digits, has_leading_zero, is_name};
 
@@ -92,7 +92,7 @@ fn below_mount_point(path: &[u8]) -> &[u8]
 fn is_instance(first: &[u8], name: &[u8]) -> bool
     ensures { result ≡ paths.is_instance first.now name.now }
 {
-    first == b"instances".as_slice() && !name.is_empty()
+    is(first, b"instances") && !name.is_empty()
 }
 
 fn at_top(file: Option<FileName<'_>>) -> Address<'_>
@@ -157,10 +157,10 @@ fn file_of(path: &[u8]) -> Option<FileName<'_>>
 fn file_in_two<'a>(first: &[u8], name: &[u8]) -> Option<FileName<'a>>
     ensures { option_map file_at result ≡ paths.file_in (first.now ∷ name.now ∷ []) }
 {
-    if first == b"options".as_slice() {
+    if is(first, b"options") {
         return Some(FileName::OfInstance(option_file(name)?));
     }
-    if first == b"events".as_slice() {
+    if is(first, b"events") {
         return Some(FileName::OfInstance(events_file(name)?));
     }
     None
@@ -205,10 +205,10 @@ fn file_below_three<'a>(
 fn file_in_three<'a>(first: &[u8], second: &'a [u8], name: &[u8]) -> Option<FileName<'a>>
     ensures { option_map file_at result ≡ paths.file_in (first.now ∷ second.now ∷ name.now ∷ []) }
 {
-    if first == b"per_cpu".as_slice() {
+    if is(first, b"per_cpu") {
         return Some(FileName::OfCpu(cpu_digits(second)?, cpu_file(name)?));
     }
-    if first == b"events".as_slice() && second == b"synthetic".as_slice() {
+    if is(first, b"events") && is(second, b"synthetic") {
         return Some(FileName::OfInstance(system_file(name)?));
     }
     None
@@ -233,7 +233,7 @@ fn file_in_four<'a>(
 ) -> Option<FileName<'a>>
     ensures { option_map file_at result ≡ paths.file_in (first.now ∷ second.now ∷ event.now ∷ name.now ∷ []) }
 {
-    if first != b"events".as_slice() || second != b"synthetic".as_slice() || !is_name(event) {
+    if !is(first, b"events") || !is(second, b"synthetic") || !is_name(event) {
         return None;
     }
     Some(FileName::OfEvent(event, event_file(name)?))

@@ -1,6 +1,6 @@
 //! The files of the tracing tree, and their names in each folder.
 
-ghost use Rattle.std.specs.Prelude.{◌≡◌};
+ghost use Rattle.std.specs.Prelude.{◌≡◌, bytes_eq};
 ghost use Rattle.std.specs.Option.{option_map};
 ghost use Rattle.trace_command.specs.FileNames.{file_at};
 ghost use Rattle.trace_command.specs.Paths as paths;
@@ -46,27 +46,35 @@ pub enum FileName<'a> {
     OfEvent(&'a [u8], EventFile),
 }
 
+/// Whether a part of a path is this word.
+#[inline(always)]
+pub(crate) fn is(part: &[u8], word: &[u8]) -> bool
+    ensures { result ≡ bytes_eq part.now word.now }
+{
+    part == word
+}
+
 /// A file at the top.
 #[tactic(auto, unfolding(crate::specs::Paths::top_file))]
 pub(crate) fn top_file<'a>(name: &[u8]) -> Option<FileName<'a>>
     ensures { option_map file_at result ≡ paths.top_file name.now }
 {
-    if name == b"trace".as_slice() {
+    if is(name, b"trace") {
         return Some(FileName::OfInstance(TopFile::Trace));
     }
-    if name == b"trace_pipe".as_slice() {
+    if is(name, b"trace_pipe") {
         return Some(FileName::OfInstance(TopFile::TracePipe));
     }
-    if name == b"trace_options".as_slice() {
+    if is(name, b"trace_options") {
         return Some(FileName::OfInstance(TopFile::TraceOptions));
     }
-    if name == b"tracing_on".as_slice() {
+    if is(name, b"tracing_on") {
         return Some(FileName::OfInstance(TopFile::TracingOn));
     }
-    if name == b"snapshot".as_slice() {
+    if is(name, b"snapshot") {
         return Some(FileName::OfInstance(TopFile::Snapshot));
     }
-    if name == b"synthetic_events".as_slice() {
+    if is(name, b"synthetic_events") {
         return Some(FileName::SyntheticEvents);
     }
     None
@@ -77,7 +85,7 @@ pub(crate) fn top_file<'a>(name: &[u8]) -> Option<FileName<'a>>
 pub(crate) fn option_file(name: &[u8]) -> Option<TopFile>
     ensures { result ≡ paths.option_file name.now }
 {
-    if name == b"overwrite".as_slice() {
+    if is(name, b"overwrite") {
         return Some(TopFile::Overwrite);
     }
     None
@@ -88,7 +96,7 @@ pub(crate) fn option_file(name: &[u8]) -> Option<TopFile>
 pub(crate) fn events_file(name: &[u8]) -> Option<TopFile>
     ensures { result ≡ paths.events_file name.now }
 {
-    if name == b"enable".as_slice() {
+    if is(name, b"enable") {
         return Some(TopFile::EventsEnable);
     }
     None
@@ -99,10 +107,10 @@ pub(crate) fn events_file(name: &[u8]) -> Option<TopFile>
 pub(crate) fn system_file(name: &[u8]) -> Option<TopFile>
     ensures { result ≡ paths.system_file name.now }
 {
-    if name == b"enable".as_slice() {
+    if is(name, b"enable") {
         return Some(TopFile::EventsEnable);
     }
-    if name == b"filter".as_slice() {
+    if is(name, b"filter") {
         return Some(TopFile::EventsFilter);
     }
     None
@@ -113,13 +121,13 @@ pub(crate) fn system_file(name: &[u8]) -> Option<TopFile>
 pub(crate) fn cpu_file(name: &[u8]) -> Option<CpuFile>
     ensures { result ≡ paths.cpu_file name.now }
 {
-    if name == b"stats".as_slice() {
+    if is(name, b"stats") {
         return Some(CpuFile::Stats);
     }
-    if name == b"trace".as_slice() {
+    if is(name, b"trace") {
         return Some(CpuFile::Trace);
     }
-    if name == b"trace_pipe".as_slice() {
+    if is(name, b"trace_pipe") {
         return Some(CpuFile::TracePipe);
     }
     None
@@ -130,19 +138,19 @@ pub(crate) fn cpu_file(name: &[u8]) -> Option<CpuFile>
 pub(crate) fn event_file(name: &[u8]) -> Option<EventFile>
     ensures { result ≡ paths.event_file name.now }
 {
-    if name == b"enable".as_slice() {
+    if is(name, b"enable") {
         return Some(EventFile::Enable);
     }
-    if name == b"filter".as_slice() {
+    if is(name, b"filter") {
         return Some(EventFile::Filter);
     }
-    if name == b"trigger".as_slice() {
+    if is(name, b"trigger") {
         return Some(EventFile::Trigger);
     }
-    if name == b"hist".as_slice() {
+    if is(name, b"hist") {
         return Some(EventFile::Hist);
     }
-    if name == b"format".as_slice() {
+    if is(name, b"format") {
         return Some(EventFile::Format);
     }
     None

@@ -1,6 +1,7 @@
 //! The pairs of an emission.
 
 ghost use Rattle.std.specs.Prelude.{◌≡◌, [], ◌∷◌, ◌++◌, ◌↔◌, IfOk, IsTrue, OnOk, OnErr};
+ghost use Rattle.trace_command.specs.PairLists.{pairs_in, IsOne};
 
 use std::alloc::{AllocError, Global};
 use std::marker::Model;
@@ -105,23 +106,25 @@ impl Pairs {
         let name = Text::from_slice(alloc, name)?;
         let value = Text::from_slice(alloc, value)?;
         let pair = Pair { name, value };
+        self.push_pair(alloc, pair)
+    }
+
+    // Puts a pair at the end.
+    fn push_pair(&mut self, alloc: Global, pair: Pair) -> Result<(), AllocError>
+        ensures ok { OnOk result (self.new ≡ self.old ++ pair ∷ []) }
+        ensures err { OnErr result (self.new ≡ self.old) }
+    {
         if self.as_slice().is_empty() {
             self.list = PairList::One(pair);
             return Ok(());
         }
-        if let PairList::Many(pairs) = &mut self.list {
-            pairs.push(pair)?;
-            return Ok(());
+        match &mut self.list {
+            PairList::One(_) => push_second(alloc, &mut self.list, pair),
+            PairList::Many(pairs) => {
+                pairs.push(pair)?;
+                Ok(())
+            }
         }
-        let mut pairs = Vec::with_capacity(alloc, 2)?;
-        let PairList::One(first) = mem::replace(&mut self.list, PairList::Many(Vec::new(alloc)))
-        else {
-            unreachable!()
-        };
-        pairs.push_reserved(first);
-        pairs.push_reserved(pair);
-        self.list = PairList::Many(pairs);
-        Ok(())
     }
 
     /// The pairs.
@@ -133,4 +136,20 @@ impl Pairs {
             PairList::Many(pairs) => pairs,
         }
     }
+}
+
+// Puts a pair after the only one.
+fn push_second(alloc: Global, list: &mut PairList, pair: Pair) -> Result<(), AllocError>
+    requires { IsOne list.old }
+    ensures ok { OnOk result (pairs_in list.new ≡ pairs_in list.old ++ pair ∷ []) }
+    ensures err { OnErr result (list.new ≡ list.old) }
+{
+    let mut pairs = Vec::with_capacity(alloc, 2)?;
+    let PairList::One(first) = mem::replace(list, PairList::Many(Vec::new(alloc))) else {
+        unreachable!()
+    };
+    pairs.push_reserved(first);
+    pairs.push_reserved(pair);
+    *list = PairList::Many(pairs);
+    Ok(())
 }
