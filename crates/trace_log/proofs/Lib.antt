@@ -5,3 +5,5 @@ pub mod ChunkFacts
 pub mod PairReads
 pub mod HistoryFacts
 pub mod ShortEntries
+pub mod PairWrites
+pub mod EntrySteps

@@ -46,6 +46,22 @@ fn emission_head(ticket: u64, by: u32, cpu: u32, pid: i32) -> [u8; 21]
 }
 
 impl Chunk {
+    // A number of four bytes.
+    fn write_number_of_four(&mut self, number: u32) -> Result<(), AllocError>
+        ensures entries { self.new.entries ≡ self.old.entries }
+        ensures ahead { OnOk result (self.new.ahead ≡ self.old.ahead ++ to_le_bytes w32 number) }
+    {
+        self.write(&number.to_le_bytes())
+    }
+
+    // A number of eight bytes.
+    fn write_number_of_eight(&mut self, number: u64) -> Result<(), AllocError>
+        ensures entries { self.new.entries ≡ self.old.entries }
+        ensures ahead { OnOk result (self.new.ahead ≡ self.old.ahead ++ to_le_bytes w64 number) }
+    {
+        self.write(&number.to_le_bytes())
+    }
+
     // A length.
     #[tactic(auto, unfolding(crate::specs::EntryEncoding::length_bytes))]
     fn write_length(&mut self, length: usize) -> Result<(), AllocError>
@@ -56,7 +72,7 @@ impl Chunk {
             return self.write_byte(length as u8);
         }
         self.write_byte(LONG)?;
-        self.write(&(length as u64).to_le_bytes())
+        self.write_number_of_eight(length as u64)
     }
 
     // A string.
@@ -140,13 +156,12 @@ impl Chunk {
     {
         let _path_length = path.len();
         let _text_length = text.len();
-        self.write(&ticket.to_le_bytes())?;
-        self.write(&by.to_le_bytes())?;
+        self.write_number_of_eight(ticket)?;
+        self.write_number_of_four(by)?;
         self.write_byte(kind)?;
-        self.write(&limit.to_le_bytes())?;
+        self.write_number_of_eight(limit)?;
         self.write_text(path)?;
-        self.write_text(text)?;
-        Ok(())
+        self.write_text(text)
     }
 
     // Writes the entry of a read ahead, likewise.
