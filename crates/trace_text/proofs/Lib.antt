@@ -4,3 +4,4 @@ pub mod ProcessLemmas
 pub mod BufferLemmas
 pub mod SnapshotLemmas
 pub mod ZipLemmas
+pub mod LoopLemmas

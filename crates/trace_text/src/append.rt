@@ -6,6 +6,15 @@ ghost use Rattle.std.specs.Fmt.{decimal};
 use itoa::{Buffer, Integer};
 use std::alloc::AllocError;
 
+/// Appends bytes.
+#[inline]
+pub(crate) fn push(out: &mut Vec<u8>, text: &[u8]) -> Result<(), AllocError>
+    ensures text { OnOk result (out.new.items ≡ out.old.items ++ text.now) }
+    ensures refused { OnErr result (out.new.items ≡ out.old.items) }
+{
+    out.extend_from_slice(text)
+}
+
 /// Appends a number in decimal, one below 0 with its sign.
 pub(crate) fn push_number<N: Integer>(out: &mut Vec<u8>, n: N) -> Result<(), AllocError>
     ensures { OnOk result (out.new.items ≡ out.old.items ++ N.text n) }

@@ -3,7 +3,7 @@
 ghost use Rattle.std.specs.Prelude.{◌≡◌, ◌++◌, OnOk, OnErr};
 ghost use Rattle.trace_text.specs.DeclarationText as texts;
 
-use crate::append::append_text;
+use crate::append::{append_text, push};
 use crate::field::push_field;
 use std::alloc::{AllocError, Global};
 use trace_format::{EventDef, Field};
@@ -13,7 +13,7 @@ fn push_further_fields(out: &mut Vec<u8>, fields: &[Field]) -> Result<(), AllocE
     ensures { OnOk result (out.new.items ≡ out.old.items ++ texts.further_fields fields.now) }
 {
     for field in fields {
-        out.extend_from_slice(b"; ".as_slice())?;
+        push(out, b"; ")?;
         push_field(out, field)?;
     }
     Ok(())
@@ -36,9 +36,9 @@ fn push_declaration(out: &mut Vec<u8>, def: &EventDef) -> Result<(), AllocError>
     ensures { OnOk result (out.new.items ≡ out.old.items ++ texts.declaration_text def.now) }
 {
     out.extend_from_slice(def.name())?;
-    out.extend_from_slice(b" ".as_slice())?;
+    push(out, b" ")?;
     push_fields(out, def.fields())?;
-    out.extend_from_slice(b"\n".as_slice())
+    push(out, b"\n")
 }
 
 /// Appends an event's line of `synthetic_events` ("Synthetic events" of histogram.rst): its name, and its fields as they are declared.

@@ -7,6 +7,7 @@ ghost use Rattle.trace_hist.specs.Buckets.{pattern_of as spec_pattern_of};
 ghost use Rattle.trace_hist.specs.PrintOrder.{row_in};
 ghost use Rattle.trace_text.specs.EntryText as texts;
 
+use crate::append::push;
 use itoa::{Buffer, Integer};
 use std::alloc::AllocError;
 use trace_format::{Text, Value};
@@ -104,7 +105,7 @@ fn push_key(out: &mut Vec<u8>, key: &Key, value: &Value) -> Result<(), AllocErro
         ≡ out.old.items ++ texts.key_text (key.now, datum_of value.now)) }
 {
     out.extend_from_slice(key.name.as_bytes())?;
-    out.extend_from_slice(b": ".as_slice())?;
+    push(out, b": ")?;
     push_key_value(out, key.modifier, value)
 }
 
@@ -114,7 +115,7 @@ fn push_further_keys(out: &mut Vec<u8>, keys: &[Key], values: &[Value]) -> Resul
         (λ key. codes ", " ++ texts.key_text key) (zip keys.now (map datum_of values.now))) }
 {
     for (key, value) in keys.iter().zip(values) {
-        out.extend_from_slice(b", ".as_slice())?;
+        push(out, b", ")?;
         push_key(out, key, value)?;
     }
     Ok(())
@@ -137,9 +138,9 @@ fn push_keys(out: &mut Vec<u8>, keys: &[Key], values: &[Value]) -> Result<(), Al
 fn push_sum(out: &mut Vec<u8>, name: &Text, sum: i128) -> Result<(), AllocError>
     ensures { OnOk result (out.new.items ≡ out.old.items ++ texts.sum_text (name.now, sum)) }
 {
-    out.extend_from_slice(b"  ".as_slice())?;
+    push(out, b"  ")?;
     out.extend_from_slice(name.as_bytes())?;
-    out.extend_from_slice(b": ".as_slice())?;
+    push(out, b": ")?;
     push_number_on_the_right(out, sum)
 }
 
@@ -164,10 +165,10 @@ pub(crate) fn push_entry_line(
     ensures { OnOk result (out.new.items
         ≡ out.old.items ++ texts.entry_line spec.now.keys spec.now.values (row_in entry.now)) }
 {
-    out.extend_from_slice(b"{ ".as_slice())?;
+    push(out, b"{ ")?;
     push_keys(out, spec.keys(), &entry.keys)?;
-    out.extend_from_slice(b" } hitcount: ".as_slice())?;
+    push(out, b" } hitcount: ")?;
     push_number_on_the_right(out, entry.hitcount)?;
     push_sums(out, spec.values(), &entry.sums)?;
-    out.extend_from_slice(b"\n".as_slice())
+    push(out, b"\n")
 }

@@ -4,7 +4,7 @@ ghost use Rattle.std.specs.Prelude.{◌≡◌, ◌++◌, OnOk};
 ghost use Rattle.trace_format.specs.Definitions.{length_suffix};
 ghost use Rattle.trace_text.specs.FieldText as texts;
 
-use crate::append::push_number;
+use crate::append::{push, push_number};
 use std::alloc::AllocError;
 use trace_format::{Field, Kind};
 
@@ -14,7 +14,7 @@ pub(crate) fn push_field(out: &mut Vec<u8>, field: &Field) -> Result<(), AllocEr
     ensures { OnOk result (out.new.items ≡ out.old.items ++ texts.field_text field.now) }
 {
     out.extend_from_slice(field.kind.type_name())?;
-    out.extend_from_slice(b" ".as_slice())?;
+    push(out, b" ")?;
     out.extend_from_slice(field.name.as_bytes())?;
     push_length(out, field.kind)
 }
@@ -26,7 +26,7 @@ fn push_length(out: &mut Vec<u8>, kind: Kind) -> Result<(), AllocError>
     let Kind::Char(length) = kind else {
         return Ok(());
     };
-    out.extend_from_slice(b"[".as_slice())?;
+    push(out, b"[")?;
     push_number(out, length)?;
-    out.extend_from_slice(b"]".as_slice())
+    push(out, b"]")
 }

@@ -4,7 +4,7 @@ ghost use Rattle.std.specs.Prelude.{◌≡◌, ◌++◌, codes, OnOk, OnErr};
 ghost use Rattle.std.specs.Fmt.{decimal};
 ghost use Rattle.trace_text.specs.FormatText as texts;
 
-use crate::append::{append_text, push_number};
+use crate::append::{append_text, push, push_number};
 use crate::field::push_field;
 use std::alloc::{AllocError, Global};
 use trace_format::{EventDef, Field};
@@ -18,9 +18,9 @@ fn push_sign(out: &mut Vec<u8>, signed: bool) -> Result<(), AllocError>
     ensures { OnOk result (out.new.items ≡ out.old.items ++ texts.signed_text signed) }
 {
     if signed {
-        out.extend_from_slice(b"1".as_slice())
+        push(out, b"1")
     } else {
-        out.extend_from_slice(b"0".as_slice())
+        push(out, b"0")
     }
 }
 
@@ -28,13 +28,13 @@ fn push_sign(out: &mut Vec<u8>, signed: bool) -> Result<(), AllocError>
 fn push_layout(out: &mut Vec<u8>, offset: u128, size: usize, signed: bool) -> Result<(), AllocError>
     ensures { OnOk result (out.new.items ≡ out.old.items ++ texts.layout_text offset size signed) }
 {
-    out.extend_from_slice(b";\toffset:".as_slice())?;
+    push(out, b";\toffset:")?;
     push_number(out, offset)?;
-    out.extend_from_slice(b";\tsize:".as_slice())?;
+    push(out, b";\tsize:")?;
     push_number(out, size)?;
-    out.extend_from_slice(b";\tsigned:".as_slice())?;
+    push(out, b";\tsigned:")?;
     push_sign(out, signed)?;
-    out.extend_from_slice(b";\n".as_slice())
+    push(out, b";\n")
 }
 
 /// Appends the line of a field whose first byte is at an offset.
@@ -42,7 +42,7 @@ fn push_layout(out: &mut Vec<u8>, offset: u128, size: usize, signed: bool) -> Re
 fn push_field_line(out: &mut Vec<u8>, offset: u128, field: &Field) -> Result<(), AllocError>
     ensures { OnOk result (out.new.items ≡ out.old.items ++ texts.field_line offset field.now) }
 {
-    out.extend_from_slice(b"\tfield:".as_slice())?;
+    push(out, b"\tfield:")?;
     push_field(out, field)?;
     push_layout(out, offset, field.kind.size(), field.kind.is_signed())
 }
@@ -64,7 +64,7 @@ fn push_field_lines(out: &mut Vec<u8>, fields: &[Field]) -> Result<(), AllocErro
 fn push_common_pid_line(out: &mut Vec<u8>) -> Result<(), AllocError>
     ensures { OnOk result (out.new.items ≡ out.old.items ++ texts.common_pid_line) }
 {
-    out.extend_from_slice(b"\tfield:s32 common_pid".as_slice())?;
+    push(out, b"\tfield:s32 common_pid")?;
     push_layout(out, 8, 4, true)
 }
 
@@ -73,9 +73,9 @@ fn push_event(out: &mut Vec<u8>, id: u16, def: &EventDef) -> Result<(), AllocErr
     ensures { OnOk result (out.new.items
         ≡ out.old.items ++ codes "name: " ++ def.now.name ++ codes "\nID: " ++ decimal id) }
 {
-    out.extend_from_slice(b"name: ".as_slice())?;
+    push(out, b"name: ")?;
     out.extend_from_slice(def.name())?;
-    out.extend_from_slice(b"\nID: ".as_slice())?;
+    push(out, b"\nID: ")?;
     push_number(out, id)
 }
 
@@ -85,9 +85,9 @@ fn push_format(out: &mut Vec<u8>, id: u16, def: &EventDef) -> Result<(), AllocEr
     ensures { OnOk result (out.new.items ≡ out.old.items ++ texts.format_text id def.now) }
 {
     push_event(out, id, def)?;
-    out.extend_from_slice(b"\nformat:\n".as_slice())?;
+    push(out, b"\nformat:\n")?;
     push_common_pid_line(out)?;
-    out.extend_from_slice(b"\n".as_slice())?;
+    push(out, b"\n")?;
     push_field_lines(out, def.fields())
 }
 

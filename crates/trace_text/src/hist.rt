@@ -7,7 +7,7 @@ ghost use Rattle.trace_text.specs.EntryText.{entry_line};
 ghost use Rattle.trace_text.specs.HistText as texts;
 ghost use Rattle.trace_text.specs.ShownTriggers.{shown_hist, shown_trigger};
 
-use crate::append::{append_text, push_number};
+use crate::append::{append_text, push, push_number};
 use crate::entry::push_entry_line;
 use crate::hist_line::push_hist_line;
 use crate::trigger::Shown;
@@ -20,9 +20,9 @@ fn push_hist_head(out: &mut Vec<u8>, spec: &HistSpec, hist: &Hist) -> Result<(),
     ensures { OnOk result (out.new.items
         ≡ out.old.items ++ texts.hist_head (shown_hist spec.now hist.now)) }
 {
-    out.extend_from_slice(b"# event histogram\n#\n# trigger info: ".as_slice())?;
+    push(out, b"# event histogram\n#\n# trigger info: ")?;
     push_hist_line(out, spec, hist.is_paused())?;
-    out.extend_from_slice(b"\n#\n\n".as_slice())
+    push(out, b"\n#\n\n")
 }
 
 /// Appends entries, a line each.
@@ -41,11 +41,11 @@ fn push_entries(out: &mut Vec<u8>, spec: &HistSpec, entries: &[HistRow]) -> Resu
 fn push_total(out: &mut Vec<u8>, name: &str, count: u64) -> Result<(), AllocError>
     ensures { OnOk result (out.new.items ≡ out.old.items ++ texts.total_line name.now count) }
 {
-    out.extend_from_slice(b"    ".as_slice())?;
+    push(out, b"    ")?;
     out.extend_from_slice(name.as_bytes())?;
-    out.extend_from_slice(b": ".as_slice())?;
+    push(out, b": ")?;
     push_number(out, count)?;
-    out.extend_from_slice(b"\n".as_slice())
+    push(out, b"\n")
 }
 
 /// Appends the totals.
@@ -54,7 +54,7 @@ fn push_totals(out: &mut Vec<u8>, hist: &Hist) -> Result<(), AllocError>
     ensures { OnOk result (out.new.items ≡ out.old.items ++ texts.totals_text hist.now.table) }
 {
     let totals = hist.totals();
-    out.extend_from_slice(b"Totals:\n".as_slice())?;
+    push(out, b"Totals:\n")?;
     push_total(out, "Hits", totals.hits)?;
     push_total(out, "Entries", totals.entries)?;
     push_total(out, "Dropped", totals.dropped)
@@ -77,7 +77,7 @@ fn push_hist(out: &mut Vec<u8>, spec: &HistSpec, hist: &Hist) -> Result<(), Allo
 {
     push_hist_head(out, spec, hist)?;
     push_rows(out, spec, hist)?;
-    out.extend_from_slice(b"\n".as_slice())?;
+    push(out, b"\n")?;
     push_totals(out, hist)
 }
 
@@ -92,7 +92,7 @@ fn push_hists(out: &mut Vec<u8>, shown: &[Shown<'_>]) -> Result<(), AllocError>
             continue;
         };
         if !is_first {
-            out.extend_from_slice(b"\n".as_slice())?;
+            push(out, b"\n")?;
         }
         push_hist(out, spec, hist)?;
         is_first = false;

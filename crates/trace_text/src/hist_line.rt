@@ -7,7 +7,7 @@ ghost use Rattle.trace_trigger.specs.declared.key.Key.{Key as KeySeen};
 ghost use Rattle.trace_trigger.specs.SameSpecs.{filter_text};
 ghost use Rattle.trace_text.specs.TriggerText as texts;
 
-use crate::append::push_number;
+use crate::append::{push, push_number};
 use std::alloc::AllocError;
 use trace_format::Text;
 use trace_hist::{HistSpec, Key, SortKey};
@@ -18,7 +18,7 @@ fn push_further_names(out: &mut Vec<u8>, names: &[Text]) -> Result<(), AllocErro
         ≡ out.old.items ++ flat_map (λ name. codes "," ++ name) names.now) }
 {
     for name in names {
-        out.extend_from_slice(b",".as_slice())?;
+        push(out, b",")?;
         out.extend_from_slice(name.as_bytes())?;
     }
     Ok(())
@@ -30,7 +30,7 @@ fn push_further_keys(out: &mut Vec<u8>, keys: &[Key]) -> Result<(), AllocError>
         ≡ out.old.items ++ flat_map (λ (key : KeySeen). codes "," ++ key.written) keys.now) }
 {
     for key in keys {
-        out.extend_from_slice(b",".as_slice())?;
+        push(out, b",")?;
         out.extend_from_slice(key.written.as_bytes())?;
     }
     Ok(())
@@ -52,7 +52,7 @@ fn push_values(out: &mut Vec<u8>, values: &[Text]) -> Result<(), AllocError>
     ensures { OnOk result (out.new.items
         ≡ out.old.items ++ texts.with_commas (codes "hitcount" ∷ values.now)) }
 {
-    out.extend_from_slice(b"hitcount".as_slice())?;
+    push(out, b"hitcount")?;
     push_further_names(out, values)
 }
 
@@ -62,7 +62,7 @@ fn push_sort_key(out: &mut Vec<u8>, key: &SortKey) -> Result<(), AllocError>
 {
     out.extend_from_slice(key.name.as_bytes())?;
     if key.descending {
-        out.extend_from_slice(b".descending".as_slice())?;
+        push(out, b".descending")?;
     }
     Ok(())
 }
@@ -73,7 +73,7 @@ fn push_further_sort_keys(out: &mut Vec<u8>, keys: &[SortKey]) -> Result<(), All
         ≡ out.old.items ++ flat_map (λ key. codes "," ++ texts.sort_text key) keys.now) }
 {
     for key in keys {
-        out.extend_from_slice(b",".as_slice())?;
+        push(out, b",")?;
         push_sort_key(out, key)?;
     }
     Ok(())
@@ -99,7 +99,7 @@ pub(crate) fn push_condition(out: &mut Vec<u8>, filter: Option<&[u8]>) -> Result
     let Some(filter) = filter else {
         return Ok(());
     };
-    out.extend_from_slice(b" if ".as_slice())?;
+    push(out, b" if ")?;
     out.extend_from_slice(filter)
 }
 
@@ -108,7 +108,7 @@ fn push_size(out: &mut Vec<u8>, spec: &HistSpec) -> Result<(), AllocError>
     ensures { OnOk result (out.new.items
         ≡ out.old.items ++ codes ":size=" ++ decimal spec.now.size) }
 {
-    out.extend_from_slice(b":size=".as_slice())?;
+    push(out, b":size=")?;
     push_number(out, spec.size())
 }
 
@@ -127,12 +127,11 @@ fn push_filter(out: &mut Vec<u8>, spec: &HistSpec) -> Result<(), AllocError>
 fn push_state(out: &mut Vec<u8>, is_paused: bool) -> Result<(), AllocError>
     ensures { OnOk result (out.new.items ≡ out.old.items ++ texts.state_text is_paused) }
 {
-    let state = if is_paused {
-        b" [paused]".as_slice()
+    if is_paused {
+        push(out, b" [paused]")
     } else {
-        b" [active]".as_slice()
-    };
-    out.extend_from_slice(state)
+        push(out, b" [active]")
+    }
 }
 
 /// Appends the name of a hist trigger's table, and of one without a name nothing.
@@ -142,9 +141,9 @@ fn push_name(out: &mut Vec<u8>, spec: &HistSpec) -> Result<(), AllocError>
     let Some(name) = spec.name() else {
         return Ok(());
     };
-    out.extend_from_slice(b"name=".as_slice())?;
+    push(out, b"name=")?;
     out.extend_from_slice(name)?;
-    out.extend_from_slice(b":".as_slice())
+    push(out, b":")
 }
 
 /// Appends a hist trigger's name, if it has one, and its lists, with `hitcount` first among its values.
@@ -152,13 +151,13 @@ fn push_name(out: &mut Vec<u8>, spec: &HistSpec) -> Result<(), AllocError>
 fn push_lists(out: &mut Vec<u8>, spec: &HistSpec) -> Result<(), AllocError>
     ensures { OnOk result (out.new.items ≡ out.old.items ++ texts.lists_text spec.now) }
 {
-    out.extend_from_slice(b"hist:".as_slice())?;
+    push(out, b"hist:")?;
     push_name(out, spec)?;
-    out.extend_from_slice(b"keys=".as_slice())?;
+    push(out, b"keys=")?;
     push_keys(out, spec.keys())?;
-    out.extend_from_slice(b":vals=".as_slice())?;
+    push(out, b":vals=")?;
     push_values(out, spec.values())?;
-    out.extend_from_slice(b":sort=".as_slice())?;
+    push(out, b":sort=")?;
     push_sort_keys(out, spec.sort())
 }
 

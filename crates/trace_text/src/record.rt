@@ -5,7 +5,7 @@ ghost use Rattle.trace_format.specs.Cells.{datum_of};
 ghost use Rattle.trace_format.specs.Decoding.{row_from};
 ghost use Rattle.trace_text.specs.RecordText as texts;
 
-use crate::append::push_number;
+use crate::append::{push, push_number};
 use std::alloc::{AllocError, Global};
 use trace_format::{Catalog, EventDef, Field, Row, RowMemory, Value};
 use trace_record::{Head, payload_in, read_head};
@@ -28,11 +28,11 @@ fn push_line_start(out: &mut Vec<u8>, cpu: u32, head: &Head) -> Result<(), Alloc
     ensures { OnOk result (out.new.items ≡ out.old.items ++ texts.line_start cpu head.now) }
 {
     push_number(out, head.pid)?;
-    out.extend_from_slice(b" [".as_slice())?;
+    push(out, b" [")?;
     push_three_digits(out, cpu)?;
-    out.extend_from_slice(b"] ".as_slice())?;
+    push(out, b"] ")?;
     push_number(out, head.ts)?;
-    out.extend_from_slice(b": ".as_slice())
+    push(out, b": ")
 }
 
 /// Appends a number in decimal, or a text as it is.
@@ -50,9 +50,9 @@ fn push_value(out: &mut Vec<u8>, value: &Value) -> Result<(), AllocError>
 fn push_cell(out: &mut Vec<u8>, field: &Field, value: &Value) -> Result<(), AllocError>
     ensures { OnOk result (out.new.items ≡ out.old.items ++ texts.cell_text field.now (datum_of value.now)) }
 {
-    out.extend_from_slice(b" ".as_slice())?;
+    push(out, b" ")?;
     out.extend_from_slice(field.name.as_bytes())?;
-    out.extend_from_slice(b"=".as_slice())?;
+    push(out, b"=")?;
     push_value(out, value)
 }
 
@@ -79,9 +79,9 @@ fn push_row_line(
 {
     push_line_start(out, cpu, head)?;
     out.extend_from_slice(def.name())?;
-    out.extend_from_slice(b":".as_slice())?;
+    push(out, b":")?;
     push_cells(out, def.fields(), row.values())?;
-    out.extend_from_slice(b"\n".as_slice())
+    push(out, b"\n")
 }
 
 /// Appends the line of a record of an event.

@@ -5,6 +5,7 @@ ghost use Rattle.trace_snapshot.specs.Sides.{SideFamilies, StandsFor};
 ghost use Rattle.trace_text.specs.SnapshotText as texts;
 ghost use Rattle.trace_text.specs.SnapshotText.{SpareHasShape};
 
+use crate::append::push;
 use crate::trace::trace_text;
 use std::alloc::{AllocError, Global};
 use trace_format::Catalog;
@@ -16,7 +17,7 @@ fn push_freed_line(out: &mut Vec<u8>) -> Result<(), AllocError>
     ensures text { OnOk result (out.new.items ≡ out.old.items ++ texts.freed_line) }
     ensures refused { OnErr result (out.new.items ≡ out.old.items) }
 {
-    out.extend_from_slice(b"# * Snapshot is freed *\n".as_slice())
+    push(out, b"# * Snapshot is freed *\n")
 }
 
 /// Appends what `snapshot` shows ("Snapshot" of ftrace.rst): the trace of all CPUs of the spare side, as `trace_text` gives it of a buffer, or

@@ -13,7 +13,7 @@ ghost use Rattle.trace_text.specs.BufferText as files;
 ghost use Rattle.trace_text.specs.RecordText.{record_line};
 ghost use Rattle.trace_text.specs.TraceText as texts;
 
-use crate::append::{append_text, push_decimal};
+use crate::append::{append_text, push, push_decimal};
 use crate::record::push_record_line;
 use page_ring::{Kept, KeptRecords};
 use std::alloc::{AllocError, Global};
@@ -25,7 +25,10 @@ use trace_format::{Catalog, RowMemory};
 fn push_trace_title(out: &mut Vec<u8>) -> Result<(), AllocError>
     ensures { OnOk result (out.new.items ≡ out.old.items ++ texts.trace_title) }
 {
-    out.extend_from_slice(b"# tracer: nop\n#\n# entries-in-buffer/entries-written: ".as_slice())
+    push(
+        out,
+        b"# tracer: nop\n#\n# entries-in-buffer/entries-written: ",
+    )
 }
 
 /// Appends the head of `trace` ("Output format" of ftrace.rst): how many records are kept, how many are kept or were lost to overwriting,
@@ -41,11 +44,11 @@ pub(crate) fn push_trace_head(
 {
     push_trace_title(out)?;
     push_decimal(out, kept)?;
-    out.extend_from_slice(b"/".as_slice())?;
+    push(out, b"/")?;
     push_decimal(out, written)?;
-    out.extend_from_slice(b"   #P:".as_slice())?;
+    push(out, b"   #P:")?;
     push_decimal(out, u128::from(cpus))?;
-    out.extend_from_slice(b"\n#\n".as_slice())
+    push(out, b"\n#\n")
 }
 
 /// How many records the rings keep, and how many were lost to overwriting.

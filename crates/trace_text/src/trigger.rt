@@ -5,7 +5,7 @@ ghost use Rattle.std.specs.List.{flat_map};
 ghost use Rattle.trace_text.specs.ShownTriggers.{shown_trigger};
 ghost use Rattle.trace_text.specs.TriggerText as texts;
 
-use crate::append::{append_text, push_number};
+use crate::append::{append_text, push, push_number};
 use crate::hist_line::{push_condition, push_hist_line};
 use std::alloc::{AllocError, Global};
 use trace_hist::{Hist, HistSpec};
@@ -30,9 +30,9 @@ fn push_left(out: &mut Vec<u8>, left: Option<u64>) -> Result<(), AllocError>
     ensures { OnOk result (out.new.items ≡ out.old.items ++ texts.left_text left) }
 {
     let Some(left) = left else {
-        return out.extend_from_slice(b"unlimited".as_slice());
+        return push(out, b"unlimited");
     };
-    out.extend_from_slice(b"count=".as_slice())?;
+    push(out, b"count=")?;
     push_number(out, left)
 }
 
@@ -45,7 +45,7 @@ fn push_snapshot(
     ensures { OnOk result (out.new.items ≡ out.old.items ++ codes "snapshot:"
         ++ texts.left_text left ++ texts.condition_text (option_copied filter.entry)) }
 {
-    out.extend_from_slice(b"snapshot:".as_slice())?;
+    push(out, b"snapshot:")?;
     push_left(out, left)?;
     push_condition(out, filter)
 }
@@ -60,7 +60,7 @@ fn push_trigger_line(out: &mut Vec<u8>, trigger: &Shown<'_>) -> Result<(), Alloc
         Shown::Hist(spec, hist) => push_hist_line(out, spec, hist.is_paused())?,
         Shown::Snapshot { left, filter } => push_snapshot(out, left, filter)?,
     }
-    out.extend_from_slice(b"\n".as_slice())
+    push(out, b"\n")
 }
 
 /// Appends the lines of all triggers.
@@ -80,7 +80,7 @@ fn push_available_triggers(out: &mut Vec<u8>) -> Result<(), AllocError>
     ensures text { OnOk result (out.new.items ≡ out.old.items ++ texts.available_triggers) }
     ensures refused { OnErr result (out.new.items ≡ out.old.items) }
 {
-    out.extend_from_slice(b"# Available triggers:\n# hist snapshot\n".as_slice())
+    push(out, b"# Available triggers:\n# hist snapshot\n")
 }
 
 /// Appends what an event's `trigger` file shows ("Event triggers" of events.rst): a line for each trigger, in the order of `shown`, which is to be

@@ -14,6 +14,6 @@ returns c =
     on_ok_weaker c.push_layout.result
     (λ written.
     joined c.args.out.now.items (codes "\tfield:s32 common_pid") (layout_text 8 4 true) _ _
-    (c.in_ok-extend_from_slice.ensures.items ∙ ap (λ xs. c.args.out.now.items ++ xs) c.as_slice.ensures)
+    c.in_ok-push.ensures.text
     written)
     c.push_layout.ensures
