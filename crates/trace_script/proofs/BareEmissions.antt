@@ -37,6 +37,10 @@ no_pairs_yet line = by_option (pairs_in line)
     by_option None = refl
     by_option (Some ps) = refl
 
+pub some_pairs : (items : List Pair) (pair : Pair) → items ++ pair ∷ [] ≢ []
+some_pairs [] pair = λ e. cc
+some_pairs (p ∷ ps) pair = λ e. cc
+
 module _ (line rest after : List ℕ) (items : List Pair) (pair : Pair) (invariant : option_map (λ more. items ++ more) (pairs_in rest) ≡ pairs_in line)
     (taken : pairs_in rest ≡ option_map (λ more. pair ∷ more) (pairs_in after)) where
   -- one pair more

@@ -176,6 +176,11 @@ either : (x y : Bool) → (x || y) ≡ true → (x ≡ true) ⊎ (y ≡ true)
 either true y e = inl refl
 either false y e = inr e
 
+pub either_empty : (x y : Bool) → (x ≡ true) ⊎ (y ≡ true) → (x || y) ≡ true
+either_empty true y e = refl
+either_empty false y (inl e) = absurd cc
+either_empty false y (inr e) = e
+
 -- a line that is cut into no word and a rest is one word
 pub word_alone : (n : ℕ) (line word rest : List ℕ) → highest_rank line ≡ 0 → n ≡ prefix_len (λ b. nat_lt 32 b) line → word ≡ take n line → rest ≡ drop n line
     → (length word == 0 || length rest == 0) ≡ true → is_spaced true line ≡ true → tokens_of line ≡ Some (Word line ∷ [])

@@ -1,8 +1,8 @@
 -- Pairs of a line that has neither quotes nor `>`: each is a name, a `=`, and what stands before the first byte that is not above a space.
-use Rattle.std.proofs.Common.{◌≡◌, ◌≢◌, ℕ, ◌+◌, ◌<◌, nat_lt, Bool, true, false, ◌&&◌, ◌==◌, not, cond, List, [], ◌∷◌, ◌++◌, length, take, drop, Option, Some, None, refl, ap, sym, subst, ◌∙◌, arith, length-append, length-drop}
+use Rattle.std.proofs.Common.{◌≡◌, ◌≢◌, ℕ, ◌+◌, ◌-◌, ◌<◌, nat_lt, Bool, true, false, ◌&&◌, ◌==◌, not, cond, List, [], ◌∷◌, ◌++◌, length, take, drop, Option, Some, None, refl, ap, sym, subst, ◌∙◌, arith, length-append, length-drop}
 use Rattle.std.proofs.Math.Seq.{take-append-add, drop-append-add}
 use Rattle.std.proofs.lemmas.Bool.Decides.{nat_tests}
-use Rattle.std.proofs.lemmas.List.{take-append-drop}
+use Rattle.std.proofs.lemmas.List.{take_all, take-append-drop}
 use Rattle.std.specs.List.{AllByRecursion, prefix_len}
 use Rattle.std.specs.Option.{option_map, option_and_then}
 use Rattle.trace_format.specs.declared.pair.Pair.{Pair}
@@ -201,3 +201,9 @@ no_pair_taken n line back bare named behind_it other spaced =
     let word : IsName (take (prefix_len above line) line) = subst (λ (k : ℕ). IsName (take k line)) (sym same) (is_name line) in
     ap (option_and_then pairs_of) (first_word line bare (some_word line bare spaced))
     ∙ no_pairs_behind (take (prefix_len above line) line) (tokens_of (drop (prefix_len above line) line)) (no_pair (take (prefix_len above line) line) word)
+
+-- ---- pair after pair
+
+-- what follows the first byte, as the code takes it
+pub tail_is : (xs : List ℕ) → take (length xs - 1) (drop 1 xs) ≡ drop 1 xs
+tail_is xs = take_all (length xs - 1) (drop 1 xs) (omega (arith, length-drop 1 xs))

@@ -11,8 +11,10 @@ pub mod CommandLaws
 pub mod LineLaws
 pub mod EndLines
 pub mod EmissionLines
+pub mod BlockLines
 pub mod BareLines
 pub mod BarePairs
 pub mod BareEmissions
 pub mod OnePair
 pub mod FaultOrder
+pub mod NumberLemmas

@@ -1,8 +1,9 @@
 -- Where a word ends, by the bits that a block gives for the bytes at which one does.
 use Rattle.std.proofs.Common.{◌≡◌, ◌≢◌, ℕ, ◌+◌, ◌*◌, ◌<◌, ◌≤◌, Bool, true, false, not, ◌&&◌, ◌||◌, ◌==◌, nat_lt, cond, eqb, leb, List, [], ◌∷◌}
-use Rattle.std.proofs.Common.{map, length, drop, refl, sym, ap, ap₂, ◌∙◌, arith}
+use Rattle.std.proofs.Common.{suc, map, length, get_or, drop, drop-cons, refl, sym, ap, ap₂, ◌∙◌, arith}
 use Rattle.std.proofs.lemmas.Bool.{eq-eqb, ne_eqb}
 use Rattle.std.proofs.lemmas.Bool.Decides.{nat_tests}
+use Rattle.std.proofs.lemmas.List.{drop_all}
 use Rattle.std.proofs.lemmas.List.Folds.{prefix_len-append}
 use Rattle.std.proofs.lemmas.List.Sums.{prefix_len-le-length}
 use Rattle.std.proofs.lemmas.Simd.{chunk-drop, length-chunk, leading_from_mask_l, trailing_mask_l}
@@ -71,3 +72,37 @@ run_stops end d i n room short some =
     let ends : prefix_len q c ≢ length c = λ (e : prefix_len q c ≡ length c). omega (arith, all_pass (is_stop end) c e) in
     cut q d i n ∙ ap (λ b. cond b (length c + prefix_len q (drop (i + n) d)) (prefix_len q c)) (ne_eqb _ _ ends)
     ∙ sym (trailing_mask_l (is_stop end) 64 c (omega (arith, length-chunk i n d room)) some)
+
+-- ---- byte by byte
+
+goes_byte : (end b : ℕ) → 32 < b → b ≢ end → goes_on end b ≡ true
+goes_byte end b above other = grind (arith, nat_tests)
+
+low_byte : (end b : ℕ) → b ≤ 32 → goes_on end b ≡ false
+low_byte end b low = grind (arith, nat_tests)
+
+end_byte : (end b : ℕ) → b ≡ end → goes_on end b ≡ false
+end_byte end b same = grind (arith, nat_tests)
+
+at_byte : (end at : ℕ) (text : List ℕ) → at < length text
+    → prefix_len (goes_on end) (drop at text) ≡ cond (goes_on end (get_or text at 0)) (1 + prefix_len (goes_on end) (drop (at + 1) text)) 0
+at_byte end at text h =
+    let one : suc at ≡ at + 1 = omega arith in
+    ap (prefix_len (goes_on end)) (drop-cons text at 0 h)
+    ∙ ap (λ k. cond (goes_on end (get_or text at 0)) (1 + prefix_len (goes_on end) (drop k text)) 0) one
+
+-- the word goes on at this byte
+pub run_more : (end at : ℕ) (text : List ℕ) → at < length text → 32 < get_or text at 0 → get_or text at 0 ≢ end
+    → prefix_len (goes_on end) (drop at text) ≡ 1 + prefix_len (goes_on end) (drop (at + 1) text)
+run_more end at text h above other = rw (at_byte end at text h, goes_byte end (get_or text at 0) above other) refl
+
+-- it ends there
+pub run_low : (end at : ℕ) (text : List ℕ) → at < length text → get_or text at 0 ≤ 32 → prefix_len (goes_on end) (drop at text) ≡ 0
+run_low end at text h low = rw (at_byte end at text h, low_byte end (get_or text at 0) low) refl
+
+pub run_end : (end at : ℕ) (text : List ℕ) → at < length text → get_or text at 0 ≡ end → prefix_len (goes_on end) (drop at text) ≡ 0
+run_end end at text h same = rw (at_byte end at text h, end_byte end (get_or text at 0) same) refl
+
+-- or with the text
+pub run_out : (end at : ℕ) (text : List ℕ) → length text ≤ at → prefix_len (goes_on end) (drop at text) ≡ 0
+run_out end at text h = ap (prefix_len (goes_on end)) (drop_all at text h)

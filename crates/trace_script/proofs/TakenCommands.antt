@@ -58,6 +58,10 @@ pub none_taken : {A : Type 0} (o : Option A) (P : Type 0) (Q : A → Type 0) →
 none_taken None P Q h none = h
 none_taken (Some a) P Q h none = absurd (none a refl)
 
+pub fails_so : {A B : Type 0} (seen : A → B) (r : Result A LineError) (error : LineError) (read : Result B ScriptFault) → IsErrAnd r (λ e. e ≡ error) → Fails error read → Gives seen r read
+fails_so seen (Ok a) error read is fails = absurd is
+fails_so seen (Err e) error read is fails = subst (λ x. Fails x read) (sym is) fails
+
 pub gives_err : {A : Type 0} (r : Result A LineError) (error : LineError) (read : Result A ScriptFault) → IsErrAnd r (λ e. e ≡ error) → Fails error read → Gives (λ a. a) r read
 gives_err (Ok a) error read is fails = absurd is
 gives_err (Err e) error read is fails = subst (λ x. Fails x read) (sym is) fails

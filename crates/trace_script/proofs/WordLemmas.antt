@@ -1,5 +1,5 @@
 -- Tokens are taken from the front of a line one by one.
-use Rattle.std.proofs.Common.{◌≡◌, ◌≢◌, ℕ, suc, ◌+◌, ◌<◌, ◌≤◌, Bool, true, false, ◌||◌, ◌==◌, not, cond, ◌⊎◌, inl, inr, List, [], ◌∷◌, ◌++◌, length, get_or, take, drop, drop-cons, Option, is_some, Some, None, Ok, Err, refl, ap, sym, subst, ◌∙◌, arith, append_assoc, length-drop}
+use Rattle.std.proofs.Common.{◌≡◌, ◌≢◌, ℕ, zero, suc, ◌+◌, ◌<◌, ◌≤◌, Bool, true, false, ◌||◌, ◌==◌, not, cond, ◌⊎◌, inl, inr, List, [], ◌∷◌, ◌++◌, length, get_or, take, drop, drop-cons, Option, is_some, Some, None, Ok, Err, refl, ap, sym, subst, ◌∙◌, arith, append_assoc, length-drop}
 use Rattle.std.proofs.lemmas.List.{append-nil, drop_all}
 use Rattle.std.proofs.lemmas.Bool.{eqb-true}
 use Rattle.std.specs.List.{prefix_len}
@@ -149,6 +149,15 @@ arrow_or_word (b ∷ bs) h e = ends_not (is_blank b) (b == 62) h e
 
 -- ---- the tokens of a line
 
+-- no token yet
+pub none_before : (rest : Option (List Token)) → behind [] rest ≡ rest
+none_before None = refl
+none_before (Some more) = refl
+
+pub not_empty : (xs : List ℕ) → (length xs == 0) ≡ false → xs ≢ []
+not_empty [] e = absurd (cc)
+not_empty (b ∷ bs) e = λ same. cc
+
 -- one more token
 pub token_pushed : (items : List Token) (token : Token) (line rest after next : List ℕ) → behind items (tokens_of rest) ≡ tokens_of line → tokens_of rest ≡ behind (token ∷ []) (tokens_of after)
     → tokens_of next ≡ tokens_of after → behind (items ++ token ∷ []) (tokens_of next) ≡ tokens_of line
@@ -186,3 +195,23 @@ pub quoted_done : (within : Option ℕ) (word line : List ℕ) (at : ℕ) → to
 quoted_done (Some quote) word line at e none h = absurd (cc)
 quoted_done None word line at e none h =
     sym e ∙ (ap (tokens_from InWord word) (drop_all at line h) ∙ word_ended word [] (inl refl))
+
+-- one byte of it more
+pub quoted_step : (within next : Option ℕ) (word more line : List ℕ) (at : ℕ) → at < length line
+    → ((bytes : List ℕ) → tokens_from (state_in next) more bytes ≡ tokens_from (state_in within) word (get_or line at 0 ∷ bytes))
+    → tokens_from (state_in within) word (drop at line) ≡ tokens_from InWord [] line → tokens_from (state_in next) more (drop (at + 1) line) ≡ tokens_from InWord [] line
+quoted_step within next word more line at h steps e =
+    let one : at + 1 ≡ suc at = omega arith in
+    steps (drop (at + 1) line)
+    ∙ (ap (λ k. tokens_from (state_in within) word (get_or line at 0 ∷ drop k line)) one
+    ∙ (ap (tokens_from (state_in within) word) (sym (drop-cons line at 0 h)) ∙ e))
+
+-- what follows it is shorter than the line
+pub quoted_shorter : (line : List ℕ) (at : ℕ) → BeginsWord line → is_end (get_or line at 0) ≡ true → length (drop at line) < length line
+quoted_shorter [] at h ends = absurd h
+quoted_shorter (b ∷ bs) zero h ends = absurd (cc)
+quoted_shorter (b ∷ bs) (suc n) h ends = omega (arith, length-drop n bs)
+
+pub word_some : (line : List ℕ) → BeginsWord line → 0 < length line
+word_some [] h = absurd h
+word_some (b ∷ bs) h = omega arith

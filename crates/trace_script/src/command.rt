@@ -36,8 +36,13 @@ pub(crate) fn pair(alloc: Global, word: &[u8]) -> Result<Pair, LineError>
         return Err(LineError::Fault(ScriptFault::WrongWords));
     };
     let name = Text::from_slice(alloc, &word[..at])?;
-    let value = Text::from_slice(alloc, &word[at + 1..])?;
-    Ok(Pair { name, value })
+    match Text::from_slice(alloc, &word[at + 1..]) {
+        Ok(value) => Ok(Pair { name, value }),
+        Err(_) => {
+            drop(name);
+            Err(LineError::Memory)
+        }
+    }
 }
 
 /// The pairs that the tokens write, each of them a word. A pair that is alone takes no block of its own.
@@ -85,7 +90,13 @@ fn push_pair(alloc: Global, pairs: &mut Vec<Pair>, word: &[u8]) -> Result<(), Li
 fn more_pairs(alloc: Global, first: Pair, tokens: &mut Tokens<'_>) -> Result<Pairs, LineError>
     ensures { Gives (λ pairs. pairs) result (or_fault WrongWords (option_map (λ more. first ∷ more) (pairs_of tokens.old))) }
 {
-    let mut pairs = Vec::with_capacity(alloc, tokens.first_room().saturating_add(1))?;
+    let mut pairs = match Vec::with_capacity(alloc, tokens.first_room().saturating_add(1)) {
+        Ok(pairs) => pairs,
+        Err(_) => {
+            drop(first);
+            return Err(LineError::Memory);
+        }
+    };
     pairs.push_reserved(first);
     while let Some(token) = tokens.next() {
         let BorrowedToken::Word(word) = token else {
@@ -100,9 +111,10 @@ fn more_pairs(alloc: Global, first: Pair, tokens: &mut Tokens<'_>) -> Result<Pai
 /// its room.
 #[cold]
 #[inline(never)]
-fn without_command(_pairs: Pairs, error: LineError) -> Result<Command, LineError>
+fn without_command(pairs: Pairs, error: LineError) -> Result<Command, LineError>
     ensures { result ≡ Err error }
 {
+    drop(pairs);
     Err(error)
 }
 
@@ -183,8 +195,13 @@ fn redirected(
 ) -> Result<Command, LineError>
     ensures { Gives (λ command. command) result (redirected_to append text tokens.old) }
 {
-    let path = only_word(alloc, tokens)?;
-    Ok(Command::Write { path, append, text })
+    match only_word(alloc, tokens) {
+        Ok(path) => Ok(Command::Write { path, append, text }),
+        Err(error) => {
+            drop(text);
+            Err(error)
+        }
+    }
 }
 
 /// An `echo`, with `>` or `>>` before its path: what is written is the words with a space between each two.
@@ -225,6 +242,7 @@ fn take(alloc: Global, tokens: &mut Tokens<'_>) -> Result<Command, LineError>
     };
     let path = only_word(alloc, tokens)?;
     let Some(limit) = decimal_number(count, u64::MAX) else {
+        drop(path);
         return Err(LineError::Fault(ScriptFault::BadNumber));
     };
     Ok(Command::Read {

@@ -64,7 +64,6 @@ fn name_len(text: &[u8]) -> usize
 }
 
 /// The word that a line begins with, and what follows the blank after it; nothing, if it begins with a blank or no blank follows.
-#[tactic(auto, using(crate::proofs::BareLines::word_cut, crate::proofs::BareLines::rest_is_bare, crate::proofs::BareLines::spaced_word, crate::proofs::BareLines::word_alone))]
 fn cut_word(line: &[u8]) -> Option<(&[u8], &[u8])>
     requires { highest_rank line.now ≡ 0 }
     ensures word { IfSome result (λ cut. tokens_of line.now ≡ behind (IsWord cut.0.now ∷ []) (tokens_of cut.1.now)) }
@@ -107,7 +106,6 @@ fn cut_pair(line: &[u8]) -> Option<(BorrowedPair<'_>, &[u8])>
 }
 
 /// Leaves in a list the pairs that a line is, with one blank between each two. Whether the line is such.
-#[tactic(auto, using(crate::proofs::BareEmissions::no_pairs_yet, crate::proofs::BareEmissions::pairs_more, crate::proofs::BareEmissions::pairs_all, crate::proofs::BareEmissions::pairs_wrong))]
 fn cut_pairs<'a>(line: &'a [u8], pairs: &mut Vec<BorrowedPair<'a>>) -> Result<bool, AllocError>
     requires { highest_rank line.now ≡ 0 }
     ensures whole { IfOk result (λ is_whole. is_whole ≡ true → pairs_in line.now ≡ Some pairs.new.items) }
@@ -161,9 +159,15 @@ fn words_after(rest: &[u8]) -> Option<EmissionWords<'_>>
     ensures spaced { IfSome result (λ words. is_spaced true rest.now ≡ true → is_spaced true words.pairs.now ≡ true) }
     ensures none { IfNone result (is_spaced true rest.now ≡ true → IsErr (emission_in rest.now)) }
 {
-    let (cpu, rest) = cut_word(rest)?;
-    let (pid, rest) = cut_word(rest)?;
-    let (event, pairs) = cut_word(rest)?;
+    let Some((cpu, rest)) = cut_word(rest) else {
+        return None;
+    };
+    let Some((pid, rest)) = cut_word(rest) else {
+        return None;
+    };
+    let Some((event, pairs)) = cut_word(rest) else {
+        return None;
+    };
     Some(EmissionWords {
         cpu,
         pid,
@@ -173,7 +177,6 @@ fn words_after(rest: &[u8]) -> Option<EmissionWords<'_>>
 }
 
 /// What follows `emit` and a space at the front of a line that has neither quotes nor `>`.
-#[tactic(auto, using(crate::proofs::BareEmissions::line_said, crate::proofs::BareEmissions::rest_is_bare, crate::proofs::BareEmissions::plain_bare, crate::proofs::BareEmissions::plain_short, crate::proofs::BareEmissions::plain_rest))]
 fn bare_after_emit(line: &[u8]) -> Option<&[u8]>
     ensures bare { IfSome result (λ rest. highest_rank rest.now ≡ 0) }
     ensures said { IfSome result (λ rest. line_of line.now ≡ asked_after_emit rest.now) }

@@ -6,10 +6,10 @@ ghost use Rattle.trace_script.specs.Commands.{AsksFor, IsAskedBy};
 ghost use Rattle.trace_script.specs.Faults.{HasFault};
 ghost use Rattle.trace_script.specs.Outcomes.{Gives};
 ghost use Rattle.trace_script.specs.private.TokensLeft.{asked_after};
-ghost use Rattle.trace_script.specs.private.Words.{begins_as_end};
+ghost use Rattle.trace_script.specs.private.Words.{begins_as_end, is_block_word, block_line};
 ghost use Rattle.trace_script.specs.Tokens.{is_quote, tokens_of};
 ghost use Rattle.trace_script.specs.declared.fault.ScriptFault.{ScriptFault as FaultValue};
-ghost use Rattle.trace_script.specs.Lines.{alone, named_line, asked_of, says_nothing, spoken, line_of};
+ghost use Rattle.trace_script.specs.Lines.{named_line, asked_of, says_nothing, spoken, line_of};
 ghost use Rattle.trace_script.specs.declared.token.Token.{Token};
 ghost use Rattle.trace_script.specs.declared.line.Line.{Line as LineValue};
 ghost use Rattle.trace_script.specs.declared.line.Line.TheVariants.{End};
@@ -42,34 +42,44 @@ pub enum Line {
     End,
 }
 
-/// A line of one word, if no token follows its name.
-fn alone(line: Line, tokens: &Tokens<'_>) -> Result<Line, LineError>
-    ensures { Gives (λ line. line) result (alone line tokens.now) }
+/// Whether a name is that of a line of a parallel part.
+fn is_block_word(name: &[u8]) -> bool
+    ensures { result ≡ is_block_word name.now }
 {
-    if tokens.is_empty() {
-        Ok(line)
-    } else {
-        Err(LineError::Fault(ScriptFault::WrongWords))
+    name == b"parallel".as_slice() || name == b"thread".as_slice() || name == b"end".as_slice()
+}
+
+/// The line of a parallel part that has this name.
+fn block_line(name: &[u8]) -> Line
+    ensures { result ≡ block_line name.now }
+{
+    if name == b"parallel".as_slice() {
+        return Line::Parallel;
     }
+    if name == b"thread".as_slice() {
+        return Line::Thread;
+    }
+    Line::End
 }
 
 /// The line of a name, with the tokens that follow it. It is kept out of line, so that an emission doesn't take the room of the other
 /// commands.
 #[inline(never)]
-#[tactic(auto, unfolding(crate::specs::Lines::named_line))]
+#[tactic(auto, using(crate::proofs::BlockLines::block_alone, crate::proofs::BlockLines::block_followed, crate::proofs::BlockLines::asks_command, crate::proofs::BlockLines::no_command))]
 fn any_line(alloc: Global, name: &[u8], tokens: &mut Tokens<'_>) -> Result<Line, LineError>
     ensures { Gives (λ line. line) result (named_line name.now tokens.old) }
 {
-    if name == b"parallel".as_slice() {
-        return alone(Line::Parallel, tokens);
+    if !is_block_word(name) {
+        return match command(alloc, name, tokens) {
+            Ok(command) => Ok(Line::Ask(command)),
+            Err(error) => Err(error),
+        };
     }
-    if name == b"thread".as_slice() {
-        return alone(Line::Thread, tokens);
+    if tokens.is_empty() {
+        Ok(block_line(name))
+    } else {
+        Err(LineError::Fault(ScriptFault::WrongWords))
     }
-    if name == b"end".as_slice() {
-        return alone(Line::End, tokens);
-    }
-    Ok(Line::Ask(command(alloc, name, tokens)?))
 }
 
 /// The line of this name, with the tokens that follow it. Most lines are emissions, so these are looked for first.

@@ -117,11 +117,20 @@ fn quoted_word(alloc: Global, line: &[u8]) -> Result<(Text, &[u8]), LineError>
             let (_, rest) = line.split_at(index);
             return Ok((word, rest));
         }
-        step(*byte, &mut within, &mut word)?;
+        match step(*byte, &mut within, &mut word) {
+            Ok(()) => {}
+            Err(_) => {
+                drop(word);
+                return Err(LineError::Memory);
+            }
+        }
     }
     match within {
         None => Ok((word, &[])),
-        Some(_) => Err(LineError::Fault(ScriptFault::UnclosedQuote)),
+        Some(_) => {
+            drop(word);
+            Err(LineError::Fault(ScriptFault::UnclosedQuote))
+        }
     }
 }
 

@@ -56,7 +56,6 @@ impl Drop for Tokens<'_> {
 }
 
 /// The first token of what is left of a line without quotes, and what follows it and the blanks after it.
-#[tactic(auto, using(crate::proofs::TakingLemmas::arrow_taken, crate::proofs::TakingLemmas::word_taken, crate::proofs::TakingLemmas::unquoted_drop, crate::proofs::TakingLemmas::no_quote, crate::proofs::WordLemmas::arrow_len, crate::proofs::WordLemmas::arrow_or_word))]
 fn first_piece(line: &[u8]) -> (BorrowedToken<'_>, &[u8])
     requires unquoted { list_any is_quote line.now ≡ false }
     requires begins { BeginsToken line.now }

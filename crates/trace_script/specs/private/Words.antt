@@ -1,10 +1,13 @@
 -- Words for the private contracts that cut a line into tokens.
-use Rattle.std.specs.Prelude.{◌≡◌, ℕ, Bool, false, ◌||◌, ◌&&◌, ◌==◌, not, List, [], ◌∷◌, Option, None, Some}
+use Rattle.std.specs.Prelude.{◌≡◌, ℕ, Bool, false, ◌||◌, ◌&&◌, ◌==◌, not, if◌then◌else◌, List, [], ◌∷◌, Option, None, Some, codes}
+use Rattle.std.specs.Str.{bytes_eq}
 use Rattle.trace_lex.specs.Blanks.{is_blank}
 use Rattle.trace_script.specs.Tokens.{LexState, InWord, InQuotes, is_end, is_quote, behind, tokens_from, tokens_of}
 use Rattle.trace_script.specs.declared.fault.LineError.{LineError}
 use Rattle.trace_script.specs.declared.fault.LineError.TheVariants.{Fault, Memory}
 use Rattle.trace_script.specs.declared.fault.ScriptFault.TheVariants.{UnclosedQuote}
+use Rattle.trace_script.specs.declared.line.Line.{Line}
+use Rattle.trace_script.specs.declared.line.Line.TheVariants.{Parallel, Thread, End}
 use Rattle.trace_script.specs.declared.token.Token.{Token}
 use Rattle.trace_script.specs.declared.token.Token.TheVariants.{Word}
 
@@ -51,3 +54,11 @@ IsWordAnd line word rest = tokens_from InWord [] line ≡ behind (Word word ∷ 
 abbrev pub IsUnclosed : LineError → Option (List Token) → Type 0
 IsUnclosed Memory tokens = Unit {0}
 IsUnclosed (Fault fault) tokens = (fault ≡ UnclosedQuote) × (tokens ≡ None)
+
+-- the name of a line of a parallel part
+abbrev pub is_block_word : List ℕ → Bool
+is_block_word name = bytes_eq name (codes "parallel") || (bytes_eq name (codes "thread") || bytes_eq name (codes "end"))
+
+-- the line of a parallel part that has this name
+abbrev pub block_line : List ℕ → Line
+block_line name = if bytes_eq name (codes "parallel") then Parallel else (if bytes_eq name (codes "thread") then Thread else End)

@@ -1,6 +1,37 @@
-use Rattle.std.proofs.Common.{sym, ◌∙◌}
-use Rattle.trace_script.proofs.WordLemmas.{tokens_done}
+use Rattle.std.proofs.Common.{List, sym, ap, ◌∙◌, arith}
+use Rattle.trace_script.specs.Tokens.{behind, tokens_of}
+use Rattle.trace_script.specs.declared.token.Token.{Token}
+use Rattle.trace_script.proofs.TakenCommands.{fails_so}
+use Rattle.trace_script.proofs.WordLemmas.{none_before, not_empty, token_pushed, tokens_done, tokens_unclosed}
 use Rattle.trace_script.proofs.token.tokens.Goals as goal
+
+pub loop-rest-init : goal.loop-rest-init
+loop-rest-init c =
+    let rest = c.without_blanks-rest in
+    record {
+      found = ap (λ (items : List Token). behind items (tokens_of rest.result.now)) c.in_ok-tokens.ensures.items ∙ (none_before (tokens_of rest.result.now) ∙ rest.ensures.tokens);
+      begins = rest.ensures.first;
+    }
+
+pub first_token-requires : goal.first_token-requires
+first_token-requires c =
+    c.loop-rest.invariant.begins (not_empty c.loop-rest.rest.now (sym c.is_empty.ensures ∙ c.loop-rest-test.true))
+
+pub returns-in_err-token : goal.returns-in_err-token
+returns-in_err-token c =
+    fails_so _ _ _ _ c.from_residual-in_err-token.ensures.1
+    (tokens_unclosed c.loop-rest.tokens.items c.args.line.now c.loop-rest.rest.now _ c.loop-rest.invariant.found c.in_err-token.ensures.err)
+
+pub loop-rest-preserved : goal.loop-rest-preserved
+loop-rest-preserved c =
+    let next = c.without_blanks-rest-in-loop-rest in
+    record {
+      found = rw c.in_ok-push.ensures.items (token_pushed _ _ _ _ _ _ c.loop-rest.invariant.found c.in_ok-token.ensures.token next.ensures.tokens);
+      begins = next.ensures.first;
+    }
+
+pub loop-rest-smaller : goal.loop-rest-smaller
+loop-rest-smaller c = omega (arith, c.in_ok-token.ensures.shorter, c.without_blanks-rest-in-loop-rest.ensures.shorter)
 
 pub returns : goal.returns
 returns c =
