@@ -1,9 +1,10 @@
 //! Which byte of a line is a byte of what it writes, and where a quote begins that is not closed.
 
-ghost use Rattle.std.specs.Prelude.{◌≡◌, ◌+◌, ◌-◌, ◌^◌, ◌<◌, ◌∷◌, [], ◌++◌, List, ℕ, IfOk, OnOk, drop, slice_get};
+ghost use Rattle.std.specs.Prelude.{◌≡◌, ◌+◌, ◌-◌, ◌^◌, ◌<◌, ◌∷◌, [], ◌++◌, List, ℕ, IfOk, OnOk};
 ghost use Rattle.trace_script.specs.Tokens.{is_end};
 ghost use Rattle.trace_explain.specs.Carets.{stand_after, end_after, offset_of_byte, offsets_from, offsets_of, written_offset, quote_after, open_quote};
 
+use crate::cut::element_after;
 use std::alloc::{AllocError, Global};
 use trace_lex::is_blank;
 
@@ -176,10 +177,7 @@ pub(crate) fn written_offset(
     ensures { IfOk result (λ offset. offset ≡ written_offset line.now at) }
 {
     let offsets = offsets(alloc, line)?;
-    match offsets.get(ECHO_PLACES..) {
-        Some(written) => Ok(written.get(at).copied()),
-        None => Ok(None),
-    }
+    Ok(element_after(&offsets, ECHO_PLACES, at))
 }
 
 /// Which quote is open after one more byte, and where it stands.

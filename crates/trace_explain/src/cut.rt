@@ -1,6 +1,6 @@
 //! Strings up to an offset, and from one on, whether or not they are as long; and what bytes they have.
 
-ghost use Rattle.std.specs.Prelude.{◌≡◌, ◌≤◌, ◌++◌, IfOk, drop, length, map, take};
+ghost use Rattle.std.specs.Prelude.{◌≡◌, ◌≤◌, ◌++◌, IfOk, drop, length, map, slice_get, take};
 ghost use Rattle.std.specs.List.{count_by, prefix_len};
 ghost use Rattle.std.specs.Str.{bytes_eq};
 ghost use Rattle.trace_trigger.specs.Frames as frames;
@@ -107,4 +107,14 @@ pub(crate) fn joined(alloc: Global, front: &[u8], rest: &[u8]) -> Result<Vec<u8>
     let mut text = Vec::from_slice(alloc, front)?;
     text.extend_from_slice(rest)?;
     Ok(text)
+}
+
+/// The element of an index, counted from another one.
+pub(crate) fn element_after(elements: &[usize], from: usize, index: usize) -> Option<usize>
+    ensures { result ≡ slice_get (drop from elements.now) index }
+{
+    match elements.get(from..) {
+        Some(rest) => rest.get(index).copied(),
+        None => None,
+    }
 }

@@ -146,6 +146,8 @@ pub(crate) fn declaration_due_words(due: DeclarationDue, rest: &[u8]) -> &'stati
             "expected a new field's name and its length, as `name[16]`"
         }
         DeclarationDue::FieldName | DeclarationDue::Joint => "expected `;`",
-        _ => field_words(first_word(rest)),
+        DeclarationDue::TypeOnU | DeclarationDue::TypeName | DeclarationDue::Field => {
+            field_words(first_word(rest))
+        }
     }
 }

@@ -192,7 +192,11 @@ impl Explainer {
             return Ok(None);
         };
         match command_of(self.alloc, line)? {
-            Some(command) => declared(self.alloc, &command),
+            Some(command) => {
+                let event = declared(self.alloc, &command);
+                drop(command);
+                event
+            }
             None => Ok(None),
         }
     }
@@ -228,7 +232,9 @@ impl Explainer {
             }
             Outcome::Refused(refusal) => match command_of(self.alloc, line.text)? {
                 Some(command) => {
-                    told_of_command(self.alloc, &self.events, line, &command, refusal)
+                    let told = told_of_command(self.alloc, &self.events, line, &command, refusal);
+                    drop(command);
+                    told
                 }
                 None => Ok(Vec::new(self.alloc)),
             },

@@ -174,11 +174,14 @@ fn words_place(name: &[u8], line: &[u8], starts: &[usize]) -> usize
 fn is_bad_number(alloc: Global, line: &[u8]) -> Result<bool, AllocError>
     ensures { IfOk result (λ is_bad. is_bad ≡ places.is_bad_number (line_of line.now)) }
 {
-    match prepare(alloc, line) {
+    let read = prepare(alloc, line);
+    let is_bad = match &read {
         Err(LineError::Fault(ScriptFault::BadNumber)) => Ok(true),
         Err(LineError::Memory) => Err(AllocError),
         _ => Ok(false),
-    }
+    };
+    drop(read);
+    is_bad
 }
 
 /// Whether the first number of an emission, which ends before an offset, is wrong.

@@ -168,15 +168,25 @@ pub(crate) fn hist_due_words(front: &[u8], rest: &[u8]) -> &'static str
     }
 }
 
+/// What is written in place of an attribute after this part of one; empty, if something else is wrong.
+fn wrong_attribute_at<'a>(last: &[u8], part: &'a [u8]) -> &'a [u8]
+    ensures { result.now ≡ due.wrong_attribute_at last.now part.now }
+{
+    match last {
+        [] if is_attribute_name(part) => b"",
+        [] => attribute_name(part),
+        [_, ..] => b"",
+    }
+}
+
 /// What is written in place of an attribute after these bytes, and before these; empty, if something else is wrong.
 pub(crate) fn wrong_attribute<'a>(front: &[u8], rest: &'a [u8]) -> &'a [u8]
     ensures { result.now ≡ due.wrong_attribute front.now rest.now }
 {
-    let part = first_part(rest);
-    if has_blank(front) || !last_part(front).is_empty() || is_attribute_name(part) {
+    if has_blank(front) {
         b""
     } else {
-        attribute_name(part)
+        wrong_attribute_at(last_part(front), first_part(rest))
     }
 }
 

@@ -115,6 +115,24 @@ fn push_meant(out: &mut Vec<u8>, meant: &[u8]) -> Result<(), AllocError>
     }
 }
 
+/// Appends where a line is: `SCRIPT:LINE:COLUMN`.
+fn push_place(out: &mut Vec<u8>, at: ScriptLine<'_>, caret: Option<usize>) -> Result<(), AllocError>
+    ensures { OnOk result (out.new.items ≡ out.old.items ++ shown_bytes at.entry.script.now ++ codes ":" ++ decimal at.entry.number
+        ++ column at.entry.text.now caret) }
+{
+    push_shown(out, at.script)?;
+    push_number(out, at.number)?;
+    push_column(out, at.text, caret)
+}
+
+/// Appends what is told of a place, after a `:` and a space.
+fn push_told(out: &mut Vec<u8>, words: &[u8]) -> Result<(), AllocError>
+    ensures { OnOk result (out.new.items ≡ out.old.items ++ codes ": " ++ words.now) }
+{
+    out.extend_from_slice(b": ".as_slice())?;
+    out.extend_from_slice(words)
+}
+
 /// Appends `SCRIPT:LINE:COLUMN: NAME: words`, and a newline.
 fn push_heading(
     out: &mut Vec<u8>,
@@ -126,13 +144,9 @@ fn push_heading(
     ensures { OnOk result (out.new.items ≡ out.old.items ++ shown_bytes at.entry.script.now ++ codes ":" ++ decimal at.entry.number
         ++ column at.entry.text.now caret ++ codes ": " ++ name.now ++ codes ": " ++ words.now ++ codes "\n") }
 {
-    push_shown(out, at.script)?;
-    push_number(out, at.number)?;
-    push_column(out, at.text, caret)?;
-    out.extend_from_slice(b": ".as_slice())?;
-    out.extend_from_slice(name.as_bytes())?;
-    out.extend_from_slice(b": ".as_slice())?;
-    out.extend_from_slice(words)?;
+    push_place(out, at, caret)?;
+    push_told(out, name.as_bytes())?;
+    push_told(out, words)?;
     out.extend_from_slice(b"\n".as_slice())
 }
 

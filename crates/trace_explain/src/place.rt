@@ -7,7 +7,7 @@ ghost use Rattle.trace_explain.specs.Places as places;
 
 use crate::caret::written_offset;
 use crate::cause::Cause;
-use crate::cut::first_word;
+use crate::cut::{element_after, first_word};
 use crate::hist_due::attribute_at;
 use crate::starts::starts;
 use crate::subject::Subject;
@@ -143,21 +143,11 @@ pub(crate) fn row_place(cause: Cause, pairs: &[Pair], name: &[u8]) -> Place
     }
 }
 
-/// The element of an index, counted from another one.
-fn start_at(starts: &[usize], from: usize, index: usize) -> Option<usize>
-    ensures { result ≡ slice_get (drop from starts.now) index }
-{
-    match starts.get(from..) {
-        Some(rest) => rest.get(index).copied(),
-        None => None,
-    }
-}
-
 fn pair_start(starts: &[usize], from: usize, index: usize) -> Option<usize>
     ensures { result ≡ slice_get (drop from (drop 4 starts.now)) index }
 {
     match starts.get(4..) {
-        Some(pairs) => start_at(pairs, from, index),
+        Some(pairs) => element_after(pairs, from, index),
         None => None,
     }
 }
