@@ -6,14 +6,14 @@ use Rattle.trace_command.specs.declared.command.Config.{Config}
 use Rattle.trace_book.specs.private.Emissions.{IsStateAlike}
 use Rattle.trace_snapshot.specs.Sides as snapshot
 use Rattle.trace_snapshot.specs.Sides.{SidesSeen}
-use Rattle.trace_book.specs.Instances.{InstanceSeen, InstanceStandsFor, IsAlike, IsShaped, WereOffered, side_families}
+use Rattle.trace_instance.specs.Instances.{InstanceSeen, InstanceStandsFor, IsAlike, IsShaped, WereOffered, side_families}
 use Rattle.trace_book.specs.States.{IsUnchanged, StandsFor, names_of}
 use Rattle.trace_book.specs.declared.state.Named.{Named}
 use Rattle.trace_book.specs.declared.state.State.{State}
-use Rattle.trace_book.specs.KeptHists.{TableStandsFor, is_used}
+use Rattle.trace_instance.specs.KeptHists.{TableStandsFor, is_used}
 use Rattle.trace_book.proofs.EachInstance.{names-same}
-use Rattle.trace_book.proofs.KeptLists.{AllOfEach}
-use Rattle.trace_book.proofs.TableStands.{table-alike}
+use Rattle.trace_instance.proofs.KeptLists.{AllOfEach}
+use Rattle.trace_instance.proofs.TableStands.{table-alike}
 
 sides-same : (i j : InstanceSeen) → IsAlike i j → j.sides ≡ i.sides
 sides-same i j alike = ap (λ (s : InstanceSeen). s.sides) alike.rest

@@ -18,24 +18,37 @@ use Rattle.trace_command.specs.declared.refusal.Refusal.{Refusal}
 use Rattle.trace_history.specs.FileTexts.{declarations_text}
 use Rattle.trace_history.specs.History.{added_answer, answer_with_room, declaration_answer, file_answer, instance_answer, missing, read_answer, read_declaration_answer, write_answer}
 use Rattle.trace_history.specs.Settings.{declared_events, instance_names, is_there, is_same}
-use Rattle.trace_book.specs.Changes.{IsEffect}
-use Rattle.trace_book.specs.private.Commands.{IsRead, IsReadable, IsSource, IsWriteChange}
-use Rattle.trace_book.specs.private.Files.{HasEvent, IsAt, IsResolved, IsThere, file_at}
-use Rattle.trace_book.specs.Instances.{InstanceSeen, InstanceStandsFor}
-use Rattle.trace_book.specs.States.{IsChanged, IsChangeOf, IsFresh, IsPlain, IsPrepared, IsUsable, IsUsableInstance, StandsFor}
+use Rattle.trace_instance.specs.Changes.{IsEffect}
+use Rattle.trace_instance.specs.FileAnswers.{IsRead, IsReadable, IsSource, IsWriteChange}
+use Rattle.trace_instance.specs.Files.{HasEvent, IsThere, file_at}
+use Rattle.trace_book.specs.private.Files.{IsAt, IsResolved}
+use Rattle.trace_instance.specs.Instances.{InstanceSeen, InstanceStandsFor, IsUsableInstance}
+use Rattle.trace_book.specs.States.{IsChanged, IsChangeOf, IsFresh, IsPlain, IsPrepared, IsUsable, StandsFor}
 use Rattle.trace_book.specs.declared.change.Change.TheVariants.{Declare, Instance}
-use Rattle.trace_book.specs.declared.change.InstanceChange.{InstanceChange}
-use Rattle.trace_book.specs.declared.change.InstanceChange.TheVariants.{Keep}
-use Rattle.trace_book.specs.declared.read.Shown.{Shown}
-use Rattle.trace_book.specs.declared.read.FileSource.{FileSource}
-use Rattle.trace_book.specs.declared.resolve.File.{File}
-use Rattle.trace_book.specs.declared.resolve.File.TheVariants as file
+use Rattle.trace_instance.specs.declared.change.InstanceChange.{InstanceChange}
+use Rattle.trace_instance.specs.declared.change.InstanceChange.TheVariants.{Keep}
+use Rattle.trace_instance.specs.declared.read.Shown.{Shown}
+use Rattle.trace_instance.specs.declared.read.FileSource.{FileSource}
+use Rattle.trace_instance.specs.declared.file.File.{File}
+use Rattle.trace_instance.specs.declared.file.File.TheVariants as file
 use Rattle.trace_book.specs.declared.resolve.Target.TheVariants as target
 use Rattle.trace_book.specs.declared.state.Named.{Named}
 use Rattle.trace_book.specs.declared.state.Prepared.{Prepared}
 use Rattle.trace_book.specs.declared.state.State.{State}
 use Rattle.trace_book.proofs.EachInstance.{length-names_of}
-use Rattle.trace_book.proofs.Effects.{declaration_effect, declarations_read, lawful_read, nothing_missing, other_read, other_write, own_read, plain_read, plain_write}
+use Rattle.trace_instance.proofs.Effects.{declaration_effect, declarations_read, lawful_read, nothing_missing, other_read, other_write, own_read}
+
+-- ---- requests that change one instance alone
+
+-- a write to a file that is none of declarations declares nothing
+pub plain_write : (name : Option (List ℕ)) (events : List Definition) (found : File) (append : Bool) (text : List ℕ)
+    → IsPlain (WriteFile name (Some (file_at events found)) append text)
+plain_write name events (file.OfInstance named) append text = record { declares = refl; made = refl; removed = refl; ticks = refl }
+plain_write name events (file.OfCpu cpu named) append text = record { declares = refl; made = refl; removed = refl; ticks = refl }
+plain_write name events (file.OfEvent event named) append text = record { declares = refl; made = refl; removed = refl; ticks = refl }
+
+pub plain_read : (name : Option (List ℕ)) (named : Option paths.File) (limit : Option ℕ) → IsPlain (ReadFile name named limit)
+plain_read name named limit = record { declares = refl; made = refl; removed = refl; ticks = refl }
 
 -- ---- what was found is there
 

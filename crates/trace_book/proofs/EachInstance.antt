@@ -7,10 +7,11 @@ use Rattle.std.proofs.lemmas.Slice.Eq.{bytes_eq-Decides}
 use Rattle.std.specs.List.{AllByRecursion, IsDistinct, filter}
 use Rattle.std.specs.Str.{bytes_eq}
 use Rattle.trace_history.specs.Settings.{is_same, is_born}
-use Rattle.trace_book.specs.Instances.{InstanceSeen}
+use Rattle.trace_instance.specs.Instances.{InstanceSeen}
 use Rattle.trace_book.specs.States.{names_of, no_reach}
-use Rattle.trace_book.specs.declared.change.Reach.{Reach}
+use Rattle.trace_instance.specs.declared.change.Reach.{Reach}
 use Rattle.trace_book.specs.declared.state.Named.{Named}
+use Rattle.trace_instance.proofs.KeptLists.{recursion_at}
 
 -- ---- one more instance of a loop
 
@@ -126,12 +127,6 @@ differs-flip a b differ = by_same (bytes_eq b a) refl
         let e : b ≡ a = (bytes_eq-Decides b a).0 is in
         let again : bytes_eq a b ≡ true = (bytes_eq-Decides a b).1 (sym e) in
         absurd (false≢true (sym differ ∙ again))
-
--- what holds of each holds at an index
-pub recursion_at : {X : Type 0} (P : X → Type 0) (xs : List X) (k : ℕ) (d : X) → AllByRecursion P xs → k < length xs → P (get_or xs k d)
-recursion_at P [] k d all inside = absurd (omega arith)
-recursion_at P (x ∷ xs) zero d all inside = all.0
-recursion_at P (x ∷ xs) (suc k) d all inside = recursion_at P xs k d all.1 (omega (arith, inside))
 
 -- and holds of those that pass a test
 pub recursion-filter : {X : Type 0} (P : X → Type 0) (test : X → Bool) (xs : List X) → AllByRecursion P xs → AllByRecursion P (filter test xs)

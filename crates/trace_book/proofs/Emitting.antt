@@ -23,21 +23,22 @@ use Rattle.trace_history.specs.History.{emission_answer, row_answer}
 use Rattle.trace_history.specs.Snapshots.{is_exchanged_by}
 use Rattle.trace_history.specs.Triggers as triggers
 use Rattle.trace_history.specs.Triggers.{acts, is_left, passes, times_left, trigger_of}
-use Rattle.trace_book.specs.Instances.{InstanceSeen, InstanceStandsFor, kept_as}
-use Rattle.trace_book.specs.private.Rows.{fires, kept_acts, kept_holds, records}
-use Rattle.trace_book.specs.KeptHists.{passed}
-use Rattle.trace_book.specs.declared.hists.AttachedHist.{AttachedHist}
-use Rattle.trace_book.specs.States.{ArePassed, CanBeWritten, CanCountRow, CanEmit, IsEmission, StandsFor, reach_at}
+use Rattle.trace_instance.specs.Instances.{InstanceSeen, InstanceStandsFor, kept_as}
+use Rattle.trace_instance.specs.Rows.{fires, kept_acts, kept_holds, records}
+use Rattle.trace_instance.specs.KeptHists.{passed}
+use Rattle.trace_instance.specs.declared.hists.AttachedHist.{AttachedHist}
+use Rattle.trace_book.specs.States.{ArePassed, CanBeWritten, CanEmit, IsEmission, StandsFor, reach_at}
+use Rattle.trace_instance.specs.Deliveries.{CanCountRow}
 use Rattle.trace_book.specs.private.Emissions.{AreReached, IsAhead, IsStateAlike}
 use Rattle.trace_book.specs.private.Found.{numbered}
-use Rattle.trace_book.specs.declared.change.Pending.{Pending}
-use Rattle.trace_book.specs.declared.change.Reach.{Reach}
-use Rattle.trace_book.specs.declared.change.Reaches.{Reaches}
+use Rattle.trace_instance.specs.declared.change.Pending.{Pending}
+use Rattle.trace_instance.specs.declared.change.Reach.{Reach}
+use Rattle.trace_instance.specs.declared.change.Reaches.{Reaches}
 use Rattle.trace_book.specs.declared.resolve.Found.{Found}
 use Rattle.trace_book.specs.declared.state.Named.{Named}
 use Rattle.trace_book.specs.declared.state.State.{State}
-use Rattle.trace_book.specs.declared.trigger.Trigger.{Trigger}
-use Rattle.trace_book.proofs.Delivered.{can-fire, self, trigger-at}
+use Rattle.trace_instance.specs.declared.trigger.Trigger.{Trigger}
+use Rattle.trace_instance.proofs.Delivered.{can-fire, self, trigger-at}
 
 -- ---- what is written ahead
 

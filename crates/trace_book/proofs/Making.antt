@@ -18,14 +18,14 @@ use Rattle.trace_command.specs.declared.refusal.Refusal.TheVariants.{BadValue, I
 use Rattle.trace_history.specs.History.{named_answer}
 use Rattle.trace_history.specs.Settings.{declared_events, instance_names, is_enabled, is_there, kept_filter, makes}
 use Rattle.trace_history.proofs.EventLists.{map-agrees}
-use Rattle.trace_book.specs.Changes.{IsEffect}
-use Rattle.trace_book.specs.Instances.{InstanceStandsFor}
+use Rattle.trace_instance.specs.Changes.{IsEffect}
+use Rattle.trace_instance.specs.Instances.{InstanceStandsFor}
 use Rattle.trace_book.specs.States.{IsPrepared, StandsFor}
 use Rattle.trace_book.specs.declared.change.Change.TheVariants.{Make, Remove}
-use Rattle.trace_book.specs.declared.change.InstanceChange.TheVariants.{Keep}
+use Rattle.trace_instance.specs.declared.change.InstanceChange.TheVariants.{Keep}
 use Rattle.trace_book.specs.declared.state.Named.{Named}
 use Rattle.trace_book.specs.declared.state.State.{State}
-use Rattle.trace_book.proofs.Calm.{calm-effect, calm-make, calm-remove, quiet-keep}
+use Rattle.trace_instance.proofs.Calm.{calm-effect, calm-make, calm-remove, quiet-keep}
 use Rattle.trace_book.proofs.EachInstance.{differs-flip, length-names_of, name_at}
 use Rattle.trace_book.proofs.Resolving.{found-there, lost-there, place_in}
 

@@ -13,26 +13,27 @@ use Rattle.trace_command.specs.declared.command.Config.{Config}
 use Rattle.trace_history.specs.Declarations.{IsIndexOf}
 use Rattle.trace_history.specs.Emissions.{record_bytes}
 use Rattle.trace_history.specs.Settings.{event_named_in}
-use Rattle.trace_book.specs.Instances.{InstanceSeen, passed_in}
-use Rattle.trace_book.specs.KeptHists.{AreHit}
-use Rattle.trace_book.specs.States as states
-use Rattle.trace_book.specs.States.{ArePassed, CanCountRow, EachDelivered, IsDelivered, IsOffered, IsPreparedEmission, IsWritten, StandsFor, reach_at}
+use Rattle.trace_instance.specs.Instances.{InstanceSeen, passed_in}
+use Rattle.trace_instance.specs.KeptHists.{AreHit}
+use Rattle.trace_instance.specs.Deliveries as deliveries
+use Rattle.trace_instance.specs.Deliveries.{CanCountRow, IsDelivered, IsOffered, IsWritten}
+use Rattle.trace_book.specs.States.{ArePassed, EachDelivered, IsPreparedEmission, StandsFor, reach_at}
 use Rattle.trace_book.specs.private.Emissions.{AreReached, IsAhead, IsStateAlike}
 use Rattle.trace_book.specs.private.Found.{numbered}
-use Rattle.trace_book.specs.private.Plain.{IsPlainAt, IsPlainIn, is_plain, plain_delivery, plain_passed, plain_reach, plain_reaches}
-use Rattle.trace_book.specs.private.Rows.{kept_holds, reach_of}
-use Rattle.trace_book.specs.declared.change.Delivery.{Delivery}
-use Rattle.trace_book.specs.declared.change.Pending.{Pending}
-use Rattle.trace_book.specs.declared.hists.AttachedHist.{AttachedHist}
+use Rattle.trace_book.specs.private.Plain.{IsPlainAt, IsPlainIn, plain_delivery, plain_passed, plain_reach, plain_reaches}
+use Rattle.trace_instance.specs.Rows.{is_plain, kept_holds, reach_of}
+use Rattle.trace_instance.specs.declared.change.Delivery.{Delivery}
+use Rattle.trace_instance.specs.declared.change.Pending.{Pending}
+use Rattle.trace_instance.specs.declared.hists.AttachedHist.{AttachedHist}
 use Rattle.trace_book.specs.declared.resolve.Found.{Found}
 use Rattle.trace_book.specs.declared.state.Named.{Named}
 use Rattle.trace_book.specs.declared.state.State.{State}
-use Rattle.trace_book.specs.declared.tables.Table.{Table}
-use Rattle.trace_book.specs.declared.trigger.Trigger.{Trigger}
-use Rattle.trace_book.proofs.EachHist.{all-reached, none-reached}
+use Rattle.trace_instance.specs.declared.tables.Table.{Table}
+use Rattle.trace_instance.specs.declared.trigger.Trigger.{Trigger}
+use Rattle.trace_instance.proofs.EachHist.{all-reached, none-reached}
 use Rattle.trace_book.proofs.EachInstance.{came_more, names_more}
 use Rattle.trace_book.proofs.Emitting.{answers-emission, is-ahead, is-emission, named-found, ready-emission}
-use Rattle.trace_book.proofs.LiveSide.{accepted_some, delivered_still, taken_in}
+use Rattle.trace_instance.proofs.LiveSide.{accepted_some, delivered_still, taken_in}
 
 -- ---- an event that is plain
 
@@ -178,7 +179,7 @@ plain-delivered event row cpu pid p old new plain written =
     none = ap (λ (i : InstanceSeen). get_or i.hists event []) written.rest ∙ plain.hists
 
     offered : IsOffered d new new
-    offered = record { rest = refl; tables = none-counted (states.row_of d) (get_or new.hists event []) new.tables none }
+    offered = record { rest = refl; tables = none-counted (deliveries.row_of d) (get_or new.hists event []) new.tables none }
 
 -- and so it is to the only instance
 pub first-delivered : (event : ℕ) (row : Cells) (cpu : ℕ) (pid : ℤ) (p : Pending) (instances : List Named) (read new : Named) → IsPlainIn event instances

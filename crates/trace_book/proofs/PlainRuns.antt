@@ -9,7 +9,7 @@ use Rattle.trace_command.specs.declared.command.Reply.TheVariants.{Done}
 use Rattle.trace_history.specs.History.{IsLegal, answer, past_of}
 use Rattle.trace_book.specs.States.{CanBeWritten, IsEmitted, StandsFor}
 use Rattle.trace_book.specs.private.Plain.{IsPlainIn, IsPreparedPlain, plain_delivery}
-use Rattle.trace_book.specs.declared.change.Pending.{Pending}
+use Rattle.trace_instance.specs.declared.change.Pending.{Pending}
 use Rattle.trace_book.specs.declared.state.State.{State}
 use Rattle.trace_book.proofs.Histories.{IsLegal-push, answer-done, length-past_of, past_of-push}
 use Rattle.trace_book.proofs.Stands.{stands_after_emission}

@@ -3,10 +3,10 @@ use Rattle.std.proofs.Common.{◌≡◌, ◌≢◌, ℕ, ◌+◌, ◌<◌, ◌�
 use Rattle.std.proofs.lemmas.Bool.{false≢true, ne_eqb}
 use Rattle.std.proofs.lemmas.List.{get_or_default}
 use Rattle.trace_format.specs.Operands.{Emission}
-use Rattle.trace_book.specs.Instances.{IsAlike, passed_in}
-use Rattle.trace_book.specs.KeptHists.{passed}
-use Rattle.trace_book.specs.States.{CanCountRow}
-use Rattle.trace_book.specs.declared.hists.AttachedHist.{AttachedHist}
+use Rattle.trace_instance.specs.Instances.{IsAlike, passed_in}
+use Rattle.trace_instance.specs.KeptHists.{passed}
+use Rattle.trace_instance.specs.Deliveries.{CanCountRow}
+use Rattle.trace_instance.specs.declared.hists.AttachedHist.{AttachedHist}
 use Rattle.trace_book.specs.declared.state.Named.{Named}
 
 pub no-hists : (hists : List AttachedHist) (has : Bool) → has ≡ not (length hists == 0) → has ≡ false → hists ≡ []

@@ -1,5 +1,5 @@
 -- Where paths lead: instances and events by their names.
-use Rattle.std.proofs.Common.{◌≡◌, ℕ, zero, suc, ◌+◌, ◌<◌, Bool, true, false, List, [], ◌∷◌, length, map, position, get_or, Option, Some, None, Result, Err, refl, sym, ap, ◌∙◌, arith}
+use Rattle.std.proofs.Common.{◌≡◌, ℕ, ◌+◌, ◌<◌, Bool, true, false, List, [], ◌∷◌, length, map, position, get_or, Option, Some, None, Result, Err, refl, sym, ap, ◌∙◌}
 use Rattle.std.specs.List.{list_any, position_from}
 use Rattle.std.specs.Str.{bytes_eq}
 use Rattle.std.proofs.lemmas.Slice.Eq.{bytes_eq-Decides}
@@ -18,18 +18,14 @@ use Rattle.trace_command.specs.declared.command.Reply.{Reply}
 use Rattle.trace_command.specs.declared.refusal.Refusal.{Refusal}
 use Rattle.trace_command.specs.declared.refusal.Refusal.TheVariants.{NoSuchFile, NoSuchInstance}
 use Rattle.trace_history.specs.History.{file_answer, instance_answer, missing}
-use Rattle.trace_book.specs.private.Files.{IsAt, name_at}
+use Rattle.trace_book.specs.private.Files.{IsAt}
+use Rattle.trace_instance.specs.Files.{name_at}
 use Rattle.trace_book.specs.States.{StandsFor, names_of}
 use Rattle.trace_book.specs.declared.state.Named.{Named}
 use Rattle.trace_book.specs.declared.state.State.{State}
+use Rattle.trace_instance.proofs.EventReads.{name_at-is}
 
 -- ---- events
-
--- the name of the event at an index
-pub name_at-is : (events : List Definition) (index : ℕ) (d : Definition) → index < length events → (get_or events index d).name ≡ name_at events index
-name_at-is [] index d inside = absurd (omega arith)
-name_at-is (event ∷ events) zero d inside = refl
-name_at-is (event ∷ events) (suc index) d inside = name_at-is events index d (omega arith)
 
 -- an event that was found by its name has it at its index
 pub index-named : (events : List Definition) (name : List ℕ) (index : ℕ) (event : Definition) → IsIndexOf events name index event → name ≡ name_at events index

@@ -20,19 +20,20 @@ use Rattle.trace_history.specs.History.{answer_with_room}
 use Rattle.trace_history.specs.Settings.{declares, declared_events, instance_names, is_born, is_same, made, removed, ticks}
 use Rattle.trace_history.proofs.EventLists.{AreEvents-push}
 use Rattle.trace_history.proofs.Events.{fit-push}
-use Rattle.trace_book.specs.Instances.{InstanceSeen, InstanceStandsFor}
-use Rattle.trace_book.specs.States.{IsChangeOf, IsDeclared, IsEmission, IsFresh, IsMade, IsEmitted, IsPrepared, IsPreparedEmission, IsReady, IsRemoved, IsStep, StandsFor, names_of, reach_at, row_of}
+use Rattle.trace_instance.specs.Instances.{InstanceSeen, InstanceStandsFor}
+use Rattle.trace_book.specs.States.{IsChangeOf, IsDeclared, IsEmission, IsFresh, IsMade, IsEmitted, IsPrepared, IsPreparedEmission, IsReady, IsRemoved, IsStep, StandsFor, names_of, reach_at}
+use Rattle.trace_instance.specs.Deliveries.{row_of}
 use Rattle.trace_history.specs.HistTriggers.{counted_row}
 use Rattle.trace_book.specs.declared.change.Change.{Change}
 use Rattle.trace_book.specs.declared.change.Change.TheVariants.{Declare, Make, Remove, Instance}
-use Rattle.trace_book.specs.declared.change.InstanceChange.{InstanceChange}
-use Rattle.trace_book.specs.declared.change.Delivery.{Delivery}
+use Rattle.trace_instance.specs.declared.change.InstanceChange.{InstanceChange}
+use Rattle.trace_instance.specs.declared.change.Delivery.{Delivery}
 use Rattle.trace_book.specs.declared.state.Named.{Named}
 use Rattle.trace_book.specs.declared.state.Prepared.{Prepared}
 use Rattle.trace_book.specs.declared.state.State.{State}
 use Rattle.trace_book.proofs.EachInstance.{distinct-push, distinct-without, length-names_of, name_at, names-same, names-without, not_born, others_differ, some_names}
-use Rattle.trace_book.proofs.Delivered.{delivered-stands}
-use Rattle.trace_book.proofs.Steps.{declared-stands, effect-stands, event_named-before, kept-stands, unfiltered_after, unknown_after, untriggered_after, unwatched_after}
+use Rattle.trace_instance.proofs.Delivered.{delivered-stands}
+use Rattle.trace_instance.proofs.Steps.{declared-stands, effect-stands, event_named-before, kept-stands, unfiltered_after, unknown_after, untriggered_after, unwatched_after}
 
 -- ---- events
 

@@ -1,6 +1,3 @@
-pub mod KeptHists
-pub mod Instances
-pub mod Changes
 pub mod States
 pub mod BookSeen
 pub mod Books

@@ -1,14 +1,9 @@
 -- When what a book keeps agrees with the requests that were done, and what a change does to it.
-use Rattle.std.specs.Prelude.{◌≡◌, ℕ, ◌+◌, ◌-◌, ◌<◌, ◌≤◌, ◌^◌, Bool, true, false, if◌then◌else◌, List, [], ◌∷◌, ◌++◌, length, map, take, drop, slice_index_or, slice_set, All, is_some, IsOk, Option, Some, None, Result, Ok, Err, ⊤}
+use Rattle.std.specs.Prelude.{◌≡◌, ℕ, ◌+◌, ◌<◌, ◌≤◌, ◌^◌, Bool, false, List, [], ◌∷◌, ◌++◌, length, map, take, drop, slice_index_or, All, IsOk, Option, Some, None, Result, Ok, Err, ⊤}
 use Rattle.std.specs.List.{AllByRecursion, IsDistinct}
-use Rattle.std.specs.Option.{option_map}
 use Rattle.std.specs.Str.{bytes_eq}
 use Rattle.trace_record.specs.Record.{IsRecord}
-use Rattle.page_ring.specs.Events as ring
 use Rattle.trace_buffer.specs.Buffers as buffers
-use Rattle.trace_buffer.specs.Families.{with_events}
-use Rattle.trace_snapshot.specs.Sides as snapshot
-use Rattle.trace_snapshot.specs.Sides.{SideFamilies, exchanged}
 use Rattle.trace_format.specs.Catalogs.{id_for, IsEvent, AreEvents}
 use Rattle.trace_format.specs.Definitions.{Definition}
 use Rattle.trace_command.specs.Refusals.{IsRefusal}
@@ -24,21 +19,19 @@ use Rattle.trace_history.specs.Snapshots.{is_exchanged_by}
 use Rattle.trace_history.specs.Triggers.{trigger_of}
 use Rattle.trace_history.specs.HistTriggers.{hists_of}
 use Rattle.trace_format.specs.Operands.{Emission}
-use Rattle.trace_book.specs.KeptHists.{AreHit, CanCount, HasRoomToCount, KeysAgree, table_numbered}
-use Rattle.trace_book.specs.declared.hists.AttachedHist.{AttachedHist}
-use Rattle.trace_book.specs.Instances.{InstanceSeen, InstanceStandsFor, IsShaped, WereOffered, passed_in}
-use Rattle.trace_book.specs.Changes.{IsEffect, IsApplied, IsLawful}
+use Rattle.trace_instance.specs.Instances.{InstanceSeen, InstanceStandsFor, passed_in, IsUsableInstance}
+use Rattle.trace_instance.specs.Changes.{IsEffect, IsApplied, IsLawful, with_event}
 use Rattle.trace_book.specs.declared.change.Change.{Change}
 use Rattle.trace_book.specs.declared.change.Change.TheVariants.{Declare, Make, Remove, Instance}
-use Rattle.trace_book.specs.declared.change.InstanceChange.TheVariants.{Keep}
-use Rattle.trace_book.specs.declared.change.Delivery.{Delivery}
-use Rattle.trace_book.specs.declared.change.Pending.{Pending}
-use Rattle.trace_book.specs.declared.change.Reach.{Reach}
-use Rattle.trace_book.specs.declared.change.Reaches.{Reaches}
+use Rattle.trace_instance.specs.declared.change.InstanceChange.TheVariants.{Keep}
+use Rattle.trace_instance.specs.declared.change.Delivery.{Delivery}
+use Rattle.trace_instance.specs.declared.change.Pending.{Pending}
+use Rattle.trace_instance.specs.declared.change.Reach.{Reach}
+use Rattle.trace_instance.specs.declared.change.Reaches.{Reaches}
 use Rattle.trace_book.specs.declared.state.Named.{Named}
 use Rattle.trace_book.specs.declared.state.Prepared.{Prepared}
 use Rattle.trace_book.specs.declared.state.State.{State}
-use Rattle.trace_book.specs.declared.trigger.Trigger.{Trigger}
+use Rattle.trace_instance.specs.Deliveries.{CanCountRow, CanFire, IsDelivered, row_of}
 
 -- the names of the instances, of which the top one has none
 abbrev pub names_of : List Named → List (Option (List ℕ))
@@ -61,16 +54,6 @@ pub record StandsFor (g : Config) (state : State) (past : List Request) : Type 0
   pub distinct_names : IsDistinct bytes_eq (instance_names past)
   pub each : All (λ (n : Named). InstanceStandsFor g n.name past n.instance) state.instances.items
 
--- what every instance of a book has, where so many events are declared
-pub record IsUsableInstance (g : Config) (events : ℕ) (i : InstanceSeen) : Type 0 where
-  pub enabled : length i.enabled ≡ events
-  pub filters : length i.filters ≡ events
-  pub triggers : length i.triggers ≡ events
-  pub hists : length i.hists ≡ events
-  pub tables : All (λ (attached : List AttachedHist). All (λ (a : AttachedHist). is_some (table_numbered a.table i.tables) ≡ true) attached) i.hists
-  pub agree : All KeysAgree i.hists
-  pub shaped : IsShaped g i.sides
-
 -- what every state of a book has, so that a command can be prepared without its past
 pub record IsUsable (g : Config) (state : State) : Type 0 where
   pub early : state.clock ≤ 2 ^ 32
@@ -91,20 +74,6 @@ pub record IsUnchanged (old new : State) : Type 0 where
   pub clock : new.clock ≡ old.clock
   pub instances : new.instances.items ≡ old.instances.items
 
--- an instance with one more event, which is disabled and has no filter and no triggers
-abbrev pub with_event : InstanceSeen → InstanceSeen
-with_event i = record i {
-  enabled = i.enabled ++ false ∷ [];
-  filters = i.filters ++ None ∷ [];
-  triggers = i.triggers ++ None ∷ [];
-  hists = i.hists ++ [] ∷ [];
-}
-
--- a trigger that acted acts once less
-abbrev pub counted_down : Option Trigger → Option Trigger
-counted_down None = None
-counted_down (Some t) = Some (record { number = t.number; left = option_map (λ times. times - 1) t.left; filter = t.filter })
-
 -- what an emission does where it does nothing
 abbrev pub no_reach : Reach
 no_reach = record { records = false; fires = false }
@@ -116,57 +85,6 @@ reach_at reaches k = slice_index_or reaches.each k no_reach
 -- this holds of what it does in each instance, and of that
 abbrev pub AllReached : (Reach → InstanceSeen → Type 0) → Reaches → List Named → Type 0
 AllReached R reaches instances = (k : ℕ) (n : Named) → k < length instances → R (reach_at reaches k) (slice_index_or instances k n).instance
-
--- the live side's rings after an emission: with its record, if there is one and it is written here
-abbrev pub recorded_in : Bool → Bool → Option Pending → List (List ring.Event) → List (List ring.Event)
-recorded_in records overwrite None family = family
-recorded_in records overwrite (Some p) family = if records then with_events p.cpu (ring.Put p.bytes.items overwrite ∷ []) family else family
-
--- the record is written, if it is written here
-pub record IsWritten (pending : Pending) (reach : Reach) (old new : InstanceSeen) : Type 0 where
-  pub rest : new ≡ record old { sides = new.sides }
-  pub sides : (families : SideFamilies) → snapshot.StandsFor old.sides families → snapshot.StandsFor new.sides
-      (record { live = recorded_in reach.records old.overwrite (Some pending) families.live; spare = families.spare })
-  pub spare : new.sides.spare ≡ old.sides.spare
-  pub shaped : (g : Config) → IsShaped g old.sides → IsShaped g new.sides
-  pub offered : (most : ℕ) → WereOffered most old.sides → WereOffered (most + 1) new.sides
-
--- the sides are exchanged, and the event's trigger has acted
-pub record IsExchanged (event : ℕ) (old new : InstanceSeen) : Type 0 where
-  pub rest : new ≡ record old { sides = new.sides; triggers = slice_set old.triggers event (counted_down (slice_index_or old.triggers event None)) }
-  pub sides : (families : SideFamilies) → snapshot.StandsFor old.sides families → snapshot.StandsFor new.sides (exchanged families)
-  pub shaped : (g : Config) → IsShaped g old.sides → IsShaped g new.sides
-  pub offered : (most : ℕ) → WereOffered most old.sides → WereOffered most new.sides
-
--- both sides after it: the record is written before the sides are exchanged
-abbrev pub delivered_to : InstanceSeen → Delivery → Reach → SideFamilies → SideFamilies
-delivered_to i d reach f =
-    let written : SideFamilies = record { live = recorded_in reach.records i.overwrite d.record f.live; spare = f.spare } in
-    if reach.fires then exchanged written else written
-
--- the row of an emission, as a histogram takes it
-abbrev pub row_of : Delivery → Emission
-row_of d = record { values = d.row.values; cpu = d.cpu; pid = d.pid }
-
--- the row of an emission was offered to the hist triggers of its event, which counted it in their tables
-pub record IsOffered (d : Delivery) (old new : InstanceSeen) : Type 0 where
-  pub rest : new ≡ record old { tables = new.tables }
-  pub tables : AreHit (row_of d) (slice_index_or old.hists d.event []) old.tables new.tables
-
--- an emission reached an instance, where it does this: its record is written, or not; then the event's hist triggers are offered its row; and then
--- the event's trigger for snapshots acts, or not
-pub record IsDelivered (d : Delivery) (reach : Reach) (old new : InstanceSeen) : Type 0 where
-  pub enabled : new.enabled ≡ old.enabled
-  pub filters : new.filters ≡ old.filters
-  pub triggers : new.triggers
-      ≡ (if reach.fires then slice_set old.triggers d.event (counted_down (slice_index_or old.triggers d.event None)) else old.triggers)
-  pub hists : new.hists ≡ old.hists
-  pub tables : AreHit (row_of d) (slice_index_or old.hists d.event []) old.tables new.tables
-  pub overwrite : new.overwrite ≡ old.overwrite
-  pub tracing : new.tracing ≡ old.tracing
-  pub sides : (families : SideFamilies) → snapshot.StandsFor old.sides families → snapshot.StandsFor new.sides (delivered_to old d reach families)
-  pub shaped : (g : Config) → IsShaped g old.sides → IsShaped g new.sides
-  pub offered : (most : ℕ) → WereOffered most old.sides → WereOffered (most + 1) new.sides
 
 -- each instance has its name still, and this came of it
 pub record EachCame (R : InstanceSeen → InstanceSeen → Type 0) (old new : List Named) : Type 0 where
@@ -289,10 +207,6 @@ IsChangeOf g state past request (Instance index change) =
     (d : Named) → IsChanged g past request (slice_index_or state.instances.items index d).name
     × IsEffect g (slice_index_or state.instances.items index d).name past request change
 
--- each ring of the live side was offered few records
-abbrev pub HasFew : InstanceSeen → Type 0
-HasFew i = AllByRecursion (λ n. n < 2 ^ 32) (buffers.offers i.sides.live)
-
 -- a record can be written wherever it is to be
 abbrev pub CanBeWritten : Config → List Named → Option Pending → Type 0
 CanBeWritten g instances None = ⊤
@@ -300,28 +214,10 @@ CanBeWritten g instances (Some pending) =
     IsRecord pending.bytes.items × (length pending.bytes.items ≤ g.page_bytes)
     × All (λ (n : Named). pending.cpu < buffers.cpus n.instance.sides.live) instances
 
--- the same for one instance
-abbrev pub IsWritable : Option Pending → InstanceSeen → Type 0
-IsWritable None i = ⊤
-IsWritable (Some pending) i =
-    IsRecord pending.bytes.items × (length pending.bytes.items ≤ i.sides.live.page_bytes) × (pending.cpu < buffers.cpus i.sides.live)
-
 -- of each instance, the filters of which hist triggers of the event an emission passes
 abbrev pub ArePassed : Emission → ℕ → List (List Bool) → List Named → Type 0
 ArePassed emission event passed instances =
     (k : ℕ) (n : Named) → k < length instances → slice_index_or passed k [] ≡ passed_in emission event (slice_index_or instances k n).instance
-
--- the hist triggers of the event at an index have the memory to count an emission
-abbrev pub CanCountRow : Emission → ℕ → InstanceSeen → Type 0
-CanCountRow emission event i = All (CanCount emission i.tables) (slice_index_or i.hists event [])
-
--- each histogram counted few rows
-abbrev pub HasFewRows : InstanceSeen → Type 0
-HasFewRows i = All (λ (attached : List AttachedHist). All (HasRoomToCount i.tables) attached) i.hists
-
--- an instance whose sides are to be exchanged has a spare
-abbrev pub CanFire : Reach → InstanceSeen → Type 0
-CanFire reach i = reach.fires ≡ true → is_some i.sides.spare ≡ true
 
 -- a change can be made, and what was grown for it is there
 abbrev pub IsReady : Config → State → Change → Type 0

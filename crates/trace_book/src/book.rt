@@ -29,20 +29,18 @@ ghost use Rattle.trace_history.specs.LateMemory.{TakesMemoryLate};
 ghost use Rattle.trace_command.specs.Refusals.{OrMemory, IsFoundEarly};
 ghost use Rattle.trace_command.specs.Requests.{request_of};
 ghost use Rattle.trace_history.specs.Settings.{declared_events, instance_names, is_there, now_of, ticks};
-ghost use Rattle.trace_book.specs.Instances.{InstanceStandsFor};
+ghost use Rattle.trace_instance.specs.Instances.{InstanceStandsFor};
 ghost use Rattle.trace_book.specs.States.{StandsFor};
 ghost use Rattle.trace_command.specs.declared.refusal.Refusal.TheVariants as refusal;
 
-use crate::change::{Delivery, Pending};
-use crate::instance::Instance;
 use crate::memory::EmissionMemory;
-use crate::resolve::event_at;
 use crate::state::{Named, Prepared, State};
 use std::alloc::{AllocError, Global};
 use std::marker::Model;
 use std::slice;
 use trace_command::{BorrowedEmission, Command, Config, Refusal, Reply};
 use trace_format::{BorrowedPair, Catalog, EventDef, Pair, borrowed};
+use trace_instance::{Delivery, Instance, Pending, event_at};
 use trace_log::{Entries, History};
 
 /// A tracer: its configuration, the history of the commands done, and the state that they led to. Commands name files as in ftrace.rst and run one at

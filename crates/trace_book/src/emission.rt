@@ -14,14 +14,12 @@ ghost use Rattle.trace_format.specs.declared.pair.Pair.{Pair as PairSeen};
 ghost use Rattle.trace_history.specs.History.{emission_answer};
 ghost use Rattle.trace_record.specs.Record.{record_size};
 ghost use Rattle.trace_book.specs.private.Emissions as emissions;
-ghost use Rattle.trace_book.specs.Instances.{IsAlike};
-ghost use Rattle.trace_book.specs.KeptHists.{KeysAgree};
-ghost use Rattle.trace_book.specs.declared.change.Pending.{Pending as PendingHere};
-ghost use Rattle.trace_book.specs.States.{StandsFor, IsPreparedEmission, IsUsable, EachCame, CanCountRow, ArePassed};
+ghost use Rattle.trace_instance.specs.Instances.{IsAlike};
+ghost use Rattle.trace_instance.specs.KeptHists.{KeysAgree};
+ghost use Rattle.trace_instance.specs.declared.change.Pending.{Pending as PendingHere};
+ghost use Rattle.trace_book.specs.States.{StandsFor, IsPreparedEmission, IsUsable, EachCame, ArePassed};
+ghost use Rattle.trace_instance.specs.Deliveries.{CanCountRow};
 
-use crate::change::{Delivery, Pending, Reach, Reaches};
-use crate::hists::{MOST_TRIGGERS, Passed};
-use crate::make::INSTANCES;
 use crate::memory::EmissionMemory;
 use crate::resolve::find_likely;
 use crate::row::record;
@@ -29,6 +27,7 @@ use crate::state::{Named, State};
 use std::alloc::AllocError;
 use trace_command::{Config, Refusal};
 use trace_format::{BorrowedPair, Row, payload_size};
+use trace_instance::{Delivery, INSTANCES, MOST_TRIGGERS, Passed, Pending, Reach, Reaches};
 
 impl State {
     /// Prepares an emission, in this order: its CPU, its event, its row, what it does in each instance, the memory of its hist triggers, and its

@@ -6,18 +6,15 @@ ghost use Rattle.trace_command.specs.Paths as paths;
 ghost use Rattle.trace_command.specs.Requests.{Request, MakeInstance, RemoveInstance};
 ghost use Rattle.trace_command.specs.declared.command.Config.{Config};
 ghost use Rattle.trace_history.specs.Settings.{declared_events};
-ghost use Rattle.trace_book.specs.Instances.{InstanceStandsFor};
+ghost use Rattle.trace_instance.specs.Instances.{InstanceStandsFor};
 ghost use Rattle.trace_book.specs.States.{StandsFor, IsPrepared, IsUsable};
 
 use crate::change::Change;
-use crate::instance::Instance;
 use crate::state::{Named, Prepared, State};
 use std::alloc::{AllocError, Global};
 use trace_command::{Config, Refusal, Reply, instance_of};
+use trace_instance::{INSTANCES, Instance};
 use trace_lex::{Text, is_name};
-
-/// The most instances that there may be, counting the top one.
-pub(crate) const INSTANCES: usize = 8;
 
 impl State {
     /// Prepares `mkdir`. Checked in this order: the path, the name, whether the instance exists, how many there are.

@@ -4,11 +4,11 @@ ghost use Rattle.std.specs.Prelude.{◌≡◌, IfOk, replicate};
 ghost use Rattle.trace_format.specs.Cells.{IsRowOf};
 ghost use Rattle.trace_format.specs.Rows.{row_of, IsBuilt};
 
-use crate::change::{Delivery, Pending};
 use std::alloc::{AllocError, Global};
 use std::marker::Model;
 use std::mem;
 use trace_format::{BorrowedPair, EventDef, Row, RowFault, RowMemory};
+use trace_instance::{Delivery, Pending};
 
 /// Memory for the row and the record of an emission, taken over from an earlier one. It is no part of the state: in contracts all values of this type
 /// are equal, whatever they hold.

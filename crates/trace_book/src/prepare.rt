@@ -11,14 +11,15 @@ ghost use Rattle.trace_history.specs.LateMemory.{TakesMemoryLate};
 ghost use Rattle.trace_history.specs.Settings.{is_there, ticks};
 ghost use Rattle.trace_book.specs.States.{StandsFor, IsPrepared, IsUsable};
 
-use crate::change::{Change, InstanceChange};
-use crate::read::{FileSource, Shown, declarations, read_file};
+use crate::change::Change;
 use crate::resolve::Target;
 use crate::state::{Prepared, State};
-use crate::write::{WrittenText, written_change};
 use std::alloc::Global;
 use trace_command::{Command, Config, Refusal, Reply};
 use trace_format::EventDef;
+use trace_instance::{
+    FileSource, InstanceChange, Shown, WrittenText, declarations, read_file, written_change,
+};
 
 impl State {
     /// Allocates what a command other than an emission needs, and returns its change and its reply.
@@ -80,19 +81,14 @@ impl State {
                 written.append,
                 written.text,
             ),
-            Target::Of(index, file) => Ok(Prepared {
-                change: Change::Instance(
-                    index,
-                    written_change(
-                        alloc,
-                        &self.catalog,
-                        &self.instances[index].instance,
-                        file,
-                        written,
-                    )?,
-                ),
-                reply: Reply::Done,
-            }),
+            Target::Of(index, file) => {
+                let instance = &self.instances[index].instance;
+                let change = written_change(alloc, &self.catalog, instance, file, written)?;
+                Ok(Prepared {
+                    change: Change::Instance(index, change),
+                    reply: Reply::Done,
+                })
+            }
         }
     }
 

@@ -1,6 +1,6 @@
 //! Looking up paths, once: the instance, the CPU and the event that a path names, in the order of refusals.
 
-ghost use Rattle.std.specs.Prelude.{◌≡◌, ◌≢◌, ℕ, ◌<◌, ◌≤◌, List, length, slice_index_or, position, Some, None, IfSome, IfOk, IfErr};
+ghost use Rattle.std.specs.Prelude.{◌≡◌, ◌≢◌, ℕ, ◌<◌, List, position, Some, None, IfSome, IfOk, IfErr};
 ghost use Rattle.std.specs.Option.{option_map};
 ghost use Rattle.trace_lex.specs.Decimals.{value_after};
 ghost use Rattle.trace_command.specs.Paths as paths;
@@ -11,21 +11,15 @@ ghost use Rattle.trace_history.specs.Declarations.{IsIndexOf};
 ghost use Rattle.trace_history.specs.Settings.{declared_events, event_named_in, numbered_event, is_same};
 ghost use Rattle.trace_format.specs.Catalogs.{id_of};
 ghost use Rattle.trace_book.specs.private.Files as files;
+ghost use Rattle.trace_instance.specs.Files.{IsThere};
 ghost use Rattle.trace_book.specs.private.Found.{numbered};
 ghost use Rattle.trace_book.specs.States.{StandsFor};
 
 use crate::state::{Named, State};
-use trace_command::{Config, CpuFile, EventFile, FileName, Refusal, TopFile, address_of};
+use trace_command::{Config, FileName, Refusal, address_of};
 use trace_format::{Catalog, EventDef};
+use trace_instance::File;
 use trace_lex::digits_value;
-
-/// A file of an existing instance: a CPU by its number, an event by its index among the declared ones, from 0.
-#[derive(Clone, Copy, Drop)]
-pub(crate) enum File {
-    OfInstance(TopFile),
-    OfCpu(u32, CpuFile),
-    OfEvent(usize, EventFile),
-}
 
 /// What a path names.
 #[derive(Clone, Copy, Drop)]
@@ -77,15 +71,6 @@ fn numbered(catalog: &Catalog, id: u16) -> Option<Found<'_>>
     })
 }
 
-/// The event at this index.
-pub(crate) fn event_at(catalog: &Catalog, index: usize) -> &EventDef
-    requires inside { index < length catalog.now }
-    requires few { length catalog.now ≤ 64 }
-    ensures { result.now ≡ slice_index_or catalog.now index result.now }
-{
-    catalog.def(index as u16 + 1).unwrap()
-}
-
 impl State {
     /// What a path names. Refused with `NoSuchInstance` if its instance doesn't exist, then with `NoSuchFile` if the rest names no file, then with
     /// `NoSuchCpu` or `NoSuchEvent`.
@@ -132,7 +117,7 @@ fn is_named(named: &Named, name: Option<&[u8]>) -> bool
 fn found_file(catalog: &Catalog, cpus: u32, named: FileName<'_>) -> Result<Option<File>, Refusal>
     ensures found { (g : Config) (past : List Request) → g.cpus ≡ cpus → catalog.now ≡ declared_events past
         → files.IsFound g past catalog.now (names.file_at named.entry) result }
-    ensures there { IfOk result (λ found. IfSome found (files.IsThere cpus catalog.now)) }
+    ensures there { IfOk result (λ found. IfSome found (IsThere cpus catalog.now)) }
     ensures memory { IfErr result (λ r. r ≢ Refusal.Memory) }
 {
     let file = match named {

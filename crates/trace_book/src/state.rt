@@ -3,15 +3,16 @@
 ghost use Rattle.std.specs.Prelude.{◌≡◌, ◌+◌, ◌^◌, ◌≤◌, ◌<◌, [], length, slice_index_or, All, IfOk, IfErr, OnOk, OnErr, Option};
 ghost use Rattle.trace_command.specs.declared.refusal.Refusal.TheVariants as refusal;
 ghost use Rattle.trace_book.specs.States as states;
+ghost use Rattle.trace_instance.specs.Changes.{with_event, IsApplied, IsLawful};
+ghost use Rattle.trace_instance.specs.Deliveries.{CanCountRow, CanFire, HasFew, HasFewRows, IsWritable, row_of};
 ghost use Rattle.trace_book.specs.declared.state.Named.{Named};
-ghost use Rattle.trace_book.specs.Changes.{IsApplied, IsLawful};
-ghost use Rattle.trace_book.specs.KeptHists.{KeysAgree};
+ghost use Rattle.trace_instance.specs.KeptHists.{KeysAgree};
 
-use crate::change::{Change, Delivery, InstanceChange};
-use crate::instance::Instance;
+use crate::change::Change;
 use std::alloc::AllocError;
 use trace_command::{Config, Refusal, Reply};
 use trace_format::Catalog;
+use trace_instance::{Delivery, Instance, InstanceChange};
 use trace_lex::Text;
 
 /// An instance with its name; the top one has none.
@@ -83,8 +84,8 @@ impl State {
         requires usable { states.IsUsable config.now self.old }
         requires ready { states.CanEmit config.now self.old delivery.now }
         requires early { self.old.clock < 2 ^ 32 }
-        requires few { All (λ n. states.HasFew n.instance) self.old.instances.items }
-        requires few_rows { All (λ n. states.HasFewRows n.instance) self.old.instances.items }
+        requires few { All (λ n. HasFew n.instance) self.old.instances.items }
+        requires few_rows { All (λ n. HasFewRows n.instance) self.old.instances.items }
         ensures { states.IsEmitted self.old self.new delivery.now }
     {
         self.clock += 1;
@@ -96,7 +97,7 @@ impl State {
 fn add_event(instances: &mut [Named])
     requires { All (λ n. (length n.instance.enabled < 64) × (length n.instance.filters < 64) × (length n.instance.triggers < 64)
         × (length n.instance.hists < 64)) instances.old }
-    ensures { states.EachCame (λ i j. j ≡ states.with_event i) instances.old instances.new }
+    ensures { states.EachCame (λ i j. j ≡ with_event i) instances.old instances.new }
 {
     for i in 0..instances.len() {
         instances[i].instance.add_event();
@@ -121,14 +122,14 @@ fn change_one(
 fn deliver_each(instances: &mut [Named], delivery: &Delivery)
     requires few_instances { length instances.old ≤ 8 }
     requires event { All (λ n. delivery.now.event < length n.instance.triggers) instances.old }
-    requires record { All (λ n. states.IsWritable delivery.now.record n.instance) instances.old }
+    requires record { All (λ n. IsWritable delivery.now.record n.instance) instances.old }
     requires hists { All (λ n. delivery.now.event < length n.instance.hists) instances.old }
     requires agree { All (λ n. KeysAgree (slice_index_or n.instance.hists delivery.now.event [])) instances.old }
-    requires passed { states.ArePassed (states.row_of delivery.now) delivery.now.event delivery.now.passed instances.old }
-    requires counted { All (λ n. states.CanCountRow (states.row_of delivery.now) delivery.now.event n.instance) instances.old }
-    requires few_rows { All (λ n. states.HasFewRows n.instance) instances.old }
-    requires few { All (λ n. states.HasFew n.instance) instances.old }
-    requires spare { states.AllReached states.CanFire delivery.now.reaches instances.old }
+    requires passed { states.ArePassed (row_of delivery.now) delivery.now.event delivery.now.passed instances.old }
+    requires counted { All (λ n. CanCountRow (row_of delivery.now) delivery.now.event n.instance) instances.old }
+    requires few_rows { All (λ n. HasFewRows n.instance) instances.old }
+    requires few { All (λ n. HasFew n.instance) instances.old }
+    requires spare { states.AllReached CanFire delivery.now.reaches instances.old }
     ensures { states.EachDelivered delivery.now instances.old instances.new }
 {
     for i in 0..instances.len() {

@@ -3,11 +3,11 @@ use Rattle.std.specs.Prelude.{◌≡◌, ℕ, ℤ, ◌+◌, false, List, Option,
 use Rattle.trace_format.specs.Cells.{Cells}
 use Rattle.trace_record.specs.Record.{IsRecord}
 use Rattle.trace_history.specs.Emissions.{record_bytes}
-use Rattle.trace_book.specs.Instances.{IsAlike}
-use Rattle.trace_book.specs.private.Rows.{reach_of}
+use Rattle.trace_instance.specs.Instances.{IsAlike}
+use Rattle.trace_instance.specs.Rows.{reach_of}
 use Rattle.trace_book.specs.States.{AllReached, EachCame}
-use Rattle.trace_book.specs.declared.change.Pending.{Pending}
-use Rattle.trace_book.specs.declared.change.Reaches.{Reaches}
+use Rattle.trace_instance.specs.declared.change.Pending.{Pending}
+use Rattle.trace_instance.specs.declared.change.Reaches.{Reaches}
 use Rattle.trace_book.specs.declared.state.Named.{Named}
 use Rattle.trace_book.specs.declared.state.State.{State}
 

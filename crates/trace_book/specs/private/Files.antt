@@ -1,5 +1,5 @@
--- Files that are there: a CPU by its number, an event by its index among the declared ones.
-use Rattle.std.specs.Prelude.{◌≡◌, ℕ, zero, suc, ◌<◌, nat_lt, true, false, List, [], ◌∷◌, length, slice_index_or, Option, Some, None, Result, Ok, Err, ⊤}
+-- Where paths lead: what was found for one, or why it is refused.
+use Rattle.std.specs.Prelude.{◌≡◌, ℕ, ◌<◌, nat_lt, true, false, List, length, slice_index_or, Option, Some, None, Result, Ok, Err, ⊤}
 use Rattle.trace_format.specs.Definitions.{Definition}
 use Rattle.trace_command.specs.Paths as paths
 use Rattle.trace_command.specs.Paths.{Address}
@@ -10,35 +10,12 @@ use Rattle.trace_command.specs.declared.refusal.Refusal.{Refusal}
 use Rattle.trace_command.specs.declared.refusal.Refusal.TheVariants.{NoSuchCpu, NoSuchEvent}
 use Rattle.trace_history.specs.Settings.{event_named_in, is_there}
 use Rattle.trace_history.specs.History.{file_answer, instance_answer, missing}
-use Rattle.trace_book.specs.declared.resolve.File.{File}
-use Rattle.trace_book.specs.declared.resolve.File.TheVariants as file
+use Rattle.trace_instance.specs.declared.file.File.{File}
 use Rattle.trace_book.specs.declared.resolve.Target.{Target}
 use Rattle.trace_book.specs.declared.resolve.Target.TheVariants as target
 use Rattle.trace_book.specs.declared.state.Named.{Named}
 use Rattle.trace_book.specs.declared.state.State.{State}
-
--- the name of the event at an index
-abbrev pub name_at : List Definition → ℕ → List ℕ
-name_at [] index = []
-name_at (event ∷ events) zero = event.name
-name_at (event ∷ events) (suc index) = name_at events index
-
--- the file, as a path names it
-abbrev pub file_at : List Definition → File → paths.File
-file_at events (file.OfInstance named) = paths.OfInstance named
-file_at events (file.OfCpu cpu named) = paths.OfCpu cpu named
-file_at events (file.OfEvent event named) = paths.OfEvent (name_at events event) named
-
--- its CPU or its event is there
-abbrev pub IsThere : ℕ → List Definition → File → Type 0
-IsThere cpus events (file.OfInstance named) = ⊤
-IsThere cpus events (file.OfCpu cpu named) = cpu < cpus
-IsThere cpus events (file.OfEvent event named) = event < length events
-
--- its event is there
-abbrev pub HasEvent : List Definition → File → Type 0
-HasEvent events (file.OfEvent event named) = event < length events
-HasEvent events _ = ⊤
+use Rattle.trace_instance.specs.Files.{IsThere, file_at, name_at}
 
 -- the number of a CPU that is there
 abbrev pub IsCpu : ℕ → ℕ → Result ℕ Refusal → Type 0

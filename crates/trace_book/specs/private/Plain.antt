@@ -1,26 +1,20 @@
 -- Emissions of the plain kind: the only instance is the top one, it records the event whatever its row, and nothing else comes of it.
-use Rattle.std.specs.Prelude.{◌≡◌, ℕ, ℤ, ◌==◌, ◌+◌, true, false, Bool, not, ◌&&◌, List, [], ◌∷◌, ◌++◌, length, take, drop, slice_index_or, is_some, Some, None, Result, Ok, Err}
+use Rattle.std.specs.Prelude.{◌≡◌, ℕ, ℤ, ◌+◌, true, false, Bool, List, [], ◌∷◌, ◌++◌, length, take, drop, slice_index_or, Some, None, Result, Ok, Err}
 use Rattle.trace_record.specs.declared.head.Head.{Head}
 use Rattle.trace_command.specs.declared.command.Config.{Config}
 use Rattle.trace_command.specs.Requests.{Request, FitsItsTypes}
 use Rattle.trace_format.specs.Cells.{Cells, payload_of}
 use Rattle.trace_history.specs.Emissions.{record_bytes}
-use Rattle.trace_book.specs.Instances.{InstanceSeen}
+use Rattle.trace_instance.specs.Instances.{InstanceSeen}
 use Rattle.trace_book.specs.States.{IsPreparedEmission, StandsFor, no_reach}
-use Rattle.trace_book.specs.declared.change.Delivery.{Delivery}
-use Rattle.trace_book.specs.declared.change.Pending.{Pending}
-use Rattle.trace_book.specs.declared.change.Reach.{Reach}
-use Rattle.trace_book.specs.declared.change.Reaches.{Reaches}
+use Rattle.trace_instance.specs.declared.change.Delivery.{Delivery}
+use Rattle.trace_instance.specs.declared.change.Pending.{Pending}
+use Rattle.trace_instance.specs.declared.change.Reach.{Reach}
+use Rattle.trace_instance.specs.declared.change.Reaches.{Reaches}
 use Rattle.trace_book.specs.declared.state.Named.{Named}
 use Rattle.trace_book.specs.declared.state.State.{State}
 
 -- ---- where an emission is plain
-
--- whether an instance records each emission of the event at this index, which has no filter and no triggers there
-abbrev pub is_plain : InstanceSeen → ℕ → Bool
-is_plain i event =
-    i.tracing && (slice_index_or i.enabled event false && (not (is_some (slice_index_or i.filters event None))
-    && (not (is_some (slice_index_or i.triggers event None)) && length (slice_index_or i.hists event []) == 0)))
 
 -- the same, part by part
 pub record IsPlainAt (event : ℕ) (i : InstanceSeen) : Type 0 where

@@ -10,16 +10,17 @@ ghost use Rattle.trace_format.specs.Rows.{row_of};
 ghost use Rattle.trace_history.specs.History.{emission_answer};
 ghost use Rattle.trace_record.specs.Record.{IsRecord};
 ghost use Rattle.trace_book.specs.States as states;
+ghost use Rattle.trace_instance.specs.Deliveries.{HasFew, IsWritable};
 ghost use Rattle.trace_book.specs.States.{StandsFor, IsUsable};
 ghost use Rattle.trace_book.specs.private.Plain as plain;
 
-use crate::change::{Pending, Reach};
 use crate::resolve::{Found, find_likely};
 use crate::row::write_given_record;
 use crate::state::{Named, State};
 use std::alloc::AllocError;
 use trace_command::Config;
 use trace_format::{BorrowedPair, payload_size};
+use trace_instance::{Pending, Reach};
 use trace_record::{Head, record_size};
 
 impl State {
@@ -67,7 +68,7 @@ impl State {
         requires one { length self.old.instances.items ≡ 1 }
         requires ready { states.CanBeWritten config.now self.old.instances.items (Some pending.now) }
         requires early { self.old.clock < 2 ^ 32 }
-        requires few { All (λ n. states.HasFew n.instance) self.old.instances.items }
+        requires few { All (λ n. HasFew n.instance) self.old.instances.items }
         ensures { (event : ℕ) (row : Cells) (cpu : ℕ) (pid : ℤ) → plain.IsPlainIn event self.old.instances.items
             → states.IsEmitted self.old self.new (plain.plain_delivery event row cpu pid pending.now) }
     {
@@ -146,8 +147,8 @@ fn resize(bytes: &mut Vec<u8>, len: usize) -> Result<(), AllocError>
 #[inline(always)]
 fn write_first(instances: &mut [Named], pending: &Pending)
     requires one { length instances.old ≡ 1 }
-    requires record { All (λ n. states.IsWritable (Some pending.now) n.instance) instances.old }
-    requires few { All (λ n. states.HasFew n.instance) instances.old }
+    requires record { All (λ n. IsWritable (Some pending.now) n.instance) instances.old }
+    requires few { All (λ n. HasFew n.instance) instances.old }
     ensures { (event : ℕ) (row : Cells) (cpu : ℕ) (pid : ℤ) → plain.IsPlainIn event instances.old
         → states.EachDelivered (plain.plain_delivery event row cpu pid pending.now) instances.old instances.new }
 {

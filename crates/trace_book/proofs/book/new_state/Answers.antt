@@ -1,6 +1,6 @@
 use Rattle.std.proofs.Common.{None, refl}
 use Rattle.trace_book.specs.declared.state.Named.{Named}
-use Rattle.trace_book.proofs.NewInstance.{top_instance_stands}
+use Rattle.trace_instance.proofs.NewInstance.{top_instance_stands}
 use Rattle.trace_book.proofs.Usable.{stands_new}
 use Rattle.trace_book.proofs.book.new_state.Goals as goal
 

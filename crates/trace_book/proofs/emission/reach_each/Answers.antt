@@ -1,6 +1,6 @@
 use Rattle.std.proofs.Common.{◌≡◌, ◌∙◌, arith, get_or, length-set, subst, to_z, of_z, w32}
 use Rattle.std.proofs.lemmas.List.{get_or_default}
-use Rattle.trace_book.specs.private.Rows.{reach_of}
+use Rattle.trace_instance.specs.Rows.{reach_of}
 use Rattle.trace_book.specs.States.{no_reach}
 use Rattle.trace_book.specs.declared.state.Named.{Named}
 use Rattle.trace_book.proofs.EachInstance.{none_more, reached_more}

@@ -1,5 +1,5 @@
 use Rattle.std.proofs.Common.{◌≡◌, ℕ, ◌<◌, false, length, slice_index_or}
-use Rattle.trace_book.specs.private.Rows.{reach_of}
+use Rattle.trace_instance.specs.Rows.{reach_of}
 use Rattle.trace_book.specs.States.{no_reach}
 use Rattle.trace_book.specs.declared.state.Named.{Named}
 use Rattle.trace_book.proofs.emission.reach_each.Given as goal

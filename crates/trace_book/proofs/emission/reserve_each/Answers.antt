@@ -1,8 +1,8 @@
 use Rattle.std.proofs.Common.{◌≡◌, ◌≢◌, ◌<◌, [], get_or, length, length-set, get_or-set_other, refl, ◌∙◌, arith, to_z, of_z, w32}
 use Rattle.std.proofs.lemmas.List.{get_or_default}
 use Rattle.trace_format.specs.Operands.{Emission}
-use Rattle.trace_book.specs.Instances.{IsAlike, passed_in}
-use Rattle.trace_book.specs.States.{CanCountRow}
+use Rattle.trace_instance.specs.Instances.{IsAlike, passed_in}
+use Rattle.trace_instance.specs.Deliveries.{CanCountRow}
 use Rattle.trace_book.specs.declared.state.Named.{Named}
 use Rattle.trace_book.proofs.EachInstance.{came_more, held_more, names_more, reached_more}
 use Rattle.trace_book.proofs.ReservedEach.{alike-past, counted-past, known-here, known-past, no-hists}

@@ -1,6 +1,6 @@
 use Rattle.std.proofs.Common.{◌≡◌, ℕ, ◌≤◌, ◌<◌, false, [], ◌∷◌, length, slice_index_or}
-use Rattle.trace_book.specs.States.{CanCountRow}
-use Rattle.trace_book.specs.Instances.{IsAlike, passed_in}
+use Rattle.trace_instance.specs.Deliveries.{CanCountRow}
+use Rattle.trace_instance.specs.Instances.{IsAlike, passed_in}
 use Rattle.trace_book.specs.declared.state.Named.{Named}
 use Rattle.trace_book.proofs.emission.reserve_each.Given as goal
 

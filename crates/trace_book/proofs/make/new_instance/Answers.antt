@@ -1,8 +1,8 @@
 use Rattle.std.proofs.Common.{ℕ, Bool, false, List, [], Option, None, replicate, ap, ◌∙◌}
 use Rattle.trace_filter.specs.Filters.{Parsed}
-use Rattle.trace_book.specs.declared.hists.AttachedHist.{AttachedHist}
-use Rattle.trace_book.specs.declared.trigger.Trigger.{Trigger}
-use Rattle.trace_book.proofs.NewInstance.{made-stands}
+use Rattle.trace_instance.specs.declared.hists.AttachedHist.{AttachedHist}
+use Rattle.trace_instance.specs.declared.trigger.Trigger.{Trigger}
+use Rattle.trace_instance.proofs.NewInstance.{made-stands}
 use Rattle.trace_book.proofs.make.new_instance.Goals as goal
 
 pub returns-clause-stands : goal.returns-clause-stands

@@ -1,8 +1,7 @@
 use Rattle.std.proofs.Common.{◌≡◌, ◌++◌, ℤ, length, replicate, ap, ◌∙◌, to_z, of_z, w32, rules}
 use Rattle.std.proofs.lemmas.Int.{to_z-of_z}
-use Rattle.trace_record.specs.Record.{head_bytes}
+use Rattle.trace_record.specs.Record.{head_bytes, padding}
 use Rattle.trace_format.specs.Cells.{payload_of}
-use Rattle.trace_record.specs.Record.{padding}
 use Rattle.trace_book.proofs.RecordBytes.{record_bytes-is, written}
 use Rattle.trace_book.proofs.row.record.Goals as goal
 

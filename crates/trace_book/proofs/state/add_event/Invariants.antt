@@ -1,5 +1,5 @@
 use Rattle.std.proofs.Common.{◌≡◌, ℕ, ◌≤◌, ◌<◌, length, slice_index_or}
-use Rattle.trace_book.specs.States.{with_event}
+use Rattle.trace_instance.specs.Changes.{with_event}
 use Rattle.trace_book.specs.declared.state.Named.{Named}
 use Rattle.trace_book.proofs.state.add_event.Given as goal
 

@@ -1,5 +1,6 @@
 use Rattle.std.proofs.Common.{arith, refl, ◌∙◌, length-set, get_or-set_other, ◌≢◌}
-use Rattle.trace_book.specs.States.{IsDelivered, reach_at}
+use Rattle.trace_instance.specs.Deliveries.{IsDelivered}
+use Rattle.trace_book.specs.States.{reach_at}
 use Rattle.trace_book.proofs.EachInstance.{came_more, names_more}
 use Rattle.trace_book.proofs.state.deliver_each.Goals as goal
 

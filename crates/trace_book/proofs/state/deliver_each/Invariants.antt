@@ -1,5 +1,6 @@
 use Rattle.std.proofs.Common.{◌≡◌, ℕ, ◌≤◌, ◌<◌, length, slice_index_or}
-use Rattle.trace_book.specs.States.{IsDelivered, reach_at}
+use Rattle.trace_instance.specs.Deliveries.{IsDelivered}
+use Rattle.trace_book.specs.States.{reach_at}
 use Rattle.trace_book.specs.declared.state.Named.{Named}
 use Rattle.trace_book.proofs.state.deliver_each.Given as goal
 

@@ -4,14 +4,15 @@ use Rattle.trace_format.specs.Rows.{row_of}
 use Rattle.trace_record.specs.Record.{record_size}
 use Rattle.trace_book.specs.private.Emissions.{AreReached, IsAhead}
 use Rattle.trace_book.specs.private.Found.{numbered}
-use Rattle.trace_book.specs.declared.change.Pending.{Pending}
+use Rattle.trace_instance.specs.declared.change.Pending.{Pending}
 use Rattle.trace_book.proofs.Emitting.{named-found, answers-emission, is-emission, ready-emission, fit-at}
 use Rattle.trace_command.specs.Requests.{Emission}
 use Rattle.trace_command.specs.declared.refusal.Refusal.TheVariants.{Memory}
-use Rattle.trace_book.specs.States.{ArePassed, CanCountRow}
+use Rattle.trace_book.specs.States.{ArePassed}
+use Rattle.trace_instance.specs.Deliveries.{CanCountRow}
 use Rattle.trace_book.specs.declared.state.Named.{Named}
 use Rattle.trace_book.proofs.Alike.{state_alike-stands}
-use Rattle.trace_book.proofs.Answering.{done-late}
+use Rattle.trace_instance.proofs.Answering.{done-late}
 use Rattle.trace_book.proofs.state.State.prepare_emission.Goals as goal
 
 pub returns-in_err-passed-clause-prepared : goal.returns-in_err-passed-clause-prepared

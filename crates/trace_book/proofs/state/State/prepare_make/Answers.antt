@@ -5,7 +5,7 @@ use Rattle.trace_command.specs.Paths as paths
 use Rattle.trace_command.specs.declared.refusal.Refusal.TheVariants.{Memory}
 use Rattle.trace_history.specs.Settings.{declared_events}
 use Rattle.trace_command.specs.Requests.{MakeInstance}
-use Rattle.trace_book.specs.Instances.{InstanceStandsFor}
+use Rattle.trace_instance.specs.Instances.{InstanceStandsFor}
 use Rattle.trace_book.specs.declared.state.Named.{Named}
 use Rattle.trace_book.proofs.Making.{make-bad_name, make-exists, make-too_many, make-memory, make-done}
 use Rattle.trace_book.proofs.state.State.prepare_make.Goals as goal

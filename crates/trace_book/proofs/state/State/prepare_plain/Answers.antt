@@ -4,7 +4,7 @@ use Rattle.trace_format.specs.Cells.{payload_size_of}
 use Rattle.trace_format.specs.Rows.{row_of}
 use Rattle.trace_book.specs.private.Found.{numbered}
 use Rattle.trace_book.specs.private.Plain.{IsPlainIn, IsRecordOf}
-use Rattle.trace_book.specs.declared.change.Pending.{Pending}
+use Rattle.trace_instance.specs.declared.change.Pending.{Pending}
 use Rattle.trace_book.proofs.Emitting.{fit-at, found-late, named-found, on-err}
 use Rattle.trace_book.proofs.Plain.{plain-prepared}
 use Rattle.trace_book.proofs.PlainRecords.{row-of}

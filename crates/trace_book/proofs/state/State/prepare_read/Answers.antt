@@ -1,8 +1,9 @@
 use Rattle.std.proofs.Common.{◌≡◌, Ok, Err, refl, rules}
 use Rattle.trace_command.specs.Paths as paths
 use Rattle.trace_command.specs.Paths.{Address}
-use Rattle.trace_book.specs.private.Commands.{IsRead}
-use Rattle.trace_book.specs.private.Files.{IsResolved, file_at}
+use Rattle.trace_instance.specs.FileAnswers.{IsRead}
+use Rattle.trace_book.specs.private.Files.{IsResolved}
+use Rattle.trace_instance.specs.Files.{file_at}
 use Rattle.trace_book.specs.declared.resolve.Target.TheVariants.{Declarations, Of}
 use Rattle.trace_book.proofs.Dispatch.{address-lists, address-reads, address-read_refused, is-source}
 use Rattle.trace_book.proofs.state.State.prepare_read.Goals as goal

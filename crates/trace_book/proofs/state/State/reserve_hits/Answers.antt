@@ -1,6 +1,6 @@
 use Rattle.std.proofs.Common.{◌≡◌, List, length, refl, sym, subst, to_z, of_z, w32, rules}
 use Rattle.std.proofs.lemmas.Int.{to_z-of_z}
-use Rattle.trace_book.specs.Instances.{IsAlike}
+use Rattle.trace_instance.specs.Instances.{IsAlike}
 use Rattle.trace_book.specs.States.{EachCame}
 use Rattle.trace_book.specs.declared.state.Named.{Named}
 use Rattle.trace_book.proofs.Emitting.{written-over}

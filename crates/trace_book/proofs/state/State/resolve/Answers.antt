@@ -3,7 +3,7 @@ use Rattle.trace_command.specs.Paths as paths
 use Rattle.trace_command.specs.Paths.{Address}
 use Rattle.trace_command.specs.FileNames.{file_at}
 use Rattle.trace_book.specs.private.Files.{IsFound}
-use Rattle.trace_book.specs.declared.resolve.File.{File}
+use Rattle.trace_instance.specs.declared.file.File.{File}
 use Rattle.trace_book.proofs.Resolving.{found-there, lost-there, no-instance, no-file, missing-file}
 use Rattle.trace_book.proofs.state.State.resolve.Goals as goal
 

@@ -1,7 +1,7 @@
 use Rattle.std.proofs.Common.{◌≡◌, ◌+◌, refl, to_z, of_z, w32, rules}
 use Rattle.std.proofs.lemmas.Int.{to_z-of_z}
 use Rattle.trace_history.specs.Emissions.{record_bytes}
-use Rattle.trace_book.specs.declared.change.Pending.{Pending}
+use Rattle.trace_instance.specs.declared.change.Pending.{Pending}
 use Rattle.trace_book.proofs.Emitting.{is-ahead}
 use Rattle.trace_book.proofs.state.State.write_ahead.Goals as goal
 

@@ -1,0 +1,306 @@
+-- What a text that is written to an event's trigger file answers, and that the change made of it is the one that the definitions say.
+use Rattle.std.proofs.Common.{◌≡◌, ℕ, ◌+◌, ◌<◌, ◌≤◌, nat_lt, Bool, true, false, not, ◌||◌, if◌then◌else◌, List, [], ◌∷◌, length, map, is_some, Option, None, Some, Result, Ok, Err, refl, sym, ap, ◌∙◌, subst, arith, lt-ltb, ltb-true}
+use Rattle.std.specs.List.{list_any, position}
+use Rattle.std.proofs.lemmas.List.{length-map}
+use Rattle.std.proofs.lemmas.Option.{none-some}
+use Rattle.trace_format.specs.Definitions.{Definition}
+use Rattle.trace_trigger.specs.HistSpecs.{SpecSeen}
+use Rattle.trace_trigger.specs.declared.spec.Action.{Action}
+use Rattle.trace_trigger.specs.declared.spec.Action.TheVariants as action
+use Rattle.trace_trigger.specs.TriggerAnswers.{IsAnswered}
+use Rattle.trace_trigger.specs.TriggerTexts.{said_of}
+use Rattle.trace_trigger.specs.declared.fault.TriggerFault.{TriggerFault}
+use Rattle.trace_trigger.specs.declared.fault.TriggerFault.TheVariants as fault
+use Rattle.trace_trigger.specs.declared.trigger.SnapshotTrigger.{SnapshotTrigger}
+use Rattle.trace_trigger.specs.declared.trigger.TriggerText.{TriggerText}
+use Rattle.trace_trigger.specs.declared.trigger.TriggerText.TheVariants as said
+use Rattle.trace_command.specs.Refusals.{IsFoundEarly, IsRefusal, refusal_of_trigger}
+use Rattle.trace_command.specs.Requests.{Request}
+use Rattle.trace_command.specs.declared.command.Reply.{Reply}
+use Rattle.trace_command.specs.declared.command.Reply.TheVariants.{Done}
+use Rattle.trace_command.specs.declared.refusal.Refusal.{Refusal}
+use Rattle.trace_command.specs.declared.refusal.Refusal.TheVariants as refusal
+use Rattle.trace_history.specs.History.{asked_answer, fitting_answer, hist_answer, new_hist_answer, remove_hist_answer, room_answer, said_answer, trigger_answer, trigger_count}
+use Rattle.trace_history.specs.HistTriggers.{HistTrigger, fits_that, has_same, hist_triggers, hists_of, hists_said, named_by}
+use Rattle.trace_history.specs.Triggers as triggers
+use Rattle.trace_history.specs.Triggers.{trigger_of}
+use Rattle.trace_history.proofs.Members.{IsIn}
+use Rattle.trace_instance.specs.private.Attaching.{AreKept, IsAttached, IsChangeOf, kept_count}
+use Rattle.trace_instance.specs.Instances as instances
+use Rattle.trace_instance.specs.Instances.{TablesFit}
+use Rattle.trace_instance.specs.KeptHists.{attached_as, kept_hists, says_same}
+use Rattle.trace_instance.specs.declared.attach.EventTriggers.{EventTriggers}
+use Rattle.trace_instance.specs.declared.change.TriggerChange.TheVariants.{Keep, Attach, Detach}
+use Rattle.trace_instance.specs.declared.trigger.Trigger.{Trigger}
+use Rattle.trace_instance.specs.declared.write.WrittenText.{WrittenText}
+use Rattle.trace_instance.proofs.Attached.{IsNamed, all-are, all_left, hists-stay, own_left, snapshot-attached, snapshot-removed, snapshot-stays, tables-stay, text_request}
+use Rattle.trace_history.proofs.NamedTables.{fit-fewer}
+use Rattle.trace_instance.proofs.FittingTables.{fit-tables, left-fit}
+use Rattle.trace_instance.proofs.NamedIn.{copied-some}
+use Rattle.trace_instance.proofs.OneSays.{IsOnlyOne, found-only, some-position}
+use Rattle.trace_instance.proofs.Snapshotting.{none-is, some-mapped, there-is}
+
+-- ---- what the requests say of what is kept
+
+has-snapshot : (name : Option (List ℕ)) (past : List Request) (event : Definition) (kept : EventTriggers) → AreKept name past event kept
+    → is_some (trigger_of name event past) ≡ is_some kept.snapshot
+has-snapshot name past event kept are =
+    sym (some-mapped (instances.kept_as past event) (trigger_of name event past)) ∙ ap is_some (sym are.snapshot) ∙ copied-some kept.snapshot
+
+any-map : {A B : Type 0} (test : B → Bool) (f : A → B) (xs : List A) → list_any test (map f xs) ≡ list_any (λ (x : A). test (f x)) xs
+any-map test f [] = refl
+any-map test f (x ∷ xs) = ap (λ (b : Bool). test (f x) || b) (any-map test f xs)
+
+pub has-same : (name : Option (List ℕ)) (past : List Request) (event : Definition) (kept : EventTriggers) (spec : SpecSeen) → AreKept name past event kept
+    → has_same spec (hists_of name event past) ≡ list_any (says_same spec) kept.hists.now
+has-same name past event kept spec are =
+    sym (any-map (says_same spec) attached_as (hists_of name event past)) ∙ ap (list_any (says_same spec)) (sym are.hists)
+
+-- the index of the one that says the same, of those that `>` or `>>` leaves
+abbrev pub same_left : SpecSeen → EventTriggers → Bool → Option ℕ
+same_left spec kept append = if append then position (says_same spec) kept.hists.now else None
+
+pub has-same_left : (name : Option (List ℕ)) (past : List Request) (event : Definition) (kept : EventTriggers) (spec : SpecSeen) (append : Bool)
+    → AreKept name past event kept → has_same spec (own_left name past event append) ≡ is_some (same_left spec kept append)
+has-same_left name past event kept spec true are = has-same name past event kept spec are ∙ sym (some-position (says_same spec) kept.hists.now)
+has-same_left name past event kept spec false are = refl
+
+-- and it is the only one
+pub only-left : (name : Option (List ℕ)) (past : List Request) (event : Definition) (kept : EventTriggers) (spec : SpecSeen) (index : ℕ) (append : Bool)
+    → AreKept name past event kept → same_left spec kept append ≡ Some index → IsOnlyOne spec (if append then kept_hists name past event else []) index
+only-left name past event kept spec index true are found = found-only name past event spec kept.hists.now index are.hists found
+only-left name past event kept spec index false are found = absurd (none-some index found)
+
+many-left : (name : Option (List ℕ)) (past : List Request) (event : Definition) (kept : EventTriggers) (append : Bool) → AreKept name past event kept
+    → length (own_left name past event append) ≡ (if append then length kept.hists.now else 0)
+many-left name past event kept true are =
+    sym (length-map (hists_of name event past) attached_as) ∙ ap length (sym are.hists)
+many-left name past event kept false are = refl
+
+pub count-left : (name : Option (List ℕ)) (past : List Request) (event : Definition) (kept : EventTriggers) (append : Bool) → AreKept name past event kept
+    → trigger_count (trigger_of name event past) (own_left name past event append) ≡ kept_count kept append
+count-left name past event kept append are =
+    by (trigger_of name event past) ∙ (λ i. many-left name past event kept append are i + (if has-snapshot name past event kept are i then 1 else 0))
+  where
+    by : (o : Option triggers.Trigger) → trigger_count o (own_left name past event append)
+        ≡ length (own_left name past event append) + (if is_some o then 1 else 0)
+    by None = omega arith
+    by (Some t) = refl
+
+-- ---- answers
+
+pub answered : (name : Option (List ℕ)) (past : List Request) (event : Definition) (append : Bool) (text : List ℕ) (r : Result TriggerText TriggerFault)
+    → said_of event text ≡ r
+    → trigger_answer name past append text event
+    ≡ said_answer append (trigger_of name event past) (own_left name past event append) (all_left name past event append) r
+unfolding trigger_answer
+answered name past event append text r is =
+    ap (said_answer append (trigger_of name event past) (own_left name past event append) (all_left name past event append)) is
+
+pub refused : (refusal : Refusal) (answer : Result Reply Refusal) → answer ≡ Err refusal → IsRefusal refusal answer
+refused refusal answer is = (λ other. is, λ early. is)
+
+pub done-late : (answer : Result Reply Refusal) → answer ≡ Ok Done → IsRefusal refusal.Memory answer
+done-late answer is = (λ other. absurd (other refl), λ early. absurd (rw is at early))
+
+pub room-had : (attached : Option triggers.Trigger) (hists : List HistTrigger) → trigger_count attached hists < 4 → room_answer attached hists ≡ Ok Done
+room-had attached hists less = rw (lt-ltb (trigger_count attached hists) 4 less) refl
+
+pub room-full : (attached : Option triggers.Trigger) (hists : List HistTrigger) → 4 ≤ trigger_count attached hists → room_answer attached hists ≡ Err refusal.TooMany
+room-full attached hists many = by (nat_lt (trigger_count attached hists) 4) refl
+  where
+    by : (room : Bool) → nat_lt (trigger_count attached hists) 4 ≡ room → (let a : Result Reply Refusal = if room then Ok Done else Err refusal.TooMany in a) ≡ Err refusal.TooMany
+    by true is = absurd (omega (arith, many, ltb-true (trigger_count attached hists) 4 is))
+    by false is = refl
+
+late-room : (attached : Option triggers.Trigger) (hists : List HistTrigger) → IsFoundEarly (room_answer attached hists) → ⊥
+late-room attached hists = by (nat_lt (trigger_count attached hists) 4)
+  where
+    by : (room : Bool) → IsFoundEarly (let a : Result Reply Refusal = if room then Ok Done else Err refusal.TooMany in a) → ⊥
+    by true early = absurd early
+    by false early = absurd (cc)
+
+late-asked : (asked : Action) → IsFoundEarly (asked_answer asked) → ⊥
+late-asked action.Attach early = absurd (cc)
+late-asked action.Pause early = absurd early
+late-asked action.Continue early = absurd early
+late-asked action.Clear early = absurd early
+
+late-fitting : (fits : Bool) (answer : Result Reply Refusal) → (IsFoundEarly answer → ⊥) → IsFoundEarly (fitting_answer fits answer) → ⊥
+late-fitting true (Ok reply) late early = absurd early
+late-fitting false (Ok reply) late early = absurd (cc)
+late-fitting fits (Err refusal) late early = late early
+
+late-new : (attached : Option triggers.Trigger) (hists : List HistTrigger) (fits : Bool) (asked : Action)
+    → IsFoundEarly (new_hist_answer attached hists fits asked) → ⊥
+late-new attached hists fits action.Attach early = late-fitting fits (room_answer attached hists) (late-room attached hists) early
+late-new attached hists fits action.Pause early = late-fitting fits (room_answer attached hists) (late-room attached hists) early
+late-new attached hists fits action.Continue early = absurd (cc)
+late-new attached hists fits action.Clear early = absurd (cc)
+
+late-hist : (attached : Option triggers.Trigger) (hists all : List HistTrigger) (spec : SpecSeen) → IsFoundEarly (hist_answer attached hists all spec) → ⊥
+late-hist attached hists all spec = by (has_same spec hists)
+  where
+    by : (same : Bool)
+        → IsFoundEarly (if same then asked_answer spec.action else new_hist_answer attached hists (fits_that spec (named_by spec all)) spec.action) → ⊥
+    by true early = late-asked spec.action early
+    by false early = late-new attached hists (fits_that spec (named_by spec all)) spec.action early
+
+late-remove : (append : Bool) (hists : List HistTrigger) (spec : SpecSeen) → IsFoundEarly (remove_hist_answer append hists spec) → ⊥
+late-remove append hists spec = by (not append || has_same spec hists)
+  where
+    by : (gone : Bool) → IsFoundEarly (let a : Result Reply Refusal = if gone then Ok Done else Err refusal.NoSuchTrigger in a) → ⊥
+    by true early = absurd early
+    by false early = absurd (cc)
+
+-- nothing but a text that is written wrong is found early
+said-late : (append : Bool) (attached : Option triggers.Trigger) (hists all : List HistTrigger) (r : Result TriggerText TriggerFault)
+    → (r ≡ Err fault.BadText → ⊥) → IsFoundEarly (said_answer append attached hists all r) → ⊥
+said-late append attached hists all (Err fault.BadText) other early = other refl
+said-late append attached hists all (Err fault.TooMany) other early = absurd (cc)
+said-late append attached hists all (Err (fault.FilterSyntax at)) other early = absurd (cc)
+said-late append attached hists all (Err (fault.NoSuchField at)) other early = absurd (cc)
+said-late append attached hists all (Err (fault.WrongOperator at)) other early = absurd (cc)
+said-late append attached hists all (Err (fault.HistSyntax at)) other early = absurd (cc)
+said-late append attached hists all (Err fault.BadSize) other early = absurd (cc)
+said-late append attached hists all (Err fault.Memory) other early = absurd (cc)
+said-late append attached hists all (Ok said.Nothing) other early = absurd early
+said-late append None hists all (Ok (said.Attach spec)) other early = late-room None hists early
+said-late append (Some t) hists all (Ok (said.Attach spec)) other early = absurd (cc)
+said-late append None hists all (Ok said.Remove) other early = absurd (cc)
+said-late append (Some t) hists all (Ok said.Remove) other early = absurd early
+said-late append attached hists all (Ok (said.Hist spec)) other early = late-hist attached hists all spec early
+said-late append attached hists all (Ok (said.RemoveHist spec)) other early = late-remove append hists spec early
+
+-- a refusal of a text
+said-refused : (append : Bool) (attached : Option triggers.Trigger) (hists all : List HistTrigger) (r : Result TriggerText TriggerFault) (faulty : TriggerFault)
+    → (let a : Result TriggerText TriggerFault = Err faulty in IsAnswered a r)
+    → (r ≡ Err fault.BadText → faulty ≡ fault.BadText) → IsRefusal (refusal_of_trigger faulty) (said_answer append attached hists all r)
+said-refused append attached hists all r fault.BadText is told = let a = ap (said_answer append attached hists all) is in (λ other. a, λ early. a)
+said-refused append attached hists all r fault.TooMany is told = let a = ap (said_answer append attached hists all) is in (λ other. a, λ early. a)
+said-refused append attached hists all r (fault.FilterSyntax at) is told = let a = ap (said_answer append attached hists all) is in (λ other. a, λ early. a)
+said-refused append attached hists all r (fault.NoSuchField at) is told = let a = ap (said_answer append attached hists all) is in (λ other. a, λ early. a)
+said-refused append attached hists all r (fault.WrongOperator at) is told = let a = ap (said_answer append attached hists all) is in (λ other. a, λ early. a)
+said-refused append attached hists all r (fault.HistSyntax at) is told = let a = ap (said_answer append attached hists all) is in (λ other. a, λ early. a)
+said-refused append attached hists all r fault.BadSize is told = let a = ap (said_answer append attached hists all) is in (λ other. a, λ early. a)
+said-refused append attached hists all r fault.Memory is told = (
+  λ other. absurd (other refl),
+  λ early. absurd (said-late append attached hists all r (λ bad. absurd (let h : fault.Memory ≡ fault.BadText = told bad in cc)) early),
+)
+
+pub text-refused : (event : Definition) (kept : EventTriggers) (written : WrittenText) (faulty : TriggerFault)
+    → (let a : Result TriggerText TriggerFault = Err faulty in IsAnswered a (said_of event written.text.now))
+    → (said_of event written.text.now ≡ Err fault.BadText → faulty ≡ fault.BadText)
+    → IsChangeOf event kept written (Err (refusal_of_trigger faulty))
+unfolding trigger_answer
+text-refused event kept written faulty is told = λ name past number are.
+    said-refused written.append (trigger_of name event past) (own_left name past event written.append) (all_left name past event written.append)
+    (said_of event written.text.now) faulty is told
+
+-- ---- nothing
+
+-- triggers that fit, where a text attaches none
+pub fit-stays : (name : Option (List ℕ)) (past : List Request) (event : Definition) (id : ℕ) (append : Bool) (text : List ℕ) (r : Result TriggerText TriggerFault)
+    → IsNamed past event id → said_of event text ≡ r → hists_said (length past) event (all_left name past event append) r ≡ all_left name past event append
+    → TablesFit name past → TablesFit name (text_request name event append text ∷ past)
+fit-stays name past event id append text r named is stays fit =
+    let request = text_request name event append text in
+    fit-tables name (request ∷ past)
+    (fit-fewer (hist_triggers name (request ∷ past)) (all_left name past event append)
+    (λ t there. subst (IsIn t) (all-are name past event id append text r named is ∙ stays) there) (left-fit name past event append fit))
+
+pub text-nothing : (event : Definition) (kept : EventTriggers) (written : WrittenText) → said_of event written.text.now ≡ Ok said.Nothing
+    → IsChangeOf event kept written (Ok Keep)
+text-nothing event kept written is = λ name past number are. (
+  answered name past event written.append written.text.now (Ok said.Nothing) is,
+  record {
+    snapshot = snapshot-stays name past event written.append written.text.now (Ok said.Nothing) is refl;
+    hists = hists-stay name past event are.id written.append written.text.now (Ok said.Nothing) are.named is refl;
+    possible = tt;
+    tables = λ table. tables-stay name past event are.id written.append written.text.now (Ok said.Nothing) table are.named is refl;
+    joined = tt;
+    fitting = fit-stays name past event are.id written.append written.text.now (Ok said.Nothing) are.named is refl;
+    spare = rw is refl;
+  },
+)
+
+-- ---- triggers for snapshots
+
+some-snapshot : (name : Option (List ℕ)) (past : List Request) (event : Definition) (kept : EventTriggers) → AreKept name past event kept
+    → is_some kept.snapshot ≡ true → (t : triggers.Trigger) × (trigger_of name event past ≡ Some t)
+some-snapshot name past event kept are some = there-is (trigger_of name event past) (has-snapshot name past event kept are ∙ some)
+
+no-snapshot : (name : Option (List ℕ)) (past : List Request) (event : Definition) (kept : EventTriggers) → AreKept name past event kept
+    → is_some kept.snapshot ≡ false → trigger_of name event past ≡ None
+no-snapshot name past event kept are none = none-is (trigger_of name event past) (has-snapshot name past event kept are ∙ none)
+
+pub attach-exists : (trigger : SnapshotTrigger) (kept : EventTriggers) (written : WrittenText) → is_some kept.snapshot ≡ true
+    → IsAttached trigger kept written (Err refusal.TriggerExists)
+attach-exists trigger kept written some = λ event name past number are is.
+    let there = some-snapshot name past event kept are some in
+    refused refusal.TriggerExists (trigger_answer name past written.append written.text.now event)
+    (answered name past event written.append written.text.now (Ok (said.Attach trigger)) is
+    ∙ ap (λ (o : Option triggers.Trigger). said_answer written.append o (own_left name past event written.append) (all_left name past event written.append) (Ok (said.Attach trigger))) there.1)
+
+attach-answer : (trigger : SnapshotTrigger) (kept : EventTriggers) (written : WrittenText) (event : Definition) (name : Option (List ℕ)) (past : List Request)
+    → AreKept name past event kept → is_some kept.snapshot ≡ false → said_of event written.text.now ≡ Ok (said.Attach trigger)
+    → trigger_answer name past written.append written.text.now event ≡ room_answer (trigger_of name event past) (own_left name past event written.append)
+attach-answer trigger kept written event name past are none is =
+    let gone = no-snapshot name past event kept are none in
+    answered name past event written.append written.text.now (Ok (said.Attach trigger)) is
+    ∙ ap (λ (o : Option triggers.Trigger). said_answer written.append o (own_left name past event written.append) (all_left name past event written.append) (Ok (said.Attach trigger))) gone
+    ∙ ap (λ (o : Option triggers.Trigger). room_answer o (own_left name past event written.append)) (sym gone)
+
+pub attach-full : (trigger : SnapshotTrigger) (kept : EventTriggers) (written : WrittenText) → is_some kept.snapshot ≡ false
+    → 4 ≤ kept_count kept written.append → IsAttached trigger kept written (Err refusal.TooMany)
+attach-full trigger kept written none many = λ event name past number are is.
+    let full : 4 ≤ trigger_count (trigger_of name event past) (own_left name past event written.append) =
+    omega (arith, many, count-left name past event kept written.append are) in
+    refused refusal.TooMany (trigger_answer name past written.append written.text.now event)
+    (attach-answer trigger kept written event name past are none is
+    ∙ room-full (trigger_of name event past) (own_left name past event written.append) full)
+
+pub attach-done : (trigger : SnapshotTrigger) (kept : EventTriggers) (written : WrittenText) → is_some kept.snapshot ≡ false
+    → kept_count kept written.append < 4
+    → IsAttached trigger kept written (Ok (Attach (record { number = written.number; left = trigger.count; filter = trigger.filter })))
+attach-done trigger kept written none few = λ event name past number are is.
+    let room : trigger_count (trigger_of name event past) (own_left name past event written.append) < 4 =
+    omega (arith, few, count-left name past event kept written.append are) in (
+      attach-answer trigger kept written event name past are none is
+          ∙ room-had (trigger_of name event past) (own_left name past event written.append) room,
+      record {
+        snapshot = snapshot-attached name past event written.append written.text.now trigger is
+            ∙ ap (λ (n : ℕ). (let t : Option Trigger = Some (record { number = n; left = trigger.count; filter = trigger.filter }) in t)) number;
+        hists = hists-stay name past event are.id written.append written.text.now (Ok (said.Attach trigger)) are.named is refl;
+        possible = tt;
+        tables = λ table. tables-stay name past event are.id written.append written.text.now (Ok (said.Attach trigger)) table are.named is refl;
+        joined = tt;
+        fitting = fit-stays name past event are.id written.append written.text.now (Ok (said.Attach trigger)) are.named is refl;
+        spare = rw is refl;
+      },
+    )
+
+pub text-detaches : (event : Definition) (kept : EventTriggers) (written : WrittenText) → said_of event written.text.now ≡ Ok said.Remove
+    → is_some kept.snapshot ≡ true → IsChangeOf event kept written (Ok Detach)
+text-detaches event kept written is some = λ name past number are.
+    let there = some-snapshot name past event kept are some in (
+      answered name past event written.append written.text.now (Ok said.Remove) is
+          ∙ ap (λ (o : Option triggers.Trigger). said_answer written.append o (own_left name past event written.append) (all_left name past event written.append) (Ok said.Remove)) there.1,
+      record {
+        snapshot = snapshot-removed name past event written.append written.text.now is;
+        hists = hists-stay name past event are.id written.append written.text.now (Ok said.Remove) are.named is refl;
+        possible = tt;
+        tables = λ table. tables-stay name past event are.id written.append written.text.now (Ok said.Remove) table are.named is refl;
+        joined = tt;
+        fitting = fit-stays name past event are.id written.append written.text.now (Ok said.Remove) are.named is refl;
+        spare = rw is refl;
+      },
+    )
+
+pub text-lacks : (event : Definition) (kept : EventTriggers) (written : WrittenText) → said_of event written.text.now ≡ Ok said.Remove
+    → is_some kept.snapshot ≡ false → IsChangeOf event kept written (Err refusal.NoSuchTrigger)
+text-lacks event kept written is none = λ name past number are.
+    refused refusal.NoSuchTrigger (trigger_answer name past written.append written.text.now event)
+    (answered name past event written.append written.text.now (Ok said.Remove) is
+    ∙ ap (λ (o : Option triggers.Trigger). said_answer written.append o (own_left name past event written.append) (all_left name past event written.append) (Ok said.Remove))
+    (no-snapshot name past event kept are none))

@@ -1,0 +1,232 @@
+-- What the files of an event and the file of the spare side show is what the requests say.
+use Rattle.std.proofs.Common.{◌≡◌, ℕ, zero, suc, ◌+◌, ◌<◌, nat_lt, Bool, true, false, not, if◌then◌else◌, List, [], ◌∷◌, ◌++◌, length, map, filter, get_or, All, IfSome, Option, Some, None, option_map, refl, sym, ap, ◌∙◌, subst, arith}
+use Rattle.std.proofs.lemmas.List.{get_or-map}
+use Rattle.trace_command.specs.Requests.{Request}
+use Rattle.trace_command.specs.declared.command.Config.{Config}
+use Rattle.trace_filter.specs.Filters.{parsed_of}
+use Rattle.trace_format.specs.Definitions.{Definition}
+use Rattle.trace_history.proofs.EventLists.{named_at}
+use Rattle.trace_buffer.specs.Buffers.{Seen}
+use Rattle.trace_text.specs.SnapshotText.{SpareHasShape}
+use Rattle.trace_text.specs.HistText.{hist_text}
+use Rattle.trace_text.specs.TriggerText as texts
+use Rattle.trace_text.specs.TriggerText.{trigger_text}
+use Rattle.trace_hist.specs.Groups.{group, grouped}
+use Rattle.trace_hist.specs.Hits.{Hit}
+use Rattle.trace_trigger.specs.FittingLaws.{CountsAlike}
+use Rattle.trace_trigger.specs.HistSpecs.{SpecSeen}
+use Rattle.trace_history.specs.FileTexts.{filter_text, format_of_event, hists_of_event, in_order, shown_hist, shown_trigger, triggers_of_event}
+use Rattle.trace_history.specs.HistTriggers.{HistTrigger, hists_of, hits_of}
+use Rattle.trace_history.specs.Triggers as history
+use Rattle.trace_history.specs.Triggers.{trigger_of}
+use Rattle.trace_history.specs.Settings.{declared_events, event_named, filter_of, is_enabled, kept_filter}
+use Rattle.trace_text.specs.FormatText.{format_text}
+use Rattle.trace_instance.specs.FileAnswers.{IsSource}
+use Rattle.trace_instance.specs.private.Commands.{kept_in_order, shown_attached, shown_filter, shown_with}
+use Rattle.trace_instance.specs.Instances.{HasShape, kept_as, kept_trigger}
+use Rattle.trace_instance.specs.KeptHists.{KeptTable, TableStandsFor, attached_as, kept_hists}
+use Rattle.trace_instance.specs.Files.{name_at}
+use Rattle.trace_instance.specs.declared.hists.AttachedHist.{AttachedHist}
+use Rattle.trace_instance.specs.declared.read.FileSource.{FileSource}
+use Rattle.trace_instance.specs.declared.tables.Table.{Table}
+use Rattle.trace_instance.specs.declared.trigger.Trigger.{Trigger}
+
+-- an event for places outside of a list
+no_event : Definition
+no_event = record { name = []; fields = [] }
+
+-- the name of the event at an index
+pub name-at_place : (events : List Definition) (i : ℕ) (d : Definition) → i < length events → name_at events i ≡ (get_or events i d).name
+name-at_place [] i d inside = absurd (omega arith)
+name-at_place (event ∷ events) zero d inside = refl
+name-at_place (event ∷ events) (suc i) d inside = name-at_place events i d (omega arith)
+
+-- the name of the event at an index
+pub name_at-is : (events : List Definition) (index : ℕ) (d : Definition) → index < length events → (get_or events index d).name ≡ name_at events index
+name_at-is [] index d inside = absurd (omega arith)
+name_at-is (event ∷ events) zero d inside = refl
+name_at-is (event ∷ events) (suc index) d inside = name_at-is events index d (omega arith)
+
+-- an index of the catalog is one of the declared events
+inside-declared : (g : Config) (name : Option (List ℕ)) (past : List Request) (source : FileSource) (event : ℕ) → IsSource g name past source
+    → event < length source.catalog.now → event < length (declared_events past)
+inside-declared g name past source event is inside = rw (← is.events) inside
+
+name-declared : (g : Config) (name : Option (List ℕ)) (past : List Request) (source : FileSource) (event : ℕ) → IsSource g name past source
+    → event < length source.catalog.now → (get_or (declared_events past) event no_event).name ≡ name_at source.catalog.now event
+name-declared g name past source event is inside =
+    sym (name-at_place (declared_events past) event no_event (inside-declared g name past source event is inside))
+    ∙ ap (λ (events : List Definition). name_at events event) (sym is.events)
+
+-- an event's switch
+pub enabled-at_place : (g : Config) (name : Option (List ℕ)) (past : List Request) (source : FileSource) (event : ℕ) → IsSource g name past source
+    → event < length source.catalog.now
+    → get_or source.instance.now.enabled event false ≡ is_enabled name (name_at source.catalog.now event) past
+enabled-at_place g name past source event is inside =
+    ap (λ (flags : List Bool). get_or flags event false) is.instance.enabled
+    ∙ get_or-map (λ (e : Definition). is_enabled name e.name past) (declared_events past) event no_event false
+    (inside-declared g name past source event is inside)
+    ∙ ap (λ (n : List ℕ). is_enabled name n past) (name-declared g name past source event is inside)
+
+-- the text of a kept filter is that of the filter as it was written
+shown-filter : (event : Definition) (filter : Option (List ℕ)) → shown_filter (option_map (parsed_of event) filter) ≡ filter_text filter
+unfolding shown_filter filter_text
+shown-filter event None = refl
+shown-filter event (Some text) = refl
+
+-- an event's filter
+pub filter-at_place : (g : Config) (name : Option (List ℕ)) (past : List Request) (source : FileSource) (event : ℕ) → IsSource g name past source
+    → event < length source.catalog.now
+    → shown_filter (get_or source.instance.now.filters event None) ≡ filter_text (filter_of name (name_at source.catalog.now event) past)
+filter-at_place g name past source event is inside =
+    rw is.instance.filters
+    (ap shown_filter (get_or-map (kept_filter name past) (declared_events past) event no_event None
+    (inside-declared g name past source event is inside))
+    ∙ shown-filter at_place (filter_of name at_place.name past)
+    ∙ ap (λ (n : List ℕ). filter_text (filter_of name n past)) (name-declared g name past source event is inside))
+  where
+    at_place : Definition
+    at_place = get_or (declared_events past) event no_event
+
+-- an event's format
+pub format-at_place : (g : Config) (name : Option (List ℕ)) (past : List Request) (source : FileSource) (event : ℕ) (d : Definition)
+    → IsSource g name past source → event < length source.catalog.now
+    → format_text (event + 1) (get_or source.catalog.now event d) ≡ format_of_event (event_named (name_at source.catalog.now event) past)
+format-at_place g name past source event d is inside =
+    let within = inside-declared g name past source event is inside in
+    let named = named_at (declared_events past) event d is.distinct within in
+    let called : name_at source.catalog.now event ≡ (get_or (declared_events past) event d).name =
+    ap (λ (events : List Definition). name_at events event) is.events ∙ name-at_place (declared_events past) event d within in
+    let next : event + 1 ≡ suc event = omega arith in
+    rw (called, named, next, is.events) refl
+
+-- ---- hist triggers
+
+-- those that count alike group rows alike
+grouped-alike : (one other : SpecSeen) (hits : List Hit) → CountsAlike one other → grouped one hits ≡ grouped other hits
+unfolding grouped
+grouped-alike one other hits alike = λ i. group (alike.size i) (alike.values i) hits
+
+-- a hist trigger that is attached is shown as the requests say
+shown-one : (name : Option (List ℕ)) (past : List Request) (tables : List Table) (h : HistTrigger) → TableStandsFor name past tables (attached_as h)
+    → shown_attached tables (attached_as h) ≡ shown_hist name past h
+shown-one name past tables h stands =
+    let hits = hits_of name h.table past in
+    let table : stands.kept.table ≡ grouped h.spec hits = stands.table ∙ sym (grouped-alike h.spec stands.kept.spec hits stands.alike) in
+    let rules : stands.kept.spec.sort_sources ≡ h.spec.sort_sources = sym stands.alike.sort_sources in
+    ap (λ (found : Option KeptTable). texts.Hist (shown_with h.spec found)) stands.there
+    ∙ (λ i. texts.Hist (record { spec = h.spec; rules = rules i; paused = stands.paused i; table = table i }))
+
+first-of : (P : AttachedHist → Type 0) (h : HistTrigger) (hists : List HistTrigger) → All P (map attached_as (h ∷ hists)) → P (attached_as h)
+first-of P h hists all = all 0 (attached_as h) (omega arith)
+
+rest-of : (P : AttachedHist → Type 0) (h : HistTrigger) (hists : List HistTrigger) → All P (map attached_as (h ∷ hists)) → All P (map attached_as hists)
+rest-of P h hists all = λ k d inside. all (suc k) d (omega (arith, inside))
+
+-- those of a test are shown as those that were attached
+shown-hists : (name : Option (List ℕ)) (past : List Request) (tables : List Table) (test : AttachedHist → Bool) (hists : List HistTrigger)
+    → All (TableStandsFor name past tables) (map attached_as hists)
+    → map (shown_attached tables) (filter test (map attached_as hists))
+    ≡ map (shown_hist name past) (filter (λ (h : HistTrigger). test (attached_as h)) hists)
+shown-hists name past tables test [] all = refl
+shown-hists name past tables test (h ∷ hists) all =
+    by (test (attached_as h)) (shown-hists name past tables test hists (rest-of (TableStandsFor name past tables) h hists all))
+  where
+    kept : List AttachedHist
+    kept = filter test (map attached_as hists)
+
+    those : List HistTrigger
+    those = filter (λ (t : HistTrigger). test (attached_as t)) hists
+
+    first : shown_attached tables (attached_as h) ≡ shown_hist name past h
+    first = shown-one name past tables h (first-of (TableStandsFor name past tables) h hists all)
+
+    by : (passes : Bool) → map (shown_attached tables) kept ≡ map (shown_hist name past) those
+        → map (shown_attached tables) (if passes then attached_as h ∷ kept else kept)
+        ≡ map (shown_hist name past) (if passes then h ∷ those else those)
+    by true rest = λ i. first i ∷ rest i
+    by false rest = rest
+
+all-hists : (name : Option (List ℕ)) (past : List Request) (tables : List Table) (hists : List HistTrigger)
+    → All (TableStandsFor name past tables) (map attached_as hists)
+    → map (shown_attached tables) (map attached_as hists) ≡ map (shown_hist name past) hists
+all-hists name past tables [] all = refl
+all-hists name past tables (h ∷ hists) all =
+    let first = shown-one name past tables h (first-of (TableStandsFor name past tables) h hists all) in
+    let rest = all-hists name past tables hists (rest-of (TableStandsFor name past tables) h hists all) in
+    λ i. first i ∷ rest i
+
+-- triggers are shown in the order of those that were attached
+shown-in_order : (name : Option (List ℕ)) (past : List Request) (tables : List Table) (event : Definition) (t : Option history.Trigger) (hists : List HistTrigger)
+    → All (TableStandsFor name past tables) (map attached_as hists)
+    → kept_in_order tables (option_map (kept_as past event) t) (map attached_as hists) ≡ in_order name past event t hists
+shown-in_order name past tables event None hists all = all-hists name past tables hists all
+shown-in_order name past tables event (Some t) hists all =
+    let older = shown-hists name past tables (λ (a : AttachedHist). nat_lt a.number t.number) hists all in
+    let newer = shown-hists name past tables (λ (a : AttachedHist). not (nat_lt a.number t.number)) hists all in
+    λ i. older i ++ shown_trigger past event t ∷ newer i
+
+-- an event's hist triggers
+kept-at_place : (g : Config) (name : Option (List ℕ)) (past : List Request) (source : FileSource) (event : ℕ) → IsSource g name past source
+    → event < length source.catalog.now
+    → get_or source.instance.now.hists event [] ≡ kept_hists name past (get_or (declared_events past) event no_event)
+kept-at_place g name past source event is inside =
+    ap (λ (hists : List (List AttachedHist)). get_or hists event []) is.instance.hists
+    ∙ get_or-map (kept_hists name past) (declared_events past) event no_event [] (inside-declared g name past source event is inside)
+
+-- and their tables
+tables-at_place : (g : Config) (name : Option (List ℕ)) (past : List Request) (source : FileSource) (event : ℕ) → IsSource g name past source
+    → event < length source.catalog.now → event < length source.instance.now.hists
+    → All (TableStandsFor name past source.instance.now.tables) (kept_hists name past (get_or (declared_events past) event no_event))
+tables-at_place g name past source event is inside there =
+    subst (λ (attached : List AttachedHist). All (TableStandsFor name past source.instance.now.tables) attached)
+    (kept-at_place g name past source event is inside) (is.instance.tables event [] there)
+
+-- an event's triggers
+pub triggers-at_place : (g : Config) (name : Option (List ℕ)) (past : List Request) (source : FileSource) (event : ℕ) → IsSource g name past source
+    → event < length source.catalog.now → event < length source.instance.now.hists
+    → trigger_text (kept_in_order source.instance.now.tables (get_or source.instance.now.triggers event None) (get_or source.instance.now.hists event []))
+    ≡ triggers_of_event name past (event_named (name_at source.catalog.now event) past)
+triggers-at_place g name past source event is inside there =
+    let within = inside-declared g name past source event is inside in
+    let named = named_at (declared_events past) event no_event is.distinct within in
+    let called : name_at source.catalog.now event ≡ at_place.name = sym (name-declared g name past source event is inside) in
+    let kept : get_or source.instance.now.triggers event None ≡ kept_trigger name past at_place =
+    ap (λ (ts : List (Option Trigger)). get_or ts event None) is.instance.triggers
+    ∙ get_or-map (kept_trigger name past) (declared_events past) event no_event None within in
+    let shown : trigger_text (kept_in_order tables (get_or source.instance.now.triggers event None) (get_or source.instance.now.hists event []))
+    ≡ trigger_text (in_order name past at_place (trigger_of name at_place past) (hists_of name at_place past)) =
+    (λ i. trigger_text (kept_in_order tables (kept i) (kept-at_place g name past source event is inside i)))
+    ∙ ap trigger_text (shown-in_order name past tables at_place (trigger_of name at_place past) (hists_of name at_place past)
+    (tables-at_place g name past source event is inside there)) in
+    shown ∙ sym (ap (λ (n : List ℕ). triggers_of_event name past (event_named n past)) called ∙ ap (triggers_of_event name past) named)
+  where
+    at_place : Definition
+    at_place = get_or (declared_events past) event no_event
+
+    tables : List Table
+    tables = source.instance.now.tables
+
+-- and its histograms
+pub hists-at_place : (g : Config) (name : Option (List ℕ)) (past : List Request) (source : FileSource) (event : ℕ) → IsSource g name past source
+    → event < length source.catalog.now → event < length source.instance.now.hists
+    → hist_text (map (shown_attached source.instance.now.tables) (get_or source.instance.now.hists event []))
+    ≡ hists_of_event name past (event_named (name_at source.catalog.now event) past)
+hists-at_place g name past source event is inside there =
+    let within = inside-declared g name past source event is inside in
+    let named = named_at (declared_events past) event no_event is.distinct within in
+    let called : name_at source.catalog.now event ≡ at_place.name = sym (name-declared g name past source event is inside) in
+    ap (λ (attached : List AttachedHist). hist_text (map (shown_attached tables) attached)) (kept-at_place g name past source event is inside)
+    ∙ ap hist_text (all-hists name past tables (hists_of name at_place past) (tables-at_place g name past source event is inside there))
+    ∙ sym (ap (λ (n : List ℕ). hists_of_event name past (event_named n past)) called ∙ ap (hists_of_event name past) named)
+  where
+    at_place : Definition
+    at_place = get_or (declared_events past) event no_event
+
+    tables : List Table
+    tables = source.instance.now.tables
+
+-- the spare, if there is one, has the shape that the configuration says
+pub spare-shape : (g : Config) (spare : Option Seen) → IfSome spare (HasShape g) → SpareHasShape g.pages g.page_bytes spare
+spare-shape g None shape = tt
+spare-shape g (Some side) shape = (shape.pages, shape.page_bytes)

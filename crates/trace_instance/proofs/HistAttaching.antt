@@ -1,0 +1,252 @@
+-- What a text that attaches a hist trigger answers, and that the change made of it is the one that the definitions say: the trigger counts in the table
+-- that the text names, or in one that is made with it.
+use Rattle.std.proofs.Common.{◌≡◌, ℕ, ◌<◌, ◌==◌, length, Bool, true, false, if◌then◌else◌, List, [], ◌∷◌, ◌++◌, is_some, Option, None, Some, option_map, Result, Ok, Err, refl, sym, ap, ◌∙◌, subst}
+use Rattle.std.proofs.lemmas.Option.{same_Some}
+use Rattle.std.specs.Global.{Box}
+use Rattle.trace_format.specs.Definitions.{Definition}
+use Rattle.trace_hist.specs.Hists.{StandsFor}
+use Rattle.trace_trigger.specs.FittingSpecs.{is_fitting}
+use Rattle.trace_trigger.specs.HistSpecs.{SpecSeen}
+use Rattle.trace_trigger.specs.TriggerTexts.{said_of}
+use Rattle.trace_trigger.specs.declared.trigger.TriggerText.TheVariants as said
+use Rattle.trace_command.specs.Requests.{Request}
+use Rattle.trace_command.specs.declared.command.Reply.TheVariants.{Done}
+use Rattle.trace_command.specs.declared.refusal.Refusal.{Refusal}
+use Rattle.trace_command.specs.declared.refusal.Refusal.TheVariants as refusal
+use Rattle.trace_history.specs.History.{fitting_answer, trigger_answer}
+use Rattle.trace_history.specs.HistTriggers.{HistTrigger, fits_that, has_same, hist_triggers, hists_said, is_pause, named_by, table_or, those_of}
+use Rattle.trace_history.proofs.EventHists.{own-left}
+use Rattle.trace_history.proofs.Members.{IsIn, in-contains}
+use Rattle.trace_history.proofs.NamedTables.{fit-fewer, fit-new, left-old}
+use Rattle.trace_history.proofs.SharedTables.{said-alike}
+use Rattle.trace_history.proofs.Tables.{found-in}
+use Rattle.trace_instance.specs.private.Attaching.{AreKept, IsAsked, IsJoinedChange, IsMadeChange, attaches, kept_count}
+use Rattle.trace_instance.specs.private.SharedTables.{left_of, named_in}
+use Rattle.trace_instance.specs.Changes.{IsAsked as IsAskedOf, Joins}
+use Rattle.trace_instance.specs.Instances.{TablesFit}
+use Rattle.trace_instance.specs.KeptHists.{attached_as, kept_hists}
+use Rattle.trace_instance.specs.declared.attach.EventTriggers.{EventTriggers}
+use Rattle.trace_instance.specs.declared.change.NewHist.{NewHist}
+use Rattle.trace_instance.specs.declared.change.TriggerChange.{TriggerChange}
+use Rattle.trace_instance.specs.declared.change.TriggerChange.TheVariants.{Keep, Attach, Detach, AttachHist, MakeHist, DetachHist, AskTable}
+use Rattle.trace_instance.specs.declared.hists.AttachedHist.{AttachedHist}
+use Rattle.trace_instance.specs.declared.write.WrittenText.{WrittenText}
+use Rattle.trace_instance.proofs.Attached.{IsNamed, all-are, all_left, hists-attached, new_of, own_left, snapshot-stays, tables-attached, text_request}
+use Rattle.trace_instance.proofs.FittingTables.{fit-tables, left-fit, left-there}
+use Rattle.trace_instance.proofs.Named.{book-alike, book-there, book_left, found-as}
+use Rattle.trace_instance.proofs.Answering.{done-late, has-same_left, refused, same_left}
+use Rattle.trace_instance.proofs.HistAnswering.{few-left, fit-answer, fits_named}
+
+-- ---- one that is attached
+
+said-new : (name : Option (List ℕ)) (past : List Request) (event : Definition) (append : Bool) (spec : SpecSeen)
+    → has_same spec (own_left name past event append) ≡ false
+    → hists_said (length past) event (all_left name past event append) (Ok (said.Hist spec))
+    ≡ all_left name past event append ++ new_of name past event append spec ∷ []
+said-new name past event append spec none =
+    let lacks : has_same spec (those_of event (all_left name past event append)) ≡ false =
+    ap (has_same spec) (own-left event append (hist_triggers name past)) ∙ none in
+    rw lacks refl
+
+fit-attached : (name : Option (List ℕ)) (past : List Request) (event : Definition) (id : ℕ) (append : Bool) (text : List ℕ) (spec : SpecSeen)
+    → IsNamed past event id → said_of event text ≡ Ok (said.Hist spec) → has_same spec (own_left name past event append) ≡ false
+    → fits_named name past event append spec ≡ true → TablesFit name past → TablesFit name (text_request name event append text ∷ past)
+fit-attached name past event id append text spec named is none fits fit =
+    let request = text_request name event append text in
+    let left = all_left name past event append in
+    let more = all-are name past event id append text (Ok (said.Hist spec)) named is ∙ said-new name past event append spec none in
+    fit-tables name (request ∷ past)
+    (fit-fewer (hist_triggers name (request ∷ past)) (left ++ new_of name past event append spec ∷ []) (λ t there. subst (IsIn t) more there)
+    (fit-new (length past) event left spec (left-old name past event append) (left-fit name past event append fit) fits))
+
+-- the table of the one that is attached
+abbrev new_as : ℕ → ℕ → SpecSeen → AttachedHist
+new_as number table spec = record { number = number; table = table; spec = spec }
+
+pub attached-as : (name : Option (List ℕ)) (past : List Request) (event : Definition) (append : Bool) (spec : SpecSeen) (number table : ℕ)
+    → length past ≡ number → table_or (length past) (named_by spec (all_left name past event append)) ≡ table
+    → attached_as (new_of name past event append spec) ≡ new_as number table spec
+attached-as name past event append spec number table one other = λ i. record { number = one i; table = other i; spec = spec }
+
+tables-as : (name : Option (List ℕ)) (past : List Request) (event : Definition) (kept : EventTriggers) (written : WrittenText) (spec : SpecSeen) (table number : ℕ)
+    → AreKept name past event kept → said_of event written.text.now ≡ Ok (said.Hist spec)
+    → has_same spec (own_left name past event written.append) ≡ false
+    → table_or (length past) (named_by spec (all_left name past event written.append)) ≡ table
+    → IsAskedOf name past (text_request name event written.append written.text.now) (if table == number then Some spec.action else None) number
+tables-as name past event kept written spec table number are is none at =
+    subst (λ (k : ℕ). IsAskedOf name past (text_request name event written.append written.text.now) (if k == number then Some spec.action else None) number) at
+    (tables-attached name past event are.id written.append written.text.now spec number are.named is none)
+
+-- the one whose table a text names is one of the instance
+record IsNamedThere (name : Option (List ℕ)) (past : List Request) (kept : EventTriggers) (append : Bool) (spec : SpecSeen) (other : AttachedHist) : Type 0 where
+  t : HistTrigger
+  seen : attached_as t ≡ other
+  found : named_by spec (book_left name past kept append) ≡ Some t
+  there : IsIn t (hist_triggers name past)
+
+named-there : (name : Option (List ℕ)) (past : List Request) (event : Definition) (kept : EventTriggers) (append : Bool) (spec : SpecSeen) (other : AttachedHist)
+    → AreKept name past event kept → named_in spec (left_of kept append) ≡ Some other → IsNamedThere name past kept append spec other
+named-there name past event kept append spec other are found =
+    by (named_by spec (book_left name past kept append)) refl (sym (found-as name past event kept append spec are) ∙ found)
+  where
+    by : (o : Option HistTrigger) → named_by spec (book_left name past kept append) ≡ o → option_map attached_as o ≡ Some other
+        → IsNamedThere name past kept append spec other
+    by None at is = absurd (cc)
+    by (Some t) at is = record {
+      t = t;
+      seen = same_Some (attached_as t) other is;
+      found = at;
+      there = left-there name past event append t (book-there name past event kept append are t (found-in spec (book_left name past kept append) t at).there);
+    }
+
+none-there : (name : Option (List ℕ)) (past : List Request) (event : Definition) (kept : EventTriggers) (append : Bool) (spec : SpecSeen)
+    → AreKept name past event kept → named_in spec (left_of kept append) ≡ None → named_by spec (book_left name past kept append) ≡ None
+none-there name past event kept append spec are lost =
+    by (named_by spec (book_left name past kept append)) (sym (found-as name past event kept append spec are) ∙ lost)
+  where
+    by : (o : Option HistTrigger) → option_map attached_as o ≡ None → o ≡ None
+    by None is = refl
+    by (Some t) is = absurd (cc)
+
+-- it counts in a table that is there
+join-done : (spec : SpecSeen) (event : Definition) (kept : EventTriggers) (written : WrittenText) (other : AttachedHist) (attached : Box AttachedHist)
+    → same_left spec kept written.append ≡ None → attaches spec.action ≡ true → kept_count kept written.append < 4
+    → named_in spec (left_of kept written.append) ≡ Some other → is_fitting spec other.spec ≡ true
+    → attached.value ≡ new_as written.number other.table spec → IsAsked spec event kept written (Ok (AttachHist attached))
+join-done spec event kept written other attached none attaching few found fits same = λ name past number are is.
+    let lacks : has_same spec (own_left name past event written.append) ≡ false = has-same_left name past event kept spec written.append are ∙ ap is_some none in
+    let joined = named-there name past event kept written.append spec other are found in
+    let alike = book-alike name past event kept written.append spec are in
+    let table : table_or (length past) (named_by spec (all_left name past event written.append)) ≡ other.table =
+    sym alike.table ∙ ap (table_or (length past)) joined.found ∙ ap (λ (a : AttachedHist). a.table) joined.seen in
+    let here : is_fitting spec joined.t.spec ≡ true = ap (λ (a : AttachedHist). is_fitting spec a.spec) joined.seen ∙ fits in
+    let fitting : fits_named name past event written.append spec ≡ true = sym alike.fits ∙ ap (fits_that spec) joined.found ∙ here in
+    let before : List AttachedHist = if written.append then kept_hists name past event else [] in (
+      fit-answer spec kept written event name past none attaching few are is ∙ ap (λ (b : Bool). fitting_answer b (Ok Done)) fitting,
+      record {
+        snapshot = snapshot-stays name past event written.append written.text.now (Ok (said.Hist spec)) is refl;
+        hists = hists-attached name past event are.id written.append written.text.now spec are.named is lacks
+            ∙ ap (λ (a : AttachedHist). before ++ a ∷ [])
+            (attached-as name past event written.append spec written.number other.table number table ∙ sym same);
+        possible = few-left name past event kept written.append are few;
+        tables = λ k. subst
+            (λ (a : AttachedHist). IsAskedOf name past (text_request name event written.append written.text.now)
+            (if a.table == k then Some a.spec.action else None) k)
+            (sym same) (tables-as name past event kept written spec other.table k are is lacks table);
+        joined = subst (Joins name past) (sym same) (record {
+          t = joined.t;
+          there = in-contains joined.t (hist_triggers name past) joined.there;
+          table = ap (λ (a : AttachedHist). a.table) joined.seen;
+          alike = said-alike name past event written.text.now spec joined.t (in-contains joined.t (hist_triggers name past) joined.there) is here;
+        });
+        fitting = fit-attached name past event are.id written.append written.text.now spec are.named is lacks fitting;
+        spare = rw is refl;
+      },
+    )
+
+-- there is no memory for it
+join-memory : (spec : SpecSeen) (event : Definition) (kept : EventTriggers) (written : WrittenText) (other : AttachedHist)
+    → same_left spec kept written.append ≡ None → attaches spec.action ≡ true → kept_count kept written.append < 4
+    → named_in spec (left_of kept written.append) ≡ Some other → is_fitting spec other.spec ≡ true
+    → IsAsked spec event kept written (Err refusal.Memory)
+join-memory spec event kept written other none attaching few found fits = λ name past number are is.
+    let joined = named-there name past event kept written.append spec other are found in
+    let alike = book-alike name past event kept written.append spec are in
+    let here : is_fitting spec joined.t.spec ≡ true = ap (λ (a : AttachedHist). is_fitting spec a.spec) joined.seen ∙ fits in
+    let fitting : fits_named name past event written.append spec ≡ true = sym alike.fits ∙ ap (fits_that spec) joined.found ∙ here in
+    done-late (trigger_answer name past written.append written.text.now event)
+    (fit-answer spec kept written event name past none attaching few are is ∙ ap (λ (b : Bool). fitting_answer b (Ok Done)) fitting)
+
+-- a text that does not fit the table that it names
+join-refused : (spec : SpecSeen) (event : Definition) (kept : EventTriggers) (written : WrittenText) (other : AttachedHist)
+    → same_left spec kept written.append ≡ None → attaches spec.action ≡ true → kept_count kept written.append < 4
+    → named_in spec (left_of kept written.append) ≡ Some other → is_fitting spec other.spec ≡ false
+    → IsAsked spec event kept written (Err refusal.TriggerExists)
+join-refused spec event kept written other none attaching few found fits = λ name past number are is.
+    let joined = named-there name past event kept written.append spec other are found in
+    let alike = book-alike name past event kept written.append spec are in
+    let here : is_fitting spec joined.t.spec ≡ false = ap (λ (a : AttachedHist). is_fitting spec a.spec) joined.seen ∙ fits in
+    let fitting : fits_named name past event written.append spec ≡ false = sym alike.fits ∙ ap (fits_that spec) joined.found ∙ here in
+    refused refusal.TriggerExists (trigger_answer name past written.append written.text.now event)
+    (fit-answer spec kept written event name past none attaching few are is ∙ ap (λ (b : Bool). fitting_answer b (Ok Done)) fitting)
+
+pub ask-joined : (spec : SpecSeen) (event : Definition) (kept : EventTriggers) (written : WrittenText) (other : AttachedHist)
+    (result : Result TriggerChange Refusal)
+    → same_left spec kept written.append ≡ None → attaches spec.action ≡ true → kept_count kept written.append < 4
+    → named_in spec (left_of kept written.append) ≡ Some other → IsJoinedChange written.number spec other result
+    → IsAsked spec event kept written result
+ask-joined spec event kept written other (Ok (AttachHist attached)) none attaching few found is =
+    join-done spec event kept written other attached none attaching few found is.0 is.1
+ask-joined spec event kept written other (Ok Keep) none attaching few found is = absurd is
+ask-joined spec event kept written other (Ok (Attach trigger)) none attaching few found is = absurd is
+ask-joined spec event kept written other (Ok Detach) none attaching few found is = absurd is
+ask-joined spec event kept written other (Ok (MakeHist made)) none attaching few found is = absurd is
+ask-joined spec event kept written other (Ok (DetachHist at)) none attaching few found is = absurd is
+ask-joined spec event kept written other (Ok (AskTable table asked)) none attaching few found is = absurd is
+ask-joined spec event kept written other (Err refused) none attaching few found is =
+    subst (λ (r : Refusal). IsAsked spec event kept written (Err r)) (sym is) (by (is_fitting spec other.spec) refl)
+  where
+    by : (fits : Bool) → is_fitting spec other.spec ≡ fits
+        → IsAsked spec event kept written (Err (if fits then refusal.Memory else refusal.TriggerExists))
+    by true fits = join-memory spec event kept written other none attaching few found fits
+    by false fits = join-refused spec event kept written other none attaching few found fits
+
+-- a table is made with it
+make-done : (spec : SpecSeen) (event : Definition) (kept : EventTriggers) (written : WrittenText) (made : Box NewHist)
+    → same_left spec kept written.append ≡ None → attaches spec.action ≡ true → kept_count kept written.append < 4
+    → named_in spec (left_of kept written.append) ≡ None
+    → made.value.attached ≡ new_as written.number written.number spec → made.value.hist.spec ≡ spec → StandsFor made.value.hist []
+    → made.value.hist.paused ≡ is_pause spec.action → IsAsked spec event kept written (Ok (MakeHist made))
+make-done spec event kept written made none attaching few lost same says empty paused = λ name past number are is.
+    let lacks : has_same spec (own_left name past event written.append) ≡ false = has-same_left name past event kept spec written.append are ∙ ap is_some none in
+    let alike = book-alike name past event kept written.append spec are in
+    let nothing = none-there name past event kept written.append spec are lost in
+    let table : table_or (length past) (named_by spec (all_left name past event written.append)) ≡ written.number =
+    sym alike.table ∙ ap (table_or (length past)) nothing ∙ number in
+    let fitting : fits_named name past event written.append spec ≡ true = sym alike.fits ∙ ap (fits_that spec) nothing in
+    let before : List AttachedHist = if written.append then kept_hists name past event else [] in (
+      fit-answer spec kept written event name past none attaching few are is ∙ ap (λ (b : Bool). fitting_answer b (Ok Done)) fitting,
+      record {
+        snapshot = snapshot-stays name past event written.append written.text.now (Ok (said.Hist spec)) is refl;
+        hists = hists-attached name past event are.id written.append written.text.now spec are.named is lacks
+            ∙ ap (λ (a : AttachedHist). before ++ a ∷ []) (attached-as name past event written.append spec written.number written.number number table ∙ sym same);
+        possible = few-left name past event kept written.append are few;
+        tables = λ k. subst
+            (λ (a : AttachedHist). IsAskedOf name past (text_request name event written.append written.text.now)
+            (if a.table == k then Some a.spec.action else None) k)
+            (sym same) (tables-as name past event kept written spec written.number k are is lacks table);
+        joined = record {
+          table = ap (λ (a : AttachedHist). a.table) same ∙ sym number;
+          spec = says ∙ sym (ap (λ (a : AttachedHist). a.spec) same);
+          empty = empty;
+          paused = paused ∙ sym (ap (λ (a : AttachedHist). is_pause a.spec.action) same);
+        };
+        fitting = fit-attached name past event are.id written.append written.text.now spec are.named is lacks fitting;
+        spare = rw is refl;
+      },
+    )
+
+-- there is no memory for it
+make-memory : (spec : SpecSeen) (event : Definition) (kept : EventTriggers) (written : WrittenText)
+    → same_left spec kept written.append ≡ None → attaches spec.action ≡ true → kept_count kept written.append < 4
+    → named_in spec (left_of kept written.append) ≡ None → IsAsked spec event kept written (Err refusal.Memory)
+make-memory spec event kept written none attaching few lost = λ name past number are is.
+    let alike = book-alike name past event kept written.append spec are in
+    let nothing = none-there name past event kept written.append spec are lost in
+    let fitting : fits_named name past event written.append spec ≡ true = sym alike.fits ∙ ap (fits_that spec) nothing in
+    done-late (trigger_answer name past written.append written.text.now event)
+    (fit-answer spec kept written event name past none attaching few are is ∙ ap (λ (b : Bool). fitting_answer b (Ok Done)) fitting)
+
+pub ask-made : (spec : SpecSeen) (event : Definition) (kept : EventTriggers) (written : WrittenText) (result : Result TriggerChange Refusal)
+    → same_left spec kept written.append ≡ None → attaches spec.action ≡ true → kept_count kept written.append < 4
+    → named_in spec (left_of kept written.append) ≡ None → IsMadeChange written.number spec result → IsAsked spec event kept written result
+ask-made spec event kept written (Ok (MakeHist made)) none attaching few lost is =
+    make-done spec event kept written made none attaching few lost is.0 is.1 is.2 is.3
+ask-made spec event kept written (Ok Keep) none attaching few lost is = absurd is
+ask-made spec event kept written (Ok (Attach trigger)) none attaching few lost is = absurd is
+ask-made spec event kept written (Ok Detach) none attaching few lost is = absurd is
+ask-made spec event kept written (Ok (AttachHist attached)) none attaching few lost is = absurd is
+ask-made spec event kept written (Ok (DetachHist at)) none attaching few lost is = absurd is
+ask-made spec event kept written (Ok (AskTable table asked)) none attaching few lost is = absurd is
+ask-made spec event kept written (Err refused) none attaching few lost is =
+    subst (λ (r : Refusal). IsAsked spec event kept written (Err r)) (sym is) (make-memory spec event kept written none attaching few lost)

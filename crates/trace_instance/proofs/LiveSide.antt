@@ -1,0 +1,371 @@
+-- What becomes of the sides of an instance: where the live one is written to or cleared, and where a spare is made, emptied or exchanged for
+-- the live one.
+use Rattle.std.proofs.Common.{◌≡◌, ℕ, zero, suc, ◌+◌, ◌<◌, ◌≤◌, true, false, List, [], ◌∷◌, length, replicate, get_or, set, Option, Some, None, IfSome, refl, sym, ap, ◌∙◌, subst, arith}
+use Rattle.std.proofs.lemmas.List.{length-map}
+use Rattle.std.specs.List.{AllByRecursion}
+use Rattle.page_ring.specs.Events.{Event, Put}
+use Rattle.page_ring.specs.Shown as ring
+use Rattle.trace_buffer.specs.Buffers as buffers
+use Rattle.trace_buffer.specs.Families.{with_events, all_cleared}
+use Rattle.trace_command.specs.declared.command.Config.{Config}
+use Rattle.trace_snapshot.specs.Sides.{SideFamilies, SidesSeen, StandsFor, HasShapeOf, IsSpareOf, IsSpareCleared, exchanged, spare_cleared, with_spare}
+use Rattle.trace_instance.specs.Changes.{IsApplied}
+use Rattle.trace_instance.specs.Instances.{HasShape, InstanceSeen, IsShaped, WasOffered, WereOffered}
+use Rattle.trace_instance.specs.Deliveries.{IsDelivered, IsExchanged, IsOffered, IsWritten, counted_down, recorded_in, row_of}
+use Rattle.trace_instance.specs.declared.change.Delivery.{Delivery}
+use Rattle.trace_instance.specs.declared.change.InstanceChange.TheVariants.{Clear, ClearSpare, TakeSnapshot}
+use Rattle.trace_instance.specs.declared.change.Pending.{Pending}
+use Rattle.trace_instance.specs.declared.change.Reach.{Reach}
+use Rattle.trace_instance.specs.KeptHists.{AreHit}
+use Rattle.trace_instance.specs.declared.tables.Table.{Table}
+use Rattle.trace_instance.proofs.KeptLists.{recursion_at}
+
+-- ---- counts
+
+all-set : (P : ℕ → Type 0) (xs : List ℕ) (k v : ℕ) → AllByRecursion P xs → P v → AllByRecursion P (set xs k v)
+all-set P [] k v all own = tt
+all-set P (x ∷ xs) zero v all own = (own, all.1)
+all-set P (x ∷ xs) (suc k) v all own = (all.0, all-set P xs k v all.1 own)
+
+pub all-none : (most cpus : ℕ) → AllByRecursion (λ n. n ≤ most) (replicate cpus 0)
+all-none most zero = tt
+all-none most (suc cpus) = (omega arith, all-none most cpus)
+
+all-more : (most : ℕ) (xs : List ℕ) → AllByRecursion (λ n. n ≤ most) xs → AllByRecursion (λ n. n ≤ most + 1) xs
+all-more most [] all = tt
+all-more most (x ∷ xs) all = (omega (arith, all.0), all-more most xs all.1)
+
+pub all-one_more : (most : ℕ) (xs : List ℕ) (k : ℕ) → k < length xs → AllByRecursion (λ n. n ≤ most) xs
+    → AllByRecursion (λ n. n ≤ most + 1) (set xs k (get_or xs k 0 + 1))
+all-one_more most xs k inside all =
+    let here = recursion_at (λ n. n ≤ most) xs k 0 all inside in
+    all-set (λ n. n ≤ most + 1) xs k (get_or xs k 0 + 1) (all-more most xs all) (omega (arith, here))
+
+spare-more : (most : ℕ) (spare : Option buffers.Seen) → IfSome spare (WasOffered most) → IfSome spare (WasOffered (most + 1))
+spare-more most None all = all
+spare-more most (Some side) all = all-more most (buffers.offers side) all
+
+pub offered_more : (most : ℕ) (s : SidesSeen) → WereOffered most s → WereOffered (most + 1) s
+offered_more most s all = (all-more most (buffers.offers s.live) all.0, spare-more most s.spare all.1)
+
+-- ---- the live side
+
+-- a side of the same shape
+pub record IsLike (old new : buffers.Seen) : Type 0 where
+  pub cpus : buffers.cpus new ≡ buffers.cpus old
+  pub pages : new.pages ≡ old.pages
+  pub page_bytes : new.page_bytes ≡ old.page_bytes
+
+shape-like : (g : Config) (old new : buffers.Seen) → IsLike old new → HasShape g old → HasShape g new
+shape-like g old new like shape = record {
+  cpus = like.cpus ∙ shape.cpus;
+  pages = like.pages ∙ shape.pages;
+  page_bytes = like.page_bytes ∙ shape.page_bytes;
+}
+
+-- the sides with another live side of the same shape have theirs
+pub live-shaped : (g : Config) (s : SidesSeen) (new : buffers.Seen) → IsLike s.live new → IsShaped g s → IsShaped g (record s { live = new })
+live-shaped g s new like shaped = record {
+  cpus = shaped.cpus;
+  pages = shaped.pages;
+  page_bytes = shaped.page_bytes;
+  live = shape-like g s.live new like shaped.live;
+  spare = shaped.spare;
+}
+
+-- one more record came to the live side
+pub live_offered_more : (s : SidesSeen) (new : buffers.Seen) (cpu most : ℕ) → cpu < length (buffers.offers s.live)
+    → buffers.offers new ≡ set (buffers.offers s.live) cpu (get_or (buffers.offers s.live) cpu 0 + 1) → WereOffered most s
+    → WereOffered (most + 1) (record s { live = new })
+live_offered_more s new cpu most inside offers all = (
+  subst (AllByRecursion (λ n. n ≤ most + 1)) (sym offers) (all-one_more most (buffers.offers s.live) cpu inside all.0),
+  spare-more most s.spare all.1,
+)
+
+-- the live side stands for other lists
+pub live-stands : (s : SidesSeen) (new : buffers.Seen) (f : SideFamilies) (family : List (List Event)) → StandsFor s f → buffers.StandsFor new family
+    → StandsFor (record s { live = new }) (record { live = family; spare = f.spare })
+live-stands s new f family stands live = record { live = live; spare = stands.spare }
+
+-- the live side was cleared
+pub cleared_offered : (s : SidesSeen) (new : buffers.Seen) (most : ℕ) → buffers.offers new ≡ replicate (buffers.cpus s.live) 0 → WereOffered most s
+    → WereOffered most (record s { live = new })
+cleared_offered s new most offers all =
+    (subst (AllByRecursion (λ n. n ≤ most)) (sym offers) (all-none most (buffers.cpus s.live)), all.1)
+
+-- ---- a spare that is made
+
+spare-shaped : (g : Config) (s : SidesSeen) (spare : Option buffers.Seen) (side : buffers.Seen) → IsShaped g s → IfSome spare (HasShape g)
+    → IsSpareOf s spare side → HasShape g side
+spare-shaped g s None side shaped kept is = record {
+  cpus = is.cpus ∙ shaped.cpus;
+  pages = is.pages ∙ shaped.pages;
+  page_bytes = is.page_bytes ∙ shaped.page_bytes;
+}
+spare-shaped g s (Some spare) side shaped kept is = subst (HasShape g) (sym is) kept
+
+spare-offered : (most : ℕ) (s : SidesSeen) (spare : Option buffers.Seen) (side : buffers.Seen) → IfSome spare (WasOffered most)
+    → IsSpareOf s spare side → WasOffered most side
+spare-offered most s None side kept is = subst (AllByRecursion (λ n. n ≤ most)) (sym is.offers) (all-none most s.cpus)
+spare-offered most s (Some spare) side kept is = subst (WasOffered most) (sym is) kept
+
+-- what holds of each side that there may be holds of the one that is there
+if_some : (P : buffers.Seen → Type 0) (spare : Option buffers.Seen) → ((side : buffers.Seen) → spare ≡ Some side → P side) → IfSome spare P
+if_some P None each = tt
+if_some P (Some side) each = each side refl
+
+pub armed_shaped : (g : Config) (old new : SidesSeen) → new.live ≡ old.live
+    → ((side : buffers.Seen) → new.spare ≡ Some side → IsSpareOf old old.spare side) → HasShapeOf old new → IsShaped g old → IsShaped g new
+armed_shaped g old new live spare shape shaped = record {
+  cpus = shape.0 ∙ shaped.cpus;
+  pages = shape.1 ∙ shaped.pages;
+  page_bytes = shape.2 ∙ shaped.page_bytes;
+  live = subst (HasShape g) (sym live) shaped.live;
+  spare = if_some (HasShape g) new.spare (λ side is. spare-shaped g old old.spare side shaped shaped.spare (spare side is));
+}
+
+pub armed_offered : (most : ℕ) (old new : SidesSeen) → new.live ≡ old.live
+    → ((side : buffers.Seen) → new.spare ≡ Some side → IsSpareOf old old.spare side) → WereOffered most old → WereOffered most new
+armed_offered most old new live spare all = (
+  subst (WasOffered most) (sym live) all.0,
+  if_some (WasOffered most) new.spare (λ side is. spare-offered most old old.spare side all.1 (spare side is)),
+)
+
+-- ---- a snapshot
+
+pub taken_shaped : (g : Config) (old new : SidesSeen) → IsSpareOf old old.spare new.live → new.spare ≡ Some old.live → HasShapeOf old new
+    → IsShaped g old → IsShaped g new
+taken_shaped g old new live spare shape shaped = record {
+  cpus = shape.0 ∙ shaped.cpus;
+  pages = shape.1 ∙ shaped.pages;
+  page_bytes = shape.2 ∙ shaped.page_bytes;
+  live = spare-shaped g old old.spare new.live shaped shaped.spare live;
+  spare = subst (λ (o : Option buffers.Seen). IfSome o (HasShape g)) (sym spare) shaped.live;
+}
+
+pub taken_offered : (most : ℕ) (old new : SidesSeen) → IsSpareOf old old.spare new.live → new.spare ≡ Some old.live → WereOffered most old
+    → WereOffered most new
+taken_offered most old new live spare all = (
+  spare-offered most old old.spare new.live all.1 live,
+  subst (λ (o : Option buffers.Seen). IfSome o (WasOffered most)) (sym spare) all.0,
+)
+
+-- ---- a spare that is emptied
+
+emptied-shape : (g : Config) (old new : Option buffers.Seen) → IsSpareCleared old new → IfSome old (HasShape g) → IfSome new (HasShape g)
+emptied-shape g None None is kept = tt
+emptied-shape g None (Some new) is kept = absurd is
+emptied-shape g (Some old) None is kept = absurd is
+emptied-shape g (Some old) (Some new) is kept =
+    record { cpus = is.0 ∙ kept.cpus; pages = is.1 ∙ kept.pages; page_bytes = is.2 ∙ kept.page_bytes }
+
+emptied-offers : (most : ℕ) (old new : Option buffers.Seen) → IsSpareCleared old new → IfSome new (WasOffered most)
+emptied-offers most None None is = tt
+emptied-offers most None (Some new) is = absurd is
+emptied-offers most (Some old) None is = absurd is
+emptied-offers most (Some old) (Some new) is =
+    subst (AllByRecursion (λ n. n ≤ most)) (sym is.3) (all-none most (buffers.cpus old))
+
+pub emptied_shaped : (g : Config) (old new : SidesSeen) → new.live ≡ old.live → IsSpareCleared old.spare new.spare → HasShapeOf old new
+    → IsShaped g old → IsShaped g new
+emptied_shaped g old new live spare shape shaped = record {
+  cpus = shape.0 ∙ shaped.cpus;
+  pages = shape.1 ∙ shaped.pages;
+  page_bytes = shape.2 ∙ shaped.page_bytes;
+  live = subst (HasShape g) (sym live) shaped.live;
+  spare = emptied-shape g old.spare new.spare spare shaped.spare;
+}
+
+pub emptied_offered : (most : ℕ) (old new : SidesSeen) → new.live ≡ old.live → IsSpareCleared old.spare new.spare → WereOffered most old
+    → WereOffered most new
+emptied_offered most old new live spare all =
+    (subst (WasOffered most) (sym live) all.0, emptied-offers most old.spare new.spare spare)
+
+-- ---- the live side is lent
+
+like : (kept lent new : buffers.Seen) → lent ≡ kept → buffers.cpus new ≡ buffers.cpus lent → new.pages ≡ lent.pages → new.page_bytes ≡ lent.page_bytes
+    → IsLike kept new
+like kept lent new lends cpus pages page_bytes = record {
+  cpus = cpus ∙ ap (λ (b : buffers.Seen). buffers.cpus b) lends;
+  pages = pages ∙ ap (λ (b : buffers.Seen). b.pages) lends;
+  page_bytes = page_bytes ∙ ap (λ (b : buffers.Seen). b.page_bytes) lends;
+}
+
+-- a record was put there
+pub written : (p : Pending) (reach : Reach) (value old : InstanceSeen) (lent new : buffers.Seen) (bytes : List ℕ) → old ≡ value → lent ≡ old.sides.live
+    → bytes ≡ p.bytes.items → reach.records ≡ true → p.cpu < buffers.cpus value.sides.live
+    → ((family : List (List Event)) → buffers.StandsFor lent family → buffers.StandsFor new (with_events p.cpu (Put bytes old.overwrite ∷ []) family))
+    → buffers.cpus new ≡ buffers.cpus lent → new.pages ≡ lent.pages → new.page_bytes ≡ lent.page_bytes
+    → buffers.offers new ≡ set (buffers.offers lent) p.cpu (get_or (buffers.offers lent) p.cpu 0 + 1)
+    → IsWritten p reach value (record old { sides = record old.sides { live = new } })
+written p reach value old lent new bytes view lends copied records room stands cpus pages page_bytes offers =
+    subst (λ (v : InstanceSeen). IsWritten p reach v (record old { sides = record old.sides { live = new } })) view (record {
+      rest = refl;
+      sides = λ f s. rw records (live-stands old.sides new f (with_events p.cpu (Put p.bytes.items old.overwrite ∷ []) f.live) s
+          (subst (λ (bs : List ℕ). buffers.StandsFor new (with_events p.cpu (Put bs old.overwrite ∷ []) f.live)) copied
+          (stands f.live (subst (λ (b : buffers.Seen). buffers.StandsFor b f.live) (sym lends) s.live))));
+      spare = refl;
+      shaped = λ g s. live-shaped g old.sides new (like old.sides.live lent new lends cpus pages page_bytes) s;
+      offered = λ most all. live_offered_more old.sides new p.cpu most inside
+          (offers ∙ ap (λ (b : buffers.Seen). set (buffers.offers b) p.cpu (get_or (buffers.offers b) p.cpu 0 + 1)) lends) all;
+    })
+  where
+    here : p.cpu < buffers.cpus old.sides.live
+    here = subst (λ (v : InstanceSeen). p.cpu < buffers.cpus v.sides.live) (sym view) room
+
+    inside : p.cpu < length (buffers.offers old.sides.live)
+    inside = omega (arith, here, length-map old.sides.live.rings ring.offered)
+
+pub unwritten : (p : Pending) (reach : Reach) (i : InstanceSeen) → reach.records ≡ false → IsWritten p reach i i
+unwritten p reach i none = record {
+  rest = refl;
+  sides = λ f s. rw none s;
+  spare = refl;
+  shaped = λ g s. s;
+  offered = λ most all. offered_more most i.sides all;
+}
+
+-- it was cleared
+pub cleared : (value old : InstanceSeen) (lent new : buffers.Seen) → old ≡ value → lent ≡ old.sides.live
+    → ((family : List (List Event)) → buffers.StandsFor lent family → buffers.StandsFor new (all_cleared family))
+    → buffers.cpus new ≡ buffers.cpus lent → new.pages ≡ lent.pages → new.page_bytes ≡ lent.page_bytes
+    → buffers.offers new ≡ replicate (buffers.cpus lent) 0 → IsApplied Clear value (record old { sides = record old.sides { live = new } })
+cleared value old lent new view lends stands cpus pages page_bytes offers =
+    subst (λ (v : InstanceSeen). IsApplied Clear v (record old { sides = record old.sides { live = new } })) view (record {
+      enabled = refl;
+      filters = refl;
+      triggers = refl;
+      hists = refl;
+      tables = λ n used. refl;
+      unused = λ n off. refl;
+      overwrite = refl;
+      tracing = refl;
+      sides = λ f s. live-stands old.sides new f (all_cleared f.live) s
+          (stands f.live (subst (λ (b : buffers.Seen). buffers.StandsFor b f.live) (sym lends) s.live));
+      shaped = λ g s. live-shaped g old.sides new (like old.sides.live lent new lends cpus pages page_bytes) s;
+      offered = λ most all. cleared_offered old.sides new most
+          (offers ∙ ap (λ (b : buffers.Seen). replicate (buffers.cpus b) 0) lends) all;
+    })
+
+-- ---- changes of the spare side
+
+pub taken : (value old : InstanceSeen) (new : SidesSeen) → old ≡ value → IsSpareOf old.sides old.sides.spare new.live
+    → new.spare ≡ Some old.sides.live
+    → ((f : SideFamilies) → StandsFor old.sides f → StandsFor new (exchanged (with_spare old.sides.cpus f))) → HasShapeOf old.sides new
+    → IsApplied TakeSnapshot value (record old { sides = new })
+taken value old new view live spare stands shape =
+    subst (λ (v : InstanceSeen). IsApplied TakeSnapshot v (record old { sides = new })) view (record {
+      enabled = refl;
+      filters = refl;
+      triggers = refl;
+      hists = refl;
+      tables = λ n used. refl;
+      unused = λ n off. refl;
+      overwrite = refl;
+      tracing = refl;
+      sides = stands;
+      shaped = λ g s. taken_shaped g old.sides new live spare shape s;
+      offered = λ most all. taken_offered most old.sides new live spare all;
+    })
+
+pub emptied : (value old : InstanceSeen) (new : SidesSeen) → old ≡ value → new.live ≡ old.sides.live → IsSpareCleared old.sides.spare new.spare
+    → ((f : SideFamilies) → StandsFor old.sides f → StandsFor new (spare_cleared f)) → HasShapeOf old.sides new
+    → IsApplied ClearSpare value (record old { sides = new })
+emptied value old new view live spare stands shape =
+    subst (λ (v : InstanceSeen). IsApplied ClearSpare v (record old { sides = new })) view (record {
+      enabled = refl;
+      filters = refl;
+      triggers = refl;
+      hists = refl;
+      tables = λ n used. refl;
+      unused = λ n off. refl;
+      overwrite = refl;
+      tracing = refl;
+      sides = stands;
+      shaped = λ g s. emptied_shaped g old.sides new live spare shape s;
+      offered = λ most all. emptied_offered most old.sides new live spare all;
+    })
+
+-- ---- an emission
+
+-- the record, if there is one, came to the live side if it is written here
+pub record IsAccepted (pending : Option Pending) (reach : Reach) (old new : InstanceSeen) : Type 0 where
+  pub rest : new ≡ record old { sides = new.sides }
+  pub sides : (f : SideFamilies) → StandsFor old.sides f
+      → StandsFor new.sides (record { live = recorded_in reach.records old.overwrite pending f.live; spare = f.spare })
+  pub shaped : (g : Config) → IsShaped g old.sides → IsShaped g new.sides
+  pub offered : (most : ℕ) → WereOffered most old.sides → WereOffered (most + 1) new.sides
+
+pub accepted_none : (pending : Option Pending) (reach : Reach) (i : InstanceSeen) → pending ≡ None → IsAccepted pending reach i i
+accepted_none pending reach i none = record {
+  rest = refl;
+  sides = λ f s. rw none s;
+  shaped = λ g s. s;
+  offered = λ most all. offered_more most i.sides all;
+}
+
+pub accepted_some : (pending : Option Pending) (p : Pending) (reach : Reach) (old new : InstanceSeen) → pending ≡ Some p → IsWritten p reach old new
+    → IsAccepted pending reach old new
+accepted_some pending p reach old new some w = record {
+  rest = w.rest;
+  sides = λ f s. rw some (w.sides f s);
+  shaped = w.shaped;
+  offered = w.offered;
+}
+
+-- and then the row was offered to the hist triggers of the event
+pub record IsTakenIn (d : Delivery) (reach : Reach) (old new : InstanceSeen) : Type 0 where
+  pub rest : new ≡ record old { tables = new.tables; sides = new.sides }
+  pub tables : AreHit (row_of d) (get_or old.hists d.event []) old.tables new.tables
+  pub sides : (f : SideFamilies) → StandsFor old.sides f
+      → StandsFor new.sides (record { live = recorded_in reach.records old.overwrite d.record f.live; spare = f.spare })
+  pub shaped : (g : Config) → IsShaped g old.sides → IsShaped g new.sides
+  pub offered : (most : ℕ) → WereOffered most old.sides → WereOffered (most + 1) new.sides
+
+pub taken_in : (d : Delivery) (reach : Reach) (old between new : InstanceSeen) → IsAccepted d.record reach old between → IsOffered d between new
+    → IsTakenIn d reach old new
+taken_in d reach old between new a o = record {
+  rest = o.rest ∙ ap (λ (i : InstanceSeen). record i { tables = new.tables }) a.rest
+      ∙ ap (λ (s : SidesSeen). record old { tables = new.tables; sides = s }) (sym same);
+  tables = subst (λ (i : InstanceSeen). AreHit (row_of d) (get_or i.hists d.event []) i.tables new.tables) a.rest o.tables;
+  sides = λ f s. subst (λ (n : SidesSeen). StandsFor n (record { live = recorded_in reach.records old.overwrite d.record f.live; spare = f.spare }))
+      (sym same) (a.sides f s);
+  shaped = λ g s. subst (IsShaped g) (sym same) (a.shaped g s);
+  offered = λ most all. subst (WereOffered (most + 1)) (sym same) (a.offered most all);
+}
+  where
+    same : new.sides ≡ between.sides
+    same = ap (λ (i : InstanceSeen). i.sides) o.rest
+
+-- and the sides stay where the trigger does not act
+pub delivered_still : (d : Delivery) (reach : Reach) (old new : InstanceSeen) → IsTakenIn d reach old new → reach.fires ≡ false
+    → IsDelivered d reach old new
+delivered_still d reach old new a off = record {
+  enabled = ap (λ (i : InstanceSeen). i.enabled) a.rest;
+  filters = ap (λ (i : InstanceSeen). i.filters) a.rest;
+  triggers = rw off (ap (λ (i : InstanceSeen). i.triggers) a.rest);
+  hists = ap (λ (i : InstanceSeen). i.hists) a.rest;
+  tables = a.tables;
+  overwrite = ap (λ (i : InstanceSeen). i.overwrite) a.rest;
+  tracing = ap (λ (i : InstanceSeen). i.tracing) a.rest;
+  sides = λ f s. rw off (a.sides f s);
+  shaped = a.shaped;
+  offered = a.offered;
+}
+
+-- and are exchanged where it does
+pub delivered_exchanged : (d : Delivery) (reach : Reach) (old between new : InstanceSeen) → IsTakenIn d reach old between → reach.fires ≡ true
+    → IsExchanged d.event between new → IsDelivered d reach old new
+delivered_exchanged d reach old between new a on x = record {
+  enabled = ap (λ (i : InstanceSeen). i.enabled) x.rest ∙ ap (λ (i : InstanceSeen). i.enabled) a.rest;
+  filters = ap (λ (i : InstanceSeen). i.filters) x.rest ∙ ap (λ (i : InstanceSeen). i.filters) a.rest;
+  triggers = rw on (ap (λ (i : InstanceSeen). i.triggers) x.rest
+      ∙ ap (λ (i : InstanceSeen). set i.triggers d.event (counted_down (get_or i.triggers d.event None))) a.rest);
+  hists = ap (λ (i : InstanceSeen). i.hists) x.rest ∙ ap (λ (i : InstanceSeen). i.hists) a.rest;
+  tables = subst (λ (t : List Table). AreHit (row_of d) (get_or old.hists d.event []) old.tables t) (sym (ap (λ (i : InstanceSeen). i.tables) x.rest)) a.tables;
+  overwrite = ap (λ (i : InstanceSeen). i.overwrite) x.rest ∙ ap (λ (i : InstanceSeen). i.overwrite) a.rest;
+  tracing = ap (λ (i : InstanceSeen). i.tracing) x.rest ∙ ap (λ (i : InstanceSeen). i.tracing) a.rest;
+  sides = λ f s. rw on (x.sides (record { live = recorded_in reach.records old.overwrite d.record f.live; spare = f.spare }) (a.sides f s));
+  shaped = λ g s. x.shaped g (a.shaped g s);
+  offered = λ most all. x.offered (most + 1) (a.offered most all);
+}

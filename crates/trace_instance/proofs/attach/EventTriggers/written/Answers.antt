@@ -1,0 +1,65 @@
+use Rattle.std.proofs.Common.{◌≡◌, ◌⊎◌, inl, inr, true, false, Ok, Err, is_some, rules}
+use Rattle.trace_command.specs.Refusals.{refusal_of_trigger}
+use Rattle.trace_trigger.specs.TriggerTexts.{HasFilter, is_hist_text, said_of}
+use Rattle.trace_trigger.specs.declared.fault.TriggerFault.TheVariants as fault
+use Rattle.trace_trigger.specs.declared.trigger.TriggerText.TheVariants as said
+use Rattle.trace_instance.proofs.Answering.{text-detaches, text-lacks, text-nothing, text-refused}
+use Rattle.trace_instance.proofs.LateTexts.{hist-begins, other-fault}
+use Rattle.trace_instance.proofs.attach.EventTriggers.written.Goals as goal
+
+pub returns-in_err-parse-clause-change : goal.returns-in_err-parse-clause-change
+returns-in_err-parse-clause-change c =
+    let faulty = c.in_err-parse.field-0.0 in
+    let told : (said_of c.args.event.now c.args.written.text.now ≡ Err fault.BadText → faulty ≡ fault.BadText) = search rules in
+    let out : c.from_residual.result ≡ Err (refusal_of_trigger faulty) = search rules in
+    rw out (text-refused c.args.event.now c.args.self c.args.written faulty c.in_err-parse.ensures.exact told)
+
+pub returns-in-Nothing-clause-change : goal.returns-in-Nothing-clause-change
+returns-in-Nothing-clause-change c =
+    let read : said_of c.args.event.now c.args.written.text.now ≡ Ok said.Nothing = search rules in
+    text-nothing c.args.event.now c.args.self c.args.written read
+
+pub returns-in-Attach-clause-change : goal.returns-in-Attach-clause-change
+returns-in-Attach-clause-change c = λ name past number are.
+    let read : said_of c.args.event.now c.args.written.text.now ≡ Ok (said.Attach c.in-Attach.trigger) = search rules in
+    c.attached.ensures.change c.args.event.now name past number are read
+
+pub returns-in-Remove-clause-change : goal.returns-in-Remove-clause-change
+returns-in-Remove-clause-change c =
+    let read : said_of c.args.event.now c.args.written.text.now ≡ Ok said.Remove = search rules in
+    let some : is_some c.args.self.snapshot ≡ true = search rules in
+    text-detaches c.args.event.now c.args.self c.args.written read some
+
+pub returns-in-Remove-2-clause-change : goal.returns-in-Remove-2-clause-change
+returns-in-Remove-2-clause-change c =
+    let read : said_of c.args.event.now c.args.written.text.now ≡ Ok said.Remove = search rules in
+    let none : is_some c.args.self.snapshot ≡ false = search rules in
+    text-lacks c.args.event.now c.args.self c.args.written read none
+
+pub returns-in-Hist-clause-change : goal.returns-in-Hist-clause-change
+returns-in-Hist-clause-change c = λ name past number are.
+    let read : said_of c.args.event.now c.args.written.text.now ≡ Ok (said.Hist c.in-Hist.spec) = search rules in
+    c.asked.ensures name past number are read
+
+pub returns-in-RemoveHist-clause-change : goal.returns-in-RemoveHist-clause-change
+returns-in-RemoveHist-clause-change c = λ name past number are.
+    let read : said_of c.args.event.now c.args.written.text.now ≡ Ok (said.RemoveHist c.in-RemoveHist.spec) = search rules in
+    c.removed.ensures.change c.args.event.now name past number are read
+
+pub returns-in_err-parse-clause-memory : goal.returns-in_err-parse-clause-memory
+returns-in_err-parse-clause-memory c = λ unfiltered plain.
+    let faulty = c.in_err-parse.field-0.0 in
+    let taken : (faulty ≡ fault.Memory → HasFilter c.args.written.text.now ⊎ (is_hist_text c.args.written.text.now ≡ true)) = search rules in
+    let neither : HasFilter c.args.written.text.now ⊎ (is_hist_text c.args.written.text.now ≡ true) → ⊥ =
+    λ either. elim either [
+      | inl filtered ↦ unfiltered filtered
+      | inr hist ↦ cc (hist, plain)
+    ] in
+    let out : c.from_residual.result ≡ Err (refusal_of_trigger faulty) = search rules in
+    rw out (other-fault faulty (λ is. neither (taken is)))
+
+pub returns-in-Hist-clause-memory : goal.returns-in-Hist-clause-memory
+returns-in-Hist-clause-memory c = λ unfiltered plain.
+    let read : said_of c.args.event.now c.args.written.text.now ≡ Ok (said.Hist c.in-Hist.spec) = search rules in
+    let hist : is_hist_text c.args.written.text.now ≡ true = hist-begins c.args.event.now c.args.written.text.now c.in-Hist.spec read in
+    absurd (cc (hist, plain))

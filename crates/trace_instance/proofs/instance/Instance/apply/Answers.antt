@@ -1,0 +1,18 @@
+use Rattle.trace_instance.proofs.LiveSide.{cleared, emptied, taken}
+use Rattle.trace_instance.proofs.instance.Instance.apply.Goals as goal
+
+pub returns-in-Clear-clause-applied : goal.returns-in-Clear-clause-applied
+returns-in-Clear-clause-applied c =
+    let clear = c.clear.ensures in
+    rw c.in-Clear.is (cleared c.args.self.now _ c.live_mut.result.now c.clear.new.self c.self-in-Clear.view_is c.live_mut.ensures.value clear.stands clear.cpus
+    clear.pages clear.page_bytes clear.offers)
+
+pub returns-in_ok-take_snapshot-in-TakeSnapshot-clause-applied : goal.returns-in_ok-take_snapshot-in-TakeSnapshot-clause-applied
+returns-in_ok-take_snapshot-in-TakeSnapshot-clause-applied c =
+    let took = c.in_ok-take_snapshot-in-TakeSnapshot.ensures in
+    rw c.in-TakeSnapshot.is (taken c.args.self.now _ c.take_snapshot.new.self c.self-in-TakeSnapshot.view_is took.live took.spare took.stands took.shape)
+
+pub returns-in-ClearSpare-clause-applied : goal.returns-in-ClearSpare-clause-applied
+returns-in-ClearSpare-clause-applied c =
+    let clear = c.clear_spare.ensures in
+    rw c.in-ClearSpare.is (emptied c.args.self.now _ c.clear_spare.new.self c.self-in-ClearSpare.view_is clear.live clear.spare clear.stands clear.shape)

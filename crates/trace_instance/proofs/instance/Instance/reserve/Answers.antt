@@ -1,0 +1,31 @@
+use Rattle.std.proofs.Common.{◌≡◌, ◌∙◌, List, [], IfOk, get_or, ap, subst, to_z, of_z, w32, rules}
+use Rattle.std.proofs.lemmas.Int.{to_z-of_z}
+use Rattle.std.proofs.lemmas.List.{get_or_default}
+use Rattle.trace_format.specs.Operands.{Emission}
+use Rattle.trace_instance.specs.Instances.{InstanceSeen}
+use Rattle.trace_instance.specs.KeptHists.{passed}
+use Rattle.trace_instance.specs.declared.hists.AttachedHist.{AttachedHist}
+use Rattle.trace_instance.proofs.HistChanges.{alike_one, with-tables}
+use Rattle.trace_instance.proofs.instance.Instance.reserve.Goals as goal
+
+pub returns-clause-alike : goal.returns-clause-alike
+returns-clause-alike c =
+    rw (with-tables c.self.inside.tables c.reserve.new.tables (search rules))
+    (alike_one c.args.self.now _ c.reserve.new.tables c.self.view_is (rw c.deref_mut.ensures.value at c.reserve.ensures.alike))
+
+pub returns-clause-passed : goal.returns-clause-passed
+returns-clause-passed c =
+    let e : Emission = record { values = c.args.row.now.values; cpu = c.args.cpu; pid = c.args.pid } in
+    let pid : to_z w32 (of_z w32 c.args.pid) ≡ c.args.pid = to_z-of_z w32 c.args.pid (search rules) in
+    let here : c.index.result.now ≡ get_or c.self.inside.hists.items c.args.event [] =
+    c.index.ensures ∙ get_or_default c.self.inside.hists.items c.args.event c.index.result.now [] (search rules) in
+    let seen : c.index.result.now ≡ get_or c.args.self.now.hists c.args.event [] =
+    here ∙ ap (λ (i : InstanceSeen). get_or i.hists c.args.event []) c.self.view_is in
+    subst (λ (l : List AttachedHist). IfOk c.reserve.result (λ known. known ≡ passed e l)) seen (rw pid at c.reserve.ensures.passed)
+
+pub returns-clause-ready : goal.returns-clause-ready
+returns-clause-ready c =
+    let pid : to_z w32 (of_z w32 c.args.pid) ≡ c.args.pid = to_z-of_z w32 c.args.pid (search rules) in
+    let here : c.index.result.now ≡ get_or c.self.inside.hists.items c.args.event [] =
+    c.index.ensures ∙ get_or_default c.self.inside.hists.items c.args.event c.index.result.now [] (search rules) in
+    rw (with-tables c.self.inside.tables c.reserve.new.tables (search rules), ← here) (rw pid at c.reserve.ensures.ready)

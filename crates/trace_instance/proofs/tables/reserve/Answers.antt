@@ -1,0 +1,32 @@
+use Rattle.std.proofs.Common.{◌≡◌, None, Some, get_or, refl, to_z, of_z, w32, rules}
+use Rattle.std.proofs.lemmas.Int.{to_z-of_z}
+use Rattle.std.specs.List.{position}
+use Rattle.trace_instance.proofs.Lookups.{alike-at, here-at, is_numbered, none-found, others-at}
+use Rattle.trace_instance.proofs.tables.reserve.Goals as goal
+
+pub returns-in_default-clause-ready : goal.returns-in_default-clause-ready
+returns-in_default-clause-ready c =
+    let none : position (is_numbered c.args.number) c.args.tables.now ≡ None = search rules in
+    rw (none-found c.args.number c.args.tables.now none) tt
+
+pub returns-clause-alike : goal.returns-clause-alike
+returns-clause-alike c = λ other.
+    let found : position (is_numbered c.args.number) c.args.tables.now ≡ Some c.in-Some.index = search rules in
+    let reserved = c.reserve_hit_as.ensures in
+    alike-at c.args.number c.args.tables.now c.in-Some.index c.index-tables-index.result
+    (get_or c.args.tables.now c.in-Some.index c.index-tables-index.result) c.reserve_hit_as.new.self found refl reserved.spec
+    reserved.paused reserved.table other
+
+pub returns-clause-others : goal.returns-clause-others
+returns-clause-others c = λ other apart.
+    let found : position (is_numbered c.args.number) c.args.tables.now ≡ Some c.in-Some.index = search rules in
+    others-at c.args.number c.args.tables.now c.in-Some.index c.index-tables-index.result
+    (get_or c.args.tables.now c.in-Some.index c.index-tables-index.result) (record (get_or c.args.tables.now c.in-Some.index c.index-tables-index.result) { hist = c.reserve_hit_as.new.self }) found refl refl other apart
+
+pub returns-clause-ready : goal.returns-clause-ready
+returns-clause-ready c =
+    let found : position (is_numbered c.args.number) c.args.tables.now ≡ Some c.in-Some.index = search rules in
+    let pid : to_z w32 (of_z w32 c.args.pid) ≡ c.args.pid = to_z-of_z w32 c.args.pid (search rules) in
+    rw (here-at c.args.number c.args.tables.now c.in-Some.index c.index-tables-index.result
+    (get_or c.args.tables.now c.in-Some.index c.index-tables-index.result) (record (get_or c.args.tables.now c.in-Some.index c.index-tables-index.result) { hist = c.reserve_hit_as.new.self }) found refl refl)
+    (rw pid at c.reserve_hit_as.ensures.reserved)

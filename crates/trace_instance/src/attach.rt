@@ -1,0 +1,234 @@
+//! Trigger strings: the change that a string written to an event's `trigger` file makes (events.rst, "Event triggers"; histogram.rst, "hist
+//! triggers").
+
+ghost use Rattle.std.specs.Prelude.{◌≡◌, ◌≢◌, ◌<◌, ◌≤◌, false, if◌then◌else◌, [], length, position, slice_index_or, None, Ok, option_copied, OnOk, IfErr};
+ghost use Rattle.trace_trigger.specs.TriggerTexts.{HasFilter, is_hist_text, said_of};
+ghost use Rattle.trace_instance.specs.private.Attaching as attaching;
+ghost use Rattle.trace_instance.specs.private.SharedTables as sharing;
+ghost use Rattle.trace_instance.specs.KeptHists.{says_same};
+ghost use Rattle.trace_trigger.specs.declared.trigger.TriggerText.TheVariants as said;
+
+use crate::change::{NewHist, TriggerChange};
+use crate::hists::{AttachedHist, EventHists, MOST_TRIGGERS};
+use crate::instance::Instance;
+use crate::trigger::Trigger;
+use crate::write::WrittenText;
+use std::alloc::Global;
+use trace_command::Refusal;
+use trace_format::EventDef;
+use trace_hist::{Action, Hist, HistSpec};
+use trace_trigger::{SnapshotTrigger, TriggerText};
+
+/// The triggers that an event has in an instance, and the hist triggers of all events there, whose tables a string may name.
+#[derive(Clone, Copy)]
+pub(crate) struct EventTriggers<'a> {
+    snapshot: Option<&'a Trigger>,
+    hists: &'a EventHists,
+    all: &'a [EventHists],
+    // The index of the event.
+    event: usize,
+}
+
+impl<'a> EventTriggers<'a> {
+    /// The triggers of the event at this index.
+    pub(crate) fn of(instance: &'a Instance, event: usize) -> EventTriggers<'a>
+        requires triggers { event < length instance.now.triggers }
+        requires hists { event < length instance.now.hists }
+        ensures snapshot { option_copied result.snapshot ≡ slice_index_or instance.now.triggers event None }
+        ensures hists { result.hists.now ≡ slice_index_or instance.now.hists event [] }
+        ensures all { result.all.now ≡ instance.now.hists }
+        ensures event { result.event ≡ event }
+    {
+        EventTriggers {
+            snapshot: instance.trigger(event),
+            hists: instance.hists(event),
+            all: instance.all_hists(),
+            event,
+        }
+    }
+
+    /// The change that a string written for the event makes.
+    pub(crate) fn written(
+        self,
+        alloc: Global,
+        event: &EventDef,
+        written: WrittenText<'_>,
+    ) -> Result<TriggerChange, Refusal>
+        ensures change { attaching.IsChangeOf event.now self.entry written.entry result }
+        ensures memory { (HasFilter written.entry.text.now → ⊥) → is_hist_text written.entry.text.now ≡ false
+            → IfErr result (λ r. r ≢ Refusal.Memory) }
+    {
+        match TriggerText::parse(alloc, written.text, event)? {
+            TriggerText::Nothing => Ok(TriggerChange::Keep),
+            TriggerText::Attach(trigger) => self.attached(written, trigger),
+            TriggerText::Remove if self.snapshot.is_some() => Ok(TriggerChange::Detach),
+            TriggerText::Remove => Err(Refusal::NoSuchTrigger),
+            TriggerText::Hist(spec) => self.asked(alloc, event, written, spec),
+            TriggerText::RemoveHist(spec) => self.removed(written, &spec),
+        }
+    }
+
+    // A snapshot trigger, of which an event has at most one.
+    fn attached(
+        self,
+        written: WrittenText<'_>,
+        trigger: SnapshotTrigger,
+    ) -> Result<TriggerChange, Refusal>
+        ensures change { attaching.IsAttached trigger self.entry written.entry result }
+        ensures memory { IfErr result (λ r. r ≢ Refusal.Memory) }
+    {
+        if self.snapshot.is_some() {
+            return Err(Refusal::TriggerExists);
+        }
+        self.check_room(written.append)?;
+        Ok(TriggerChange::Attach(Trigger::new(written.number, trigger)))
+    }
+
+    // A hist trigger: the string's action on the table of the matching one, or a new one if none matches.
+    fn asked(
+        self,
+        alloc: Global,
+        event: &EventDef,
+        written: WrittenText<'_>,
+        spec: HistSpec,
+    ) -> Result<TriggerChange, Refusal>
+        requires said { said_of event.now written.text.now ≡ Ok (said.Hist spec) }
+        ensures { attaching.IsAsked spec event.now self.entry written.entry result }
+    {
+        if let Some(index) = self.position(written.append, &spec) {
+            return asked_again(self.hists.as_slice()[index].table, spec.action());
+        }
+        if !attaches(spec.action()) {
+            return Err(Refusal::NoSuchTrigger);
+        }
+        self.check_room(written.append)?;
+        match self.named_by(written.append, &spec) {
+            Some(other) => joined(alloc, written, spec, other),
+            None => made(alloc, event, written, spec),
+        }
+    }
+
+    // The first of the remaining hist triggers of all events whose table a string names.
+    fn named_by(self, append: bool, spec: &HistSpec) -> Option<&'a AttachedHist>
+        ensures { option_copied result ≡ sharing.named_in spec.now (sharing.left_of self.entry append) }
+    {
+        for i in 0..self.all.len() {
+            if append || i != self.event {
+                let named = self.all[i].named_by(spec);
+                if named.is_some() {
+                    return named;
+                }
+            }
+        }
+        None
+    }
+
+    // Removes the matching hist trigger. With `>` there is nothing more to do, since it removes all of the event's hist triggers.
+    fn removed(self, written: WrittenText<'_>, spec: &HistSpec) -> Result<TriggerChange, Refusal>
+        ensures change { attaching.IsRemovedHist spec.now self.entry written.entry result }
+        ensures memory { IfErr result (λ r. r ≢ Refusal.Memory) }
+    {
+        if !written.append {
+            return Ok(TriggerChange::Keep);
+        }
+        match self.hists.position(spec) {
+            Some(index) => Ok(TriggerChange::DetachHist(index)),
+            None => Err(Refusal::NoSuchTrigger),
+        }
+    }
+
+    // The index of the matching hist trigger, among those that remain.
+    fn position(self, append: bool, spec: &HistSpec) -> Option<usize>
+        ensures { result ≡ (if append then position (says_same spec.now) self.entry.hists.now else None) }
+    {
+        if append {
+            self.hists.position(spec)
+        } else {
+            None
+        }
+    }
+
+    // `TooMany` if the triggers that remain leave no room for one more.
+    fn check_room(self, append: bool) -> Result<(), Refusal>
+        ensures room { OnOk result (attaching.kept_count self.entry append < 4) }
+        ensures full { IfErr result (λ refusal. (refusal ≡ Refusal.TooMany) × (4 ≤ attaching.kept_count self.entry append)) }
+    {
+        let hists = if append {
+            self.hists.as_slice().len()
+        } else {
+            0
+        };
+        let snapshots = if self.snapshot.is_some() { 1 } else { 0 };
+        if hists + snapshots < MOST_TRIGGERS {
+            Ok(())
+        } else {
+            Err(Refusal::TooMany)
+        }
+    }
+}
+
+// The action of a string whose hist trigger is attached already. It can't be attached again.
+fn asked_again(table: u64, action: Action) -> Result<TriggerChange, Refusal>
+    ensures { result ≡ attaching.asked_change table action }
+{
+    match action {
+        Action::Attach => Err(Refusal::TriggerExists),
+        Action::Pause | Action::Continue | Action::Clear => {
+            Ok(TriggerChange::AskTable(table, action))
+        }
+    }
+}
+
+// A hist trigger that shares the table of another one, which it names, if it fits.
+fn joined(
+    alloc: Global,
+    written: WrittenText<'_>,
+    spec: HistSpec,
+    other: &AttachedHist,
+) -> Result<TriggerChange, Refusal>
+    ensures { attaching.IsJoinedChange written.entry.number spec other.now result }
+{
+    if !spec.fits(&other.spec) {
+        return Err(Refusal::TriggerExists);
+    }
+    let attached = AttachedHist {
+        number: written.number,
+        table: other.table,
+        spec,
+    };
+    Ok(TriggerChange::AttachHist(Box::new(alloc, attached)?))
+}
+
+// A hist trigger with a table of its own. The table keeps the specification as well, so the string is parsed once more.
+fn made(
+    alloc: Global,
+    event: &EventDef,
+    written: WrittenText<'_>,
+    spec: HistSpec,
+) -> Result<TriggerChange, Refusal>
+    requires said { said_of event.now written.text.now ≡ Ok (said.Hist spec) }
+    ensures { attaching.IsMadeChange written.entry.number spec result }
+{
+    let TriggerText::Hist(again) = TriggerText::parse(alloc, written.text, event)? else {
+        unreachable!();
+    };
+    let made = NewHist {
+        attached: AttachedHist {
+            number: written.number,
+            table: written.number,
+            spec,
+        },
+        hist: Hist::new(alloc, again)?,
+    };
+    Ok(TriggerChange::MakeHist(Box::new(alloc, made)?))
+}
+
+// Whether a string attaches a hist trigger if none matches.
+fn attaches(action: Action) -> bool
+    ensures { result ≡ attaching.attaches action }
+{
+    match action {
+        Action::Attach | Action::Pause => true,
+        Action::Continue | Action::Clear => false,
+    }
+}

@@ -1,0 +1,169 @@
+//! An emission in one instance: what it does is worked out, its hist triggers' memory is reserved, and then it is applied.
+
+ghost use Rattle.std.specs.Prelude.{◌≡◌, ◌≤◌, ◌<◌, ◌==◌, [], true, not, is_some, length, slice_index_or, IfOk, OnOk};
+ghost use Rattle.trace_record.specs.Record.{IsRecord};
+ghost use Rattle.trace_buffer.specs.Buffers as buffers;
+ghost use Rattle.trace_instance.specs.Instances.{IsAlike, passed_in};
+ghost use Rattle.trace_instance.specs.KeptHists.{KeysAgree};
+ghost use Rattle.trace_instance.specs.Rows as rows;
+ghost use Rattle.trace_instance.specs.Rows.{kept_holds};
+ghost use Rattle.trace_instance.specs.Deliveries.{CanCountRow, CanFire, HasFewRows, row_of, IsDelivered, IsOffered, IsExchanged, IsWritable, IsWritten, HasFew};
+
+use super::Instance;
+use crate::change::{Delivery, Pending, Reach};
+use crate::hists::Passed;
+use crate::trigger::passes;
+use std::alloc::AllocError;
+use trace_format::Row;
+
+impl Instance {
+    /// Whether an emission of the event at this index is plain here: recorded whatever its row, since the event has no filter, and all that comes of
+    /// it, since it has no triggers.
+    #[inline(always)]
+    pub fn is_plain(&self, event: usize) -> bool
+        requires enabled { event < length self.now.enabled }
+        requires filters { event < length self.now.filters }
+        requires triggers { event < length self.now.triggers }
+        requires hists { event < length self.now.hists }
+        ensures { result ≡ rows.is_plain self.now event }
+    {
+        if !self.tracing || !self.enabled[event] {
+            return false;
+        }
+        if self.filters[event].is_some() || self.triggers[event].is_some() {
+            return false;
+        }
+        self.hists[event].as_slice().is_empty()
+    }
+
+    /// Whether the event at this index has hist triggers.
+    pub fn has_hists(&self, event: usize) -> bool
+        requires { event < length self.now.hists }
+        ensures { result ≡ not (length (slice_index_or self.now.hists event []) == 0) }
+    {
+        !self.hists[event].as_slice().is_empty()
+    }
+
+    /// Evaluates the filters of the hist triggers of the event at this index for a row, and reserves memory to count it for those that it passes.
+    pub fn reserve(
+        &mut self,
+        event: usize,
+        row: &Row,
+        cpu: u32,
+        pid: i32,
+    ) -> Result<Passed, AllocError>
+        requires event { event < length self.old.hists }
+        requires agree { KeysAgree (slice_index_or self.old.hists event []) }
+        ensures passed { IfOk result (λ passed. passed ≡ passed_in (record { values = row.now.values; cpu = cpu; pid = pid }) event self.old) }
+        ensures alike { IsAlike self.old self.new }
+        ensures ready { OnOk result (CanCountRow (record { values = row.now.values; cpu = cpu; pid = pid }) event self.new) }
+    {
+        self.hists[event].reserve(&mut self.tables, row, cpu, pid)
+    }
+
+    /// What an emission of the event at this index does here, apart from hist triggers: whether it is recorded (recording is on, the event is
+    /// enabled, its filter passes) and whether the event's snapshot trigger acts (only its own filter and count matter).
+    pub fn reach(&self, event: usize, row: &Row, cpu: u32, pid: i32) -> Reach
+        requires enabled { event < length self.now.enabled }
+        requires filters { event < length self.now.filters }
+        requires triggers { event < length self.now.triggers }
+        ensures { result ≡ rows.reach_of self.now event row.now cpu pid }
+    {
+        Reach {
+            records: self.records(event, row, cpu, pid),
+            fires: self.fires(event, row, cpu, pid),
+        }
+    }
+
+    // Whether an emission of the event at this index is recorded here.
+    #[tactic(auto, unfolding(crate::specs::Rows::kept_holds))]
+    fn records(&self, event: usize, row: &Row, cpu: u32, pid: i32) -> bool
+        requires enabled { event < length self.now.enabled }
+        requires filters { event < length self.now.filters }
+        ensures { result ≡ rows.records self.now event row.now cpu pid }
+    {
+        self.tracing && self.enabled[event] && passes(self.filter(event), row, cpu, pid)
+    }
+
+    // Whether it makes the event's snapshot trigger act.
+    #[tactic(auto, unfolding(crate::specs::Rows::kept_holds))]
+    fn fires(&self, event: usize, row: &Row, cpu: u32, pid: i32) -> bool
+        requires { event < length self.now.triggers }
+        ensures { result ≡ rows.fires self.now event row.now cpu pid }
+    {
+        match &self.triggers[event] {
+            Some(trigger) => trigger.acts(row, cpu, pid),
+            None => false,
+        }
+    }
+
+    /// Applies a prepared emission: writes its record, if any, over older ones if the ring is full and overwriting is on; counts its row in the hist
+    /// triggers whose filters it passes; then swaps the sides if the snapshot trigger acts.
+    pub fn deliver(&mut self, delivery: &Delivery, reach: Reach, passed: &Passed)
+        requires event { delivery.now.event < length self.old.triggers }
+        requires hists { delivery.now.event < length self.old.hists }
+        requires passed { passed.now ≡ passed_in (row_of delivery.now) delivery.now.event self.old }
+        requires agree { KeysAgree (slice_index_or self.old.hists delivery.now.event []) }
+        requires counted { CanCountRow (row_of delivery.now) delivery.now.event self.old }
+        requires few_rows { HasFewRows self.old }
+        requires record { IsWritable delivery.now.record self.old }
+        requires few { HasFew self.old }
+        requires spare { CanFire reach self.old }
+        ensures { IsDelivered delivery.now reach self.old self.new }
+    {
+        if let Some(pending) = &delivery.record {
+            self.write(pending, reach);
+        }
+        self.offer(delivery, passed);
+        if reach.fires {
+            self.exchange(delivery.event);
+        }
+    }
+
+    /// Writes a record, if this instance records it.
+    #[inline(always)]
+    pub fn write(&mut self, pending: &Pending, reach: Reach)
+        requires is_record { IsRecord pending.now.bytes.items }
+        requires fits { length pending.now.bytes.items ≤ self.old.sides.live.page_bytes }
+        requires cpu { pending.now.cpu < buffers.cpus self.old.sides.live }
+        requires few { HasFew self.old }
+        ensures { IsWritten pending.now reach self.old self.new }
+    {
+        if reach.records {
+            let _put = self
+                .sides
+                .live_mut()
+                .put(pending.cpu, &pending.bytes, self.overwrite);
+        }
+    }
+
+    // Counts an emission's row in the hist triggers of its event whose filters it passes.
+    fn offer(&mut self, delivery: &Delivery, passed: &Passed)
+        requires hists { delivery.now.event < length self.old.hists }
+        requires passed { passed.now ≡ passed_in (row_of delivery.now) delivery.now.event self.old }
+        requires agree { KeysAgree (slice_index_or self.old.hists delivery.now.event []) }
+        requires counted { CanCountRow (row_of delivery.now) delivery.now.event self.old }
+        requires few_rows { HasFewRows self.old }
+        ensures { IsOffered delivery.now self.old self.new }
+    {
+        self.hists[delivery.event].hit(
+            &mut self.tables,
+            passed,
+            &delivery.row,
+            delivery.cpu,
+            delivery.pid,
+        );
+    }
+
+    // Swaps the sides for the snapshot trigger of the event at this index, and counts the trigger down.
+    fn exchange(&mut self, event: usize)
+        requires event { event < length self.old.triggers }
+        requires spare { is_some self.old.sides.spare ≡ true }
+        ensures { IsExchanged event self.old self.new }
+    {
+        if let Some(trigger) = &mut self.triggers[event] {
+            trigger.count_down();
+        }
+        self.sides.swap_armed();
+    }
+}

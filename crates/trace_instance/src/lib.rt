@@ -1,0 +1,26 @@
+//! One instance: what it keeps, what changes it, how its files are read and written, and what an emission does there.
+#![tactic(auto)]
+
+mod attach;
+mod change;
+mod file;
+mod hists;
+mod instance;
+mod read;
+mod shown;
+mod tables;
+mod text;
+mod trigger;
+mod write;
+
+pub use change::{
+    Delivery, FilterChange, INSTANCES, InstanceChange, NewHist, Pending, Reach, Reaches,
+    TriggerChange,
+};
+pub use file::{File, event_at};
+pub use hists::{AttachedHist, MOST_TRIGGERS, Passed};
+pub use instance::Instance;
+pub use read::{FileSource, Shown, declarations, read_file};
+pub use tables::Table;
+pub use trigger::Trigger;
+pub use write::{WrittenText, written_change};

@@ -1,0 +1,79 @@
+//! The short strings that files show.
+
+ghost use Rattle.std.specs.Prelude.{◌≡◌, ◌≤◌, ◌++◌, length, option_copied, IfOk, OnOk};
+ghost use Rattle.std.specs.List.{flat_map};
+ghost use Rattle.trace_history.specs.FileTexts as file_texts;
+ghost use Rattle.trace_text.specs.DeclarationText as texts;
+ghost use Rattle.trace_instance.specs.private.Commands.{shown_filter};
+
+use crate::file::event_at;
+use std::alloc::{AllocError, Global};
+use trace_filter::Filter;
+use trace_format::Catalog;
+use trace_lex::Text;
+use trace_text::declaration_text;
+
+/// The text of a switch.
+#[tactic(auto, unfolding(trace_history::specs::FileTexts::flag_text))]
+pub(crate) fn flag_text(alloc: Global, flag: bool) -> Result<Text, AllocError>
+    ensures { IfOk result (λ text. text ≡ file_texts.flag_text flag) }
+{
+    if flag {
+        Text::from_slice(alloc, b"1\n".as_slice())
+    } else {
+        Text::from_slice(alloc, b"0\n".as_slice())
+    }
+}
+
+/// The word of an option.
+#[tactic(auto, unfolding(trace_history::specs::FileTexts::option_text))]
+pub(crate) fn option_text(alloc: Global, flag: bool) -> Result<Text, AllocError>
+    ensures { IfOk result (λ text. text ≡ file_texts.option_text flag) }
+{
+    if flag {
+        Text::from_slice(alloc, b"overwrite\n".as_slice())
+    } else {
+        Text::from_slice(alloc, b"nooverwrite\n".as_slice())
+    }
+}
+
+/// The text of several switches taken together.
+#[tactic(auto, unfolding(trace_history::specs::FileTexts::mixture_text))]
+pub(crate) fn mixture_text(alloc: Global, none_on: bool, some_off: bool) -> Result<Text, AllocError>
+    ensures { IfOk result (λ text. text ≡ file_texts.mixture_text none_on some_off) }
+{
+    match (none_on, some_off) {
+        (true, false) => Text::from_slice(alloc, b"?\n".as_slice()),
+        (true, true) => Text::from_slice(alloc, b"0\n".as_slice()),
+        (false, false) => Text::from_slice(alloc, b"1\n".as_slice()),
+        (false, true) => Text::from_slice(alloc, b"X\n".as_slice()),
+    }
+}
+
+/// The text of a filter, or of none.
+#[tactic(auto, unfolding(crate::specs::private::Commands::shown_filter))]
+pub(crate) fn filter_text(alloc: Global, filter: Option<&Filter>) -> Result<Text, AllocError>
+    ensures { IfOk result (λ text. text ≡ shown_filter (option_copied filter.entry)) }
+{
+    let Some(filter) = filter else {
+        return Text::from_slice(alloc, b"none\n".as_slice());
+    };
+    let mut text = Vec::from_slice(alloc, filter.text())?;
+    text.push(b'\n')?;
+    Ok(Text::from(text))
+}
+
+/// Appends the declarations of all events.
+pub(crate) fn push_declarations(
+    alloc: Global,
+    events: &Catalog,
+    out: &mut Vec<u8>,
+) -> Result<(), AllocError>
+    requires { length events.now ≤ 64 }
+    ensures { OnOk result (out.new.items ≡ out.old.items ++ flat_map texts.declaration_text events.now) }
+{
+    for i in 0..events.len() {
+        declaration_text(alloc, event_at(events, i), out)?;
+    }
+    Ok(())
+}

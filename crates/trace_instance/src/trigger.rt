@@ -1,0 +1,79 @@
+//! Triggers as an instance keeps them (events.rst, "Event triggers").
+
+ghost use Rattle.std.specs.Prelude.{◌≡◌, ◌-◌, Some, option_copied};
+ghost use Rattle.trace_history.specs.Triggers as triggers;
+ghost use Rattle.trace_instance.specs.Rows.{kept_acts, kept_holds};
+ghost use Rattle.trace_instance.specs.Deliveries.{counted_down};
+ghost use Rattle.trace_instance.specs.private.Commands.{shown_kept};
+ghost use Rattle.trace_text.specs.ShownTriggers.{shown_trigger};
+
+use trace_filter::Filter;
+use trace_format::Row;
+use trace_text::Shown;
+use trace_trigger::SnapshotTrigger;
+
+/// A trigger that takes a snapshot for each emission of its event that passes its filter: this many more times, or without limit.
+#[derive(Drop)]
+pub struct Trigger {
+    /// How many requests had been done before the one that attached it.
+    pub number: u64,
+    pub left: Option<u32>,
+    pub filter: Option<Filter>,
+}
+
+impl Trigger {
+    /// The trigger that a string describes, attached by the request with this number.
+    pub(crate) fn new(number: u64, written: SnapshotTrigger) -> Trigger
+        ensures { result ≡ record { number = number; left = written.count; filter = written.filter } }
+    {
+        Trigger {
+            number,
+            left: written.count,
+            filter: written.filter,
+        }
+    }
+
+    /// The trigger as its file shows it.
+    pub(crate) fn shown(&self) -> Shown<'_>
+        ensures { shown_trigger result ≡ shown_kept self.now }
+    {
+        Shown::Snapshot {
+            left: self.left.map(u64::from),
+            filter: self.filter.as_ref().map(|filter| filter.text()),
+        }
+    }
+
+    /// Whether the trigger acts on an emission of its event.
+    pub(crate) fn acts(&self, row: &Row, cpu: u32, pid: i32) -> bool
+        ensures { result ≡ kept_acts (Some self.now) row.now cpu pid }
+    {
+        is_left(self.left) && passes(self.filter.as_ref(), row, cpu, pid)
+    }
+
+    /// Counts down after the trigger acted.
+    pub(crate) fn count_down(&mut self)
+        ensures { Some self.new ≡ counted_down (Some self.old) }
+    {
+        if let Some(left) = self.left {
+            self.left = Some(left.saturating_sub(1));
+        }
+    }
+}
+
+// Whether the trigger may act once more.
+fn is_left(left: Option<u32>) -> bool
+    ensures { result ≡ triggers.is_left left }
+{
+    left != Some(0)
+}
+
+/// Whether an emission passes a filter, if there is one.
+#[tactic(auto, unfolding(crate::specs::Rows::kept_holds))]
+pub(crate) fn passes(filter: Option<&Filter>, row: &Row, cpu: u32, pid: i32) -> bool
+    ensures { result ≡ kept_holds (option_copied filter.entry) row.now cpu pid }
+{
+    match filter {
+        Some(filter) => filter.passes(row, cpu, pid),
+        None => true,
+    }
+}
