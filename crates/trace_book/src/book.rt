@@ -79,11 +79,12 @@ impl Book {
         if !config.is_in_range() {
             return Err(Refusal::BadValue);
         }
+        let state = new_state(alloc, &config)?;
         Ok(Book {
             alloc,
             config,
             history: History::new(alloc),
-            state: new_state(alloc, &config)?,
+            state,
             memory: EmissionMemory::new(alloc),
             pending: Pending {
                 cpu: 0,
@@ -367,13 +368,15 @@ fn new_state(alloc: Global, config: &Config) -> Result<State, AllocError>
     requires { IsInRange config.now }
     ensures { IfOk result (λ state. StandsFor config.now state []) }
 {
+    let instance = Instance::new(alloc, 0, config.cpus, config.pages, config.page_bytes)?;
     let top = Named {
         name: None,
-        instance: Instance::new(alloc, 0, config.cpus, config.pages, config.page_bytes)?,
+        instance,
     };
+    let instances = vec![in alloc; top]?;
     Ok(State {
         catalog: Catalog::new(alloc),
         clock: 0,
-        instances: vec![in alloc; top]?,
+        instances,
     })
 }

@@ -153,9 +153,10 @@ impl State {
         if limit.is_some() {
             return Err(Refusal::BadValue);
         }
+        let text = declarations(alloc, &self.catalog)?;
         Ok(Prepared {
             change: Change::Instance(0, InstanceChange::Keep),
-            reply: Reply::Text(declarations(alloc, &self.catalog)?),
+            reply: Reply::Text(text),
         })
     }
 }

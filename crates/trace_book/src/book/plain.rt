@@ -36,7 +36,7 @@ impl Book {
             return Ok(false);
         }
         let (event, cpu, pid, pairs) = emission.parts();
-        let prepared = self.state.prepare_plain(
+        let prepared = match self.state.prepare_plain(
             self.memory.event(),
             &mut self.pending,
             &self.config,
@@ -44,12 +44,19 @@ impl Book {
             cpu,
             pid,
             pairs,
-        )?;
+        ) {
+            Ok(prepared) => prepared,
+            Err(error) => return Err(error),
+        };
         let Some(index) = prepared else {
             return Ok(false);
         };
-        self.history
-            .write_emission_ahead(ticket, by, event, cpu, pid, pairs)?;
+        if let Err(error) = self
+            .history
+            .write_emission_ahead(ticket, by, event, cpu, pid, pairs)
+        {
+            return Err(error);
+        }
         self.state.deliver_plain(&self.config, &self.pending);
         self.memory.keep_event(index);
         self.history.append_written();

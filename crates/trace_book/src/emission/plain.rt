@@ -53,12 +53,14 @@ impl State {
         if !is_plain(&self.instances, found.index) {
             return Ok(None);
         }
-        let written = write_plain(self.clock + 1, pid, found, pairs, &mut pending.bytes)?;
-        if !written {
-            return Ok(None);
+        match write_plain(self.clock + 1, pid, found, pairs, &mut pending.bytes) {
+            Ok(true) => {
+                pending.cpu = cpu;
+                Ok(Some(found.index))
+            }
+            Ok(false) => Ok(None),
+            Err(error) => Err(error),
         }
-        pending.cpu = cpu;
-        Ok(Some(found.index))
     }
 
     /// Delivers an emission of the plain kind: writes its record into the only instance. Allocates nothing.
@@ -113,7 +115,9 @@ fn write_plain(
     ensures is_record { IfOk result (λ written. written ≡ true → IsRecord bytes.new.items) }
 {
     let size = payload_size(found.event);
-    fit(bytes, record_size(size))?;
+    if let Err(error) = fit(bytes, record_size(size)) {
+        return Err(error);
+    }
     let head = Head {
         ts: timestamp,
         pid,

@@ -7,10 +7,10 @@ use Rattle.trace_book.proofs.book.new_state.Goals as goal
 pub returns : goal.returns
 returns c =
     let g = c.args.config.now in
-    let i = c.in_ok-new.field-0 in
-    let made = c.in_ok-new.ensures in
+    let i = c.in_ok-instance.instance in
+    let made = c.in_ok-instance.ensures in
     let top : Named = record { name = None; instance = i } in
-    stands_new g _ top c.new-2.ensures refl c.in_ok-vec.ensures.items refl (top_instance_stands g i (record {
+    stands_new g _ top c.new-2.ensures refl c.in_ok-instances.ensures.items refl (top_instance_stands g i (record {
       enabled = made.enabled;
       filters = made.filters;
       triggers = made.triggers;

@@ -1,5 +1,5 @@
-use Rattle.std.proofs.Common.{◌≡◌, ◌≢◌, ◌<◌, [], get_or, length, length-set, get_or-set_other, refl, ◌∙◌, arith, to_z, of_z, w32}
-use Rattle.std.proofs.lemmas.List.{get_or_default}
+use Rattle.std.proofs.Common.{◌≡◌, ◌≢◌, ◌<◌, false, [], ◌∷◌, get_or, length, length-set, get_or-set_other, refl, ◌∙◌, arith, to_z, of_z, w32}
+use Rattle.std.proofs.lemmas.List.{get_or-replicate, get_or_default}
 use Rattle.trace_format.specs.Operands.{Emission}
 use Rattle.trace_instance.specs.Instances.{IsAlike, passed_in}
 use Rattle.trace_instance.specs.Deliveries.{CanCountRow}
@@ -8,6 +8,26 @@ use Rattle.trace_book.proofs.EachInstance.{came_more, held_more, names_more, rea
 use Rattle.trace_book.proofs.ReservedEach.{alike-past, counted-past, known-here, known-past, no-hists}
 use Rattle.trace_book.proofs.emission.reserve_each.Goals as goal
 use Rattle.trace_book.proofs.emission.reserve_each.Goals.{then-has_hists+in_ok-passed, else-has_hists}
+
+pub loop-i-init : goal.loop-i-init
+loop-i-init c = record {
+  many = refl;
+  places = refl;
+  names = λ k d. refl;
+  alike = λ k d below. absurd (omega (arith, below));
+  counted = λ k d below. absurd (omega (arith, below));
+  known = λ k below n. absurd (omega (arith, below));
+  fresh = λ k above few. get_or-replicate 8 k (false ∷ false ∷ false ∷ false ∷ []) [] few;
+  left = λ k d above. refl;
+}
+
+pub returns-clause-alike : goal.returns-clause-alike
+returns-clause-alike c =
+    let was = c.loop-i.invariant in record {
+      many = was.many;
+      names = λ k d inside. was.names k d;
+      came = λ k d inside. was.alike k d (omega (arith, inside, was.many));
+    }
 
 pub loop-i-preserved : goal.loop-i-preserved
 loop-i-preserved c =

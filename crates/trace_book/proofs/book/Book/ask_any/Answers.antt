@@ -90,6 +90,12 @@ invariant_of-self-in_default c = record {
   stands = rw c.write_emission_ahead.ensures.entries (state_alike-stands _ _ _ _ c.prepare_emission.ensures.alike c.self.invariant.stands);
 }
 
+pub deliver-requires-clause-ready : goal.deliver-requires-clause-ready
+deliver-requires-clause-ready c =
+    let book = c.self.inside in
+    let past = past_of book.history.entries in
+    (c.in-Ok.ensures.prepared past c.self.invariant.stands).2
+
 pub deliver-requires-clause-early : goal.deliver-requires-clause-early
 deliver-requires-clause-early c =
     let book = c.self.inside in
@@ -167,3 +173,24 @@ deliver-requires-clause-usable c =
 
 pub returns-clause-legal : goal.returns-clause-legal
 returns-clause-legal c = (invariant_of-self-2 c).legal
+
+pub returns-in-Err-clause-legal : goal.returns-in-Err-clause-legal
+returns-in-Err-clause-legal c = (invariant_of-self c).legal
+
+pub returns-in-Err-clause-late_memory : goal.returns-in-Err-clause-late_memory
+returns-in-Err-clause-late_memory c = rw c.parts-cpu.ensures (λ late. absurd late)
+
+pub returns-then-self-len-clause-legal : goal.returns-then-self-len-clause-legal
+returns-then-self-len-clause-legal c = (invariant_of-self-then-self-len c).legal
+
+pub returns-then-self-len-clause-late_memory : goal.returns-then-self-len-clause-late_memory
+returns-then-self-len-clause-late_memory c = rw c.parts-cpu.ensures (λ late. absurd late)
+
+pub returns-in_default-clause-legal : goal.returns-in_default-clause-legal
+returns-in_default-clause-legal c = (invariant_of-self-in_default c).legal
+
+pub returns-in_default-clause-late_memory : goal.returns-in_default-clause-late_memory
+returns-in_default-clause-late_memory c = rw c.parts-cpu.ensures (λ late. absurd late)
+
+pub returns-clause-late_memory : goal.returns-clause-late_memory
+returns-clause-late_memory c = rw c.parts-cpu.ensures (λ late. absurd late)

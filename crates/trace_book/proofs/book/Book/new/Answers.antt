@@ -10,7 +10,7 @@ unfolding IsLegal past_of
 invariant_of-result c =
     let items : c.new.result.entries ≡ [] = ap (λ (h : HistorySeen). h.entries) c.new.ensures in
     let range : IsInRange c.args.config = c.is_in_range.ensures.yes (search rules) in
-    let stands : StandsFor c.args.config c.in_ok-new_state.field-0 [] = c.in_ok-new_state.ensures in record {
+    let stands : StandsFor c.args.config c.in_ok-state.state [] = c.in_ok-state.ensures in record {
       in_range = range;
       few = rw items (omega arith);
       legal = rw items tt;
