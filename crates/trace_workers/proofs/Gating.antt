@@ -182,3 +182,15 @@ told_stopped told (Some NoThread) None is stopped = absurd cc
 told_stopped told (Some NoThread) (Some Memory) is stopped = absurd cc
 told_stopped told (Some NoThread) (Some Stopped) is stopped = inr refl
 told_stopped told (Some NoThread) (Some NoThread) is stopped = absurd cc
+
+-- where the block tells Stopped, of its three faults one of the first two is Stopped, unless the third is
+pub stopped_early : (P : Type 0) (result before inner fault refused : Option BlockFault) → result ≡ told_fault before inner → inner ≡ told_fault fault refused
+    → refused ≢ Some Stopped → (before ≡ Some Stopped → P) → (fault ≡ Some Stopped → P) → result ≡ Some Stopped → P
+stopped_early P result before inner fault refused is inner_is other earlier last told =
+    elim (told_stopped result before inner is told) [
+      | inl e ↦ earlier e
+      | inr here ↦ elim (told_stopped inner fault refused inner_is here) [
+        | inl e ↦ last e
+        | inr e ↦ absurd (other e)
+      ]
+    ]

@@ -1,12 +1,14 @@
 //! A run of several threads, from a new book to its history at the end.
 
-ghost use Rattle.std.specs.Prelude.{◌≡◌, ◌≢◌, ◌<◌, ◌≤◌, [], map, vec_len, true, IfOk, IfErr, All, AllPairs};
+ghost use Rattle.std.specs.Prelude.{◌≡◌, ◌≢◌, ◌⊎◌, ◌<◌, ◌≤◌, [], map, vec_len, true, Ok, Err, IfOk, IfErr, All, AllPairs};
+ghost use Rattle.ticket_lock.specs.Calls.{view_of, IsOf, IsRoot};
+ghost use Rattle.trace_book.specs.Bases.{numbers_of};
 ghost use Rattle.trace_command.specs.Configs.{IsInRange};
 ghost use Rattle.trace_command.specs.declared.command.Entry.{Entry};
 ghost use Rattle.trace_history.specs.Blocks.{IsBlock, IsUnworn};
 ghost use Rattle.trace_workers.specs.BlockRuns.{trails_of};
 ghost use Rattle.trace_workers.specs.Gates.{LetsAllPass, StopsOne};
-ghost use Rattle.trace_workers.specs.declared.fault.BlockFault.TheVariants.{Stopped};
+ghost use Rattle.trace_workers.specs.declared.fault.BlockFault.TheVariants.{Memory, Stopped};
 
 use crate::block::run_block;
 use crate::fault::BlockFault;
@@ -15,7 +17,7 @@ use crate::part::Part;
 use std::alloc::Global;
 use std::sync::Wait;
 use std::thread::Threads;
-use ticket_lock::TicketLock;
+use ticket_lock::{Pass, TicketLock};
 use trace_book::Book;
 use trace_command::{Command, Config, Refusal, Reply};
 
@@ -33,6 +35,43 @@ fn are_unworn(done: &[Part]) -> bool
     ensures { result ≡ true → All (λ part. IsUnworn part.replies.items) done.now }
 {
     done.iter().all(|part| is_unworn(&part.replies))
+}
+
+// A new book behind a lock, and the pass with all names.
+fn locked_book(alloc: Global, config: Config) -> Result<(TicketLock<Book>, Pass<Book>), BlockFault>
+    requires { IsInRange config }
+    ensures of { IfOk result (λ r. IsOf r.0 r.1) }
+    ensures root { IfOk result (λ r. IsRoot [] (numbers_of config) 0 (view_of r.1)) }
+    ensures memory { IfErr result (λ fault. fault ≡ Memory) }
+{
+    let Ok(book) = Book::new(alloc, config) else {
+        return Err(BlockFault::Memory);
+    };
+    match TicketLock::starting_at(alloc, 0, book) {
+        Ok(locked) => Ok(locked),
+        Err(_) => Err(BlockFault::Memory),
+    }
+}
+
+// The book with the replies of the block that ran over it, unless one of them is `Worn`.
+fn if_unworn(
+    book: Book,
+    done: Result<Vec<Part>, BlockFault>,
+) -> Result<(Book, Vec<Part>), BlockFault>
+    ensures done { IfOk result (λ r. (r.0 ≡ book) × (done ≡ Ok r.1)) }
+    ensures unworn { IfOk result (λ r. All (λ part. IsUnworn part.replies.items) r.1.items) }
+    ensures fault { IfErr result (λ fault. (fault ≡ Memory) ⊎ (done ≡ Err fault)) }
+{
+    match done {
+        Ok(done) => {
+            if are_unworn(&done) {
+                Ok((book, done))
+            } else {
+                Err(BlockFault::Memory)
+            }
+        }
+        Err(fault) => Err(fault),
+    }
 }
 
 /// Runs parts concurrently over a new book, each on its own thread, and returns the book, whose history is exactly what they did, and their replies
@@ -64,17 +103,9 @@ pub fn history_of<R: Threads + Wait + Sync, G: Gate + Sync>(
     ensures stopped { IfErr result (λ fault. fault ≡ Stopped
         → StopsOne (G.may_answer gate.now) (map (λ part. part.items) parts.items)) }
 {
-    let Ok(book) = Book::new(alloc, config) else {
-        return Err(BlockFault::Memory);
-    };
-    let Ok((lock, root)) = TicketLock::starting_at(alloc, 0, book) else {
+    let Ok((lock, root)) = locked_book(alloc, config) else {
         return Err(BlockFault::Memory);
     };
     let (root, done) = run_block(rt, alloc, &lock, root, parts, gate);
-    let book = lock.close(root);
-    let done = done?;
-    if !are_unworn(&done) {
-        return Err(BlockFault::Memory);
-    }
-    Ok((book, done))
+    if_unworn(lock.close(root), done)
 }

@@ -1,6 +1,6 @@
 //! The thread of one part.
 
-ghost use Rattle.std.specs.Prelude.{◌≡◌, ◌≢◌, ◌<◌, [], map, Some, true};
+ghost use Rattle.std.specs.Prelude.{◌≡◌, ◌≢◌, ◌+◌, ◌<◌, ◌≤◌, [], map, vec_len, vec_capacity, Some, IfOk, IfErr, true};
 ghost use Rattle.ticket_lock.specs.Calls.{view_of, IsOf};
 ghost use Rattle.trace_workers.specs.PartRuns.{HasAsked, IsGated};
 ghost use Rattle.trace_workers.specs.declared.fault.BlockFault.TheVariants.{Stopped};
@@ -17,6 +17,7 @@ use std::sync::atomic::{AtomicBool, Ordering};
 use std::thread::Promise;
 use ticket_lock::{Pass, TicketLock};
 use trace_book::Book;
+use trace_command::{Refusal, Reply};
 
 /// What a part's thread returns: the pass, the replies so far, and why it stopped early, if it did.
 #[derive(Drop)]
@@ -55,19 +56,21 @@ impl<G: Gate, C: Asked> Promise<Returned> for Given<G, C> {
         × IsGated (G.may_answer given.gate.value given.thread.value) (map C.command given.commands.value.items) result.part.replies.items result.fault };
 }
 
-// The result of a part that ran no command.
-fn idle(alloc: Global, pass: Pass<Book>, fault: BlockFault) -> Returned
-    ensures pass { result.pass ≡ pass }
-    ensures by { result.part.by ≡ (view_of pass).low }
-    ensures replies { result.part.replies.items ≡ [] }
-    ensures fault { result.fault ≡ Some fault }
+// Room for the replies to so many commands, unless the block has failed to start a thread.
+fn room_for(
+    alloc: Global,
+    commands: usize,
+    missed: &AtomicBool,
+) -> Result<Vec<Result<Reply, Refusal>>, BlockFault>
+    ensures room { IfOk result (λ replies. (replies.items ≡ []) × (vec_len replies + commands ≤ vec_capacity replies)) }
+    ensures fault { IfErr result (λ fault. fault ≢ Stopped) }
 {
-    let by = pass.names().start;
-    let replies = Vec::new(alloc);
-    Returned {
-        pass,
-        part: Part { by, replies },
-        fault: Some(fault),
+    if missed.load(Ordering::SeqCst) {
+        return Err(BlockFault::NoThread);
+    }
+    match Vec::with_capacity(alloc, commands) {
+        Ok(replies) => Ok(replies),
+        Err(_) => Err(BlockFault::Memory),
     }
 }
 
@@ -90,20 +93,26 @@ pub fn run_part<R: Wait, G: Gate, C: Asked + Drop>(
     ensures open { G.is_open gate.now ≡ true → result.fault ≢ Some Stopped }
     ensures gate { IsGated (G.may_answer gate.now thread) (map C.command commands.items) result.part.replies.items result.fault }
 {
-    if missed.load(Ordering::SeqCst) {
-        return idle(alloc, pass, BlockFault::NoThread);
-    }
-    let Ok(replies) = Vec::with_capacity(alloc, commands.len()) else {
-        return idle(alloc, pass, BlockFault::Memory);
-    };
     let by = pass.names().start;
-    let worker = Worker { pass, replies };
-    let (Worker { pass, replies }, fault) = ask_part(
-        rt, alloc, lock, worker, commands, thread, gate,
-    );
-    Returned {
-        pass,
-        part: Part { by, replies },
-        fault,
+    match room_for(alloc, commands.len(), missed) {
+        Ok(replies) => {
+            let worker = Worker { pass, replies };
+            let (Worker { pass, replies }, fault) = ask_part(
+                rt, alloc, lock, worker, commands, thread, gate,
+            );
+            Returned {
+                pass,
+                part: Part { by, replies },
+                fault,
+            }
+        }
+        Err(fault) => {
+            let replies = Vec::new(alloc);
+            Returned {
+                pass,
+                part: Part { by, replies },
+                fault: Some(fault),
+            }
+        }
     }
 }

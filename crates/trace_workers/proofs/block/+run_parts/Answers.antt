@@ -1,16 +1,35 @@
-use Rattle.std.proofs.Common.{◌≡◌, ◌≢◌, inl, inr, Some, ◌∷◌, ◌++◌, ℕ, ◌+◌, ◌<◌, true, [], map, length, vec_len, List, refl, sym, ap, ◌∙◌, arith, rules}
+use Rattle.std.proofs.Common.{◌≡◌, ◌≢◌, inr, Some, ◌∷◌, ◌++◌, ℕ, ◌+◌, ◌<◌, true, [], map, length, vec_len, vec_capacity, List, refl, sym, ap, ◌∙◌, arith, rules}
 use Rattle.std.proofs.lemmas.List.{length-map, length_push}
-use Rattle.ticket_lock.specs.Calls.{view_of, IsOf}
+use Rattle.ticket_lock.specs.Calls.{view_of, IsOf, AreHalves}
+use Rattle.ticket_lock.specs.declared.views.View.{View}
 use Rattle.trace_workers.specs.BlockRuns.{commands_of}
+use Rattle.trace_workers.specs.Gates.{StopsOne}
 use Rattle.trace_workers.specs.PartRuns.{HasAsked, IsGated, begun_trail, begun_trails}
 use Rattle.trace_command.specs.declared.command.Command.{Command}
+use Rattle.trace_command.specs.declared.command.Entry.{Entry}
 use Rattle.trace_workers.specs.declared.fault.BlockFault.TheVariants.{Stopped}
-use Rattle.trace_workers.proofs.Gating.{gated_whole, pass_push, begun_pass_none, begun_pass_push, stops_before, stops_last, told_stopped}
+use Rattle.trace_workers.proofs.Gating.{gated_whole, pass_push, begun_pass_none, begun_pass_push, stops_before, stops_last, stopped_early}
 use Rattle.trace_workers.proofs.Joining.{run_meet}
 use Rattle.trace_workers.proofs.Working.{run_none}
 use Rattle.trace_workers.proofs.Blocking.{names_left, map_push, begun_none, begun_push, length-begun, whole_push, told_none}
 use Rattle.trace_workers.proofs.block.+run_parts.Goals as goal
 use Rattle.trace_workers.proofs.block.+run_parts.Goals.{in-Ok-started, in-Err, After-push_reserved}
+
+-- the halves still meet where the names of each end did not change
+meets : (v lower upper : View Entry) (end low : ℕ) → AreHalves v lower upper → end ≡ lower.end → low ≡ upper.low → end ≡ low
+meets v lower upper end low halves is_end is_low = is_end ∙ halves.lower_end ∙ sym (is_low ∙ halves.upper_low)
+
+-- as many as the parts, which are as many as what each asked for
+as_many : {C : Type 0} (command : C → List Command) (parts : List C) (n : ℕ) → n ≡ length parts → n ≡ length (map command parts)
+as_many {C} command parts n is = is ∙ sym (length-map parts command)
+
+-- one more on both sides
+one_more : {D C : Type 0} (done : List D) (part : D) (parts : List C) (commands : C) → length done ≡ length parts
+    → length (done ++ part ∷ []) ≡ length (parts ++ commands ∷ [])
+one_more {D} {C} done part parts commands same = length_push done part ∙ ap (λ (n : ℕ). n + 1) same ∙ sym (length_push parts commands)
+
+through : (a b c : ℕ) → a ≡ b → b ≡ c → a ≡ c
+through a b c first second = first ∙ second
 
 -- What came back for the last part, whether its thread ran it or it was called here.
 came_of : (g : _) (t : _) (c : After-push_reserved g t) → IsOf c.args.lock.now c.match-started.returned.0.pass
@@ -66,7 +85,7 @@ returns-clause-run g t c =
     let parts : commands_of g.C.Asked.command c.args.parts.items ≡ before ++ commands ∷ [] =
     map_push (λ part. map g.C.Asked.command part.items) c.args.parts.items c.pop.new.self.items c.in-Some.commands c.in-Some.ensures.items in
     let same : length others.result.done.items ≡ length before =
-    others.ensures.length ∙ sym (length-map c.pop.new.self.items (λ part. map g.C.Asked.command part.items)) in
+    as_many (λ part. map g.C.Asked.command part.items) c.pop.new.self.items (length others.result.done.items) others.ensures.length in
     let trails : begun_trails (commands_of g.C.Asked.command c.args.parts.items) c.push_reserved.new.self.items
     ≡ begun_trails before others.result.done.items ++ begun_trail b.low commands replies ∷ [] =
     rw (parts, c.push_reserved.ensures.items)
@@ -96,7 +115,8 @@ returns-clause-begun g t c =
     let parts : commands_of g.C.Asked.command c.args.parts.items ≡ before ++ commands ∷ [] =
     map_push (λ part. map g.C.Asked.command part.items) c.args.parts.items c.pop.new.self.items c.in-Some.commands c.in-Some.ensures.items in
     let many : length before ≡ length c.pop.new.self.items = length-map c.pop.new.self.items (λ part. map g.C.Asked.command part.items) in
-    let same : length others.result.done.items ≡ length before = others.ensures.length ∙ sym many in
+    let same : length others.result.done.items ≡ length before =
+    as_many (λ part. map g.C.Asked.command part.items) c.pop.new.self.items (length others.result.done.items) others.ensures.length in
     let counted : length (begun_trails before others.result.done.items) ≡ thread =
     omega (arith, length-begun before others.result.done.items same, many, c.pop.new.self.ok.0) in
     rw (parts, c.push_reserved.ensures.items, begun_push before others.result.done.items commands returned.part same)
@@ -134,8 +154,8 @@ returns-clause-gate g t c none =
     let gated : IsGated (may thread) commands replies returned.fault = came_gated g t (goal.at.returns-clause-gate g t c).After-push_reserved in
     let parts : commands_of g.C.Asked.command c.args.parts.items ≡ before ++ commands ∷ [] =
     map_push (λ part. map g.C.Asked.command part.items) c.args.parts.items c.pop.new.self.items c.in-Some.commands c.in-Some.ensures.items in
-    let counted : thread ≡ length c.pop.new.self.items = omega (arith, c.pop.new.self.ok.0) in
-    let many : length before ≡ thread = length-map c.pop.new.self.items (λ part. map g.C.Asked.command part.items) ∙ sym counted in
+    let counted : length c.pop.new.self.items ≡ thread = omega (arith, c.pop.new.self.ok.0) in
+    let many : length before ≡ thread = length-map c.pop.new.self.items (λ part. map g.C.Asked.command part.items) ∙ counted in
     let all = told_none c.first_of-2.result others.result.fault c.first_of.result c.first_of-2.ensures none in
     let last = told_none c.first_of.result returned.fault c.match-started.returned.1 c.first_of.ensures all.1 in
     pass_push may _ before commands thread parts many (others.ensures.gate all.0)
@@ -155,15 +175,12 @@ returns-clause-stopped g t c told =
     let refused : c.match-started.returned.1 ≢ Some Stopped = not_refused g t (goal.at.returns-clause-stopped g t c).After-push_reserved in
     let parts : commands_of g.C.Asked.command c.args.parts.items ≡ before ++ commands ∷ [] =
     map_push (λ part. map g.C.Asked.command part.items) c.args.parts.items c.pop.new.self.items c.in-Some.commands c.in-Some.ensures.items in
-    let counted : thread ≡ length c.pop.new.self.items = omega (arith, c.pop.new.self.ok.0) in
-    let many : length before ≡ thread = length-map c.pop.new.self.items (λ part. map g.C.Asked.command part.items) ∙ sym counted in
-    elim (told_stopped c.first_of-2.result others.result.fault c.first_of.result c.first_of-2.ensures told) [
-      | inl earlier ↦ stops_before may _ before commands parts (others.ensures.stopped earlier)
-      | inr here ↦ elim (told_stopped c.first_of.result returned.fault c.match-started.returned.1 c.first_of.ensures here) [
-        | inl last ↦ stops_last may _ before commands thread replies returned.fault parts many gated last
-        | inr other ↦ absurd (refused other)
-      ]
-    ]
+    let counted : length c.pop.new.self.items ≡ thread = omega (arith, c.pop.new.self.ok.0) in
+    let many : length before ≡ thread = length-map c.pop.new.self.items (λ part. map g.C.Asked.command part.items) ∙ counted in
+    stopped_early (StopsOne may (commands_of g.C.Asked.command c.args.parts.items)) c.first_of-2.result others.result.fault c.first_of.result returned.fault
+    c.match-started.returned.1 c.first_of-2.ensures c.first_of.ensures refused
+    (λ earlier. stops_before may _ before commands parts (others.ensures.stopped earlier))
+    (λ last. stops_last may _ before commands thread replies returned.fault parts many gated last) told
 
 -- what the lock and the parts before ask
 pub join-requires-2-clause-first : goal.join-requires-2-clause-first
@@ -174,8 +191,8 @@ join-requires-2-clause-second g t c = came_of g t c
 
 pub join-requires-2-clause-adjacent : goal.join-requires-2-clause-adjacent
 join-requires-2-clause-adjacent g t c =
-    let halves = c.in-Ok.ensures.halves in
-    c.run_parts-others.ensures.run.goes_on.end ∙ halves.lower_end ∙ sym ((came_asked g t c).run.goes_on.low ∙ halves.upper_low)
+    meets (view_of c.args.pass) (view_of c.in-Ok.lower) (view_of c.in-Ok.upper) (view_of c.run_parts-others.result.pass).end
+    (view_of c.match-started.returned.0.pass).low c.in-Ok.ensures.halves c.run_parts-others.ensures.run.goes_on.end (came_asked g t c).run.goes_on.low
 
 pub push_reserved-requires : goal.push_reserved-requires
 push_reserved-requires g t c =
@@ -189,12 +206,14 @@ pub returns-clause-length : goal.returns-clause-length
 returns-clause-length g t c =
     let others = c.run_parts-others in
     rw (c.push_reserved.ensures.items, c.in-Some.ensures.items)
-    (length_push others.result.done.items c.match-started.returned.0.part ∙ ap (λ (n : ℕ). n + 1) others.ensures.length ∙ sym (length_push c.pop.new.self.items c.in-Some.commands))
+    (one_more others.result.done.items c.match-started.returned.0.part c.pop.new.self.items c.in-Some.commands others.ensures.length)
 
 pub returns-clause-room : goal.returns-clause-room
 returns-clause-room g t c =
-    let room = c.run_parts-others.ensures.room in
-    (omega (arith, c.push_reserved.ensures.len, room.0, c.in-Some.ensures.cases), c.push_reserved.ensures.capacity ∙ room.1)
+    let room = c.run_parts-others.ensures.room in (
+      omega (arith, c.push_reserved.ensures.len, room.0, c.in-Some.ensures.cases),
+      through (vec_capacity c.push_reserved.new.self) (vec_capacity c.run_parts-others.result.done) (vec_capacity c.args.done) c.push_reserved.ensures.capacity room.1,
+    )
 
 pub returns-clause-callers : goal.returns-clause-callers
 returns-clause-callers g t c = inr c.join-2.ensures.met.callers
@@ -202,11 +221,5 @@ returns-clause-callers g t c = inr c.join-2.ensures.met.callers
 pub returns-clause-open : goal.returns-clause-open
 returns-clause-open g t c is_open told =
     let at = (goal.at.returns-clause-open g t c).After-push_reserved in
-    let returned = c.match-started.returned.0 in
-    elim (told_stopped c.first_of-2.result c.run_parts-others.result.fault c.first_of.result c.first_of-2.ensures told) [
-      | inl earlier ↦ c.run_parts-others.ensures.«open» is_open earlier
-      | inr here ↦ elim (told_stopped c.first_of.result returned.fault c.match-started.returned.1 c.first_of.ensures here) [
-        | inl last ↦ came_open g t at is_open last
-        | inr other ↦ not_refused g t at other
-      ]
-    ]
+    stopped_early ⊥ c.first_of-2.result c.run_parts-others.result.fault c.first_of.result c.match-started.returned.0.fault c.match-started.returned.1
+    c.first_of-2.ensures c.first_of.ensures (not_refused g t at) (c.run_parts-others.ensures.«open» is_open) (came_open g t at is_open) told
