@@ -10,3 +10,4 @@ pub mod PartRunning
 pub mod Hearing
 pub mod PartLines
 pub mod PartAsking
+pub mod SingleLines

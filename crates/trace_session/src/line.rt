@@ -18,35 +18,8 @@ use trace_items::Stop;
 use trace_script::{EmissionHead, Line, Outcome, ScriptFault};
 use trace_workers::{ask, ask_emission};
 
-/// Runs a command. If all tickets are drawn, which no script can reach, the session stops as if out of memory. A refusal found before anything is
-/// allocated is the outcome even if memory is refused.
-#[tactic(auto, using(crate::proofs::EarlyRefusals::memory_is_late, crate::proofs::EarlyRefusals::all_drawn))]
-fn ask_command<R: Wait>(
-    rt: &R,
-    lock: &TicketLock<Book>,
-    pass: Pass<Book>,
-    command: Command,
-) -> (Pass<Book>, Result<Option<Outcome>, Stop>)
-    requires { IsOf lock.now pass }
-    ensures of { IsOf lock.now result.0 }
-    ensures session { (g : Config) → IsSessionPass g (view_of pass) → IsSessionPass g (view_of result.0) }
-    ensures turn { IfOk result.1 (λ outcome. (g : Config) → IsSessionPass g (view_of pass)
-        → answered (progress_of (view_of pass)) command (answer_to g (view_of pass).seen command)
-        ≡ record { outcome = outcome; progress = progress_of (view_of result.0) }) }
-    ensures early { IsErrOf result.1 Stop.Memory → (g : Config) → IsSessionPass g (view_of pass)
-        → IsRefusedEarly g (view_of pass) command → IsWorn (view_of pass) (view_of result.0) }
-    ensures device { IsErrOf result.1 Stop.Device → ⊥ }
-    ensures stopped { IsErrOf result.1 Stop.Stopped → ⊥ }
-{
-    let (pass, answer) = ask(rt, lock, pass, command);
-    match answer {
-        Ok(reply) => (pass, Ok(Some(Outcome::Replied(reply)))),
-        Err(Refusal::Memory | Refusal::Worn) => (pass, Err(Stop::Memory)),
-        Err(refusal) => (pass, Ok(Some(Outcome::Refused(refusal)))),
-    }
-}
-
-/// As `ask_command`, for an emission whose strings are borrowed.
+/// Runs an emission whose strings are borrowed. If all tickets are drawn, which no script can reach, the session stops as if out of memory. A refusal
+/// found before anything is allocated is the outcome even if memory is refused.
 #[inline(always)]
 #[tactic(auto, using(crate::proofs::EarlyRefusals::memory_is_late, crate::proofs::EarlyRefusals::all_drawn))]
 fn ask_borrowed<R: Wait>(
@@ -75,11 +48,10 @@ fn ask_borrowed<R: Wait>(
     }
 }
 
-/// The outcome of a line that is no command. Out of line, so that commands don't pay for what the other lines drop.
-#[inline(never)]
+/// The outcome of a line that is no command.
 #[tactic(auto, unfolding(crate::specs::Sessions::turn_of))]
-fn unasked(said: Result<Line, ScriptFault>) -> Option<Outcome>
-    ensures { (g : Config) (before : Progress) (text : List ℕ) → ((command : Command) → said ≢ Ok (Line.Ask command)) → said ≡ line_of text
+fn outcome_unasked(said: &Result<Line, ScriptFault>) -> Option<Outcome>
+    ensures { (g : Config) (before : Progress) (text : List ℕ) → ((command : Command) → said.now ≢ Ok (Line.Ask command)) → said.now ≡ line_of text
         → turn_of g before text ≡ record { outcome = result; progress = before } }
 {
     match said {
@@ -87,12 +59,22 @@ fn unasked(said: Result<Line, ScriptFault>) -> Option<Outcome>
         Ok(Line::Parallel | Line::Thread | Line::End) => {
             Some(Outcome::Fault(ScriptFault::BlockOutOfPlace))
         }
-        Err(fault) => Some(Outcome::Fault(fault)),
+        Err(fault) => Some(Outcome::Fault(*fault)),
     }
 }
 
-/// Runs a line. A command's ticket is the number of commands before it, refused ones included.
-#[tactic(auto, unfolding(crate::specs::Sessions::turn_of))]
+/// As `outcome_unasked`, which then drops the line. Out of line, so that commands don't pay for what the other lines drop.
+#[inline(never)]
+fn unasked(said: Result<Line, ScriptFault>) -> Option<Outcome>
+    ensures { (g : Config) (before : Progress) (text : List ℕ) → ((command : Command) → said ≢ Ok (Line.Ask command)) → said ≡ line_of text
+        → turn_of g before text ≡ record { outcome = result; progress = before } }
+{
+    outcome_unasked(&said)
+}
+
+/// Runs a line. A command's ticket is the number of commands before it, refused ones included. If all tickets are drawn, which no script can reach,
+/// the session stops as if out of memory. A refusal found before anything is allocated is the outcome even if memory is refused.
+#[tactic(auto, using(crate::proofs::EarlyRefusals::memory_is_late, crate::proofs::EarlyRefusals::all_drawn), unfolding(crate::specs::Sessions::turn_of))]
 pub(crate) fn ask_line<R: Wait>(
     rt: &R,
     lock: &TicketLock<Book>,
@@ -111,7 +93,14 @@ pub(crate) fn ask_line<R: Wait>(
     ensures stopped { IsErrOf result.1 Stop.Stopped → ⊥ }
 {
     match said {
-        Ok(Line::Ask(command)) => ask_command(rt, lock, pass, command),
+        Ok(Line::Ask(command)) => {
+            let (pass, answer) = ask(rt, lock, pass, command);
+            match answer {
+                Ok(reply) => (pass, Ok(Some(Outcome::Replied(reply)))),
+                Err(Refusal::Memory | Refusal::Worn) => (pass, Err(Stop::Memory)),
+                Err(refusal) => (pass, Ok(Some(Outcome::Refused(refusal)))),
+            }
+        }
         said => (pass, Ok(unasked(said))),
     }
 }

@@ -21,19 +21,8 @@ use trace_command::{BorrowedEmission, Refusal, Reply};
 use trace_script::{Line, plain_emission, prepare};
 use trace_workers::{Asked, ask, ask_emission};
 
-/// The answer where memory was refused before the book was asked.
-#[tactic(auto, using(crate::proofs::PartAsking::stays, crate::proofs::PartAsking::idle))]
-fn without_memory(pass: Pass<Book>) -> (Pass<Book>, Result<Reply, Refusal>)
-    ensures pass { result.0 ≡ pass }
-    ensures goes_on { GoesOn (view_of pass) (view_of result.0) }
-    ensures answer { result.1 ≡ Err Memory }
-    ensures undone { IsUndone (view_of pass) (view_of result.0) }
-{
-    (pass, Err(Refusal::Memory))
-}
-
 /// Runs the command of a line that asks for one. So only memory can be missing.
-#[tactic(auto, using(crate::proofs::PartAsking::done_as, crate::proofs::PartAsking::refused_as, crate::proofs::PartAsking::undone_as))]
+#[tactic(auto, using(crate::proofs::PartAsking::done_as, crate::proofs::PartAsking::refused_as, crate::proofs::PartAsking::undone_as, crate::proofs::PartAsking::stays, crate::proofs::PartAsking::idle))]
 fn ask_prepared<R: Wait>(
     rt: &R,
     alloc: Global,
@@ -52,7 +41,7 @@ fn ask_prepared<R: Wait>(
     ensures legal { (g : Config) → numbers_of g ≡ (view_of pass).base → IsLegal g (view_of pass).seen → IsLegal g (view_of result.0).seen }
 {
     let Ok(Line::Ask(command)) = prepare(alloc, line) else {
-        return without_memory(pass);
+        return (pass, Err(Refusal::Memory));
     };
     ask(rt, lock, pass, command)
 }
@@ -60,7 +49,7 @@ fn ask_prepared<R: Wait>(
 impl<'a> Asked for AskedLine<'a> {
     ghost command = { asked_command };
 
-    #[tactic(auto, using(crate::proofs::PartAsking::done_as, crate::proofs::PartAsking::refused_as, crate::proofs::PartAsking::undone_as))]
+    #[tactic(auto, using(crate::proofs::PartAsking::done_as, crate::proofs::PartAsking::refused_as, crate::proofs::PartAsking::undone_as, crate::proofs::PartAsking::stays, crate::proofs::PartAsking::idle))]
     fn ask_in<R: Wait>(
         self,
         rt: &R,
@@ -75,7 +64,7 @@ impl<'a> Asked for AskedLine<'a> {
                 ask_emission(rt, lock, pass, &emission)
             }
             Ok(None) => ask_prepared(rt, alloc, lock, pass, self.line),
-            Err(_) => without_memory(pass),
+            Err(_) => (pass, Err(Refusal::Memory)),
         }
     }
 }

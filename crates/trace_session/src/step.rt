@@ -1,6 +1,6 @@
 //! One item of a session: a single line or a part runs, and its output is written.
 
-ghost use Rattle.std.specs.Prelude.{◌≡◌, ◌≢◌, ◌≤◌, [], ◌∷◌, true, vec_len, IfOk, OnOk, IsErrOf};
+ghost use Rattle.std.specs.Prelude.{◌≡◌, ◌≢◌, ◌≤◌, [], ◌∷◌, true, None, vec_len, IfOk, OnOk, IsErrOf};
 ghost use Rattle.ticket_lock.specs.Calls.{view_of, IsOf};
 ghost use Rattle.trace_command.specs.declared.command.Config.{Config};
 ghost use Rattle.trace_items.specs.Items.{Single, Threads, Faulty};
@@ -39,12 +39,13 @@ use trace_items::plain::PlainItem;
 use trace_script::{Line, Outcome, ScriptFault};
 use trace_workers::Gate;
 
-/// Whether a command was done and has nothing to show.
+/// Whether a command was done and has nothing to show, and the writer hears nothing.
 #[inline(always)]
-fn is_done(outcome: &Option<Outcome>) -> bool
-    ensures { result ≡ true → outcome.now ≡ Some (Outcome.Replied Reply.Done) }
+fn is_silent<W: Sink>(outcome: &Option<Outcome>, writer: &W) -> bool
+    ensures done { result ≡ true → outcome.now ≡ Some (Outcome.Replied Reply.Done) }
+    ensures unheard { result ≡ true → W.heard writer.now ≡ None }
 {
-    matches!(outcome, Some(Outcome::Replied(Reply::Done)))
+    matches!(outcome, Some(Outcome::Replied(Reply::Done))) && !writer.hears()
 }
 
 /// Runs an emission whose words lie in its line, and writes its output. One that is done prints nothing, so that only a writer that hears is told
@@ -84,7 +85,7 @@ pub(crate) fn do_emission<R: Wait, W: Sink, G>(
     let (pass, asked) = ask_emission_line(env.rt, env.lock, pass, plain.head, pairs);
     match asked {
         Ok(outcome) => {
-            if is_done(&outcome) && !writer.hears() {
+            if is_silent(&outcome, writer) {
                 return (pass, Ok(Status::Done));
             }
             (
