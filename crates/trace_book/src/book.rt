@@ -45,7 +45,6 @@ use trace_log::{Entries, History};
 
 /// A tracer: its configuration, the history of the commands done, and the state that they led to. Commands name files as in ftrace.rst and run one at
 /// a time.
-#[derive(Drop)]
 pub struct Book {
     alloc: Global,
     config: Config,
@@ -54,6 +53,20 @@ pub struct Book {
     memory: EmissionMemory,
     // The record of the plain emission that ran last, whose memory serves the next one.
     pending: Pending,
+}
+
+impl Drop for Book {
+    // Not derived, so that no crate above proves the drops of its parts.
+    fn drop(self) {
+        let Book {
+            alloc: _,
+            config: _,
+            history: _,
+            state: _,
+            memory: _,
+            pending: _,
+        } = self;
+    }
 }
 
 impl Model for Book {
