@@ -2,7 +2,7 @@
 use Rattle.std.specs.Prelude.{◌^◌, ◌≤◌, length}
 use Rattle.trace_command.specs.Configs.{IsInRange}
 use Rattle.trace_history.specs.History.{past_of, IsLegal}
-use Rattle.trace_book.specs.States.{StandsFor}
+use Rattle.trace_state.specs.States.{StandsFor}
 use Rattle.trace_book.specs.BookSeen.{BookSeen}
 use Rattle.trace_book.specs.declared.book.Book.TheInside.{Inside}
 

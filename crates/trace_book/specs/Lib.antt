@@ -1,5 +1,4 @@
-pub mod States
 pub mod BookSeen
 pub mod Books
 pub mod Bases
-pub mod private
+pub mod Asks

@@ -30,11 +30,9 @@ ghost use Rattle.trace_command.specs.Refusals.{OrMemory, IsFoundEarly};
 ghost use Rattle.trace_command.specs.Requests.{request_of};
 ghost use Rattle.trace_history.specs.Settings.{declared_events, instance_names, is_there, now_of, ticks};
 ghost use Rattle.trace_instance.specs.Instances.{InstanceStandsFor};
-ghost use Rattle.trace_book.specs.States.{StandsFor};
+ghost use Rattle.trace_state.specs.States.{StandsFor};
 ghost use Rattle.trace_command.specs.declared.refusal.Refusal.TheVariants as refusal;
 
-use crate::memory::EmissionMemory;
-use crate::state::{Named, Prepared, State};
 use std::alloc::{AllocError, Global};
 use std::marker::Model;
 use std::slice;
@@ -42,6 +40,7 @@ use trace_command::{BorrowedEmission, Command, Config, Refusal, Reply};
 use trace_format::{BorrowedPair, Catalog, EventDef, Pair, borrowed};
 use trace_instance::{Delivery, Instance, Pending, event_at};
 use trace_log::{Entries, History};
+use trace_state::{EmissionMemory, Named, Prepared, State};
 
 /// A tracer: its configuration, the history of the commands done, and the state that they led to. Commands name files as in ftrace.rst and run one at
 /// a time.
@@ -92,7 +91,7 @@ impl Book {
         if !config.is_in_range() {
             return Err(Refusal::BadValue);
         }
-        let state = new_state(alloc, &config)?;
+        let state = State::new(alloc, &config)?;
         Ok(Book {
             alloc,
             config,
@@ -356,9 +355,9 @@ fn made_name(instances: &[Named], index: usize) -> Option<&[u8]>
     name_of(made.get(index)?)
 }
 
-// Drops a command, out of line.
+/// Drops a command, out of line.
 #[inline(never)]
-fn let_go(_command: Command) {}
+pub(crate) fn let_go(_command: Command) {}
 
 // Drops what was prepared for a command that is refused.
 fn refuse(_prepared: Prepared, refusal: Refusal) -> Result<Reply, Refusal>
@@ -374,22 +373,4 @@ fn refused_late(_delivery: Delivery, refusal: Refusal) -> Result<Reply, Refusal>
     ensures { result ≡ Err refusal }
 {
     Err(refusal)
-}
-
-// The state before any request: no event, and the top instance.
-fn new_state(alloc: Global, config: &Config) -> Result<State, AllocError>
-    requires { IsInRange config.now }
-    ensures { IfOk result (λ state. StandsFor config.now state []) }
-{
-    let instance = Instance::new(alloc, 0, config.cpus, config.pages, config.page_bytes)?;
-    let top = Named {
-        name: None,
-        instance,
-    };
-    let instances = vec![in alloc; top]?;
-    Ok(State {
-        catalog: Catalog::new(alloc),
-        clock: 0,
-        instances,
-    })
 }

@@ -1,19 +1,14 @@
-//! The book: it runs a tracer's commands, and keeps their history and the state that it leads to.
+//! The book: it runs a tracer's commands, and keeps their history and the state that it leads to; and a call, by which one of several threads that
+//! share a book through a lock has it run a command.
 #![tactic(auto)]
 
 mod book;
-mod change;
-mod emission;
+mod call;
 mod logged;
-mod make;
-mod memory;
-mod prepare;
-mod resolve;
-mod row;
-mod state;
 mod tracer;
 
 pub use book::Book;
+pub use call::{ask, ask_emission};
 pub use trace_command::{BorrowedEmission, Command, Config, Entry, Pairs, Refusal, Reply};
 pub use trace_format::{BorrowedPair, Pair};
 pub use trace_history::laws;

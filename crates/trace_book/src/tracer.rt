@@ -7,7 +7,7 @@ ghost use Rattle.trace_command.specs.Requests.{request_of};
 ghost use Rattle.trace_history.specs.History.{answer_to, IsLegal};
 ghost use Rattle.trace_history.specs.LateMemory.{TakesMemoryLate};
 
-use crate::book::Book;
+use crate::book::{Book, let_go};
 use std::alloc::Global;
 use std::marker::Model;
 use trace_command::{BorrowedEmission, Command, Config, Refusal, Reply};
@@ -78,7 +78,13 @@ impl Tracer {
         ensures config { self.new.book.config ≡ self.old.book.config }
         ensures legal { self.old.next < 2 ^ 64 - 1 → IsLegal self.new.book.config self.new.book.entries }
     {
-        let ticket = self.draw()?;
+        let ticket = match self.draw() {
+            Ok(ticket) => ticket,
+            Err(refusal) => {
+                let_go(command);
+                return Err(refusal);
+            }
+        };
         self.book.ask(ticket, CALLER, command)
     }
 

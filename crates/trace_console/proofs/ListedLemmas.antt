@@ -6,7 +6,7 @@ use Rattle.std.proofs.lemmas.Option.{slice_get-map}
 use Rattle.std.specs.List.{slice_get, filter}
 use Rattle.std.specs.Option.{option_map, option_to_list}
 use Rattle.std.specs.Str.{bytes_eq}
-use Rattle.trace_book.proofs.Histories.{length-past_of}
+use Rattle.trace_state.proofs.Histories.{length-past_of}
 use Rattle.trace_command.specs.Requests.{Request}
 use Rattle.trace_command.specs.declared.command.Entry.{Entry}
 use Rattle.trace_format.specs.Definitions.{Definition}

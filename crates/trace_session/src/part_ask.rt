@@ -10,7 +10,7 @@ ghost use Rattle.trace_command.specs.declared.refusal.Refusal.TheVariants.{Memor
 ghost use Rattle.trace_script.specs.Lines.{line_of};
 ghost use Rattle.trace_script.specs.declared.line.Line.TheVariants.{Ask};
 ghost use Rattle.trace_session.specs.PartTexts.{asked_command};
-ghost use Rattle.trace_workers.specs.Asks.{GoesOn, IsDone, IsRefused, IsUndone};
+ghost use Rattle.trace_book.specs.Asks.{GoesOn, IsDone, IsRefused, IsUndone};
 
 use crate::part_line::AskedLine;
 use std::alloc::Global;

@@ -1,4 +1,3 @@
-pub mod Asking
 pub mod Working
 pub mod Blocking
 pub mod Gating

@@ -1,4 +1,3 @@
-pub mod Asks
 pub mod BlockRuns
 pub mod Faults
 pub mod Gates

@@ -5,7 +5,7 @@ use Rattle.ticket_lock.specs.declared.views.View.{View}
 use Rattle.trace_history.specs.History.{IsLegal}
 use Rattle.trace_history.specs.Blocks.{Trail, StandsIn, IsUnworn}
 use Rattle.trace_book.specs.Bases.{numbers_of}
-use Rattle.trace_workers.specs.Asks.{GoesOn}
+use Rattle.trace_book.specs.Asks.{GoesOn}
 use Rattle.trace_workers.specs.declared.fault.BlockFault.{BlockFault}
 use Rattle.trace_workers.specs.declared.fault.BlockFault.TheVariants.{Memory, Stopped, NoThread}
 use Rattle.trace_workers.specs.declared.gate.Point.{Point}

@@ -4,16 +4,15 @@ ghost use Rattle.std.specs.Prelude.{◌≡◌, ◌≢◌, Err, IfOk, IfErr};
 ghost use Rattle.ticket_lock.specs.Calls.{view_of, IsOf};
 ghost use Rattle.trace_history.specs.History.{IsLegal};
 ghost use Rattle.trace_book.specs.Bases.{numbers_of};
-ghost use Rattle.trace_workers.specs.Asks.{GoesOn, IsDone, IsRefused, IsUndone};
+ghost use Rattle.trace_book.specs.Asks.{GoesOn, IsDone, IsRefused, IsUndone};
 ghost use Rattle.trace_command.specs.declared.command.Command.{Command};
 ghost use Rattle.trace_command.specs.declared.command.Config.{Config};
 ghost use Rattle.trace_command.specs.declared.refusal.Refusal.TheVariants.{Memory};
 
-use crate::call::ask;
 use std::alloc::Global;
 use std::sync::Wait;
 use ticket_lock::{Pass, TicketLock};
-use trace_book::Book;
+use trace_book::{Book, ask};
 use trace_command::{Command, Refusal, Reply};
 
 /// What asks for a command. A part can keep its commands as lines of a script, and make each of them only when its turn comes.

@@ -3,7 +3,6 @@
 
 mod asked;
 mod block;
-mod call;
 mod fault;
 mod gate;
 mod history;
@@ -13,8 +12,8 @@ mod worker;
 
 pub use asked::Asked;
 pub use block::{run_block, run_block_of};
-pub use call::{ask, ask_emission};
 pub use fault::BlockFault;
 pub use gate::{Gate, OpenGate, Point};
 pub use history::history_of;
 pub use part::Part;
+pub use trace_book::{ask, ask_emission};

@@ -6,11 +6,11 @@ use Rattle.trace_log.specs.HistorySeen.{HistorySeen}
 use Rattle.trace_book.specs.BookSeen.{BookSeen}
 use Rattle.trace_command.specs.declared.command.Entry.{Entry}
 use Rattle.trace_command.specs.declared.command.Reply.TheVariants.{Done}
-use Rattle.trace_book.specs.States.{IsPreparedEmission}
-use Rattle.trace_book.proofs.Alike.{state_alike-stands}
-use Rattle.trace_book.proofs.Usable.{few_from_stands, few_rows_from_stands, usable_from_stands}
-use Rattle.trace_book.proofs.Histories.{length-past_of, past_of-push, answer-done, answer-full, refused-reply, refused-early, late-done, IsLegal-push}
-use Rattle.trace_book.proofs.Stands.{stands_after_emission}
+use Rattle.trace_state.specs.States.{IsPreparedEmission}
+use Rattle.trace_state.proofs.Alike.{state_alike-stands}
+use Rattle.trace_state.proofs.Usable.{few_from_stands, few_rows_from_stands, usable_from_stands}
+use Rattle.trace_state.proofs.Histories.{length-past_of, past_of-push, answer-done, answer-full, refused-reply, refused-early, late-done, IsLegal-push}
+use Rattle.trace_state.proofs.Stands.{stands_after_emission}
 use Rattle.trace_book.proofs.book.Book.ask_any.Goals as goal
 
 pub prepare_emission-requires-clause-usable : goal.prepare_emission-requires-clause-usable

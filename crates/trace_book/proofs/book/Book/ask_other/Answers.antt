@@ -4,11 +4,11 @@ use Rattle.trace_history.specs.History.{past_of}
 use Rattle.trace_log.specs.HistorySeen.{HistorySeen}
 use Rattle.trace_book.specs.BookSeen.{BookSeen}
 use Rattle.trace_command.specs.declared.command.Entry.{Entry}
-use Rattle.trace_book.proofs.Alike.{unchanged-stands}
-use Rattle.trace_book.proofs.Usable.{usable_from_stands}
-use Rattle.trace_book.proofs.Histories.{length-past_of, past_of-push, answer-done, answer-full, refused-reply, refused-early, late-done, IsLegal-push}
-use Rattle.trace_book.proofs.Stands.{stands_after}
-use Rattle.trace_book.proofs.TakenLate.{late_memory-refused, late_memory-full, late_memory-done}
+use Rattle.trace_state.proofs.Alike.{unchanged-stands}
+use Rattle.trace_state.proofs.Usable.{usable_from_stands}
+use Rattle.trace_state.proofs.Histories.{length-past_of, past_of-push, answer-done, answer-full, refused-reply, refused-early, late-done, IsLegal-push}
+use Rattle.trace_state.proofs.Stands.{stands_after}
+use Rattle.trace_state.proofs.TakenLate.{late_memory-refused, late_memory-full, late_memory-done}
 use Rattle.trace_book.proofs.book.Book.ask_other.Goals as goal
 
 pub prepare-requires-clause-usable : goal.prepare-requires-clause-usable

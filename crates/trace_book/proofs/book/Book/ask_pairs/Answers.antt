@@ -1,8 +1,8 @@
 use Rattle.std.proofs.Common.{Err, sym}
 use Rattle.trace_command.specs.Requests.{Request, Emission}
 use Rattle.trace_history.specs.History.{past_of}
-use Rattle.trace_book.specs.States.{IsPreparedEmission}
-use Rattle.trace_book.proofs.Histories.{refused-reply, refused-early}
+use Rattle.trace_state.specs.States.{IsPreparedEmission}
+use Rattle.trace_state.proofs.Histories.{refused-reply, refused-early}
 use Rattle.trace_book.proofs.book.Book.ask_pairs.Goals as goal
 
 pub returns-in_default-borrowed-clause-reply : goal.returns-in_default-borrowed-clause-reply

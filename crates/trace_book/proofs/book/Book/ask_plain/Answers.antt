@@ -6,10 +6,10 @@ use Rattle.trace_history.specs.History.{past_of}
 use Rattle.trace_log.specs.HistorySeen.{HistorySeen}
 use Rattle.trace_book.specs.BookSeen.{BookSeen}
 use Rattle.trace_command.specs.declared.command.Entry.{Entry}
-use Rattle.trace_book.specs.private.Plain.{IsPreparedPlain}
-use Rattle.trace_book.proofs.Usable.{few_from_stands, usable_from_stands}
-use Rattle.trace_book.proofs.Histories.{length-past_of, early-with_room, late-done}
-use Rattle.trace_book.proofs.PlainRuns.{IsRun, answered, can-be-written, plain-run}
+use Rattle.trace_state.specs.Plain.{IsPreparedPlain}
+use Rattle.trace_state.proofs.Usable.{few_from_stands, usable_from_stands}
+use Rattle.trace_state.proofs.Histories.{length-past_of, early-with_room, late-done}
+use Rattle.trace_state.proofs.PlainRuns.{IsRun, answered, can-be-written, plain-run}
 use Rattle.trace_book.proofs.book.Book.ask_plain.Goals as goal
 
 pub prepare_plain-requires-clause-usable : goal.prepare_plain-requires-clause-usable

@@ -2,7 +2,7 @@ use Rattle.std.proofs.Common.{◌≡◌, ℕ, Option, Some, None, is_some, sym, 
 use Rattle.std.specs.Option.{option_map}
 use Rattle.trace_command.specs.FileNames.{bytes_now}
 use Rattle.trace_history.specs.History.{past_of}
-use Rattle.trace_book.proofs.Making.{there-index, found-stands}
+use Rattle.trace_state.proofs.Making.{there-index, found-stands}
 use Rattle.trace_book.proofs.book.Book.instance.Goals as goal
 
 pub returns-in_err-index-clause-there : goal.returns-in_err-index-clause-there

@@ -1,6 +1,6 @@
 use Rattle.std.proofs.Common.{◌∙◌}
 use Rattle.trace_history.specs.History.{past_of}
-use Rattle.trace_book.proofs.MadeNames.{made-name}
+use Rattle.trace_state.proofs.MadeNames.{made-name}
 use Rattle.trace_book.proofs.book.Book.instance_name.Goals as goal
 
 pub returns : goal.returns

@@ -1,5 +1,0 @@
--- Words of private functions and of proofs: no public clause cites them.
-pub mod Emissions
-pub mod Files
-pub mod Found
-pub mod Plain

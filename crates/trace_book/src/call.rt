@@ -1,0 +1,77 @@
+//! One call: a turn at the lock, in which the book runs a command.
+
+ghost use Rattle.std.specs.Prelude.{◌≡◌, Err, IfOk, IfErr};
+ghost use Rattle.ticket_lock.specs.Calls.{view_of, IsOf};
+ghost use Rattle.trace_history.specs.History.{IsLegal};
+ghost use Rattle.trace_book.specs.Bases.{numbers_of};
+ghost use Rattle.trace_book.specs.Asks.{GoesOn, IsDone, IsRefused};
+ghost use Rattle.trace_command.specs.declared.command.Config.{Config};
+
+use crate::book::{Book, let_go};
+use std::sync::Wait;
+use ticket_lock::{Pass, TicketLock, Worn};
+use trace_command::{BorrowedEmission, Command, Refusal, Reply};
+
+/// The answer if no ticket is left. Out of line, so that other calls don't pay for dropping the command.
+#[cold]
+#[inline(never)]
+fn worn_out(worn: Worn<Book>, command: Command) -> (Pass<Book>, Result<Reply, Refusal>)
+    ensures pass { result.0 ≡ worn.pass }
+    ensures answer { result.1 ≡ Err Refusal.Worn }
+{
+    let_go(command);
+    (worn.pass, Err(Refusal::Worn))
+}
+
+/// Takes a turn at the lock, runs a command under the pass's first name, and returns the pass with the answer.
+///
+/// It waits for its turn, and the answer follows from everything done before: a command that is done becomes the history's next entry, a refused one
+/// leaves none. `Worn` exactly if all tickets are drawn; then nothing was run. The lock is held only while the book answers.
+pub fn ask<R: Wait>(
+    rt: &R,
+    lock: &TicketLock<Book>,
+    pass: Pass<Book>,
+    command: Command,
+) -> (Pass<Book>, Result<Reply, Refusal>)
+    requires { IsOf lock.now pass }
+    ensures of { IsOf lock.now result.0 }
+    ensures goes_on { GoesOn (view_of pass) (view_of result.0) }
+    ensures done { IfOk result.1 (IsDone (view_of pass) (view_of result.0) command) }
+    ensures refused { IfErr result.1 (IsRefused (view_of pass) (view_of result.0) command) }
+    ensures legal { (g : Config) → numbers_of g ≡ (view_of pass).base → IsLegal g (view_of pass).seen → IsLegal g (view_of result.0).seen }
+{
+    match lock.acquire(rt, pass) {
+        Ok(mut held) => {
+            let ticket = held.ticket();
+            let by = held.by();
+            let answer = held.value().ask(ticket, by, command);
+            (lock.release(held), answer)
+        }
+        Err(worn) => worn_out(worn, command),
+    }
+}
+
+/// As `ask`, for an emission whose strings are borrowed. It builds no command.
+pub fn ask_emission<R: Wait>(
+    rt: &R,
+    lock: &TicketLock<Book>,
+    pass: Pass<Book>,
+    emission: &BorrowedEmission<'_>,
+) -> (Pass<Book>, Result<Reply, Refusal>)
+    requires { IsOf lock.now pass }
+    ensures of { IsOf lock.now result.0 }
+    ensures goes_on { GoesOn (view_of pass) (view_of result.0) }
+    ensures done { IfOk result.1 (IsDone (view_of pass) (view_of result.0) emission.now) }
+    ensures refused { IfErr result.1 (IsRefused (view_of pass) (view_of result.0) emission.now) }
+    ensures legal { (g : Config) → numbers_of g ≡ (view_of pass).base → IsLegal g (view_of pass).seen → IsLegal g (view_of result.0).seen }
+{
+    match lock.acquire(rt, pass) {
+        Ok(mut held) => {
+            let ticket = held.ticket();
+            let by = held.by();
+            let reply = held.value().ask_emission(ticket, by, emission);
+            (lock.release(held), reply)
+        }
+        Err(worn) => (worn.pass, Err(Refusal::Worn)),
+    }
+}

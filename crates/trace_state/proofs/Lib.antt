@@ -1,0 +1,16 @@
+pub mod RecordBytes
+pub mod PlainRecords
+pub mod EachInstance
+pub mod ReservedEach
+pub mod Stands
+pub mod Usable
+pub mod Alike
+pub mod Histories
+pub mod TakenLate
+pub mod Resolving
+pub mod Emitting
+pub mod Plain
+pub mod PlainRuns
+pub mod MadeNames
+pub mod Making
+pub mod Dispatch

@@ -1,0 +1,145 @@
+use Rattle.std.proofs.Common.{◌≡◌, ◌<◌, ◌≤◌, ℕ, [], All, Ok, Err, Some, length, arith, rules, refl, ap, ◌∙◌, to_z, of_z, w32}
+use Rattle.std.proofs.lemmas.Int.{to_z-of_z}
+use Rattle.trace_format.specs.Rows.{row_of}
+use Rattle.trace_record.specs.Record.{record_size}
+use Rattle.trace_state.specs.private.Emissions.{AreReached, IsAhead}
+use Rattle.trace_state.specs.States.{IsStateAlike, ArePassed}
+use Rattle.trace_state.specs.private.Found.{numbered}
+use Rattle.trace_instance.specs.declared.change.Pending.{Pending}
+use Rattle.trace_state.proofs.Emitting.{named-found, answers-emission, is-emission, ready-emission, fit-at}
+use Rattle.trace_command.specs.Requests.{Emission}
+use Rattle.trace_command.specs.declared.refusal.Refusal.TheVariants.{Memory}
+use Rattle.trace_instance.specs.Deliveries.{CanCountRow}
+use Rattle.trace_state.specs.declared.state.Named.{Named}
+use Rattle.trace_state.specs.declared.state.State.{State}
+use Rattle.trace_state.proofs.Alike.{state_alike-stands}
+use Rattle.trace_instance.proofs.Answering.{done-late}
+use Rattle.trace_state.proofs.state.State.prepare_emission.Goals as goal
+
+-- nothing was changed
+still : (state : State) → IsStateAlike state state
+still state = record {
+  catalog = refl;
+  clock = refl;
+  instances = record {
+    many = refl;
+    names = λ k d inside. refl;
+    came = λ k d inside. record { rest = refl; tables = λ number. refl };
+  };
+}
+
+pub returns-then-cpu-config-clause-alike : goal.returns-then-cpu-config-clause-alike
+returns-then-cpu-config-clause-alike c = still c.args.self.now
+
+pub returns-in_default-clause-alike : goal.returns-in_default-clause-alike
+returns-in_default-clause-alike c = still c.args.self.now
+
+pub returns-in_err-row-clause-alike : goal.returns-in_err-row-clause-alike
+returns-in_err-row-clause-alike c = still c.args.self.now
+
+pub reach_each-reaches-requires-clause-few : goal.reach_each-reaches-requires-clause-few
+reach_each-reaches-requires-clause-few c = rw c.deref.ensures.value c.requires.usable.few_instances
+
+pub reach_each-reaches-requires-clause-enabled : goal.reach_each-reaches-requires-clause-enabled
+reach_each-reaches-requires-clause-enabled c =
+    rw c.deref.ensures.value (λ k d inside. omega (arith, (c.requires.usable.each k d inside).enabled, c.in-Some.ensures.index.inside))
+
+pub reach_each-reaches-requires-clause-filters : goal.reach_each-reaches-requires-clause-filters
+reach_each-reaches-requires-clause-filters c =
+    rw c.deref.ensures.value (λ k d inside. omega (arith, (c.requires.usable.each k d inside).filters, c.in-Some.ensures.index.inside))
+
+pub reach_each-reaches-requires-clause-triggers : goal.reach_each-reaches-requires-clause-triggers
+reach_each-reaches-requires-clause-triggers c =
+    rw c.deref.ensures.value (λ k d inside. omega (arith, (c.requires.usable.each k d inside).triggers, c.in-Some.ensures.index.inside))
+
+pub reserve_hits-requires-clause-few : goal.reserve_hits-requires-clause-few
+reserve_hits-requires-clause-few c = c.requires.usable.few_instances
+
+pub reserve_hits-requires-clause-index : goal.reserve_hits-requires-clause-index
+reserve_hits-requires-clause-index c =
+    λ k d inside. omega (arith, (c.requires.usable.each k d inside).hists, c.in-Some.ensures.index.inside)
+
+pub reserve_hits-requires-clause-agree : goal.reserve_hits-requires-clause-agree
+reserve_hits-requires-clause-agree c =
+    λ k d inside.
+    let usable = c.requires.usable.each k d inside in
+    usable.agree c.in-Some.found.index [] (omega (arith, usable.hists, c.in-Some.ensures.index.inside))
+
+pub returns-in_err-passed-clause-alike : goal.returns-in_err-passed-clause-alike
+returns-in_err-passed-clause-alike c = c.reserve_hits.ensures.alike
+
+pub returns-in_err-pending-clause-alike : goal.returns-in_err-pending-clause-alike
+returns-in_err-pending-clause-alike c = c.reserve_hits.ensures.alike
+
+pub returns-clause-alike : goal.returns-clause-alike
+returns-clause-alike c = c.reserve_hits.ensures.alike
+
+pub write_ahead-requires-clause-early : goal.write_ahead-requires-clause-early
+write_ahead-requires-clause-early c = omega (arith, c.reserve_hits.ensures.alike.clock, c.requires.usable.early)
+
+pub write_ahead-requires-clause-index : goal.write_ahead-requires-clause-index
+write_ahead-requires-clause-index c = omega (arith, c.in-Some.ensures.index.inside, c.requires.usable.few_events)
+
+pub returns-in_err-passed-clause-prepared : goal.returns-in_err-passed-clause-prepared
+returns-in_err-passed-clause-prepared c = λ past stands.
+    let g = c.args.config.now in
+    let name = c.args.name.now in
+    let pairs = c.args.pairs.now in
+    let found = c.in-Some.found in
+    let row = c.in_ok-row.row in
+    let inside : c.args.cpu < g.cpus = omega arith in
+    let built : row_of found.event.now pairs ≡ Ok row = c.in_ok-row.ensures.exact in
+    let out : c.from_residual-in_err-passed.result ≡ Err Memory = search rules in
+    rw out (done-late _ (answers-emission g past name c.args.cpu pairs (numbered found) row inside
+    (named-found g c.args.self.now past name found stands c.in-Some.ensures.named) built))
+
+pub returns-in_err-pending-clause-prepared : goal.returns-in_err-pending-clause-prepared
+returns-in_err-pending-clause-prepared c = λ past stands.
+    let g = c.args.config.now in
+    let name = c.args.name.now in
+    let pairs = c.args.pairs.now in
+    let found = c.in-Some.found in
+    let row = c.in_ok-row.row in
+    let inside : c.args.cpu < g.cpus = omega arith in
+    let built : row_of found.event.now pairs ≡ Ok row = c.in_ok-row.ensures.exact in
+    let out : c.from_residual-in_err-pending.result ≡ Err Memory = search rules in
+    rw out (done-late _ (answers-emission g past name c.args.cpu pairs (numbered found) row inside
+    (named-found g c.args.self.now past name found stands c.in-Some.ensures.named) built))
+
+pub returns-clause-prepared : goal.returns-clause-prepared
+returns-clause-prepared c = λ past stands.
+    let g = c.args.config.now in
+    let old = c.args.self.now in
+    let new = c.reserve_hits.new.self in
+    let alike = c.reserve_hits.ensures.alike in
+    let stands_new = state_alike-stands g old new past alike stands in
+    let name = c.args.name.now in
+    let pairs = c.args.pairs.now in
+    let found = c.in-Some.found in
+    let row = c.in_ok-row.row in
+    let pending = c.in_ok-pending.pending in
+    let inside : c.args.cpu < g.cpus = omega arith in
+    let built : row_of found.event.now pairs ≡ Ok row = c.in_ok-row.ensures.exact in
+    let indexed = c.in-Some.ensures.index in
+    let fit = fit-at g.page_bytes old.catalog name found.index found.event.now c.requires.usable.fit indexed in
+    let pid : to_z w32 (of_z w32 c.args.pid) ≡ c.args.pid = to_z-of_z w32 c.args.pid c.ranges.pid in
+    let reaches = c.reach_each-reaches.result in
+    let are : AreReached found.index row c.args.cpu c.args.pid reaches old.instances.items = rw (pid, c.deref.ensures.value) at c.reach_each-reaches.ensures in
+    let passed = c.in_ok-passed.passed in
+    let known : ArePassed (record { values = row.values; cpu = c.args.cpu; pid = c.args.pid }) found.index passed old.instances.items =
+    rw pid at c.in_ok-passed.ensures.passed in
+    let ahead : IsAhead new found.index row c.args.cpu c.args.pid reaches pending = rw pid at c.in_ok-pending.ensures.ahead in
+    let counted : All (λ (n : Named). CanCountRow (record { values = row.values; cpu = c.args.cpu; pid = c.args.pid }) found.index n.instance) new.instances.items =
+    rw pid at c.in_ok-passed.ensures.counted in
+    let short : (p : Pending) → pending ≡ Some p → length p.bytes.items ≤ g.page_bytes =
+    λ p is.
+    let long = c.in_ok-pending.ensures.length p is in
+    let size = ap (λ (n : ℕ). record_size n) c.payload_size-size.ensures.size in
+    omega (arith, long ∙ size, fit.size) in
+    let emission = is-emission g old new past name c.args.cpu c.args.pid pairs found row reaches passed pending stands c.in-Some.ensures.named indexed built
+    alike are ahead in rw pid (
+      answers-emission g past name c.args.cpu pairs (numbered found) row inside (named-found g old past name found stands c.in-Some.ensures.named) built,
+      emission,
+      ready-emission g old new past (Emission name c.args.cpu c.args.pid pairs) found.index row c.args.cpu c.args.pid reaches passed pending
+          stands_new emission alike inside known counted ahead short,
+    )

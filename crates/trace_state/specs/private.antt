@@ -1,0 +1,5 @@
+-- Words of private functions and of proofs: no public clause cites them.
+pub mod Emissions
+pub mod Files
+pub mod Found
+pub mod PlainBytes

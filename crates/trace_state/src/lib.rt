@@ -1,0 +1,15 @@
+//! The state that a book's commands lead to: the events, the clock and the instances; and running a command on it, in two phases.
+#![tactic(auto)]
+
+mod change;
+mod emission;
+mod make;
+mod memory;
+mod prepare;
+mod resolve;
+mod row;
+mod state;
+
+pub use change::Change;
+pub use memory::EmissionMemory;
+pub use state::{Named, Prepared, State};
