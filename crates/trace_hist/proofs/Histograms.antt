@@ -5,9 +5,11 @@ use Rattle.std.specs.declared.alloc.AllocError.{AllocError}
 use Rattle.std.proofs.lemmas.Result.{on_ok_weaker, on_err_weaker}
 use Rattle.trace_format.specs.Operands.{Emission}
 use Rattle.trace_trigger.specs.HistSpecs.{SpecSeen}
-use Rattle.trace_hist.specs.Hits.{Hit, hit_of}
-use Rattle.trace_hist.specs.Groups.{Table, is_among, grouped}
-use Rattle.trace_hist.specs.Hists.{Seen, In, StandsFor, IsPlaceOf, IsReservedAs, IsReservedForKey, NeedsEntryAs, entry_keys}
+use Rattle.trace_entries.specs.Hits.{Hit, hit_of}
+use Rattle.trace_hist.specs.Groups.{Table, grouped}
+use Rattle.trace_entries.specs.HistEntries.{is_among}
+use Rattle.trace_entries.specs.RowPlaces.{In, IsPlaceOf, entry_keys}
+use Rattle.trace_hist.specs.Hists.{Seen, StandsFor, IsReservedAs, IsReservedForKey, NeedsEntryAs}
 use Rattle.trace_hist.specs.Stored.{seen_of, Kept}
 use Rattle.trace_hist.specs.private.Steps.{AreOf, after_hit}
 use Rattle.trace_hist.proofs.Counting.{stands-after_row, still-place}

@@ -1,13 +1,4 @@
-pub mod BucketLaws
-pub mod BucketLemmas
 pub mod Counting
-pub mod Filling
+pub mod DistinctKeys
 pub mod GroupLaws
 pub mod Histograms
-pub mod Keys
-pub mod Numbers
-pub mod PrintLaws
-pub mod Printing
-pub mod Reserving
-pub mod SumLaws
-pub mod TableLemmas

@@ -1,28 +1,12 @@
 -- What a list of rows comes to in a histogram: an entry for each key, with the count of its rows and their sums (histogram.rst).
 -- All of it is said of the whole list; that it can be kept row by row is proved in proofs/GroupLaws.antt.
-use Rattle.std.specs.Prelude.{ℕ, ℤ, pos, ◌+ℤ◌, Bool, false, not, bytes_eq, List, [], ◌∷◌, length, map, take, replicate, filter}
-use Rattle.std.specs.List.{list_any}
-use Rattle.std.specs.Cmp.Lexicographic.{pointwise}
-use Rattle.std.specs.Ordering.{int_eq}
-use Rattle.trace_format.specs.Cells.{Datum, Whole, Bytes}
+use Rattle.std.specs.Prelude.{ℕ, ℤ, pos, not, List, [], ◌∷◌, length, map, take, replicate, filter}
+use Rattle.trace_format.specs.Cells.{Datum}
 use Rattle.trace_trigger.specs.HistSpecs.{SpecSeen}
-use Rattle.trace_hist.specs.Hits.{Hit}
+use Rattle.trace_entries.specs.Hits.{Hit}
+use Rattle.trace_entries.specs.HistEntries.{Entry, same_key, is_among, added}
 
 -- ---- keys
-
-abbrev pub same_cell : Datum → Datum → Bool
-same_cell (Whole m) (Whole n) = int_eq m n
-same_cell (Whole m) (Bytes c) = false
-same_cell (Bytes b) (Whole n) = false
-same_cell (Bytes b) (Bytes c) = bytes_eq b c
-
--- keys are the same where they have the same cells in the same order
-abbrev pub same_key : List Datum → List Datum → Bool
-same_key left right = pointwise same_cell left right
-
--- whether a key is among others
-abbrev pub is_among : List (List Datum) → List Datum → Bool
-is_among keys key = list_any (same_key key) keys
 
 -- each key once, in order of first occurrence
 abbrev pub distinct : List (List Datum) → List (List Datum)
@@ -41,21 +25,10 @@ admitted size hits = take size (distinct (keys_of hits))
 abbrev pub with_key : List Datum → List Hit → List Hit
 with_key key hits = filter (λ hit. same_key key hit.key) hits
 
--- numbers added one by one
-abbrev pub added : List ℤ → List ℤ → List ℤ
-added [] ns = []
-added (m ∷ ms) [] = m ∷ ms
-added (m ∷ ms) (n ∷ ns) = (m +ℤ n) ∷ added ms ns
-
 -- the sums of the rows' numbers, from sums on
 abbrev pub summed : List ℤ → List Hit → List ℤ
 summed sums [] = sums
 summed sums (hit ∷ hits) = summed (added sums hit.numbers) hits
-
-pub record Entry : Type 0 where
-  pub key : List Datum
-  pub hitcount : ℕ
-  pub sums : List ℤ
 
 -- a key's entry, with so many sums: over all rows that have the key
 abbrev pub entry_of : ℕ → List Hit → List Datum → Entry

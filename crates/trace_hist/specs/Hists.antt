@@ -1,16 +1,12 @@
 -- What a caller sees of a histogram, and when that agrees with a list of rows.
-use Rattle.std.specs.Prelude.{◌≡◌, ℕ, ◌+◌, ◌^◌, ◌<◌, ◌≤◌, ◌≢◌, Bool, false, List, length, map}
+use Rattle.std.specs.Prelude.{◌≡◌, ◌≢◌, ℕ, ◌+◌, ◌<◌, Bool, false, List, length}
 use Rattle.trace_format.specs.Cells.{Datum}
 use Rattle.trace_format.specs.Operands.{Emission}
 use Rattle.trace_trigger.specs.HistSpecs.{SpecSeen}
-use Rattle.trace_hist.specs.Hits.{Hit, hit_of}
-use Rattle.trace_hist.specs.Groups.{Entry, Table, is_among, grouped}
-
--- where the next row will be counted: nothing is reserved; in the entry of a key; in none
-pub data Place : Type 0 where
-  Unknown : Place
-  In : List Datum → Place
-  Nowhere : Place
+use Rattle.trace_entries.specs.Hits.{Hit, hit_of}
+use Rattle.trace_entries.specs.HistEntries.{is_among}
+use Rattle.trace_entries.specs.RowPlaces.{entry_keys, Place, In, IsPlaceOf, most_rows}
+use Rattle.trace_hist.specs.Groups.{Table, grouped}
 
 -- a histogram as contracts see it: its trigger, whether it is paused, its entries and totals, and what was reserved for the next row
 pub record Seen : Type 0 where
@@ -22,16 +18,6 @@ pub record Seen : Type 0 where
 -- its entries and totals are those of the rows
 unfoldable pub StandsFor : Seen → List Hit → Type 0
 StandsFor hist hits = hist.table ≡ grouped hist.spec hits
-
--- the keys that have entries
-abbrev pub entry_keys : List Entry → List (List Datum)
-entry_keys entries = map (λ (entry : Entry). entry.key) entries
-
--- a row with the key is counted there: in the entry of its key, or in none where there is no room for a new one
-abbrev pub IsPlaceOf : Place → ℕ → List Entry → List Datum → Type 0
-IsPlaceOf Unknown size entries key = ⊥
-IsPlaceOf (In other) size entries key = other ≡ key
-IsPlaceOf Nowhere size entries key = (is_among (entry_keys entries) key ≡ false) × (size ≤ length entries)
 
 -- the next row may be counted, as a trigger reads it: all that it needs was reserved. A paused histogram needs nothing
 unfoldable pub IsReservedAs : Seen → SpecSeen → Emission → Type 0
@@ -59,10 +45,6 @@ NeedsEntry hist emission = NeedsEntryAs hist hist.spec emission
 -- how many rows were counted since it was new or cleared
 abbrev pub counted : Seen → ℕ
 counted hist = hist.table.hits + hist.table.dropped
-
--- how many rows it counts at most: 128 bits hold each sum of so many numbers, which have 64
-abbrev pub most_rows : ℕ
-most_rows = 2 ^ 34
 
 -- one row more may be counted
 abbrev pub HasRoom : Seen → Type 0

@@ -1,9 +1,4 @@
-pub mod Buckets
 pub mod Groups
 pub mod Hists
-pub mod Hits
-pub mod Laws
-pub mod Numbers
-pub mod PrintOrder
 pub mod Stored
 pub mod private

@@ -4,23 +4,13 @@
 //! the rows that were counted into it; `specs/Groups.antt` says from scratch what such a list comes to.
 #![tactic(auto)]
 
-mod bucket;
-mod cell;
 mod counts;
-mod entries;
-mod entry;
-mod hints;
 mod hist;
-mod key_cell;
-pub mod laws;
-mod next;
-mod number;
 mod sort;
-mod tally;
 mod totals;
 
-pub use entry::HistRow;
 pub use hist::Hist;
 pub use totals::Totals;
+pub use trace_entries::{HistRow, laws};
 pub use trace_format::Text;
 pub use trace_trigger::{Action, HistSpec, Key, Modifier, SortKey, TriggerFault};

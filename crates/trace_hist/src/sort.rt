@@ -1,46 +1,13 @@
 //! The order in which entries are printed.
 
-ghost use Rattle.std.specs.Prelude.{◌≡◌, map, OnOk, false};
-ghost use Rattle.trace_format.specs.Cells.{datum_of};
-ghost use Rattle.trace_hist.specs.Hits.{field_cell};
-ghost use Rattle.trace_hist.specs.PrintOrder as order;
+ghost use Rattle.std.specs.Prelude.{◌≡◌, ◌≤◌, map, length, take, IfOk, OnOk, false};
+ghost use Rattle.trace_entries.specs.KeptEntries.{entries_in};
+ghost use Rattle.trace_entries.specs.PrintOrder as order;
 
-use crate::entry::HistRow;
-use std::alloc::AllocError;
+use std::alloc::{AllocError, Global};
 use std::cmp::Ordering;
-use trace_format::Value as Cell;
+use trace_entries::{Entries, HistRow, compare_keys, rows_of, sum_at};
 use trace_trigger::{SortRule, SortSource};
-
-fn compare_cells(left: &Cell, right: &Cell) -> Ordering
-    ensures { result ≡ order.datum_cmp (datum_of left.now) (datum_of right.now) }
-{
-    match (left, right) {
-        (Cell::Num(left), Cell::Num(right)) => left.cmp(right),
-        (Cell::Num(_), Cell::Text(_)) => Ordering::Less,
-        (Cell::Text(_), Cell::Num(_)) => Ordering::Greater,
-        (Cell::Text(left), Cell::Text(right)) => left.as_slice().cmp(right.as_slice()),
-    }
-}
-
-/// The cell of a key, where 0 stands for one that isn't there.
-fn compare_keys(left: &[Cell], right: &[Cell], index: usize) -> Ordering
-    ensures { result ≡ order.datum_cmp (field_cell (map datum_of left.now) index)
-        (field_cell (map datum_of right.now) index) }
-{
-    let none = Cell::Num(0);
-    let left = left.get(index).unwrap_or(&none);
-    let right = right.get(index).unwrap_or(&none);
-    compare_cells(left, right)
-}
-
-fn sum_at(sums: &[i128], index: usize) -> i128
-    ensures { result ≡ order.sum_at sums.now index }
-{
-    match sums.get(index) {
-        Some(sum) => *sum,
-        None => 0,
-    }
-}
 
 fn compare_by(source: SortSource, left: &HistRow, right: &HistRow) -> Ordering
     ensures { result ≡ order.directed false source (order.row_in left.now) (order.row_in right.now) }
@@ -77,9 +44,25 @@ fn compare(rules: &[SortRule], left: &HistRow, right: &HistRow) -> Ordering
 }
 
 /// Puts entries into print order.
-pub(crate) fn sort_entries(entries: &mut Vec<HistRow>, rules: &[SortRule]) -> Result<(), AllocError>
+fn sort_entries(entries: &mut Vec<HistRow>, rules: &[SortRule]) -> Result<(), AllocError>
     ensures { OnOk result (order.IsPrintOrder rules.now
         (map order.row_in entries.old.items) (map order.row_in entries.new.items)) }
 {
     entries.sort_by(|left, right| compare(rules, left, right))
+}
+
+/// The first so many entries, in print order.
+pub(crate) fn entries_in_order(
+    alloc: Global,
+    rules: &[SortRule],
+    entries: &Entries,
+    count: usize,
+) -> Result<Vec<HistRow>, AllocError>
+    requires { count ≤ length entries.now.entries }
+    ensures { IfOk result (λ shown. map order.row_in shown.items ≡ order.printed rules.now
+        (take count (entries_in entries.now.entries))) }
+{
+    let mut rows = rows_of(alloc, entries, count)?;
+    sort_entries(&mut rows, rules)?;
+    Ok(rows)
 }

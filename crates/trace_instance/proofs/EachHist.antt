@@ -7,8 +7,9 @@ use Rattle.trace_format.specs.Operands.{Emission}
 use Rattle.trace_hist.specs.Groups.{grouped}
 use Rattle.trace_trigger.specs.HistSpecs.{SpecSeen}
 use Rattle.trace_trigger.specs.declared.key.Key.{Key}
-use Rattle.trace_hist.specs.Hits.{Hit, hit_of, key_cell}
-use Rattle.trace_hist.specs.Hists.{IsPlaceOf, IsReservedAs, IsReservedForKey, Seen, StandsFor, counted, most_rows}
+use Rattle.trace_entries.specs.Hits.{Hit, hit_of, key_cell}
+use Rattle.trace_entries.specs.RowPlaces.{IsPlaceOf, most_rows}
+use Rattle.trace_hist.specs.Hists.{IsReservedAs, IsReservedForKey, Seen, StandsFor, counted}
 use Rattle.trace_trigger.specs.SameSpecs.{is_passed}
 use Rattle.trace_instance.specs.KeptHists.{AreHit, CanCount, HasRoomToCount, IsHit, IsHitIf, KeptTable, KeysAgree, is_passed_at, kept_at, kept_table, passed, row_counted, rows_counted, table_numbered}
 use Rattle.trace_instance.specs.private.Tables.{IsCounted, IsCountedIn}

@@ -14,12 +14,14 @@ use Rattle.trace_command.specs.declared.command.Config.{Config}
 use Rattle.trace_history.specs.Settings.{NumberedEvent, declared_events, event_named, is_enabled, kept_filter, now_of}
 use Rattle.trace_instance.specs.Instances.{InstanceSeen, InstanceStandsFor, TablesFit, kept_trigger, IsUsableInstance}
 use Rattle.std.proofs.lemmas.List.Filters.{length-filter_both}
-use Rattle.trace_hist.specs.Groups.{admitted, grouped, is_among}
+use Rattle.trace_hist.specs.Groups.{admitted, grouped}
+use Rattle.trace_entries.specs.HistEntries.{is_among}
 use Rattle.trace_trigger.specs.HistSpecs.{SpecSeen}
 use Rattle.trace_trigger.specs.HistTexts.{spec_of}
 use Rattle.trace_trigger.proofs.FittingLaws.{fitting_specs_of_one_event_read_alike}
-use Rattle.trace_hist.specs.Hists.{Seen, counted, most_rows}
-use Rattle.trace_hist.specs.Hits.{Hit}
+use Rattle.trace_hist.specs.Hists.{Seen, counted}
+use Rattle.trace_entries.specs.RowPlaces.{most_rows}
+use Rattle.trace_entries.specs.Hits.{Hit}
 use Rattle.trace_history.specs.Emissions.{Emitted, emitted, emitted_event, emitted_row}
 use Rattle.trace_history.specs.History.{IsLegalNewestFirst, requests_of, trigger_count}
 use Rattle.trace_history.specs.HistTriggers.{HistTrigger, asked_by, counted_by, empties, hist_triggers, hists_of, hits_of, is_of, is_paused, those_of}

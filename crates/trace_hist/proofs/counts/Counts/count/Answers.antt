@@ -1,9 +1,9 @@
 use Rattle.std.proofs.Common.{◌≤◌, ◌+◌, map, sym, ap, ◌∙◌, subst, arith}
-use Rattle.trace_hist.specs.Hits.{hit_of, number_at}
-use Rattle.trace_hist.specs.Hists.{most_rows}
-use Rattle.trace_hist.specs.Stored.{entries_in, AreCounted, Kept}
-use Rattle.trace_hist.specs.private.Steps.{counted_at}
-use Rattle.trace_hist.proofs.TableLemmas.{counted-le}
+use Rattle.trace_entries.specs.Hits.{hit_of, number_at}
+use Rattle.trace_entries.specs.RowPlaces.{most_rows}
+use Rattle.trace_entries.specs.KeptEntries.{entries_in, AreCounted, counted_at}
+use Rattle.trace_hist.specs.Stored.{Kept}
+use Rattle.trace_entries.proofs.TableLemmas.{counted-le}
 use Rattle.trace_hist.proofs.Counting.{reserved-at, seen-at, seen-dropped, not-unknown, left-shown, left-size, left-end}
 use Rattle.trace_hist.proofs.counts.Counts.count.Goals as goal
 

@@ -1,9 +1,11 @@
 use Rattle.std.proofs.Common.{◌≡◌, ◌≢◌, false, ℤ, to_z, of_z, sym, ap, ◌∙◌, subst, OnOk, OnErr, rules}
 use Rattle.std.specs.Int.{w32}
 use Rattle.trace_format.specs.Operands.{Emission}
-use Rattle.trace_hist.specs.Groups.{is_among, grouped}
-use Rattle.trace_hist.specs.Hits.{hit_of}
-use Rattle.trace_hist.specs.Hists.{Seen, In, StandsFor, IsPlaceOf, entry_keys}
+use Rattle.trace_entries.specs.HistEntries.{is_among}
+use Rattle.trace_entries.specs.RowPlaces.{In, IsPlaceOf, entry_keys}
+use Rattle.trace_hist.specs.Groups.{grouped}
+use Rattle.trace_entries.specs.Hits.{hit_of}
+use Rattle.trace_hist.specs.Hists.{Seen, StandsFor}
 use Rattle.trace_hist.proofs.Histograms.{paused-reserved, told-reserved, told-unchanged, told-needed}
 use Rattle.trace_hist.proofs.hist.Hist.reserve_hit_as.Goals as goal
 

@@ -1,7 +1,7 @@
 use Rattle.std.proofs.Common.{◌≡◌, map, ap, ◌∙◌, IfOk, rules}
 use Rattle.std.proofs.lemmas.Result.{IfOk-weaker}
 use Rattle.trace_hist.specs.Hists.{Seen, StandsFor}
-use Rattle.trace_hist.specs.PrintOrder.{row_in, printed}
+use Rattle.trace_entries.specs.PrintOrder.{row_in, printed}
 use Rattle.trace_hist.proofs.hist.Hist.rows.Goals as goal
 
 pub returns-clause-rows : goal.returns-clause-rows

@@ -1,0 +1,10 @@
+pub mod BucketLaws
+pub mod BucketLemmas
+pub mod Filling
+pub mod Keys
+pub mod Numbers
+pub mod PrintLaws
+pub mod Printing
+pub mod Reserving
+pub mod SumLaws
+pub mod TableLemmas

@@ -1,0 +1,31 @@
+use Rattle.std.proofs.Common.{◌≡◌, map, slice_get, Some, rules}
+use Rattle.std.specs.Map.{values_of}
+use Rattle.trace_entries.specs.RowPlaces.{most_rows}
+use Rattle.trace_entries.specs.Hits.{number_at}
+use Rattle.trace_entries.proofs.TableLemmas.{tally-counted, counted_at-is, counted-more, distinct-is}
+use Rattle.trace_entries.proofs.entries.count_row.Goals as goal
+
+pub count-requires-clause-hitcount : goal.count-requires-clause-hitcount
+count-requires-clause-hitcount c =
+    let at : Some c.in-Some.tally.now ≡ slice_get (values_of c.args.entries.now.entries) c.args.index = search rules in
+    (tally-counted most_rows c.args.entries.now.entries c.args.index c.in-Some.tally.now at c.requires.counted).0
+
+pub count-requires-clause-sums : goal.count-requires-clause-sums
+count-requires-clause-sums c =
+    let at : Some c.in-Some.tally.now ≡ slice_get (values_of c.args.entries.now.entries) c.args.index = search rules in
+    (tally-counted most_rows c.args.entries.now.entries c.args.index c.in-Some.tally.now at c.requires.counted).1
+
+pub returns-clause-entries : goal.returns-clause-entries
+returns-clause-entries c =
+    let at : Some c.in-Some.tally.now ≡ slice_get (values_of c.args.entries.now.entries) c.args.index = search rules in
+    counted_at-is (map (number_at c.args.emission.now) c.args.operands.now) c.args.entries.now.entries c.args.index c.in-Some.tally.now c.count.new.self at
+    c.count.ensures.hitcount c.count.ensures.sums
+
+pub returns-clause-counted : goal.returns-clause-counted
+returns-clause-counted c = λ rows h.
+    let at : Some c.in-Some.tally.now ≡ slice_get (values_of c.args.entries.now.entries) c.args.index = search rules in
+    counted-more rows (map (number_at c.args.emission.now) c.args.operands.now) c.args.entries.now.entries c.args.index c.in-Some.tally.now at
+    (c.count.ensures.within rows) h
+
+pub returns-clause-distinct : goal.returns-clause-distinct
+returns-clause-distinct c = distinct-is c.args.entries.now.entries c.get_index_mut.ensures.unique

@@ -1,0 +1,9 @@
+pub mod Buckets
+pub mod HistEntries
+pub mod Hits
+pub mod KeptEntries
+pub mod Laws
+pub mod Numbers
+pub mod PrintOrder
+pub mod RowPlaces
+pub mod private
