@@ -43,7 +43,6 @@ pub enum Action {
 }
 
 /// What a hist trigger says.
-#[derive(Drop)]
 pub struct HistSpec {
     // The name of its table.
     pub(crate) name: Option<Text>,
@@ -57,6 +56,23 @@ pub struct HistSpec {
     pub(crate) value_sources: Vec<Operand>,
     // What the sort keys mean, in order.
     pub(crate) sort_sources: Vec<SortRule>,
+}
+
+impl Drop for HistSpec {
+    // Not derived, so that no crate above proves the drops of its parts.
+    fn drop(self) {
+        let HistSpec {
+            name: _,
+            keys: _,
+            values: _,
+            sort: _,
+            size: _,
+            action: _,
+            filter: _,
+            value_sources: _,
+            sort_sources: _,
+        } = self;
+    }
 }
 
 impl Model for HistSpec {
