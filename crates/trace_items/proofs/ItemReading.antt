@@ -31,6 +31,15 @@ past_end (line ∷ lines) number any = past_line (is_end line) line lines number
 
 -- ---- the first item
 
+-- a line that begins a part, if an `end` follows it, is `parallel`
+pub is_parallel : (line : List ℕ) (read : Result Line ScriptFault) → read ≡ line_of line → begins_with read ≡ true → Ok Parallel ≡ line_of line
+is_parallel line (Ok Blank) says begins = absurd cc
+is_parallel line (Ok (Ask command)) says begins = absurd cc
+is_parallel line (Ok Parallel) says begins = says
+is_parallel line (Ok Thread) says begins = absurd cc
+is_parallel line (Ok End) says begins = absurd cc
+is_parallel line (Err fault) says begins = absurd cc
+
 -- a line that begins no part
 single_taken : (number : ℕ) (line : List ℕ) (read : Result Line ScriptFault) (lines : List (List ℕ)) → begins_with read ≡ false
     → taken_at number line read lines ≡ record { item = Single number line; behind = 0 }

@@ -1,8 +1,8 @@
 -- Reads one behind the other.
-use Rattle.std.proofs.Common.{◌≡◌, ℕ, ◌-◌, ◌<◌, ◌≤◌, List, [], ◌++◌, length, Option, Some, None, IfSome, refl, ap, sym, ◌∙◌, arith, append_assoc, length-append}
+use Rattle.std.proofs.Common.{◌≡◌, ℕ, ◌-◌, ◌<◌, ◌≤◌, ◌⊎◌, List, [], ◌++◌, length, Option, Some, None, IfSome, inl, inr, refl, ap, subst, sym, ◌∙◌, arith, append_assoc, length-append}
 use Rattle.std.proofs.lemmas.List.{append-nil}
 use Rattle.std.specs.Io.KnownBytes.{Consumes, IsAtEnd}
-use Rattle.trace_items.specs.Sources.{ConsumesAtMost}
+use Rattle.trace_items.specs.Sources.{ConsumesAtMost, HasRisen}
 
 pub Consumes_append : (a b c : Option (List ℕ)) (xs ys : List ℕ) → Consumes a b xs → Consumes b c ys → Consumes a c (xs ++ ys)
 Consumes_append None b c xs ys p q = tt
@@ -28,3 +28,16 @@ Consumes_long (Some us) (Some bs) xs n p h = omega (arith, ap length p, length-a
 pub ConsumesAtMost_append : (a b c : Option (List ℕ)) (xs : List ℕ) (most : ℕ) → Consumes a b xs → length xs ≤ most → ConsumesAtMost (most - length xs) b c
     → ConsumesAtMost most a c
 ConsumesAtMost_append a b c xs most p h q = (xs ++ q.0, simp length-append (omega (arith, h, q.1)), Consumes_append a b c xs q.0 p q.2)
+
+-- more is left than there is room for after what was consumed: there was too much
+Consumes_longer : (a b : Option (List ℕ)) (xs : List ℕ) (most : ℕ) → Consumes a b xs → length xs ≤ most → IfSome b (λ bytes. most - length xs < length bytes)
+    → IfSome a (λ bytes. most < length bytes)
+Consumes_longer None b xs most p h q = tt
+Consumes_longer (Some us) None xs most p h q = absurd p
+Consumes_longer (Some us) (Some bs) xs most p h q = omega (arith, ap length p, length-append xs bs, q, h)
+
+-- why a device stopped the reads is the same from their beginning
+pub device_since : (a b : Option (List ℕ)) (xs : List ℕ) (most first before after : ℕ) → Consumes a b xs → length xs ≤ most → before ≡ first
+    → (HasRisen before after ⊎ IfSome b (λ bytes. most - length xs < length bytes)) → HasRisen first after ⊎ IfSome a (λ bytes. most < length bytes)
+device_since a b xs most first before after p h same (inl risen) = inl (subst (λ (n : ℕ). HasRisen n after) same risen)
+device_since a b xs most first before after p h same (inr long) = inr (Consumes_longer a b xs most p h long)

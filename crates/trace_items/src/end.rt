@@ -22,7 +22,9 @@ fn is_end(alloc: Global, line: &[u8]) -> Result<bool, AllocError>
     let Ok(said) = read_line(alloc, line) else {
         return Err(AllocError);
     };
-    Ok(ends(&said))
+    let is_end = ends(&said);
+    drop(said);
+    Ok(is_end)
 }
 
 /// Whether a line `end` is among the lines that are left.

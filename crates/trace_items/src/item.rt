@@ -1,8 +1,9 @@
 //! The items of a script, read one after the other: a line by itself, or a whole part.
 
-ghost use Rattle.std.specs.Prelude.{◌≡◌, ℕ, List, true, ◌+◌, ◌-◌, ◌<◌, ◌≤◌, ◌^◌, ◌∷◌, length, IfOk};
+ghost use Rattle.std.specs.Prelude.{◌≡◌, ℕ, List, ◌+◌, ◌-◌, ◌<◌, ◌≤◌, ◌^◌, ◌∷◌, length, IfOk, Ok};
 ghost use Rattle.std.specs.Option.{option_copied};
 ghost use Rattle.trace_script.specs.Lines.{line_of};
+ghost use Rattle.trace_script.specs.declared.line.Line.TheVariants.{Parallel};
 ghost use Rattle.trace_items.specs.Items.{items_from};
 ghost use Rattle.trace_items.specs.NextItems.{item_read, begins_with, IsSaid, HasFaultLine, HasItsText};
 ghost use Rattle.trace_items.specs.PartReads.{item_of, HasItsLine};
@@ -73,14 +74,12 @@ fn part_or_line<'a>(
     number: usize,
     text: &'a [u8],
     line: &'a [u8],
-    said: Result<Line, ScriptFault>,
     after: Option<&'a [u8]>,
 ) -> Result<NextItem<'a>, AllocError>
     requires room { number + length text.now < 2 ^ 63 - 1 }
     requires lines { lines_of text.now ≡ line.now ∷ lines_left (option_copied after) }
     requires shorter { bytes_left (option_copied after) ≤ length text.now }
-    requires says { said ≡ line_of line.now }
-    requires begins { begins_with said ≡ true }
+    requires says { Ok Parallel ≡ line_of line.now }
     ensures read { IfOk result (λ next. items_from number 0 (lines_of text.now)
         ≡ item_read number next.item ∷ items_from next.number 0 (lines_left (option_copied next.rest))) }
     ensures said { IfOk result (λ next. IsSaid next.item) }
@@ -96,7 +95,10 @@ fn part_or_line<'a>(
             rest: read.rest,
         }),
         None => Ok(NextItem {
-            item: ItemRead::Line { line, said },
+            item: ItemRead::Line {
+                line,
+                said: Ok(Line::Parallel),
+            },
             number: number + 1,
             rest: after,
         }),
@@ -127,7 +129,8 @@ pub fn next_item<'a>(
         return Err(AllocError);
     };
     if begins(&said) {
-        return part_or_line(alloc, number, text, line, said, after);
+        drop(said);
+        return part_or_line(alloc, number, text, line, after);
     }
     Ok(NextItem {
         item: ItemRead::Line { line, said },

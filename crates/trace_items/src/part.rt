@@ -1,6 +1,6 @@
 //! A part of a script: its lines are read, and the first of its faults is found, before any of its commands is asked.
 
-ghost use Rattle.std.specs.Prelude.{◌≡◌, ◌+◌, ◌<◌, ◌≤◌, ◌^◌, ◌∷◌, ◌++◌, [], length, List, ℕ, IfOk, IfSome, OnOk, IsErrOf, None, false};
+ghost use Rattle.std.specs.Prelude.{◌≡◌, ◌+◌, ◌<◌, ◌≤◌, ◌^◌, ◌∷◌, ◌++◌, [], length, List, ℕ, IfOk, IfSome, OnOk, None, false};
 ghost use Rattle.std.specs.List.{list_any};
 ghost use Rattle.std.specs.Option.{option_copied};
 ghost use Rattle.trace_script.specs.Lines.{line_of};
@@ -11,7 +11,6 @@ ghost use Rattle.trace_items.specs.ScriptLines.{lines_left, bytes_left};
 use crate::end::has_end;
 use crate::part_line::PartLine;
 use crate::script::first_line;
-use crate::stop::Stop;
 use std::alloc::{AllocError, Global};
 use std::snapshot::Snapshot;
 use trace_command::Command;
@@ -54,14 +53,13 @@ pub struct PartRead<'a> {
 const MOST_THREADS: usize = 8;
 
 /// What a line asks for, or its fault.
-pub(crate) fn read_line(alloc: Global, line: &[u8]) -> Result<Result<Line, ScriptFault>, Stop>
+pub(crate) fn read_line(alloc: Global, line: &[u8]) -> Result<Result<Line, ScriptFault>, AllocError>
     ensures read { IfOk result (λ read. read ≡ line_of line.now) }
-    ensures err { IsErrOf result Stop.Device → ⊥ }
 {
     match prepare(alloc, line) {
         Ok(line) => Ok(Ok(line)),
         Err(LineError::Fault(fault)) => Ok(Err(fault)),
-        Err(LineError::Memory) => Err(Stop::Memory),
+        Err(LineError::Memory) => Err(AllocError),
     }
 }
 
@@ -98,9 +96,11 @@ fn next_fault(
 }
 
 /// Adds a command's line to the last of some threads.
-fn add_command<'a>(threads: &mut Vec<Vec<PartLine<'a>>>, asked: PartLine<'a>) -> Result<(), Stop>
+fn add_command<'a>(
+    threads: &mut Vec<Vec<PartLine<'a>>>,
+    asked: PartLine<'a>,
+) -> Result<(), AllocError>
     ensures added { OnOk result (commands_in threads.new.items ≡ with_more (commands_in threads.old.items) (asked_of asked.entry ∷ []) []) }
-    ensures err { IsErrOf result Stop.Device → ⊥ }
 {
     let Some(mut own) = threads.pop() else {
         return Ok(());
@@ -111,9 +111,8 @@ fn add_command<'a>(threads: &mut Vec<Vec<PartLine<'a>>>, asked: PartLine<'a>) ->
 }
 
 /// Begins one more thread.
-fn add_thread(alloc: Global, threads: &mut Vec<Vec<PartLine<'_>>>) -> Result<(), Stop>
+fn add_thread(alloc: Global, threads: &mut Vec<Vec<PartLine<'_>>>) -> Result<(), AllocError>
     ensures added { OnOk result (commands_in threads.new.items ≡ commands_in threads.old.items ++ [] ∷ []) }
-    ensures err { IsErrOf result Stop.Device → ⊥ }
 {
     let own = Vec::new(alloc);
     threads.push(own)?;
@@ -127,10 +126,9 @@ fn add_line<'a>(
     number: usize,
     line: &'a [u8],
     said: Result<Line, ScriptFault>,
-) -> Result<(), Stop>
+) -> Result<(), AllocError>
     requires { said ≡ line_of line.now }
     ensures added { OnOk result (commands_in threads.new.items ≡ with_line number said (commands_in threads.old.items)) }
-    ensures err { IsErrOf result Stop.Device → ⊥ }
 {
     match said {
         Ok(Line::Ask(command)) => {
@@ -139,6 +137,7 @@ fn add_line<'a>(
                 line,
                 command: Snapshot::of(&command),
             };
+            drop(command);
             add_command(threads, asked)
         }
         Ok(Line::Thread) => add_thread(alloc, threads),
@@ -154,22 +153,28 @@ fn read_next<'a>(
     number: usize,
     line: &'a [u8],
     said: Result<Line, ScriptFault>,
-) -> Result<Part<'a>, Stop>
+) -> Result<Part<'a>, AllocError>
     requires { said ≡ line_of line.now }
     ensures reads { IfOk result (λ next. (lines : List (List ℕ))
         → comes_to (Threads (commands_in threads.entry.items)) number (line.now ∷ lines) ≡ comes_to (item_of next) (number + 1) lines) }
     ensures line { IfOk result (λ next. (first : ℕ) (all : List (List ℕ)) → IsLineAt first all number line.now → HasItsLine first all next) }
-    ensures err { IsErrOf result Stop.Device → ⊥ }
 {
     match next_fault(&threads, &said) {
-        Some(fault) => Ok(Part::Fault {
-            at: FaultAt { number, fault },
-            line,
-        }),
-        None => {
-            add_line(alloc, &mut threads, number, line, said)?;
-            Ok(Part::Threads(threads))
+        Some(fault) => {
+            drop(threads);
+            drop(said);
+            Ok(Part::Fault {
+                at: FaultAt { number, fault },
+                line,
+            })
         }
+        None => match add_line(alloc, &mut threads, number, line, said) {
+            Ok(()) => Ok(Part::Threads(threads)),
+            Err(error) => {
+                drop(threads);
+                Err(error)
+            }
+        },
     }
 }
 
@@ -180,17 +185,19 @@ fn read_on<'a>(
     number: usize,
     line: &'a [u8],
     said: Result<Line, ScriptFault>,
-) -> Result<Part<'a>, Stop>
+) -> Result<Part<'a>, AllocError>
     requires { said ≡ line_of line.now }
     ensures reads { IfOk result (λ next. (lines : List (List ℕ))
         → comes_to (item_of reading.entry) number (line.now ∷ lines) ≡ comes_to (item_of next) (number + 1) lines) }
     ensures line { IfOk result (λ next. (first : ℕ) (all : List (List ℕ)) → IsLineAt first all number line.now
         → HasItsLine first all reading.entry → HasItsLine first all next) }
-    ensures err { IsErrOf result Stop.Device → ⊥ }
 {
     match reading {
         Part::Threads(threads) => read_next(alloc, threads, number, line, said),
-        Part::Fault { at, line } => Ok(Part::Fault { at, line }),
+        Part::Fault { at, line } => {
+            drop(said);
+            Ok(Part::Fault { at, line })
+        }
     }
 }
 
@@ -219,9 +226,11 @@ pub fn read_part<'a>(
     while let Some(here) = rest {
         let (line, after) = first_line(here);
         let Ok(said) = read_line(alloc, line) else {
+            drop(part);
             return Err(AllocError);
         };
         if ends(&said) {
+            drop(said);
             return Ok(Some(PartRead {
                 part,
                 lines,
