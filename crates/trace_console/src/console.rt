@@ -81,15 +81,15 @@ impl Console {
         ensures { ComesTo (after_command command self.old) self.old self.new }
     {
         let Some(next) = self.done.checked_add(1) else {
-            self.last = Outcome::Refused(Refusal::Memory);
-            return;
+            drop(command);
+            return self.tell(Outcome::Refused(Refusal::Memory));
         };
         match self.book.ask(self.done, CALLER, command) {
             Ok(reply) => {
                 self.done = next;
-                self.last = Outcome::Replied(reply);
+                self.tell(Outcome::Replied(reply));
             }
-            Err(refusal) => self.last = Outcome::Refused(refusal),
+            Err(refusal) => self.tell(Outcome::Refused(refusal)),
         }
     }
 
@@ -99,15 +99,14 @@ impl Console {
         ensures { ComesTo (after_command emission.now self.old) self.old self.new }
     {
         let Some(next) = self.done.checked_add(1) else {
-            self.last = Outcome::Refused(Refusal::Memory);
-            return;
+            return self.tell(Outcome::Refused(Refusal::Memory));
         };
         match self.book.ask_emission(self.done, CALLER, emission) {
             Ok(reply) => {
                 self.done = next;
-                self.last = Outcome::Replied(reply);
+                self.tell(Outcome::Replied(reply));
             }
-            Err(refusal) => self.last = Outcome::Refused(refusal),
+            Err(refusal) => self.tell(Outcome::Refused(refusal)),
         }
     }
 
