@@ -70,15 +70,22 @@ fn push_files_of_all_events(out: &mut Vec<u8>, instance: &[u8]) -> Result<(), Al
     )
 }
 
+/// A folder, as bytes: those before its name, the name and a slash.
+fn folder_of(alloc: Global, before: &[u8], name: &[u8]) -> Result<Vec<u8>, AllocError>
+    ensures { IfOk result (λ folder. folder.items ≡ before.now ++ name.now ++ codes "/") }
+{
+    let mut folder = Vec::from_slice(alloc, before)?;
+    folder.extend_from_slice(name)?;
+    folder.push(b'/')?;
+    Ok(folder)
+}
+
 /// The folder of an event.
 #[tactic(auto, unfolding(crate::specs::Files::event_folder))]
 fn event_folder(alloc: Global, event: &[u8]) -> Result<Vec<u8>, AllocError>
     ensures { IfOk result (λ folder. folder.items ≡ event_folder event.now) }
 {
-    let mut folder = Vec::from_slice(alloc, b"events/synthetic/".as_slice())?;
-    folder.extend_from_slice(event)?;
-    folder.push(b'/')?;
-    Ok(folder)
+    folder_of(alloc, b"events/synthetic/".as_slice(), event)
 }
 
 /// Appends the lines of the files of an event.
@@ -148,10 +155,12 @@ fn push_events(
 fn cpu_folder(alloc: Global, cpu: u32) -> Result<Vec<u8>, AllocError>
     ensures { IfOk result (λ folder. folder.items ≡ cpu_folder cpu) }
 {
-    let mut folder = Vec::from_slice(alloc, b"per_cpu/cpu".as_slice())?;
-    folder.extend_from_slice(Buffer::new().format(cpu).as_bytes())?;
-    folder.push(b'/')?;
-    Ok(folder)
+    let mut digits = Buffer::new();
+    folder_of(
+        alloc,
+        b"per_cpu/cpu".as_slice(),
+        digits.format(cpu).as_bytes(),
+    )
 }
 
 /// Appends the lines of the files of a CPU.
@@ -185,10 +194,7 @@ fn push_cpus(alloc: Global, out: &mut Vec<u8>, instance: &[u8], cpus: u32) -> Re
 fn instance_folder(alloc: Global, instance: &[u8]) -> Result<Vec<u8>, AllocError>
     ensures { IfOk result (λ folder. folder.items ≡ instance_folder instance.now) }
 {
-    let mut folder = Vec::from_slice(alloc, b"instances/".as_slice())?;
-    folder.extend_from_slice(instance)?;
-    folder.push(b'/')?;
-    Ok(folder)
+    folder_of(alloc, b"instances/".as_slice(), instance)
 }
 
 impl Names {

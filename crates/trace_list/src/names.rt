@@ -1,6 +1,6 @@
 //! The names of the events and instances that there are.
 
-ghost use Rattle.std.specs.Prelude.{◌≡◌, IfOk, OnOk, OnErr};
+ghost use Rattle.std.specs.Prelude.{◌≡◌, ◌++◌, ◌∷◌, [], IfOk, OnOk, OnErr};
 ghost use Rattle.trace_command.specs.Requests.{request_of};
 ghost use Rattle.trace_list.specs.Names.{after_hearing, after_making, after_removing, after_request, declares, index_of, no_names, with_event, with_event_name, with_instance};
 
@@ -34,6 +34,16 @@ fn index_of(name: &[u8], names: &[Text]) -> Option<usize>
     ensures { result ≡ index_of name.now names.now }
 {
     names.iter().position(|other| other.as_bytes() == name)
+}
+
+/// Adds a name to others.
+fn push_name(alloc: Global, names: &mut Vec<Text>, name: &[u8]) -> Result<(), AllocError>
+    ensures ok { OnOk result (names.new.items ≡ names.old.items ++ name.now ∷ []) }
+    ensures err { OnErr result (names.new.items ≡ names.old.items) }
+{
+    let name = Text::from_slice(alloc, name)?;
+    names.push(name)?;
+    Ok(())
 }
 
 /// The event that a command declares, if it declares one.
@@ -71,9 +81,7 @@ impl Names {
         ensures ok { OnOk result (self.new ≡ with_event_name name.now self.old) }
         ensures err { OnErr result (self.new ≡ self.old) }
     {
-        let name = Text::from_slice(self.alloc, name)?;
-        self.events.push(name)?;
-        Ok(())
+        push_name(self.alloc, &mut self.events, name)
     }
 
     /// Adds an instance of this name.
@@ -81,9 +89,7 @@ impl Names {
         ensures ok { OnOk result (self.new ≡ with_instance name.now self.old) }
         ensures err { OnErr result (self.new ≡ self.old) }
     {
-        let name = Text::from_slice(self.alloc, name)?;
-        self.instances.push(name)?;
-        Ok(())
+        push_name(self.alloc, &mut self.instances, name)
     }
 
     fn make(&mut self, name: &[u8]) -> Result<(), AllocError>
@@ -104,13 +110,12 @@ impl Names {
         ensures err { OnErr result (self.new ≡ self.old) }
     {
         match index_of(name, &self.instances) {
-            Some(index) => drop(self.instances.remove(index)),
-            None => {
-                let name = Text::from_slice(self.alloc, name)?;
-                self.gone.push(name)?;
+            Some(index) => {
+                drop(self.instances.remove(index));
+                Ok(())
             }
+            None => push_name(self.alloc, &mut self.gone, name),
         }
-        Ok(())
     }
 
     /// Notes the event that a command declares, if it declares one.
