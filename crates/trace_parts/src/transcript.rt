@@ -54,10 +54,11 @@ fn add_outcome(
 fn add_told(is_told: bool, one: OutcomeAt, outcomes: &mut Vec<OutcomeAt>) -> Result<(), AllocError>
     ensures { OnOk result (outcomes.new.items ≡ outcomes.old.items ++ told_if is_told (one ∷ [])) }
 {
-    if is_told {
-        outcomes.push(one)?;
+    if !is_told {
+        drop(one);
+        return Ok(());
     }
-    Ok(())
+    Ok(outcomes.push(one)?)
 }
 
 /// An empty list with room for the outcomes of all these commands, if somebody is told: a list that grows holds its elements twice while they are
@@ -121,7 +122,10 @@ impl Transcript {
     {
         self.is_refused |= reply.is_err();
         let outcome = replied(reply)?;
-        add_outcome(alloc, number, &outcome, &mut self.text)?;
+        if add_outcome(alloc, number, &outcome, &mut self.text).is_err() {
+            drop(outcome);
+            return Err(AllocError);
+        }
         add_told(is_told, OutcomeAt { number, outcome }, &mut self.outcomes)
     }
 
