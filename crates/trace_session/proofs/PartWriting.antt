@@ -1,5 +1,5 @@
 -- How what is written for the threads of a part is put together.
-use Rattle.std.proofs.Common.{◌≡◌, ℕ, ◌+◌, ◌<◌, Bool, true, false, ◌||◌, if◌then◌else◌, Option, Some, Ok, Err, Vec, List, [], ◌∷◌, ◌++◌, drop, get_or, is_err, length, map, All, Result, refl, sym, ap, subst, ◌∙◌, arith, append_assoc}
+use Rattle.std.proofs.Common.{◌≡◌, ℕ, ◌+◌, ◌<◌, Bool, false, ◌||◌, if◌then◌else◌, Option, Some, Ok, Err, Vec, List, [], ◌∷◌, ◌++◌, drop, get_or, is_err, length, map, All, Result, refl, sym, ap, subst, ◌∙◌, arith, append_assoc}
 use Rattle.std.proofs.Math.Bool.{or_assoc}
 use Rattle.std.proofs.lemmas.List.{drop_more, map-append}
 use Rattle.std.proofs.lemmas.List.Elements.{All-cons}

@@ -18,36 +18,6 @@ use trace_items::Stop;
 use trace_script::{EmissionHead, Line, Outcome, ScriptFault};
 use trace_workers::{ask, ask_emission};
 
-/// Runs an emission whose strings are borrowed. If all tickets are drawn, which no script can reach, the session stops as if out of memory. A refusal
-/// found before anything is allocated is the outcome even if memory is refused.
-#[inline(always)]
-#[tactic(auto, using(crate::proofs::EarlyRefusals::memory_is_late, crate::proofs::EarlyRefusals::all_drawn))]
-fn ask_borrowed<R: Wait>(
-    rt: &R,
-    lock: &TicketLock<Book>,
-    pass: Pass<Book>,
-    emission: &BorrowedEmission<'_>,
-) -> (Pass<Book>, Result<Option<Outcome>, Stop>)
-    requires { IsOf lock.now pass }
-    ensures of { IsOf lock.now result.0 }
-    ensures session { (g : Config) → IsSessionPass g (view_of pass) → IsSessionPass g (view_of result.0) }
-    ensures turn { IfOk result.1 (λ outcome. (g : Config) → IsSessionPass g (view_of pass)
-        → answered (progress_of (view_of pass)) emission.now (answer_to g (view_of pass).seen emission.now)
-        ≡ record { outcome = outcome; progress = progress_of (view_of result.0) }) }
-    ensures faultless { IfOk result.1 (λ outcome. is_fault outcome ≡ false) }
-    ensures early { IsErrOf result.1 Stop.Memory → (g : Config) → IsSessionPass g (view_of pass)
-        → IsRefusedEarly g (view_of pass) emission.now → IsWorn (view_of pass) (view_of result.0) }
-    ensures device { IsErrOf result.1 Stop.Device → ⊥ }
-    ensures stopped { IsErrOf result.1 Stop.Stopped → ⊥ }
-{
-    let (pass, answer) = ask_emission(rt, lock, pass, emission);
-    match answer {
-        Ok(reply) => (pass, Ok(Some(Outcome::Replied(reply)))),
-        Err(Refusal::Worn | Refusal::Memory) => (pass, Err(Stop::Memory)),
-        Err(refusal) => (pass, Ok(Some(Outcome::Refused(refusal)))),
-    }
-}
-
 /// The outcome of a line that is no command.
 #[tactic(auto, unfolding(crate::specs::Sessions::turn_of))]
 fn outcome_unasked(said: &Result<Line, ScriptFault>) -> Option<Outcome>
@@ -107,7 +77,7 @@ pub(crate) fn ask_line<R: Wait>(
 
 /// As `ask_line`, for an emission with these words and pairs. It builds no command. It is inlined, so that its answer is not moved.
 #[inline(always)]
-#[tactic(auto, unfolding(crate::specs::Sessions::turn_of))]
+#[tactic(auto, using(crate::proofs::EarlyRefusals::memory_is_late, crate::proofs::EarlyRefusals::all_drawn), unfolding(crate::specs::Sessions::turn_of))]
 pub(crate) fn ask_emission_line<R: Wait>(
     rt: &R,
     lock: &TicketLock<Book>,
@@ -130,5 +100,10 @@ pub(crate) fn ask_emission_line<R: Wait>(
     ensures stopped { IsErrOf result.1 Stop.Stopped → ⊥ }
 {
     let emission = BorrowedEmission::new(head.event, head.cpu, head.pid, pairs);
-    ask_borrowed(rt, lock, pass, &emission)
+    let (pass, answer) = ask_emission(rt, lock, pass, &emission);
+    match answer {
+        Ok(reply) => (pass, Ok(Some(Outcome::Replied(reply)))),
+        Err(Refusal::Worn | Refusal::Memory) => (pass, Err(Stop::Memory)),
+        Err(refusal) => (pass, Ok(Some(Outcome::Refused(refusal)))),
+    }
 }

@@ -136,19 +136,11 @@ fn do_script<R: Threads + Wait + Sync, W: Sink, G: Gate + Sync>(
 {
     let mut replies = Replies::new(env.alloc)?;
     match do_items(env, pass, script, &mut replies, writer) {
-        Ok(status) => {
-            replies.flush(writer)?;
-            Ok(status)
-        }
-        Err(Stop::Memory) => {
-            replies.flush(writer)?;
-            Err(Stop::Memory)
-        }
-        Err(Stop::Stopped) => {
-            replies.flush(writer)?;
-            Err(Stop::Stopped)
-        }
         Err(Stop::Device) => Err(Stop::Device),
+        ran => {
+            replies.flush(writer)?;
+            ran
+        }
     }
 }
 
@@ -170,7 +162,6 @@ fn new_book(alloc: Global, config: Config) -> Result<(TicketLock<Book>, Pass<Boo
 }
 
 /// The session, or why it stopped.
-#[tactic(auto, using(crate::proofs::Standing::nothing_begun, crate::proofs::Standing::nothing_begun_front))]
 fn attempt<T: Threads + Wait + Sync, R: Source, W: Sink, G: Gate + Sync>(
     rt: &T,
     alloc: Global,

@@ -138,7 +138,7 @@ fn do_line<R: Wait, W: Sink, G>(
 }
 
 /// Runs a part, and writes its output once all its commands have run. The string begins with the part's first line, which has this number.
-#[tactic(auto, using(crate::proofs::Hearing::told_in_order, crate::proofs::Hearing::hears_told))]
+#[tactic(auto, using(crate::proofs::Hearing::told_in_order))]
 fn do_part<R: thread::Threads + Wait + Sync, W: Sink, G: Gate + Sync>(
     env: &Environment<'_, R, G>,
     pass: Pass<Book>,

@@ -1,38 +1,80 @@
-use Rattle.trace_session.proofs.Standing.{session_flushed, begun_flushed, stopped_flushed, begun_cut, stopped_cut, session_cut}
+use Rattle.std.proofs.Common.{rules, ◌≢◌, List, ℕ, Option, Result, Ok, Err, IfOk, IsErrOf, refl, ap, sym, ◌∙◌, ◌≡◌}
+use Rattle.std.proofs.lemmas.Result.{err_from_is_err_and}
+use Rattle.ticket_lock.specs.Calls.{view_of}
+use Rattle.trace_command.specs.declared.command.Config.{Config}
+use Rattle.trace_items.specs.declared.stop.Stop.{Stop}
+use Rattle.trace_items.specs.declared.stop.Stop.TheVariants.{Memory, Device, Stopped}
+use Rattle.trace_session.specs.Devices.{AppendsFront}
+use Rattle.trace_session.specs.Fronts.{PassesSession, PassesBegun, PassesStopped, AppendsBegunFront}
+use Rattle.trace_session.specs.Passes.{IsSessionPass}
+use Rattle.trace_session.specs.declared.status.Status.{Status}
+use Rattle.trace_session.proofs.Standing.{begun_flushed, begun_cut, stopped_cut, session_cut}
 use Rattle.trace_session.proofs.session.do_script.Goals as goal
 
-pub returns-in_err-flush-in-Ok-clause-device : goal.returns-in_err-flush-in-Ok-clause-device
-returns-in_err-flush-in-Ok-clause-device g c h config seat =
-    let contents = g.W.Sink.contents in
-    session_cut config c.args.script.now c.in-Ok.status (contents c.args.writer.now) (contents c.do_items.new.writer) (contents c.flush.new.writer) c.do_items.new.replies
-    (c.in-Ok.ensures.ok config seat) c.in_err-flush-in-Ok.ensures.failed.1
+-- why a call failed is why the session did
+moved : {T : Type 0} (call : Result T Stop) (ran : Result Status Stop) (before after stop : Stop) → call ≡ Err before → ran ≡ Err after → after ≡ before → IsErrOf ran stop
+    → IsErrOf call stop
+moved call ran before after stop was came same is =
+    let told : ran ≡ Err stop = is in
+    let one : stop ≡ before = cc in
+    was ∙ ap (λ (x : Stop). Err x) (sym one)
 
-pub returns-in_err-flush-in-Err-Memory-clause-device : goal.returns-in_err-flush-in-Err-Memory-clause-device
-returns-in_err-flush-in-Err-Memory-clause-device g c h config seat =
-    let contents = g.W.Sink.contents in
-    begun_cut config c.args.script.now (contents c.args.writer.now) (contents c.do_items.new.writer) (contents c.flush-in-Err-Memory.new.writer) c.do_items.new.replies
-    (c.in-Err-Memory.ensures.memory (cc) config seat) c.in_err-flush-in-Err-Memory.ensures.failed.1
+cut : (ran : Result Status Stop) (seated : Config → Type 0) (script : List ℕ) (before now new : Option (List ℕ)) (waiting : List ℕ) → ran ≢ Err Device
+    → IfOk ran (λ status. (config : Config) → seated config → PassesSession config script status before now waiting)
+    → (IsErrOf ran Memory → (config : Config) → seated config → PassesBegun config script before now waiting)
+    → (IsErrOf ran Stopped → (config : Config) → seated config → PassesStopped config script before now waiting)
+    → AppendsFront now new waiting → (config : Config) → seated config → AppendsBegunFront config script before new
+cut (Ok status) seated script before now new waiting not ok memory stopped more config seat = session_cut config script status before now new waiting (ok config seat) more
+cut (Err Memory) seated script before now new waiting not ok memory stopped more config seat = begun_cut config script before now new waiting (memory refl config seat) more
+cut (Err Stopped) seated script before now new waiting not ok memory stopped more config seat = stopped_cut config script before now new waiting (stopped refl config seat) more
+cut (Err Device) seated script before now new waiting not ok memory stopped more config seat = absurd (not refl)
 
-pub returns-in_err-flush-in-Err-Stopped-clause-device : goal.returns-in_err-flush-in-Err-Stopped-clause-device
-returns-in_err-flush-in-Err-Stopped-clause-device g c h config seat =
+pub returns-in_err-flush-in_default-clause-device : goal.returns-in_err-flush-in_default-clause-device
+returns-in_err-flush-in_default-clause-device g c h =
     let contents = g.W.Sink.contents in
-    stopped_cut config c.args.script.now (contents c.args.writer.now) (contents c.do_items.new.writer) (contents c.flush-in-Err-Stopped.new.writer) c.do_items.new.replies
-    (c.in-Err-Stopped.ensures.stopped (cc) config seat) c.in_err-flush-in-Err-Stopped.ensures.failed.1
+    let ran = c.do_items.ensures in
+    cut c.do_items.result (λ (config : Config). IsSessionPass config (view_of c.args.pass)) c.args.script.now (contents c.args.writer.now) (contents c.do_items.new.writer) (contents c.flush.new.writer)
+    c.do_items.new.replies (search rules)
+    ran.ok ran.memory ran.stopped c.in_err-flush-in_default.ensures.failed.1
 
-pub returns-in-Ok-clause-ok : goal.returns-in-Ok-clause-ok
-returns-in-Ok-clause-ok g c config seat =
+pub returns-clause-memory : goal.returns-clause-memory
+returns-clause-memory g c h config seat =
     let contents = g.W.Sink.contents in
-    session_flushed config c.args.script.now c.in-Ok.status (contents c.args.writer.now) (contents c.do_items.new.writer) (contents c.flush.new.writer) c.do_items.new.replies
-    (c.in-Ok.ensures.ok config seat) c.in_ok-flush-in-Ok.ensures.bytes
+    begun_flushed config c.args.script.now (contents c.args.writer.now) (contents c.do_items.new.writer) (contents c.flush.new.writer) c.do_items.new.replies
+    (c.do_items.ensures.memory (search rules) config seat)
+    c.in_ok-flush-in_default.ensures.bytes
 
-pub returns-in-Err-Memory-clause-memory : goal.returns-in-Err-Memory-clause-memory
-returns-in-Err-Memory-clause-memory g c h config seat =
-    let contents = g.W.Sink.contents in
-    begun_flushed config c.args.script.now (contents c.args.writer.now) (contents c.do_items.new.writer) (contents c.flush-in-Err-Memory.new.writer) c.do_items.new.replies
-    (c.in-Err-Memory.ensures.memory (cc) config seat) c.in_ok-flush-in-Err-Memory.ensures.bytes
+pub returns-in_err-flush-in_default-clause-ok : goal.returns-in_err-flush-in_default-clause-ok
+returns-in_err-flush-in_default-clause-ok g c =
+    let p = err_from_is_err_and c.from_residual-in_err-flush-in_default.result c.from_residual-in_err-flush-in_default.ensures.1 in
+    rw p.1 tt
 
-pub returns-in-Err-Stopped-clause-stopped : goal.returns-in-Err-Stopped-clause-stopped
-returns-in-Err-Stopped-clause-stopped g c h config seat =
-    let contents = g.W.Sink.contents in
-    stopped_flushed config c.args.script.now (contents c.args.writer.now) (contents c.do_items.new.writer) (contents c.flush-in-Err-Stopped.new.writer) c.do_items.new.replies
-    (c.in-Err-Stopped.ensures.stopped (cc) config seat) c.in_ok-flush-in-Err-Stopped.ensures.bytes
+pub returns-in_err-flush-in_default-clause-whole : goal.returns-in_err-flush-in_default-clause-whole
+returns-in_err-flush-in_default-clause-whole g c =
+    let p = err_from_is_err_and c.from_residual-in_err-flush-in_default.result c.from_residual-in_err-flush-in_default.ensures.1 in
+    rw p.1 tt
+
+pub returns-in_err-flush-in_default-clause-failures : goal.returns-in_err-flush-in_default-clause-failures
+returns-in_err-flush-in_default-clause-failures g c =
+    let p = err_from_is_err_and c.from_residual-in_err-flush-in_default.result c.from_residual-in_err-flush-in_default.ensures.1 in
+    rw p.1 tt
+
+pub returns-in_err-flush-in_default-clause-memory : goal.returns-in_err-flush-in_default-clause-memory
+returns-in_err-flush-in_default-clause-memory g c is =
+    let p = err_from_is_err_and c.from_residual-in_err-flush-in_default.result c.from_residual-in_err-flush-in_default.ensures.1 in
+    absurd (c.flush.ensures.err (moved c.flush.result c.from_residual-in_err-flush-in_default.result _ p.0 Memory c.in_err-flush-in_default.was p.1 p.2 is))
+
+pub returns-in_err-flush-in_default-clause-unfailed : goal.returns-in_err-flush-in_default-clause-unfailed
+returns-in_err-flush-in_default-clause-unfailed g c is =
+    let p = err_from_is_err_and c.from_residual-in_err-flush-in_default.result c.from_residual-in_err-flush-in_default.ensures.1 in
+    absurd (c.flush.ensures.err (moved c.flush.result c.from_residual-in_err-flush-in_default.result _ p.0 Memory c.in_err-flush-in_default.was p.1 p.2 is))
+
+pub returns-in_err-flush-in_default-clause-stopped : goal.returns-in_err-flush-in_default-clause-stopped
+returns-in_err-flush-in_default-clause-stopped g c is =
+    let p = err_from_is_err_and c.from_residual-in_err-flush-in_default.result c.from_residual-in_err-flush-in_default.ensures.1 in
+    absurd (c.flush.ensures.stopped (moved c.flush.result c.from_residual-in_err-flush-in_default.result _ p.0 Stopped c.in_err-flush-in_default.was p.1 p.2 is))
+
+pub returns-in_err-flush-in_default-clause-unwritten : goal.returns-in_err-flush-in_default-clause-unwritten
+returns-in_err-flush-in_default-clause-unwritten g c is =
+    let p = err_from_is_err_and c.from_residual-in_err-flush-in_default.result c.from_residual-in_err-flush-in_default.ensures.1 in
+    absurd (c.flush.ensures.stopped (moved c.flush.result c.from_residual-in_err-flush-in_default.result _ p.0 Stopped c.in_err-flush-in_default.was p.1 p.2 is))
