@@ -1,5 +1,6 @@
 -- Filters that are written: of one event, and of all.
-use Rattle.std.proofs.Common.{◌≡◌, ◌≢◌, ℕ, ◌<◌, Bool, true, false, cond, List, [], ◌∷◌, length, map, get_or, Option, Some, None, Result, Ok, Err, refl, sym, ap, ◌∙◌, subst, arith}
+use Rattle.std.proofs.Common.{◌≡◌, ◌≢◌, ℕ, ◌+◌, ◌<◌, Bool, true, false, ◌||◌, cond, List, [], ◌∷◌, ◌++◌, length, map, drop, get_or, append_assoc, Option, Some, None, Result, Ok, Err, refl, sym, ap, ◌∙◌, subst, arith}
+use Rattle.std.proofs.lemmas.List.{at_drop_more}
 use Rattle.std.specs.List.{list_any}
 use Rattle.trace_filter.specs.declared.fault.FilterFault.{FilterFault}
 use Rattle.trace_filter.specs.declared.fault.FilterFault.TheVariants as filter_fault
@@ -165,3 +166,20 @@ pub changed-map : (f : Definition → FilterChange) (h : Definition → Option P
     → changed_filters (map f events) (map h events) ≡ map (λ (e : Definition). changed_filter (f e) (h e)) events
 changed-map f h [] = refl
 changed-map f h (event ∷ events) = let rest = changed-map f h events in cc
+
+-- ---- the changes so far
+
+-- one more is pushed
+pub map-step : {X Y : Type 0} (f : X → Y) (xs : List X) (i : ℕ) (x : X) (done new all : List Y) → i < length xs → x ≡ get_or xs i x
+    → new ≡ done ++ f x ∷ [] → done ++ map f (drop i xs) ≡ all → new ++ map f (drop (i + 1) xs) ≡ all
+map-step {X} {Y} f xs i x done new all inside here pushed was =
+    ap (λ (l : List Y). l ++ map f (drop (i + 1) xs)) pushed ∙ append_assoc done (f x ∷ []) (map f (drop (i + 1) xs))
+    ∙ ap (λ (l : List Y). done ++ l) (ap (λ (y : X). f y ∷ map f (drop (i + 1) xs)) here ∙ sym (at_drop_more (map f) xs i x inside))
+    ∙ was
+
+-- one more passes, or not
+pub any-step : {X : Type 0} (p : X → Bool) (xs : List X) (i : ℕ) (x : X) (some all : Bool) → i < length xs → x ≡ get_or xs i x
+    → (some || list_any p (drop i xs)) ≡ all → ((some || p x) || list_any p (drop (i + 1) xs)) ≡ all
+any-step p xs i x true all inside here was = was
+any-step {X} p xs i x false all inside here was =
+    ap (λ (y : X). p y || list_any p (drop (i + 1) xs)) here ∙ sym (at_drop_more (list_any p) xs i x inside) ∙ was

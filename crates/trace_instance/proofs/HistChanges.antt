@@ -217,6 +217,11 @@ pub with-tables : (tables : Vec Table) (new : List Table) → length new ≡ vec
     → take (vec_len tables) (new ++ drop (length new) tables.items) ≡ new
 with-tables tables new many = take_at new _ _ many
 
+-- and triggers
+pub with-triggers : (triggers : Vec (Option Trigger)) (new : List (Option Trigger)) → length new ≡ vec_len triggers
+    → take (vec_len triggers) (new ++ drop (length new) triggers.items) ≡ new
+with-triggers triggers new many = take_at new _ _ many
+
 -- those of its event have counted it
 pub offered_one : (d : Delivery) (value old : InstanceSeen) (read : List AttachedHist) (tables : List Table) → old ≡ value → d.event < length value.hists
     → read ≡ get_or old.hists d.event read → AreHit (row_of d) read old.tables tables → IsOffered d value (record old { tables = tables })

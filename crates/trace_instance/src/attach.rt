@@ -64,7 +64,11 @@ impl<'a> EventTriggers<'a> {
             TriggerText::Remove if self.snapshot.is_some() => Ok(TriggerChange::Detach),
             TriggerText::Remove => Err(Refusal::NoSuchTrigger),
             TriggerText::Hist(spec) => self.asked(alloc, event, written, spec),
-            TriggerText::RemoveHist(spec) => self.removed(written, &spec),
+            TriggerText::RemoveHist(spec) => {
+                let change = self.removed(written, &spec);
+                drop(spec);
+                change
+            }
         }
     }
 
@@ -77,11 +81,16 @@ impl<'a> EventTriggers<'a> {
         ensures change { attaching.IsAttached trigger self.entry written.entry result }
         ensures memory { IfErr result (λ r. r ≢ Refusal.Memory) }
     {
+        let attached = Trigger::new(written.number, trigger);
         if self.snapshot.is_some() {
+            drop(attached);
             return Err(Refusal::TriggerExists);
         }
-        self.check_room(written.append)?;
-        Ok(TriggerChange::Attach(Trigger::new(written.number, trigger)))
+        if let Err(refusal) = self.check_room(written.append) {
+            drop(attached);
+            return Err(refusal);
+        }
+        Ok(TriggerChange::Attach(attached))
     }
 
     // A hist trigger: the string's action on the table of the matching one, or a new one if none matches.
@@ -95,13 +104,19 @@ impl<'a> EventTriggers<'a> {
         requires said { said_of event.now written.text.now ≡ Ok (said.Hist spec) }
         ensures { attaching.IsAsked spec event.now self.entry written.entry result }
     {
+        let action = spec.action();
         if let Some(index) = self.position(written.append, &spec) {
-            return asked_again(self.hists.as_slice()[index].table, spec.action());
+            drop(spec);
+            return asked_again(self.hists.as_slice()[index].table, action);
         }
-        if !attaches(spec.action()) {
+        if !attaches(action) {
+            drop(spec);
             return Err(Refusal::NoSuchTrigger);
         }
-        self.check_room(written.append)?;
+        if let Err(refusal) = self.check_room(written.append) {
+            drop(spec);
+            return Err(refusal);
+        }
         match self.named_by(written.append, &spec) {
             Some(other) => joined(alloc, written, spec, other),
             None => made(alloc, event, written, spec),
@@ -189,6 +204,7 @@ fn joined(
     ensures { attaching.IsJoinedChange written.entry.number spec other.now result }
 {
     if !spec.fits(&other.spec) {
+        drop(spec);
         return Err(Refusal::TriggerExists);
     }
     let attached = AttachedHist {
@@ -199,7 +215,7 @@ fn joined(
     Ok(TriggerChange::AttachHist(Box::new(alloc, attached)?))
 }
 
-// A hist trigger with a table of its own. The table keeps the specification as well, so the string is parsed once more.
+// A hist trigger with a table of its own. The table keeps the specification as well, so the string is parsed once more, which only memory can refuse.
 fn made(
     alloc: Global,
     event: &EventDef,
@@ -209,8 +225,9 @@ fn made(
     requires said { said_of event.now written.text.now ≡ Ok (said.Hist spec) }
     ensures { attaching.IsMadeChange written.entry.number spec result }
 {
-    let TriggerText::Hist(again) = TriggerText::parse(alloc, written.text, event)? else {
-        unreachable!();
+    let Ok(again) = HistSpec::parse(alloc, written.text, event) else {
+        drop(spec);
+        return Err(Refusal::Memory);
     };
     let made = NewHist {
         attached: AttachedHist {
@@ -218,7 +235,7 @@ fn made(
             table: written.number,
             spec,
         },
-        hist: Hist::new(alloc, again)?,
+        hist: Hist::new(alloc, again).unwrap(),
     };
     Ok(TriggerChange::MakeHist(Box::new(alloc, made)?))
 }

@@ -111,9 +111,13 @@ impl EventHists {
     pub(crate) fn named_by(&self, spec: &HistSpec) -> Option<&AttachedHist>
         ensures { option_copied result ≡ find (sharing.names_table_of spec.now) self.now }
     {
-        self.hists
-            .iter()
-            .find(|attached| attached.is_named_by(spec))
+        for i in 0..self.hists.len() {
+            let attached = &self.hists[i];
+            if attached.is_named_by(spec) {
+                return Some(attached);
+            }
+        }
+        None
     }
 
     /// Whether any of them counts in the table with this number.
@@ -138,7 +142,10 @@ impl EventHists {
         ensures attached { OnOk result (self.new ≡ (if append then self.old else []) ++ attached ∷ []) }
         ensures refused { OnErr result (self.new ≡ self.old) }
     {
-        self.hists.reserve(1)?;
+        if let Err(refused) = self.hists.reserve(1) {
+            drop(attached);
+            return Err(refused);
+        }
         if !append {
             self.hists.clear();
         }
@@ -151,7 +158,7 @@ impl EventHists {
         requires { index < length self.old }
         ensures { self.new ≡ remove self.old index }
     {
-        let _removed = self.hists.remove(index);
+        drop(self.hists.remove(index));
     }
 
     // Which triggers' filters a row passes.

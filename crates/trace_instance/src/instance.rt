@@ -2,7 +2,7 @@
 
 mod delivery;
 
-ghost use Rattle.std.specs.Prelude.{◌≡◌, ◌%◌, ◌≤◌, ◌<◌, true, false, not, is_some, None, if◌then◌else◌, List, [], length, slice_index_or, option_copied, replicate, IfOk, OnOk, OnErr};
+ghost use Rattle.std.specs.Prelude.{◌≡◌, ◌%◌, ◌≤◌, ◌<◌, true, false, not, is_some, None, if◌then◌else◌, List, [], length, slice_index_or, slice_set, option_copied, replicate, IfOk, OnOk, OnErr};
 ghost use Rattle.std.specs.List.{list_all, list_any};
 ghost use Rattle.page_ring.specs.Events as event;
 ghost use Rattle.trace_buffer.specs.Buffers as buffers;
@@ -301,13 +301,16 @@ impl Instance {
         match change {
             TriggerChange::Keep => self.hists[event].keep(append),
             TriggerChange::Attach(trigger) => {
-                self.sides.arm()?;
+                if let Err(refused) = self.sides.arm() {
+                    drop(trigger);
+                    return Err(refused);
+                }
                 self.hists[event].keep(append);
-                self.triggers[event] = Some(trigger);
+                put(&mut self.triggers, event, Some(trigger));
             }
             TriggerChange::Detach => {
                 self.hists[event].keep(append);
-                self.triggers[event] = None;
+                put(&mut self.triggers, event, None);
             }
             TriggerChange::AttachHist(attached) => self.join(event, append, attached)?,
             TriggerChange::MakeHist(made) => self.make(event, append, made)?,
@@ -353,6 +356,14 @@ impl Instance {
         self.tables.insert(0, Table { number, hist }).unwrap();
         Ok(())
     }
+}
+
+// Puts a snapshot trigger, or none, in the place of an event's.
+fn put(triggers: &mut [Option<Trigger>], event: usize, trigger: Option<Trigger>)
+    requires { event < length triggers.old }
+    ensures { triggers.new ≡ slice_set triggers.old event trigger }
+{
+    triggers[event] = trigger;
 }
 
 // Changes each event's filter.

@@ -1,6 +1,6 @@
 //! Reads of the files of an instance.
 
-ghost use Rattle.std.specs.Prelude.{◌≡◌, ℕ, ◌+◌, ◌<◌, ◌≤◌, List, [], length, map, slice_index_or, Option, Some, None, IfOk, IfSome};
+ghost use Rattle.std.specs.Prelude.{◌≡◌, ℕ, ◌+◌, ◌<◌, ◌≤◌, List, [], length, map, slice_index_or, Option, Some, None, IfOk, IfSome, OnOk};
 ghost use Rattle.trace_command.specs.Requests.{Request};
 ghost use Rattle.trace_command.specs.Paths as paths;
 ghost use Rattle.trace_command.specs.declared.command.Config.{Config};
@@ -70,10 +70,10 @@ pub fn read_file(
         return Err(Refusal::BadValue);
     }
     let text = match file {
-        File::OfInstance(file) => text_of_instance(alloc, source, file)?,
-        File::OfCpu(cpu, file) => text_of_cpu(alloc, source, cpu, file)?,
-        File::OfEvent(event, file) => text_of_event(alloc, source, event, file)?,
-    };
+        File::OfInstance(file) => text_of_instance(alloc, source, file),
+        File::OfCpu(cpu, file) => text_of_cpu(alloc, source, cpu, file),
+        File::OfEvent(event, file) => text_of_event(alloc, source, event, file),
+    }?;
     Ok(Shown {
         change: InstanceChange::Keep,
         reply: Reply::Text(text),
@@ -144,6 +144,16 @@ fn text_of_event(
     }
 }
 
+// The bytes that were written, as a string, if none was refused memory.
+fn built(written: Result<(), AllocError>, out: Vec<u8>) -> Result<Text, AllocError>
+    ensures { (text : List ℕ) → OnOk written (out.items ≡ text) → IfOk result (λ shown. shown ≡ text) }
+{
+    match written {
+        Ok(()) => Ok(Text::from(out)),
+        Err(refused) => Err(refused),
+    }
+}
+
 // The trace of one CPU or of all.
 #[tactic(auto, unfolding(trace_history::specs::FileTexts::shown_trace))]
 fn trace(alloc: Global, source: FileSource<'_>, cpu: Option<u32>) -> Result<Text, AllocError>
@@ -153,14 +163,14 @@ fn trace(alloc: Global, source: FileSource<'_>, cpu: Option<u32>) -> Result<Text
         → IfOk result (λ text. text ≡ file_texts.shown_trace g name past cpu) }
 {
     let mut out = Vec::new(alloc);
-    trace_text(
+    let written = trace_text(
         alloc,
         source.catalog,
         source.instance.buffer(),
         cpu,
         &mut out,
-    )?;
-    Ok(Text::from(out))
+    );
+    built(written, out)
 }
 
 #[tactic(auto, unfolding(trace_history::specs::FileTexts::cpu_stats_text))]
@@ -171,8 +181,8 @@ fn stats(alloc: Global, source: FileSource<'_>, cpu: u32) -> Result<Text, AllocE
         → IfOk result (λ text. text ≡ file_texts.cpu_stats_text g name past cpu) }
 {
     let mut out = Vec::new(alloc);
-    stats_text(alloc, source.instance.stats(cpu), source.clock, &mut out)?;
-    Ok(Text::from(out))
+    let written = stats_text(alloc, source.instance.stats(cpu), source.clock, &mut out);
+    built(written, out)
 }
 
 fn format(alloc: Global, catalog: &Catalog, event: usize) -> Result<Text, AllocError>
@@ -182,8 +192,8 @@ fn format(alloc: Global, catalog: &Catalog, event: usize) -> Result<Text, AllocE
         ≡ texts.format_text (event + 1) (slice_index_or catalog.now event d)) }
 {
     let mut out = Vec::new(alloc);
-    format_text(alloc, event as u16 + 1, event_at(catalog, event), &mut out)?;
-    Ok(Text::from(out))
+    let written = format_text(alloc, event as u16 + 1, event_at(catalog, event), &mut out);
+    built(written, out)
 }
 
 // What the spare side holds.
@@ -194,8 +204,8 @@ fn snapshot(alloc: Global, source: FileSource<'_>) -> Result<Text, AllocError>
         → IfOk result (λ text. text ≡ file_texts.shown_snapshot g name past) }
 {
     let mut out = Vec::new(alloc);
-    snapshot_text(alloc, source.catalog, source.instance.sides(), &mut out)?;
-    Ok(Text::from(out))
+    let written = snapshot_text(alloc, source.catalog, source.instance.sides(), &mut out);
+    built(written, out)
 }
 
 // The triggers of an event, in the order in which they were attached.
@@ -213,8 +223,8 @@ fn triggers(alloc: Global, instance: &Instance, event: usize) -> Result<Text, Al
         instance.hists(event).as_slice(),
     )?;
     let mut out = Vec::new(alloc);
-    trigger_text(alloc, &shown, &mut out)?;
-    Ok(Text::from(out))
+    let written = trigger_text(alloc, &shown, &mut out);
+    built(written, out)
 }
 
 // The hist triggers of an event with their entries and totals.
@@ -226,8 +236,8 @@ fn histograms(alloc: Global, instance: &Instance, event: usize) -> Result<Text, 
 {
     let shown = shown_hists(alloc, instance.tables(), instance.hists(event).as_slice())?;
     let mut out = Vec::new(alloc);
-    hist_text(alloc, &shown, &mut out)?;
-    Ok(Text::from(out))
+    let written = hist_text(alloc, &shown, &mut out);
+    built(written, out)
 }
 
 /// The declarations of all events, one on each line.

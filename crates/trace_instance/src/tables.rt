@@ -105,5 +105,10 @@ pub(crate) fn keep_used(tables: &mut Vec<Table>, hists: &[EventHists])
 fn is_used(hists: &[EventHists], number: u64) -> bool
     ensures { result ≡ kept.is_used number hists.now }
 {
-    hists.iter().any(|of_event| of_event.uses(number))
+    for i in 0..hists.len() {
+        if hists[i].uses(number) {
+            return true;
+        }
+    }
+    false
 }

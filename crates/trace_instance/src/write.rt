@@ -1,6 +1,6 @@
 //! Writes to the files of an instance.
 
-ghost use Rattle.std.specs.Prelude.{◌≡◌, ◌≢◌, ℕ, ◌≤◌, ◌<◌, Bool, List, [], length, map, Option, Some, None, true, if◌then◌else◌, IfOk, IfErr, OnOk, Ok};
+ghost use Rattle.std.specs.Prelude.{◌≡◌, ◌≢◌, ℕ, ◌≤◌, ◌<◌, Bool, List, [], length, map, Option, Some, None, true, IfOk, IfErr, OnOk, Ok};
 ghost use Rattle.std.specs.List.{list_any};
 ghost use Rattle.trace_format.specs.Catalogs.{AreEvents};
 ghost use Rattle.trace_command.specs.Paths as paths;
@@ -15,10 +15,9 @@ ghost use Rattle.trace_history.specs.Settings as settings;
 ghost use Rattle.trace_history.specs.Settings.{declared_events};
 ghost use Rattle.trace_instance.specs.Changes.{change_of, is_set};
 ghost use Rattle.trace_instance.specs.FileAnswers.{IsWriteChange};
-ghost use Rattle.trace_instance.specs.private.Commands.{IsWrittenFilter, needed_flag};
+ghost use Rattle.trace_instance.specs.private.Commands.{IsWrittenFilter};
 ghost use Rattle.trace_instance.specs.Files.{HasEvent, IsThere, file_at, name_at};
 ghost use Rattle.trace_instance.specs.Instances.{InstanceStandsFor};
-ghost use Rattle.trace_instance.specs.declared.change.InstanceChange.TheVariants as change;
 
 use crate::attach::EventTriggers;
 use crate::change::{FilterChange, InstanceChange};
@@ -80,12 +79,31 @@ fn change_of_instance(
 {
     let WrittenText { text, append, .. } = written;
     match file {
-        TopFile::Trace => Ok(cleared(append, InstanceChange::Clear)),
-        TopFile::Overwrite => Ok(InstanceChange::SetOverwrite(needed(written_flag(text))?)),
-        TopFile::TraceOptions => Ok(InstanceChange::SetOverwrite(needed(written_option(text))?)),
-        TopFile::TracingOn => Ok(InstanceChange::SetTracing(needed(written_tracing(text))?)),
+        // Any string empties the rings, unless it is appended.
+        TopFile::Trace => {
+            if append {
+                Ok(InstanceChange::Keep)
+            } else {
+                Ok(InstanceChange::Clear)
+            }
+        }
+        TopFile::Overwrite => match written_flag(text) {
+            Some(flag) => Ok(InstanceChange::SetOverwrite(flag)),
+            None => Err(Refusal::BadValue),
+        },
+        TopFile::TraceOptions => match written_option(text) {
+            Some(flag) => Ok(InstanceChange::SetOverwrite(flag)),
+            None => Err(Refusal::BadValue),
+        },
+        TopFile::TracingOn => match written_tracing(text) {
+            Some(flag) => Ok(InstanceChange::SetTracing(flag)),
+            None => Err(Refusal::BadValue),
+        },
         TopFile::Snapshot => written_snapshot(instance, text),
-        TopFile::EventsEnable => Ok(InstanceChange::SwitchAll(needed(written_flag(text))?)),
+        TopFile::EventsEnable => match written_flag(text) {
+            Some(flag) => Ok(InstanceChange::SwitchAll(flag)),
+            None => Err(Refusal::BadValue),
+        },
         TopFile::EventsFilter => written_filters(alloc, catalog, text),
         _ => Err(Refusal::NotWritable),
     }
@@ -98,7 +116,13 @@ fn change_of_cpu(cpu: u32, file: CpuFile, append: bool) -> Result<InstanceChange
     ensures memory { IfErr result (λ r. r ≢ Refusal.Memory) }
 {
     match file {
-        CpuFile::Trace => Ok(cleared(append, InstanceChange::ClearCpu(cpu))),
+        CpuFile::Trace => {
+            if append {
+                Ok(InstanceChange::Keep)
+            } else {
+                Ok(InstanceChange::ClearCpu(cpu))
+            }
+        }
         _ => Err(Refusal::NotWritable),
     }
 }
@@ -123,15 +147,20 @@ fn change_of_event(
 {
     let WrittenText { text, append, .. } = written;
     match file {
-        EventFile::Enable => Ok(InstanceChange::Switch(event, needed(written_flag(text))?)),
-        EventFile::Filter => {
-            let filter = written_filter(alloc, text, event_at(catalog, event))?;
-            Ok(InstanceChange::SetFilter(event, filter))
-        }
+        EventFile::Enable => match written_flag(text) {
+            Some(flag) => Ok(InstanceChange::Switch(event, flag)),
+            None => Err(Refusal::BadValue),
+        },
+        EventFile::Filter => match written_filter(alloc, text, event_at(catalog, event)) {
+            Ok(filter) => Ok(InstanceChange::SetFilter(event, filter)),
+            Err(refusal) => Err(refusal),
+        },
         EventFile::Trigger => {
             let triggers = EventTriggers::of(instance, event);
-            let change = triggers.written(alloc, event_at(catalog, event), written)?;
-            Ok(InstanceChange::Triggers(event, append, change))
+            match triggers.written(alloc, event_at(catalog, event), written) {
+                Ok(change) => Ok(InstanceChange::Triggers(event, append, change)),
+                Err(refusal) => Err(refusal),
+            }
         }
         _ => Err(Refusal::NotWritable),
     }
@@ -152,21 +181,6 @@ fn written_snapshot(instance: &Instance, text: &[u8]) -> Result<InstanceChange, 
         Some(1) => Ok(InstanceChange::TakeSnapshot),
         Some(_) => Ok(InstanceChange::ClearSpare),
     }
-}
-
-// A write to a trace file: any string empties rings, unless it is appended.
-fn cleared(append: bool, clear: InstanceChange) -> InstanceChange
-    ensures { result ≡ (if append then change.Keep else clear) }
-{
-    if append { InstanceChange::Keep } else { clear }
-}
-
-// The value that was written, or `BadValue` if there is none.
-fn needed(flag: Option<bool>) -> Result<bool, Refusal>
-    ensures value { result ≡ needed_flag flag }
-    ensures memory { IfErr result (λ r. r ≢ Refusal.Memory) }
-{
-    flag.ok_or(Refusal::BadValue)
 }
 
 /// The setting of a switch that a string writes: 0 or 1.

@@ -1,5 +1,5 @@
 -- Values and filters that are written, and triggers as their files show them.
-use Rattle.std.specs.Prelude.{◌≡◌, ℕ, ◌++◌, ◌∷◌, nat_lt, not, Bool, false, List, [], map, Option, Some, None, Result, Ok, Err, codes}
+use Rattle.std.specs.Prelude.{◌≡◌, ℕ, ◌++◌, ◌∷◌, nat_lt, not, Bool, true, false, List, [], map, Option, Some, None, Result, Ok, Err, codes}
 use Rattle.std.specs.Option.{option_map}
 use Rattle.std.specs.List.{filter}
 use Rattle.trace_filter.specs.Filters.{Parsed, parsed_of}
@@ -45,6 +45,11 @@ shown_with spec (Some k) = record { spec = spec; rules = k.spec.sort_sources; pa
 -- one that is kept, with these tables
 abbrev pub shown_attached : List Table → AttachedHist → texts.Trigger
 shown_attached tables a = texts.Hist (shown_with a.spec (kept_at a.table tables))
+
+-- whether one is of those that were attached before the request with a number, or of the others
+abbrev pub is_part : Bool → ℕ → AttachedHist → Bool
+is_part true number a = nat_lt a.number number
+is_part false number a = not (nat_lt a.number number)
 
 -- triggers in the order in which they were attached
 abbrev pub kept_in_order : List Table → Option Trigger → List AttachedHist → List texts.Trigger

@@ -1,58 +1,51 @@
-use Rattle.std.proofs.Common.{◌≡◌, Ok, Err, rules}
+use Rattle.std.proofs.Common.{◌≡◌, true, false, Ok, Err, rules}
 use Rattle.trace_history.specs.Settings.{written_flag, written_option, written_tracing}
+use Rattle.trace_command.specs.declared.refusal.Refusal.TheVariants.{BadValue}
 use Rattle.trace_instance.specs.private.Commands.{needed_flag}
 use Rattle.trace_instance.proofs.Writes.{clears-trace, no-switch, no-option, no-number, sets-overwrite, sets-option, sets-tracing, switches-all}
 use Rattle.trace_instance.proofs.write.change_of_instance.Goals as goal
 
-pub returns-in_err-needed-in-Overwrite-clause-change : goal.returns-in_err-needed-in-Overwrite-clause-change
-returns-in_err-needed-in-Overwrite-clause-change c = λ g name past events distinct stands.
-    let refused = c.in_err-needed-in-Overwrite.field-0.0 in
-    let needed : needed_flag (written_flag c.args.written.text.now) ≡ Err refused = search rules in
-    let out : c.from_residual.result ≡ Err refused = search rules in
-    rw (out, c.in-Overwrite.is) (no-switch c.args.written.text.now refused needed)
+pub returns-in-None-clause-change : goal.returns-in-None-clause-change
+returns-in-None-clause-change c = λ g name past events distinct stands.
+    let needed : needed_flag (written_flag c.args.written.text.now) ≡ Err BadValue = search rules in
+    rw c.in-Overwrite.is (no-switch c.args.written.text.now BadValue needed)
 
-pub returns-in_err-needed-in-TraceOptions-clause-change : goal.returns-in_err-needed-in-TraceOptions-clause-change
-returns-in_err-needed-in-TraceOptions-clause-change c = λ g name past events distinct stands.
-    let refused = c.in_err-needed-in-TraceOptions.field-0.0 in
-    let needed : needed_flag (written_option c.args.written.text.now) ≡ Err refused = search rules in
-    let out : c.from_residual-in_err-needed-in-TraceOptions.result ≡ Err refused = search rules in
-    rw (out, c.in-TraceOptions.is) (no-option c.args.written.text.now refused needed)
+pub returns-in-None-written_option-clause-change : goal.returns-in-None-written_option-clause-change
+returns-in-None-written_option-clause-change c = λ g name past events distinct stands.
+    let needed : needed_flag (written_option c.args.written.text.now) ≡ Err BadValue = search rules in
+    rw c.in-TraceOptions.is (no-option c.args.written.text.now BadValue needed)
 
-pub returns-in_err-needed-in-TracingOn-clause-change : goal.returns-in_err-needed-in-TracingOn-clause-change
-returns-in_err-needed-in-TracingOn-clause-change c = λ g name past events distinct stands.
-    let refused = c.in_err-needed-in-TracingOn.field-0.0 in
-    let needed : needed_flag (written_tracing c.args.written.text.now) ≡ Err refused = search rules in
-    let out : c.from_residual-in_err-needed-in-TracingOn.result ≡ Err refused = search rules in
-    rw (out, c.in-TracingOn.is) (no-number c.args.written.text.now refused needed)
+pub returns-in-None-written_tracing-clause-change : goal.returns-in-None-written_tracing-clause-change
+returns-in-None-written_tracing-clause-change c = λ g name past events distinct stands.
+    let needed : needed_flag (written_tracing c.args.written.text.now) ≡ Err BadValue = search rules in
+    rw c.in-TracingOn.is (no-number c.args.written.text.now BadValue needed)
 
-pub returns-in_err-needed-in-EventsEnable-clause-change : goal.returns-in_err-needed-in-EventsEnable-clause-change
-returns-in_err-needed-in-EventsEnable-clause-change c = λ g name past events distinct stands.
-    let refused = c.in_err-needed-in-EventsEnable.field-0.0 in
-    let needed : needed_flag (written_flag c.args.written.text.now) ≡ Err refused = search rules in
-    let out : c.from_residual-in_err-needed-in-EventsEnable.result ≡ Err refused = search rules in
-    rw (out, c.in-EventsEnable.is) (no-switch c.args.written.text.now refused needed)
+pub returns-in-None-written_flag-clause-change : goal.returns-in-None-written_flag-clause-change
+returns-in-None-written_flag-clause-change c = λ g name past events distinct stands.
+    let needed : needed_flag (written_flag c.args.written.text.now) ≡ Err BadValue = search rules in
+    rw c.in-EventsEnable.is (no-switch c.args.written.text.now BadValue needed)
 
-pub returns-in_ok-needed-in-Overwrite-clause-change : goal.returns-in_ok-needed-in-Overwrite-clause-change
-returns-in_ok-needed-in-Overwrite-clause-change c = λ g name past events distinct stands.
-    let flag = c.in_ok-needed-in-Overwrite.field-0 in
+pub returns-in-Some-clause-change : goal.returns-in-Some-clause-change
+returns-in-Some-clause-change c = λ g name past events distinct stands.
+    let flag = c.in-Some.flag in
     let needed : needed_flag (written_flag c.args.written.text.now) ≡ Ok flag = search rules in
     rw c.in-Overwrite.is (sets-overwrite g name past c.args.written.append c.args.written.text.now flag needed)
 
-pub returns-in_ok-needed-in-TraceOptions-clause-change : goal.returns-in_ok-needed-in-TraceOptions-clause-change
-returns-in_ok-needed-in-TraceOptions-clause-change c = λ g name past events distinct stands.
-    let flag = c.in_ok-needed-in-TraceOptions.field-0 in
+pub returns-in-Some-written_option-clause-change : goal.returns-in-Some-written_option-clause-change
+returns-in-Some-written_option-clause-change c = λ g name past events distinct stands.
+    let flag = c.in-Some-written_option.flag in
     let needed : needed_flag (written_option c.args.written.text.now) ≡ Ok flag = search rules in
     rw c.in-TraceOptions.is (sets-option g name past c.args.written.append c.args.written.text.now flag needed)
 
-pub returns-in_ok-needed-in-TracingOn-clause-change : goal.returns-in_ok-needed-in-TracingOn-clause-change
-returns-in_ok-needed-in-TracingOn-clause-change c = λ g name past events distinct stands.
-    let flag = c.in_ok-needed-in-TracingOn.field-0 in
+pub returns-in-Some-written_tracing-clause-change : goal.returns-in-Some-written_tracing-clause-change
+returns-in-Some-written_tracing-clause-change c = λ g name past events distinct stands.
+    let flag = c.in-Some-written_tracing.flag in
     let needed : needed_flag (written_tracing c.args.written.text.now) ≡ Ok flag = search rules in
     rw c.in-TracingOn.is (sets-tracing g name past c.args.written.append c.args.written.text.now flag needed)
 
-pub returns-in_ok-needed-in-EventsEnable-clause-change : goal.returns-in_ok-needed-in-EventsEnable-clause-change
-returns-in_ok-needed-in-EventsEnable-clause-change c = λ g name past events distinct stands.
-    let flag = c.in_ok-needed-in-EventsEnable.field-0 in
+pub returns-in-Some-written_flag-clause-change : goal.returns-in-Some-written_flag-clause-change
+returns-in-Some-written_flag-clause-change c = λ g name past events distinct stands.
+    let flag = c.in-Some-written_flag.flag in
     let needed : needed_flag (written_flag c.args.written.text.now) ≡ Ok flag = search rules in
     rw c.in-EventsEnable.is (switches-all g name past c.args.written.append c.args.written.text.now flag (rw events at distinct) needed)
 
@@ -60,9 +53,13 @@ pub returns-in-EventsFilter-clause-change : goal.returns-in-EventsFilter-clause-
 returns-in-EventsFilter-clause-change c = λ g name past events distinct stands.
     rw c.in-EventsFilter.is (c.written_filters.ensures.change g name past c.args.written.append events distinct)
 
-pub returns-in-Trace-clause-change : goal.returns-in-Trace-clause-change
-returns-in-Trace-clause-change c = λ g name past events distinct stands.
-    rw (c.in-Trace.is, c.cleared.ensures) (clears-trace g name past c.args.written.text.now c.args.written.append)
+pub returns-then-append-clause-change : goal.returns-then-append-clause-change
+returns-then-append-clause-change c = λ g name past events distinct stands.
+    rw (c.in-Trace.is, c.if-append.true) (clears-trace g name past c.args.written.text.now true)
+
+pub returns-else-append-clause-change : goal.returns-else-append-clause-change
+returns-else-append-clause-change c = λ g name past events distinct stands.
+    rw (c.in-Trace.is, c.if-append.false) (clears-trace g name past c.args.written.text.now false)
 
 pub returns-in-Snapshot-clause-change : goal.returns-in-Snapshot-clause-change
 returns-in-Snapshot-clause-change c = λ g name past events distinct stands.

@@ -1,4 +1,4 @@
-use Rattle.std.proofs.Common.{◌≡◌, ◌⊎◌, inl, inr, true, false, Ok, Err, is_some, rules}
+use Rattle.std.proofs.Common.{◌≡◌, ◌∙◌, ◌⊎◌, inl, inr, true, false, Ok, Err, is_some, ap, rules}
 use Rattle.trace_command.specs.Refusals.{refusal_of_trigger}
 use Rattle.trace_trigger.specs.TriggerTexts.{HasFilter, is_hist_text, said_of}
 use Rattle.trace_trigger.specs.declared.fault.TriggerFault.TheVariants as fault
@@ -16,35 +16,35 @@ returns-in_err-parse-clause-change c =
 
 pub returns-in-Nothing-clause-change : goal.returns-in-Nothing-clause-change
 returns-in-Nothing-clause-change c =
-    let read : said_of c.args.event.now c.args.written.text.now ≡ Ok said.Nothing = search rules in
+    let read : said_of c.args.event.now c.args.written.text.now ≡ Ok said.Nothing = c.in_ok-parse.ensures.exact ∙ ap Ok c.in-Nothing.is in
     text-nothing c.args.event.now c.args.self c.args.written read
 
 pub returns-in-Attach-clause-change : goal.returns-in-Attach-clause-change
 returns-in-Attach-clause-change c = λ name past number are.
-    let read : said_of c.args.event.now c.args.written.text.now ≡ Ok (said.Attach c.in-Attach.trigger) = search rules in
+    let read : said_of c.args.event.now c.args.written.text.now ≡ Ok (said.Attach c.in-Attach.trigger) = c.in_ok-parse.ensures.exact ∙ ap Ok c.in-Attach.is in
     c.attached.ensures.change c.args.event.now name past number are read
 
 pub returns-in-Remove-clause-change : goal.returns-in-Remove-clause-change
 returns-in-Remove-clause-change c =
-    let read : said_of c.args.event.now c.args.written.text.now ≡ Ok said.Remove = search rules in
+    let read : said_of c.args.event.now c.args.written.text.now ≡ Ok said.Remove = c.in_ok-parse.ensures.exact ∙ ap Ok c.in-Remove.is in
     let some : is_some c.args.self.snapshot ≡ true = search rules in
     text-detaches c.args.event.now c.args.self c.args.written read some
 
 pub returns-in-Remove-2-clause-change : goal.returns-in-Remove-2-clause-change
 returns-in-Remove-2-clause-change c =
-    let read : said_of c.args.event.now c.args.written.text.now ≡ Ok said.Remove = search rules in
+    let read : said_of c.args.event.now c.args.written.text.now ≡ Ok said.Remove = c.in_ok-parse.ensures.exact ∙ ap Ok c.in-Remove-2.is in
     let none : is_some c.args.self.snapshot ≡ false = search rules in
     text-lacks c.args.event.now c.args.self c.args.written read none
 
 pub returns-in-Hist-clause-change : goal.returns-in-Hist-clause-change
 returns-in-Hist-clause-change c = λ name past number are.
-    let read : said_of c.args.event.now c.args.written.text.now ≡ Ok (said.Hist c.in-Hist.spec) = search rules in
+    let read : said_of c.args.event.now c.args.written.text.now ≡ Ok (said.Hist c.in-Hist.spec) = c.in_ok-parse.ensures.exact ∙ ap Ok c.in-Hist.is in
     c.asked.ensures name past number are read
 
 pub returns-in-RemoveHist-clause-change : goal.returns-in-RemoveHist-clause-change
 returns-in-RemoveHist-clause-change c = λ name past number are.
-    let read : said_of c.args.event.now c.args.written.text.now ≡ Ok (said.RemoveHist c.in-RemoveHist.spec) = search rules in
-    c.removed.ensures.change c.args.event.now name past number are read
+    let read : said_of c.args.event.now c.args.written.text.now ≡ Ok (said.RemoveHist c.in-RemoveHist.spec) = c.in_ok-parse.ensures.exact ∙ ap Ok c.in-RemoveHist.is in
+    c.removed-change.ensures.change c.args.event.now name past number are read
 
 pub returns-in_err-parse-clause-memory : goal.returns-in_err-parse-clause-memory
 returns-in_err-parse-clause-memory c = λ unfiltered plain.
@@ -60,6 +60,6 @@ returns-in_err-parse-clause-memory c = λ unfiltered plain.
 
 pub returns-in-Hist-clause-memory : goal.returns-in-Hist-clause-memory
 returns-in-Hist-clause-memory c = λ unfiltered plain.
-    let read : said_of c.args.event.now c.args.written.text.now ≡ Ok (said.Hist c.in-Hist.spec) = search rules in
+    let read : said_of c.args.event.now c.args.written.text.now ≡ Ok (said.Hist c.in-Hist.spec) = c.in_ok-parse.ensures.exact ∙ ap Ok c.in-Hist.is in
     let hist : is_hist_text c.args.written.text.now ≡ true = hist-begins c.args.event.now c.args.written.text.now c.in-Hist.spec read in
     absurd (cc (hist, plain))

@@ -1,32 +1,23 @@
 use Rattle.std.proofs.Common.{rules}
-use Rattle.trace_instance.proofs.HistChanges.{attached, detached, hist_detached, hists_left, one_of, table_asked, with-tables}
+use Rattle.trace_instance.proofs.HistChanges.{attached, detached, hist_detached, hists_left, one_of, table_asked, with-tables, with-triggers}
 use Rattle.trace_instance.proofs.instance.Instance.set_triggers.Goals as goal
-use Rattle.trace_instance.proofs.instance.Instance.set_triggers.Goals.{in-Some+in-Some-index_mut-2, in-Some+in-None-1, in-None-2, in-Some+in-Some-index_mut-4, in-Some+in-None-2, in-None-3}
 
 pub returns-in-Keep-clause-applied : goal.returns-in-Keep-clause-applied
 returns-in-Keep-clause-applied c =
     rw c.in-Keep.is (hists_left c.args.event c.args.append c.args.self.now _ c.index_mut.result.now c.keep.new.self c.self.view_is c.requires.hists c.index_mut.ensures.value c.keep.ensures)
 
-pub returns-in_ok-arm-in-Attach-clause-applied : goal.returns-in_ok-arm-in-Attach-clause-applied
-returns-in_ok-arm-in-Attach-clause-applied c =
-    let armed = c.in_ok-arm-in-Attach.ensures in
-    let done = attached c.args.event c.args.append c.in-Attach.trigger c.args.self.now _ c.arm.new.self c.index_mut-in-Attach.result.now
-    c.keep-in-Attach.new.self c.self-in-Attach.view_is c.requires.hists c.index_mut-in-Attach.ensures.value c.keep-in-Attach.ensures armed.live armed.spare armed.stands armed.shape in
-    elim c.match-index_mut.branch [
-      | in-Some+in-Some-index_mut-2 w ↦ rw (w.self-is, c.in-Attach.is) done
-      | in-Some+in-None-1 w ↦ rw (w.self-is, c.in-Attach.is) done
-      | in-None-2 w ↦ rw (w.self-is, c.in-Attach.is) done
-    ]
+pub returns-in_default-clause-applied : goal.returns-in_default-clause-applied
+returns-in_default-clause-applied c =
+    let armed = c.in_default.ensures in
+    rw (c.in-Attach.is, with-triggers c.self-in-Attach.inside.triggers c.put.new.triggers (search rules), c.put.ensures, c.deref_mut.ensures.value)
+    (attached c.args.event c.args.append c.in-Attach.trigger c.args.self.now _ c.arm.new.self c.index_mut-in-Attach.result.now
+    c.keep-in-Attach.new.self c.self-in-Attach.view_is c.requires.hists c.index_mut-in-Attach.ensures.value c.keep-in-Attach.ensures armed.live armed.spare armed.stands armed.shape)
 
 pub returns-in-Detach-clause-applied : goal.returns-in-Detach-clause-applied
 returns-in-Detach-clause-applied c =
-    let done = detached c.args.event c.args.append c.args.self.now _ c.index_mut-in-Detach.result.now
-    c.keep-in-Detach.new.self c.self-in-Detach.view_is c.requires.hists c.index_mut-in-Detach.ensures.value c.keep-in-Detach.ensures in
-    elim c.match-index_mut-3.branch [
-      | in-Some+in-Some-index_mut-4 w ↦ rw (w.self-is, c.in-Detach.is) done
-      | in-Some+in-None-2 w ↦ rw (w.self-is, c.in-Detach.is) done
-      | in-None-3 w ↦ rw (w.self-is, c.in-Detach.is) done
-    ]
+    rw (c.in-Detach.is, with-triggers c.self-in-Detach.inside.triggers c.put-in-Detach.new.triggers (search rules), c.put-in-Detach.ensures, c.deref_mut-in-Detach.ensures.value)
+    (detached c.args.event c.args.append c.args.self.now _ c.index_mut-in-Detach.result.now
+    c.keep-in-Detach.new.self c.self-in-Detach.view_is c.requires.hists c.index_mut-in-Detach.ensures.value c.keep-in-Detach.ensures)
 
 pub remove-requires : goal.remove-requires
 remove-requires c =
@@ -41,4 +32,4 @@ returns-in-DetachHist-clause-applied c =
 pub returns-in-AskTable-clause-applied : goal.returns-in-AskTable-clause-applied
 returns-in-AskTable-clause-applied c =
     rw (c.in-AskTable.is, with-tables c.self-in-AskTable.inside.tables c.ask.new.tables (search rules)) (table_asked c.args.event c.args.append c.in-AskTable.table c.in-AskTable.action c.args.self.now _ c.index_mut-in-AskTable.result.now
-    c.keep-in-AskTable.new.self _ c.self-in-AskTable.view_is c.requires.hists c.index_mut-in-AskTable.ensures.value c.keep-in-AskTable.ensures (rw c.deref_mut.ensures.value at c.ask.ensures))
+    c.keep-in-AskTable.new.self _ c.self-in-AskTable.view_is c.requires.hists c.index_mut-in-AskTable.ensures.value c.keep-in-AskTable.ensures (rw c.deref_mut-in-AskTable.ensures.value at c.ask.ensures))
