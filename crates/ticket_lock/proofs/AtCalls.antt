@@ -1,11 +1,10 @@
 -- The steps as the lock's calls make them, with the facts that are known there.
-use Rattle.std.proofs.Common.{◌≡◌, ℕ, true, zero, suc, eqb, ◌+◌, ◌<◌, ◌≤◌, ◌^◌, List, [], ◌∷◌, sym, refl, ap, ◌∙◌, subst, inl, ⊎_elim, arith}
-use Rattle.std.specs.Prelude.{Option, Some, All, AllPairs, Box}
+use Rattle.std.proofs.Common.{◌≡◌, ℕ, true, zero, suc, ◌+◌, ◌<◌, ◌≤◌, ◌^◌, List, [], ◌∷◌, sym, refl, ap, ◌∙◌, subst, inl, ⊎_elim, arith}
+use Rattle.std.specs.Prelude.{Option, Some, None, All, AllPairs, Box}
 use Rattle.std.specs.declared.alloc.Global.{Global}
 use mathlib.Core.Option as maybe
 use mathlib.Core.Option.{some, some-injective, some-ne-none}
 use lib.ListN.{get_elem?}
-use prog.Atomic.{either}
 use Rattle.atomic_table.specs.Table.{step, rest, Allows, opening, Final, Seen}
 use Rattle.ticket_lock.specs.declared.views.Stage.{Stage}
 use Rattle.ticket_lock.specs.declared.views.Stage.TheVariants.{Idle, Waiting, Holding, Spent}
@@ -14,13 +13,13 @@ use Rattle.ticket_lock.specs.Entries.{IsBefore}
 use Rattle.ticket_lock.specs.Seats.{Each, AtMostOne}
 use Rattle.ticket_lock.specs.Views.{IsLive, HoldsWith, HasAllNames, is_idle, is_holding, is_blank}
 use Rattle.ticket_lock.specs.Rule.{Homes, IsInLine, IsHome, IsOut, IsPass}
-use Rattle.ticket_lock.specs.Moves.{Seated, ticket_of, root, after_look, after_draw, after_entry, FindsHistory, draws, enters, leaves}
+use Rattle.ticket_lock.specs.Moves.{Seated, ticket_of, root, after_draw, after_entry, FindsHistory, enters, leaves}
 use Rattle.ticket_lock.specs.Boxes.{inside}
 use Rattle.ticket_lock.specs.Calls.{MayLeave, Finds}
 use Rattle.ticket_lock.proofs.Histories.{continues_itself, mine_continues}
 use Rattle.ticket_lock.proofs.KnownKept.{idle_pass, is_alone}
 use Rattle.ticket_lock.proofs.SeatFields.{holding_stage, blank_slot}
-use Rattle.ticket_lock.proofs.Steps.{Sound, allows_draw, allows_entry, allows_leaving}
+use Rattle.ticket_lock.proofs.Steps.{Sound, allows_entry, allows_leaving}
 
 -- what holds of the one seat of a new table
 each_one : {V : Type 0} (P : V → Type 0) (v : V) → P v → Each P (v ∷ [])
@@ -37,6 +36,10 @@ holder_lives Idle x h = tt
 holder_lives (Waiting ticket) x h = tt
 holder_lives (Holding ticket) x h = tt
 holder_lives Spent x h = h
+
+first_slot : {T : Type 0} → List (ℕ × Option T) → Option T
+first_slot [] = None
+first_slot (slot ∷ slots) = slot.1
 
 module _ {T E : Type 0} (entries : T → List E) (base_of : T → List ℕ) (ticket by : E → ℕ) where
   -- a new lock
@@ -78,11 +81,6 @@ module _ {T E : Type 0} (entries : T → List E) (base_of : T → List ℕ) (tic
       (subst (λ (xs : List (Option T)). Sound entries base_of ticket by (base_of value) (opening (first ∷ first ∷ []) xs (root (entries value) (base_of value) first))) (sym is) (opens first value few rising below callers))
 
   module _ (base : List ℕ) where
-    -- a try to draw by a seat that has only looked so far
-    pub draws_again : (slots id old n : ℕ) (me now : Seated T E) → now ≡ (after_look me.0 n, me.1) → me.0.stage ≡ Idle → old < 2 ^ 63
-        → Allows (Sound entries base_of ticket by base) slots id now 0 (λ k. either (eqb k old) (old + 1) k) (draws entries base_of ticket by (step slots 0 old (old + 1) maybe.none) now)
-    draws_again slots id old n me now same asks few = allows_draw entries base_of ticket by base slots id old now (ap (λ (z : Seated T E). z.0.stage) same ∙ asks) few
-
     -- a look at SERVING by a seat that waits
     pub enters_again : (slots id t : ℕ) (me now : Seated T E) → now ≡ me → me.0.stage ≡ Waiting t
         → Allows (Sound entries base_of ticket by base) slots id now 1 (λ n. n) (enters entries base_of ticket by (step slots 1 0 0 maybe.none) now)
@@ -136,6 +134,43 @@ module _ {T E : Type 0} (entries : T → List E) (base_of : T → List ℕ) (tic
   takes_slot slots n t me now after same waits hit told =
       let (value, is, same_base, found) = told.2 (hit ∙ sym (ap (λ (z : Seated T E). ticket_of z.0.stage) same ∙ ap ticket_of waits)) in
       (Some value, ap (λ (z : Seated T E). z.1) is ∙ ap (λ (z : List (ℕ × Option T)). (0, Some value) ∷ z) (sym (ap (λ (z : Seated T E). rest z.1) is)))
+
+  -- a seat that has found another ticket served is as it was
+  pub stays : (slots n t : ℕ) (me now after : Seated T E) → now ≡ me → me.0.stage ≡ Waiting t → (n ≡ t → ⊥) → enters entries base_of ticket by (step slots 1 0 0 maybe.none) now n after → after ≡ me
+  stays slots n t me now after same waits miss told = told.1 (λ hit. miss (hit ∙ ap (λ (z : Seated T E). ticket_of z.0.stage) same ∙ ap ticket_of waits)) ∙ same
+
+  -- what a pass has found that entered with this value and left its slot empty
+  pub record Enters (v : View E) (last : Seated T E) (value : T) : Type 0 where
+    pub view : last ≡ (after_entry v (entries value), (0, None) ∷ [])
+    pub base_is : base_of value ≡ v.base
+    pub finds : FindsHistory ticket by v (entries value)
+
+  -- a seat that has found its ticket served and taken what was in the slot
+  pub enters_with : (slots n t : ℕ) (me now after last : Seated T E) (slot : Option T) → now ≡ me → me.0.stage ≡ Waiting t → me.1 ≡ [] → n ≡ t → enters entries base_of ticket by (step slots 1 0 0 maybe.none) now n after
+      → after.1 ≡ (0, slot) ∷ rest after.1 → last ≡ (after.0, (0, None) ∷ rest after.1) → (value : T) × (slot ≡ Some value) × Enters me.0 last value
+  unfolding first_slot
+  enters_with slots n t me now after last slot same waits bare hit told took left =
+      let here : n ≡ ticket_of now.0.stage = hit ∙ sym (ap (λ (z : Seated T E). ticket_of z.0.stage) same ∙ ap ticket_of waits) in
+      let (value, is, same_base, found) = told.2 here in
+      let start : after ≡ (after_entry me.0 (entries value), (0, Some value) ∷ []) =
+      is ∙ ap (λ (z : Seated T E). (after_entry z.0 (entries value), (0, Some value) ∷ z.1)) same ∙ ap (λ (ss : List (ℕ × Option T)). (after_entry me.0 (entries value), (0, Some value) ∷ ss)) bare in
+      let slots_are : (0, slot) ∷ rest after.1 ≡ (0, Some value) ∷ [] = sym took ∙ ap (λ (z : Seated T E). z.1) start in (
+        value,
+        ap first_slot slots_are,
+        record {
+          view = left ∙ ap (λ (z : Seated T E). (z.0, (0, None) ∷ rest z.1)) start;
+          base_is = same_base ∙ ap (λ (z : Seated T E). z.0.base) same;
+          finds = subst (λ (z : Seated T E). FindsHistory ticket by z.0 (entries value)) same found;
+        },
+      )
+
+  -- the same of the value that was in the slot
+  pub enters_some : (slots n t : ℕ) (me now after last : Seated T E) (slot : Option T) (value : T) → now ≡ me → me.0.stage ≡ Waiting t → me.1 ≡ [] → n ≡ t → enters entries base_of ticket by (step slots 1 0 0 maybe.none) now n after
+      → after.1 ≡ (0, slot) ∷ rest after.1 → last ≡ (after.0, (0, None) ∷ rest after.1) → slot ≡ Some value → Enters me.0 last value
+  enters_some slots n t me now after last slot value same waits bare hit told took left there =
+      let (other, is, entered) = enters_with slots n t me now after last slot same waits bare hit told took left in
+      let one : other ≡ value = cc in
+      subst (Enters me.0 last) one entered
 
 module _ {T E : Type 0} (entries : T → List E) (base_of : T → List ℕ) (ticket by : E → ℕ) where
   -- a new lock over the box in which the value lies

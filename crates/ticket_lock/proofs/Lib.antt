@@ -6,3 +6,4 @@ pub mod FrontKept
 pub mod Steps
 pub mod SeatFields
 pub mod AtCalls
+mod Looked

@@ -18,7 +18,8 @@
 //!
 //! That nobody draws while somebody is in line is for speed alone: a ticket fixes who comes next, so a thread that has one and isn't running stops all
 //! others. One that waits without a ticket stops nobody.
-ghost use Rattle.std.specs.Prelude.{◌≡◌, ◌↔◌, ◌+◌, ◌<◌, ◌≤◌, ◌^◌, [], ◌∷◌, All, AllPairs, Some, None, IfOk, IfErr, IfSome, IfNone, IsOk, MatchResult};
+ghost use Rattle.std.specs.Prelude.{◌≡◌, ◌↔◌, ◌+◌, ◌<◌, ◌≤◌, ◌^◌, [], ◌∷◌, All, AllPairs, Some, None, IfOk, IfErr, IfSome, IfNone, IsOk, MatchResult, Box};
+ghost use Rattle.std.specs.declared.alloc.Global.{Global};
 ghost use Rattle.ticket_lock.specs.Entries.{IsBefore};
 
 use crate::entries::Logged;
@@ -70,6 +71,23 @@ fn only<T>(mut slots: Vec<Option<T>>) -> T
     value
 }
 
+// One slot with the value in a box. The value comes back where there is no memory.
+fn one_slot<T>(alloc: Global, value: T) -> Result<Vec<Option<Box<T>>>, AllocFailed<T>>
+    ensures ok { IfOk result (λ slots. (boxed : Box T Global) × (slots.items ≡ Some boxed ∷ []) × (boxed.value ≡ value)) }
+    ensures err { IfErr result (λ e. e.value ≡ value) }
+{
+    let boxed = Box::new(alloc, value)?;
+    let mut slots = Vec::new(alloc);
+    if let Err(AllocFailed { value }) = slots.push(Some(boxed)) {
+        slots.destroy_empty();
+        let Some(boxed) = value else { unreachable!() };
+        return Err(AllocFailed {
+            value: Box::into_inner(boxed),
+        });
+    }
+    Ok(slots)
+}
+
 impl<T: Logged> TicketLock<T> {
     ghost use Rattle.ticket_lock.specs.Views.{HasAllNames};
     ghost use Rattle.ticket_lock.specs.Moves.{after_draw, after_entry, LearnsNext, FindsHistory};
@@ -95,15 +113,7 @@ impl<T: Logged> TicketLock<T> {
             first,
             value: Snapshot::of(&value),
         };
-        let boxed = Box::new(alloc, value)?;
-        let mut slots = Vec::new(alloc);
-        if let Err(AllocFailed { value }) = slots.push(Some(boxed)) {
-            slots.destroy_empty();
-            let Some(boxed) = value else { unreachable!() };
-            return Err(AllocFailed {
-                value: Box::into_inner(boxed),
-            });
-        }
+        let slots = one_slot(alloc, value)?;
         match Table::new(alloc, &[first, first], slots, &opening) {
             Ok((table, seat)) => {
                 let pass = Pass {
@@ -209,14 +219,13 @@ impl<T: Logged> TicketLock<T> {
         ensures none { IfNone result (IsWorn seat.old.me.0 seat.new.me.0) }
     {
         let backoff = Backoff::new();
-        let mut next = self.table.shared.load::<Looks<T>>(seat, NEXT);
         for _ in rt.forever() {
+            let next = self.table.shared.load::<Looks<T>>(seat, NEXT);
             if next >= LAST {
                 return None;
             }
             if self.table.shared.peek(SERVING) < next {
                 backoff.snooze();
-                next = self.table.shared.load::<Looks<T>>(seat, NEXT);
                 continue;
             }
             let found = self
@@ -227,7 +236,6 @@ impl<T: Logged> TicketLock<T> {
                 return Some(next);
             }
             backoff.spin();
-            next = found;
         }
         unreachable!()
     }

@@ -1,5 +1,5 @@
 use Rattle.std.proofs.Common.{◌≡◌}
-use Rattle.ticket_lock.specs.Moves.{after_look, LearnsNext}
+use Rattle.ticket_lock.proofs.Looked.{HasLooked}
 use Rattle.ticket_lock.proofs.lock.TicketLock.draw.Given as goal
 
 -- the seat is as it was, but for its front, which is NEXT as it was last found
@@ -7,5 +7,4 @@ abbrev pub invariant-loop : goal.invariant-loop
 invariant-loop g l =
     (goal.iterator-loop g).can_next l.iterator' × (goal.iterator-loop g).is_finite l.iterator'
     × (l.seat.table_id ≡ l.fn.seat.table_id)
-    × (l.seat.me ≡ (after_look l.fn.seat.me.0 l.next, l.fn.seat.me.1))
-    × LearnsNext g.T.Logged.ticket g.T.Logged.by l.fn.seat.me.0 l.next
+    × HasLooked l.fn.seat.me l.seat.me
