@@ -8,7 +8,7 @@ use Rattle.page_ring.specs.Packed.{records_in}
 use Rattle.page_ring.specs.PageBytes.{seen_page, IsPage}
 use Rattle.page_ring.specs.PageReads.{AppendsTo, TakesFrom}
 use Rattle.page_ring.specs.declared.page.Page.TheInside.{Inside}
-use Rattle.page_ring.proofs.PackedFacts.{packed_push, records_in_push, packed_first}
+use Rattle.page_ring.proofs.PackedFacts.{packed_push, records_in_push, packed_first, told_length-head}
 
 one_more : (n : ℕ) → suc n ≡ n + 1
 one_more n = omega arith
@@ -34,6 +34,21 @@ appends_to a bytes rec s is e room = record {
   next = omega arith;
   room = room;
 }
+
+-- what is unread has the head of a record
+pub unread_head : (a : Inside) (unread : List ℕ) → IsPage a → a.unread ≢ 0 → unread ≡ drop a.cursor a.bytes.items → 16 ≤ length unread
+unread_head a unread s some e =
+    let begins = packed_first a.first a.unread (drop a.cursor a.bytes.items) some s.packed in
+    let whole : told_length (drop a.cursor a.bytes.items) ≤ length (drop a.cursor a.bytes.items) = begins.whole in
+    rw e (omega (arith, told_length-head (drop a.cursor a.bytes.items)))
+
+-- the record at the read cursor ends at the fill or before it
+pub unread_ends : (a : Inside) (size : ℕ) → IsPage a → a.unread ≢ 0 → size ≡ told_length (drop a.cursor a.bytes.items) → a.cursor + size ≤ length a.bytes.items
+unread_ends a size s some e =
+    let begins = packed_first a.first a.unread (drop a.cursor a.bytes.items) some s.packed in
+    let whole : told_length (drop a.cursor a.bytes.items) ≤ length (drop a.cursor a.bytes.items) = begins.whole in
+    let cursor : a.cursor ≤ length a.bytes.items = s.cursor in
+    omega (arith, length-drop a.cursor a.bytes.items)
 
 -- the record at the read cursor is read
 pub page_taken : (a : Inside) (size : ℕ) → IsPage a → a.unread ≢ 0 → size ≡ told_length (drop a.cursor a.bytes.items) → IsPage (record a { cursor = a.cursor + size; first = a.first + 1; unread = a.unread - 1 })
