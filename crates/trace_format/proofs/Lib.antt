@@ -12,6 +12,7 @@ pub mod PairLemmas
 pub mod PartLemmas
 pub mod PatternLemmas
 pub mod Patterns
+mod Complements
 pub mod PayloadLemmas
 pub mod Payloads
 pub mod ReadingLemmas

@@ -52,20 +52,20 @@ unsigned_from-lt (b ∷ bs) are =
 
 -- ---- the limits of the types
 
-record IsUnsigned (t : NumberType) : Type 0 where
-  sign : is_signed t ≡ false
-  low : least t ≡ pos 0
-  high : greatest t ≡ pos (256 ^ number_size t - 1)
-  some : 0 < 256 ^ number_size t
+pub record IsUnsigned (t : NumberType) : Type 0 where
+  pub sign : is_signed t ≡ false
+  pub low : least t ≡ pos 0
+  pub high : greatest t ≡ pos (256 ^ number_size t - 1)
+  pub some : 0 < 256 ^ number_size t
 
-record IsSignedType (t : NumberType) : Type 0 where
-  sign : is_signed t ≡ true
-  low : least t ≡ neg_ℤ (pos (256 ^ number_size t / 2))
-  high : greatest t ≡ pos (256 ^ number_size t / 2 - 1)
-  even : 256 ^ number_size t ≡ 2 * (256 ^ number_size t / 2)
-  some : 0 < 256 ^ number_size t / 2
+pub record IsSignedType (t : NumberType) : Type 0 where
+  pub sign : is_signed t ≡ true
+  pub low : least t ≡ neg_ℤ (pos (256 ^ number_size t / 2))
+  pub high : greatest t ≡ pos (256 ^ number_size t / 2 - 1)
+  pub even : 256 ^ number_size t ≡ 2 * (256 ^ number_size t / 2)
+  pub some : 0 < 256 ^ number_size t / 2
 
-limits : (t : NumberType) → IsUnsigned t ⊎ IsSignedType t
+pub limits : (t : NumberType) → IsUnsigned t ⊎ IsSignedType t
 limits U8 = inl (record { sign = refl; low = refl; high = refl; some = omega arith })
 limits U16 = inl (record { sign = refl; low = refl; high = refl; some = omega arith })
 limits U32 = inl (record { sign = refl; low = refl; high = refl; some = omega arith })

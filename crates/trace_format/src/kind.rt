@@ -5,6 +5,8 @@ ghost use Rattle.trace_format.specs.declared.kind.Kind.TheVariants as kind;
 ghost use Rattle.trace_format.specs.Kinds.{number_size, is_signed as is_signed_type, least as least_of, greatest as greatest_of, size_of, is_signed_kind, is_text_kind, type_name_of, type_of, unsigned_type_of};
 ghost use Rattle.trace_format.specs.private.TypeWords.{signed_type_of, c_type_of};
 
+use crate::words::is;
+
 /// A type of numbers, after the field types of "Synthetic events" (histogram.rst). `u` and `s` are unsigned and signed, with their bits.
 #[derive(Clone, Copy, PartialEq, Eq)]
 pub enum NumberType {
@@ -130,13 +132,13 @@ impl NumberType {
     pub(crate) fn from_word(word: &[u8]) -> Option<NumberType>
         ensures { result ≡ type_of word.now }
     {
-        if word == b"u8".as_slice() {
+        if is(word, b"u8") {
             Some(NumberType::U8)
-        } else if word == b"u16".as_slice() {
+        } else if is(word, b"u16") {
             Some(NumberType::U16)
-        } else if word == b"u32".as_slice() {
+        } else if is(word, b"u32") {
             Some(NumberType::U32)
-        } else if word == b"u64".as_slice() {
+        } else if is(word, b"u64") {
             Some(NumberType::U64)
         } else {
             NumberType::signed_from_word(word)
@@ -147,13 +149,13 @@ impl NumberType {
     fn signed_from_word(word: &[u8]) -> Option<NumberType>
         ensures { result ≡ signed_type_of word.now }
     {
-        if word == b"s8".as_slice() {
+        if is(word, b"s8") {
             Some(NumberType::S8)
-        } else if word == b"s16".as_slice() {
+        } else if is(word, b"s16") {
             Some(NumberType::S16)
-        } else if word == b"s32".as_slice() {
+        } else if is(word, b"s32") {
             Some(NumberType::S32)
-        } else if word == b"s64".as_slice() {
+        } else if is(word, b"s64") {
             Some(NumberType::S64)
         } else {
             NumberType::c_type_from_word(word)
@@ -164,11 +166,11 @@ impl NumberType {
     fn c_type_from_word(word: &[u8]) -> Option<NumberType>
         ensures { result ≡ c_type_of word.now }
     {
-        if word == b"int".as_slice() {
+        if is(word, b"int") {
             Some(NumberType::Int)
-        } else if word == b"pid_t".as_slice() {
+        } else if is(word, b"pid_t") {
             Some(NumberType::PidT)
-        } else if word == b"long".as_slice() {
+        } else if is(word, b"long") {
             Some(NumberType::Long)
         } else {
             None
@@ -179,9 +181,9 @@ impl NumberType {
     pub(crate) fn from_word_behind_unsigned(word: &[u8]) -> Option<NumberType>
         ensures { result ≡ unsigned_type_of word.now }
     {
-        if word == b"int".as_slice() {
+        if is(word, b"int") {
             Some(NumberType::UnsignedInt)
-        } else if word == b"long".as_slice() {
+        } else if is(word, b"long") {
             Some(NumberType::UnsignedLong)
         } else {
             None

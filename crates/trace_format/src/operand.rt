@@ -4,6 +4,7 @@ ghost use Rattle.std.specs.Prelude.{◌≡◌};
 ghost use Rattle.trace_format.specs.Operands.{operand_from, operand_named, is_text as spec_is_text};
 
 use crate::event::Field;
+use crate::words::is;
 
 /// What a name means in an event.
 #[derive(Clone, Copy, PartialEq, Eq)]
@@ -22,9 +23,9 @@ impl Operand {
     pub fn named(fields: &[Field], name: &[u8]) -> Option<Operand>
         ensures { result ≡ operand_named fields.now name.now }
     {
-        if name == b"common_pid".as_slice() {
+        if is(name, b"common_pid") {
             Some(Operand::Pid)
-        } else if name == b"common_cpu".as_slice() {
+        } else if is(name, b"common_cpu") {
             Some(Operand::Cpu)
         } else {
             Operand::field_named(fields, name)

@@ -9,6 +9,7 @@ ghost use Rattle.trace_format.specs.declared.kind.Kind.TheVariants as kind;
 
 use crate::event::Field;
 use crate::kind::{Kind, NumberType};
+use crate::words::is;
 use std::alloc::{AllocError, Global};
 use std::marker::Model;
 use trace_lex::{Text, is_name, len_before};
@@ -50,9 +51,7 @@ impl Model for Reader {
 fn is_reserved(name: &[u8]) -> bool
     ensures { result ≡ reserved name.now }
 {
-    name == b"common_pid".as_slice()
-        || name == b"common_cpu".as_slice()
-        || name == b"hitcount".as_slice()
+    is(name, b"common_pid") || is(name, b"common_cpu") || is(name, b"hitcount")
 }
 
 /// Whether a field has the name.
@@ -107,9 +106,9 @@ impl Reader {
     fn take_type(&mut self, word: &[u8]) -> bool
         ensures { Takes (step_at due.Type self.old word.now) result self.new }
     {
-        if word == b"unsigned".as_slice() {
+        if is(word, b"unsigned") {
             self.due = Due::Unsigned;
-        } else if word == b"char".as_slice() {
+        } else if is(word, b"char") {
             self.due = Due::TextField;
         } else {
             let Some(number) = NumberType::from_word(word) else {
@@ -167,7 +166,7 @@ impl Reader {
     fn take_joint(&mut self, word: &[u8]) -> bool
         ensures { Takes (step_at due.Joint self.old word.now) result self.new }
     {
-        if word != b";".as_slice() {
+        if !is(word, b";") {
             return false;
         }
         self.due = Due::Type;

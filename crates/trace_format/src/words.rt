@@ -1,6 +1,6 @@
 //! The words of a declaration.
 
-ghost use Rattle.std.specs.Prelude.{◌≡◌, ◌≤◌, [], length, drop, IfNone, IfSome};
+ghost use Rattle.std.specs.Prelude.{◌≡◌, ◌≤◌, [], length, drop, bytes_eq, IfNone, IfSome};
 ghost use Rattle.std.specs.List.{prefix_len};
 ghost use Rattle.trace_format.specs.Words.{is_word_byte as spec_word_byte, more_of, spots_from, IsNextWord};
 
@@ -12,6 +12,14 @@ pub(crate) struct Word<'a> {
     /// The offset of its first byte in the text.
     pub(crate) at: usize,
     pub(crate) bytes: &'a [u8],
+}
+
+/// Whether a word is this one.
+#[inline(always)]
+pub(crate) fn is(word: &[u8], other: &[u8]) -> bool
+    ensures { result ≡ bytes_eq word.now other.now }
+{
+    word == other
 }
 
 fn is_word_byte(byte: u8) -> bool
