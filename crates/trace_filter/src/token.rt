@@ -178,21 +178,42 @@ fn longest<'a>(byte: u8, rest: &[u8], long: Token<'a>, short: Token<'a>) -> Read
     }
 }
 
+/// A token of one byte.
+fn single(token: Token<'_>) -> ReadToken<'_>
+    ensures token { token_of result.token ≡ token_of token.entry }
+    ensures more { result.more ≡ 0 }
+{
+    ReadToken { token, more: 0 }
+}
+
 fn symbol_piece(first: u8, rest: &[u8]) -> ReadToken<'static>
     ensures { IsPiece (spec_symbol_piece first rest.now) result rest.now }
 {
-    let compare = Token::Compare;
-    let single = |token| ReadToken { token, more: 0 };
     match first {
         b'(' => single(Token::Open),
         b')' => single(Token::Close),
-        b'!' => longest(b'=', rest, compare(Comparison::Ne), Token::Bang),
-        b'&' => longest(b'&', rest, Token::AndAnd, compare(Comparison::BitAnd)),
-        b'<' => longest(b'=', rest, compare(Comparison::Le), compare(Comparison::Lt)),
-        b'=' => longest(b'=', rest, compare(Comparison::Eq), Token::Illegible),
-        b'>' => longest(b'=', rest, compare(Comparison::Ge), compare(Comparison::Gt)),
+        b'!' => longest(b'=', rest, Token::Compare(Comparison::Ne), Token::Bang),
+        b'&' => longest(
+            b'&',
+            rest,
+            Token::AndAnd,
+            Token::Compare(Comparison::BitAnd),
+        ),
+        b'<' => longest(
+            b'=',
+            rest,
+            Token::Compare(Comparison::Le),
+            Token::Compare(Comparison::Lt),
+        ),
+        b'=' => longest(b'=', rest, Token::Compare(Comparison::Eq), Token::Illegible),
+        b'>' => longest(
+            b'=',
+            rest,
+            Token::Compare(Comparison::Ge),
+            Token::Compare(Comparison::Gt),
+        ),
         b'|' => longest(b'|', rest, Token::OrOr, Token::Illegible),
-        b'~' => single(compare(Comparison::Glob)),
+        b'~' => single(Token::Compare(Comparison::Glob)),
         _ => single(Token::Illegible),
     }
 }
