@@ -62,3 +62,14 @@ module _ {X : Type 0} (offset : X → ℕ) (is_wrong : List X → X → Bool) wh
   pub from_end : (xs : List X) (i : ℕ) (found whole : Option ℕ) → length xs ≤ i → earlier found (least_from xs i) ≡ whole → found ≡ whole
   from_end xs i found whole past so_far =
       sym (earlier-none found) ∙ ap (λ r. earlier found (least_after (take i xs) r)) (sym (drop_all i xs past)) ∙ so_far
+
+  -- the same, where what is found next is given
+  pub wrong_step : (xs : List X) (i : ℕ) (x : X) (found next whole : Option ℕ) → i < length xs → x ≡ get_or xs i x → is_wrong (take i xs) x ≡ true → next ≡ earlier found (Some (offset x))
+      → earlier found (least_from xs i) ≡ whole → earlier next (least_from xs (i + 1)) ≡ whole
+  wrong_step xs i x found next whole within is wrong told so_far =
+      ap (λ o. earlier o (least_from xs (i + 1))) told ∙ from_wrong xs i x found whole within is wrong so_far
+
+  pub right_step : (xs : List X) (i : ℕ) (x : X) (found next whole : Option ℕ) → i < length xs → x ≡ get_or xs i x → is_wrong (take i xs) x ≡ false → next ≡ found
+      → earlier found (least_from xs i) ≡ whole → earlier next (least_from xs (i + 1)) ≡ whole
+  right_step xs i x found next whole within is right told so_far =
+      ap (λ o. earlier o (least_from xs (i + 1))) told ∙ from_right xs i x found whole within is right so_far

@@ -1,6 +1,7 @@
 //! Why a text is no trigger of an event.
 
-ghost use Rattle.std.specs.Prelude.{◌≡◌, ◌+◌, ◌<◌, ◌^◌, ◌-◌, Some};
+ghost use Rattle.std.specs.Prelude.{◌≡◌, ◌+◌, ◌<◌, ◌^◌, ◌-◌, ◌++◌, Some};
+ghost use Rattle.std.specs.Fmt.{WritesOnOk, decimal};
 ghost use Rattle.trace_trigger.specs.declared.fault.TriggerFault.TheVariants as faults;
 ghost use Rattle.trace_trigger.specs.Frames.{IsWithin, moved};
 
@@ -45,17 +46,23 @@ impl Display for TriggerFault {
             TriggerFault::TooMany => f.write_str(
                 "too many keys, values or sort keys, or a filter too long or nested too deep",
             ),
-            TriggerFault::FilterSyntax { at } => write!(f, "syntax error at byte {at}"),
-            TriggerFault::NoSuchField { at } => write!(f, "no such field at byte {at}"),
-            TriggerFault::WrongOperator { at } => write!(f, "wrong operator at byte {at}"),
-            TriggerFault::HistSyntax { at } => write!(
-                f,
-                "syntax error of the hist trigger at byte {at}"
-            ),
+            TriggerFault::FilterSyntax { at } => write_at(f, "syntax error at byte ", *at),
+            TriggerFault::NoSuchField { at } => write_at(f, "no such field at byte ", *at),
+            TriggerFault::WrongOperator { at } => write_at(f, "wrong operator at byte ", *at),
+            TriggerFault::HistSyntax { at } => {
+                write_at(f, "syntax error of the hist trigger at byte ", *at)
+            }
             TriggerFault::BadSize => f.write_str("there may be 128 to 131072 entries"),
             TriggerFault::Memory => f.write_str("out of memory"),
         }
     }
+}
+
+/// Writes what is wrong and where.
+fn write_at<W: fmt::Write>(f: &mut Formatter<W>, fault: &str, at: usize) -> fmt::Result
+    ensures { WritesOnOk W.write_str_gives f.old result (fault.now ++ decimal at) f.new }
+{
+    write!(f, "{fault}{at}")
 }
 
 impl Error for TriggerFault {}

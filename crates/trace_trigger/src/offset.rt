@@ -66,7 +66,7 @@ fn is_wrong_attribute(before: &[Attribute], attribute: &Attribute) -> bool
 }
 
 /// The first offset of an attribute that is wrong.
-#[tactic(auto, using(crate::proofs::WrongOffsets::from_wrong, crate::proofs::WrongOffsets::from_right, crate::proofs::WrongOffsets::from_end), unfolding(crate::specs::HistOffsets::attribute_offsets))]
+#[tactic(auto, unfolding(crate::specs::HistOffsets::attribute_offsets))]
 fn attribute_offset(attributes: &[Attribute]) -> Option<usize>
     ensures { result ≡ offsets.least (offsets.attribute_offsets attributes.now) }
 {
@@ -87,7 +87,7 @@ fn is_bad_name(attribute: &Attribute) -> bool
 }
 
 /// The first offset of a table's name that is none.
-#[tactic(auto, using(crate::proofs::WrongOffsets::from_wrong, crate::proofs::WrongOffsets::from_right, crate::proofs::WrongOffsets::from_end), unfolding(crate::specs::HistOffsets::name_offsets))]
+#[tactic(auto, unfolding(crate::specs::HistOffsets::name_offsets))]
 fn name_offset(attributes: &[Attribute]) -> Option<usize>
     requires { All IsLocated attributes.now }
     ensures { result ≡ offsets.least (offsets.name_offsets attributes.now) }
@@ -111,7 +111,7 @@ fn is_wrong_key(before: &[ListItem], item: &ListItem) -> bool
 }
 
 /// The first offset of a key that is wrong.
-#[tactic(auto, using(crate::proofs::WrongOffsets::from_wrong, crate::proofs::WrongOffsets::from_right, crate::proofs::WrongOffsets::from_end), unfolding(crate::specs::HistOffsets::key_offsets))]
+#[tactic(auto, unfolding(crate::specs::HistOffsets::key_offsets))]
 fn key_offset(keys: &[ListItem]) -> Option<usize>
     ensures { result ≡ offsets.least (offsets.key_offsets keys.now) }
 {
@@ -133,7 +133,7 @@ fn is_wrong_value(before: &[ListItem], item: &ListItem) -> bool
 }
 
 /// The first offset of a value that is wrong.
-#[tactic(auto, using(crate::proofs::WrongOffsets::from_wrong, crate::proofs::WrongOffsets::from_right, crate::proofs::WrongOffsets::from_end), unfolding(crate::specs::HistOffsets::value_offsets))]
+#[tactic(auto, unfolding(crate::specs::HistOffsets::value_offsets))]
 fn value_offset(values: &[ListItem]) -> Option<usize>
     ensures { result ≡ offsets.least (offsets.value_offsets values.now) }
 {
