@@ -1,7 +1,6 @@
 //! Numbers as texts of bytes.
 
 ghost use Rattle.std.specs.Prelude.{◌≡◌, ◌++◌, OnOk, OnErr};
-ghost use Rattle.std.specs.Fmt.{decimal};
 
 use itoa::{Buffer, Integer};
 use std::alloc::AllocError;
@@ -15,6 +14,20 @@ pub(crate) fn push(out: &mut Vec<u8>, text: &[u8]) -> Result<(), AllocError>
     out.extend_from_slice(text)
 }
 
+/// Appends three strings of bytes, one after the other.
+pub(crate) fn push_three(
+    out: &mut Vec<u8>,
+    first: &[u8],
+    second: &[u8],
+    third: &[u8],
+) -> Result<(), AllocError>
+    ensures { OnOk result (out.new.items ≡ out.old.items ++ first.now ++ second.now ++ third.now) }
+{
+    out.extend_from_slice(first)?;
+    out.extend_from_slice(second)?;
+    out.extend_from_slice(third)
+}
+
 /// Appends a number in decimal, one below 0 with its sign.
 pub(crate) fn push_number<N: Integer>(out: &mut Vec<u8>, n: N) -> Result<(), AllocError>
     ensures { OnOk result (out.new.items ≡ out.old.items ++ N.text n) }
@@ -22,10 +35,15 @@ pub(crate) fn push_number<N: Integer>(out: &mut Vec<u8>, n: N) -> Result<(), All
     out.extend_from_slice(Buffer::new().format(n).as_bytes())
 }
 
-/// Appends a number from 0 on in decimal.
-pub(crate) fn push_decimal(out: &mut Vec<u8>, n: u128) -> Result<(), AllocError>
-    ensures { OnOk result (out.new.items ≡ out.old.items ++ decimal n) }
+/// Appends bytes, and a number in decimal after them.
+pub(crate) fn push_with_number<N: Integer>(
+    out: &mut Vec<u8>,
+    text: &[u8],
+    n: N,
+) -> Result<(), AllocError>
+    ensures { OnOk result (out.new.items ≡ out.old.items ++ text.now ++ N.text n) }
 {
+    out.extend_from_slice(text)?;
     push_number(out, n)
 }
 

@@ -7,7 +7,7 @@ ghost use Rattle.trace_entries.specs.Buckets.{pattern_of as spec_pattern_of};
 ghost use Rattle.trace_entries.specs.PrintOrder.{row_in};
 ghost use Rattle.trace_text.specs.EntryText as texts;
 
-use crate::append::push;
+use crate::append::{push, push_three};
 use itoa::{Buffer, Integer};
 use std::alloc::AllocError;
 use trace_format::{Text, Value};
@@ -138,9 +138,7 @@ fn push_keys(out: &mut Vec<u8>, keys: &[Key], values: &[Value]) -> Result<(), Al
 fn push_sum(out: &mut Vec<u8>, name: &Text, sum: i128) -> Result<(), AllocError>
     ensures { OnOk result (out.new.items ≡ out.old.items ++ texts.sum_text (name.now, sum)) }
 {
-    push(out, b"  ")?;
-    out.extend_from_slice(name.as_bytes())?;
-    push(out, b": ")?;
+    push_three(out, b"  ", name.as_bytes(), b": ")?;
     push_number_on_the_right(out, sum)
 }
 

@@ -4,7 +4,7 @@ ghost use Rattle.std.specs.Prelude.{◌≡◌, ◌++◌, OnOk};
 ghost use Rattle.trace_format.specs.Definitions.{length_suffix};
 ghost use Rattle.trace_text.specs.FieldText as texts;
 
-use crate::append::{push, push_number};
+use crate::append::{push, push_three, push_with_number};
 use std::alloc::AllocError;
 use trace_format::{Field, Kind};
 
@@ -13,9 +13,7 @@ use trace_format::{Field, Kind};
 pub(crate) fn push_field(out: &mut Vec<u8>, field: &Field) -> Result<(), AllocError>
     ensures { OnOk result (out.new.items ≡ out.old.items ++ texts.field_text field.now) }
 {
-    out.extend_from_slice(field.kind.type_name())?;
-    push(out, b" ")?;
-    out.extend_from_slice(field.name.as_bytes())?;
+    push_three(out, field.kind.type_name(), b" ", field.name.as_bytes())?;
     push_length(out, field.kind)
 }
 
@@ -26,7 +24,6 @@ fn push_length(out: &mut Vec<u8>, kind: Kind) -> Result<(), AllocError>
     let Kind::Char(length) = kind else {
         return Ok(());
     };
-    push(out, b"[")?;
-    push_number(out, length)?;
+    push_with_number(out, b"[", length)?;
     push(out, b"]")
 }

@@ -4,7 +4,7 @@ ghost use Rattle.std.specs.Prelude.{◌≡◌, ◌++◌, codes, OnOk, OnErr};
 ghost use Rattle.std.specs.Fmt.{decimal};
 ghost use Rattle.trace_text.specs.FormatText as texts;
 
-use crate::append::{append_text, push, push_number};
+use crate::append::{append_text, push, push_number, push_three, push_with_number};
 use crate::field::push_field;
 use std::alloc::{AllocError, Global};
 use trace_format::{EventDef, Field};
@@ -13,28 +13,20 @@ use trace_record::HEAD_SIZE;
 /// Where the fields begin in a record: behind its head.
 const FIRST_OFFSET: u128 = HEAD_SIZE as u128;
 
-/// Appends 1 for a signed field, and 0 for another.
-fn push_sign(out: &mut Vec<u8>, signed: bool) -> Result<(), AllocError>
-    ensures { OnOk result (out.new.items ≡ out.old.items ++ texts.signed_text signed) }
+/// 1 for a signed field, and 0 for another.
+fn sign_text(signed: bool) -> &'static [u8]
+    ensures { result.now ≡ texts.signed_text signed }
 {
-    if signed {
-        push(out, b"1")
-    } else {
-        push(out, b"0")
-    }
+    if signed { b"1" } else { b"0" }
 }
 
 /// Appends where a field lies in a record, and how: its first byte, its bytes, and whether it is signed.
 fn push_layout(out: &mut Vec<u8>, offset: u128, size: usize, signed: bool) -> Result<(), AllocError>
     ensures { OnOk result (out.new.items ≡ out.old.items ++ texts.layout_text offset size signed) }
 {
-    push(out, b";\toffset:")?;
-    push_number(out, offset)?;
-    push(out, b";\tsize:")?;
-    push_number(out, size)?;
-    push(out, b";\tsigned:")?;
-    push_sign(out, signed)?;
-    push(out, b";\n")
+    push_with_number(out, b";\toffset:", offset)?;
+    push_with_number(out, b";\tsize:", size)?;
+    push_three(out, b";\tsigned:", sign_text(signed), b";\n")
 }
 
 /// Appends the line of a field whose first byte is at an offset.
@@ -73,9 +65,7 @@ fn push_event(out: &mut Vec<u8>, id: u16, def: &EventDef) -> Result<(), AllocErr
     ensures { OnOk result (out.new.items
         ≡ out.old.items ++ codes "name: " ++ def.now.name ++ codes "\nID: " ++ decimal id) }
 {
-    push(out, b"name: ")?;
-    out.extend_from_slice(def.name())?;
-    push(out, b"\nID: ")?;
+    push_three(out, b"name: ", def.name(), b"\nID: ")?;
     push_number(out, id)
 }
 

@@ -7,7 +7,7 @@ ghost use Rattle.trace_text.specs.EntryText.{entry_line};
 ghost use Rattle.trace_text.specs.HistText as texts;
 ghost use Rattle.trace_text.specs.ShownTriggers.{shown_hist, shown_trigger};
 
-use crate::append::{append_text, push, push_number};
+use crate::append::{append_text, push, push_number, push_three};
 use crate::entry::push_entry_line;
 use crate::hist_line::push_hist_line;
 use crate::trigger::Shown;
@@ -41,9 +41,7 @@ fn push_entries(out: &mut Vec<u8>, spec: &HistSpec, entries: &[HistRow]) -> Resu
 fn push_total(out: &mut Vec<u8>, name: &str, count: u64) -> Result<(), AllocError>
     ensures { OnOk result (out.new.items ≡ out.old.items ++ texts.total_line name.now count) }
 {
-    push(out, b"    ")?;
-    out.extend_from_slice(name.as_bytes())?;
-    push(out, b": ")?;
+    push_three(out, b"    ", name.as_bytes(), b": ")?;
     push_number(out, count)?;
     push(out, b"\n")
 }

@@ -7,7 +7,7 @@ ghost use Rattle.trace_trigger.specs.declared.key.Key.{Key as KeySeen};
 ghost use Rattle.trace_trigger.specs.SameSpecs.{filter_text};
 ghost use Rattle.trace_text.specs.TriggerText as texts;
 
-use crate::append::{push, push_number};
+use crate::append::{push, push_three, push_with_number};
 use std::alloc::AllocError;
 use trace_format::Text;
 use trace_hist::{HistSpec, Key, SortKey};
@@ -47,12 +47,12 @@ fn push_keys(out: &mut Vec<u8>, keys: &[Key]) -> Result<(), AllocError>
     push_further_keys(out, further)
 }
 
-/// Appends values, with `hitcount` as the first.
+/// Appends values after their label, with `hitcount` as the first.
 fn push_values(out: &mut Vec<u8>, values: &[Text]) -> Result<(), AllocError>
     ensures { OnOk result (out.new.items
-        ≡ out.old.items ++ texts.with_commas (codes "hitcount" ∷ values.now)) }
+        ≡ out.old.items ++ codes ":vals=" ++ texts.with_commas (codes "hitcount" ∷ values.now)) }
 {
-    push(out, b"hitcount")?;
+    push(out, b":vals=hitcount")?;
     push_further_names(out, values)
 }
 
@@ -108,8 +108,7 @@ fn push_size(out: &mut Vec<u8>, spec: &HistSpec) -> Result<(), AllocError>
     ensures { OnOk result (out.new.items
         ≡ out.old.items ++ codes ":size=" ++ decimal spec.now.size) }
 {
-    push(out, b":size=")?;
-    push_number(out, spec.size())
+    push_with_number(out, b":size=", spec.size())
 }
 
 /// Appends the condition of a hist trigger with a filter, and of another nothing.
@@ -141,9 +140,7 @@ fn push_name(out: &mut Vec<u8>, spec: &HistSpec) -> Result<(), AllocError>
     let Some(name) = spec.name() else {
         return Ok(());
     };
-    push(out, b"name=")?;
-    out.extend_from_slice(name)?;
-    push(out, b":")
+    push_three(out, b"name=", name, b":")
 }
 
 /// Appends a hist trigger's name, if it has one, and its lists, with `hitcount` first among its values.
@@ -155,7 +152,6 @@ fn push_lists(out: &mut Vec<u8>, spec: &HistSpec) -> Result<(), AllocError>
     push_name(out, spec)?;
     push(out, b"keys=")?;
     push_keys(out, spec.keys())?;
-    push(out, b":vals=")?;
     push_values(out, spec.values())?;
     push(out, b":sort=")?;
     push_sort_keys(out, spec.sort())

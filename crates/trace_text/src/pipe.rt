@@ -8,7 +8,7 @@ ghost use Rattle.trace_buffer.specs.CpuReadings.{taken_reading};
 ghost use Rattle.trace_text.specs.BufferText as files;
 ghost use Rattle.trace_text.specs.TraceText as texts;
 
-use crate::append::{append_text, push, push_decimal};
+use crate::append::{append_text, push, push_with_number};
 use crate::record::push_record_line;
 use std::alloc::{AllocError, Global};
 use trace_buffer::Taken;
@@ -22,10 +22,8 @@ pub(crate) fn push_lost_line(out: &mut Vec<u8>, cpu: u32, lost: u64) -> Result<(
     if lost == 0 {
         return Ok(());
     }
-    push(out, b"CPU:")?;
-    push_decimal(out, u128::from(cpu))?;
-    push(out, b" [LOST ")?;
-    push_decimal(out, u128::from(lost))?;
+    push_with_number(out, b"CPU:", cpu)?;
+    push_with_number(out, b" [LOST ", lost)?;
     push(out, b" EVENTS]\n")
 }
 

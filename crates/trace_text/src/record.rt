@@ -5,21 +5,20 @@ ghost use Rattle.trace_format.specs.Cells.{datum_of};
 ghost use Rattle.trace_format.specs.Decoding.{row_from};
 ghost use Rattle.trace_text.specs.RecordText as texts;
 
-use crate::append::{push, push_number};
+use crate::append::{push, push_number, push_three};
 use std::alloc::{AllocError, Global};
 use trace_format::{Catalog, EventDef, Field, Row, RowMemory, Value};
 use trace_record::{Head, payload_in, read_head};
 
-/// Appends a number below 1,000 in three digits.
-fn push_three_digits(out: &mut Vec<u8>, n: u32) -> Result<(), AllocError>
-    ensures { OnOk result (out.new.items ≡ out.old.items ++ texts.three_digits n) }
+/// A number below 1,000 in three digits.
+fn three_digits(n: u32) -> [u8; 3]
+    ensures { result ≡ texts.three_digits n }
 {
-    let digits = [
+    [
         b'0' + (n / 100 % 10) as u8,
         b'0' + (n / 10 % 10) as u8,
         b'0' + (n % 10) as u8,
-    ];
-    out.extend_from_slice(&digits)
+    ]
 }
 
 /// Appends who wrote a record, where and when.
@@ -28,9 +27,7 @@ fn push_line_start(out: &mut Vec<u8>, cpu: u32, head: &Head) -> Result<(), Alloc
     ensures { OnOk result (out.new.items ≡ out.old.items ++ texts.line_start cpu head.now) }
 {
     push_number(out, head.pid)?;
-    push(out, b" [")?;
-    push_three_digits(out, cpu)?;
-    push(out, b"] ")?;
+    push_three(out, b" [", &three_digits(cpu), b"] ")?;
     push_number(out, head.ts)?;
     push(out, b": ")
 }
@@ -50,9 +47,7 @@ fn push_value(out: &mut Vec<u8>, value: &Value) -> Result<(), AllocError>
 fn push_cell(out: &mut Vec<u8>, field: &Field, value: &Value) -> Result<(), AllocError>
     ensures { OnOk result (out.new.items ≡ out.old.items ++ texts.cell_text field.now (datum_of value.now)) }
 {
-    push(out, b" ")?;
-    out.extend_from_slice(field.name.as_bytes())?;
-    push(out, b"=")?;
+    push_three(out, b" ", field.name.as_bytes(), b"=")?;
     push_value(out, value)
 }
 

@@ -13,7 +13,7 @@ ghost use Rattle.trace_text.specs.BufferText as files;
 ghost use Rattle.trace_text.specs.RecordText.{record_line};
 ghost use Rattle.trace_text.specs.TraceText as texts;
 
-use crate::append::{append_text, push, push_decimal};
+use crate::append::{append_text, push, push_number, push_with_number};
 use crate::record::push_record_line;
 use page_ring::{Kept, KeptRecords};
 use std::alloc::{AllocError, Global};
@@ -43,11 +43,9 @@ pub(crate) fn push_trace_head(
     ensures { OnOk result (out.new.items ≡ out.old.items ++ texts.trace_head kept written cpus) }
 {
     push_trace_title(out)?;
-    push_decimal(out, kept)?;
-    push(out, b"/")?;
-    push_decimal(out, written)?;
-    push(out, b"   #P:")?;
-    push_decimal(out, u128::from(cpus))?;
+    push_number(out, kept)?;
+    push_with_number(out, b"/", written)?;
+    push_with_number(out, b"   #P:", cpus)?;
     push(out, b"\n#\n")
 }
 

@@ -5,7 +5,7 @@ ghost use Rattle.std.specs.List.{flat_map};
 ghost use Rattle.trace_text.specs.ShownTriggers.{shown_trigger};
 ghost use Rattle.trace_text.specs.TriggerText as texts;
 
-use crate::append::{append_text, push, push_number};
+use crate::append::{append_text, push, push_with_number};
 use crate::hist_line::{push_condition, push_hist_line};
 use std::alloc::{AllocError, Global};
 use trace_hist::{Hist, HistSpec};
@@ -32,8 +32,7 @@ fn push_left(out: &mut Vec<u8>, left: Option<u64>) -> Result<(), AllocError>
     let Some(left) = left else {
         return push(out, b"unlimited");
     };
-    push(out, b"count=")?;
-    push_number(out, left)
+    push_with_number(out, b"count=", left)
 }
 
 /// Appends what a trigger that takes snapshots says.
