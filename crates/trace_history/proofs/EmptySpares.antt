@@ -1,6 +1,6 @@
 -- Without a spare the other side is empty.
 use Rattle.std.proofs.Common.{◌≡◌, ◌⊎◌, inl, inr, ℕ, ◌+◌, ◌-◌, Bool, true, false, ◌&&◌, if◌then◌else◌, List, [], ◌∷◌, replicate, is_some, Option, None, Some, unwrap_or, Result, Ok, Err, refl, sym, ap, ◌∙◌, true≢false}
-use Rattle.std.proofs.lemmas.Bool.{and_parts}
+use Rattle.std.proofs.lemmas.Bool.{and_parts, false≢true}
 use Rattle.std.proofs.lemmas.List.{length-replicate}
 use Rattle.page_ring.specs.Events as ring
 use Rattle.trace_buffer.specs.Families.{all_cleared}
@@ -62,7 +62,7 @@ exchange-armed instance past (WriteFile other (Some (OfInstance top.Snapshot)) a
     let parts = and_parts (is_same instance other) (takes_snapshot (written_snapshot text)) is in
     inl (rw parts.0 (takes-spare (written_snapshot text) parts.1))
 exchange-armed instance past (Emission name cpu pid pairs) is = inr (is, refl)
-exchange-armed instance past _ is = absurd (cc)
+exchange-armed instance past _ is = absurd (false≢true is)
 
 -- Without a spare the other side is empty, where it was so and a trigger that acts has a spare.
 pub empty-after : (g : Config) (instance : Option (List ℕ)) (past : List Request) (request : Request)
@@ -77,12 +77,12 @@ empty-after g instance past request acting before without = by_life (makes insta
     by_set : (set : Option Bool) → set_spare ≡ set → unwrap_or set (has_spare instance past) ≡ false
         → spare_after g instance request (other_rings g instance past) ≡ new_rings g
     by_set None is h = ap (spare_after g instance request) (before h) ∙ new-stay g instance request
-    by_set (Some true) is h = absurd (cc)
+    by_set (Some true) is h = absurd (true≢false h)
     by_set (Some false) is h = freed-new g instance past request (set-freed instance past request is)
 
     no_exchange : unwrap_or set_spare (has_spare instance past) ≡ false
         → (set_spare ≡ Some true) ⊎ ((is_exchanged_by instance past (emitted past request) ≡ true) × (set_spare ≡ None)) → ⊥
-    no_exchange h (inl set) = let e = rw set at h in cc
+    no_exchange h (inl set) = let e : true ≡ false = rw set at h in true≢false e
     no_exchange h (inr acts) =
         let e : has_spare instance past ≡ false = rw acts.1 at h in
         true≢false (sym (acting acts.0) ∙ e)
@@ -104,21 +104,21 @@ acting-has_trigger instance past (Emission name cpu pid pairs) is = by (event_na
   where
     by_trigger : (e : Emitted) (o : Option Trigger) → trigger_of instance e.k.event past ≡ o → event_named name past ≡ Some e.k
         → acts past e o ≡ true → has_trigger instance past ≡ true
-    by_trigger e None was there h = absurd (cc)
+    by_trigger e None was there h = absurd (false≢true h)
     by_trigger e (Some t) was there h =
         named-passes (λ (event : Definition). is_some (trigger_of instance event past)) past name e.k there (ap is_some was)
 
     by_row : (k : NumberedEvent) (row : Result Cells (List ℕ)) → event_named name past ≡ Some k
         → is_exchanged_by instance past (emitted_row (now_of past + 1) cpu pid k row) ≡ true → has_trigger instance past ≡ true
-    by_row k (Err missing) there h = absurd (cc)
+    by_row k (Err missing) there h = absurd (false≢true h)
     by_row k (Ok row) there h =
         by_trigger (record { k = k; row = row; cpu = cpu; pid = pid; timestamp = now_of past + 1 }) (trigger_of instance k.event past) refl there h
 
     by : (found : Option NumberedEvent) → event_named name past ≡ found
         → is_exchanged_by instance past (emitted_event (now_of past + 1) cpu pid pairs found) ≡ true → has_trigger instance past ≡ true
-    by None none h = absurd (cc)
+    by None none h = absurd (false≢true h)
     by (Some k) there h = by_row k (row_of k.event pairs) there h
-acting-has_trigger instance past _ is = absurd (cc)
+acting-has_trigger instance past _ is = absurd (false≢true is)
 
 pub spares_begin_empty : SparesBeginEmpty
 spares_begin_empty g [] instance legal without = refl

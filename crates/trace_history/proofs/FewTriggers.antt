@@ -2,8 +2,10 @@
 use Rattle.std.proofs.Common.{◌≡◌, ℕ, ◌+◌, ◌<◌, ◌≤◌, nat_lt, Bool, true, false, not, ◌&&◌, if◌then◌else◌, List, [], ◌∷◌, ◌++◌, length, bytes_eq, Option, None, Some, option_map, unwrap_or, IsOk, Result, Ok, Err, refl, sym, ap, ◌∙◌, subst, arith, ltb-true}
 use Rattle.std.specs.List.{filter}
 use Rattle.std.specs.Option.{option_to_list}
+use Rattle.std.proofs.lemmas.Bool.{false≢true}
 use Rattle.std.proofs.lemmas.List.{length-append}
 use Rattle.std.proofs.lemmas.List.Filters.{length-filter_both}
+use Rattle.std.proofs.lemmas.Option.{none-some, same_Some}
 use Rattle.std.proofs.lemmas.Slice.Eq.{bytes_eq-Decides}
 use Rattle.trace_format.specs.Definitions.{Definition}
 use Rattle.trace_trigger.specs.HistSpecs.{SpecSeen}
@@ -59,12 +61,12 @@ written-said g instance past (WriteFile other (Some (OfEvent name per_event.Trig
         let told : IsOk (trigger_answer other past append text k.event) = rw found at asked in
         let told_here : IsOk (trigger_answer instance past append text k.event) =
         subst (λ (i : Option (List ℕ)). IsOk (trigger_answer i past append text k.event)) here told in
-        let what : record { append = append; text = text } ≡ w = cc in
+        let what : record { append = append; text = text } ≡ w = same_Some _ _ h in
         subst (λ (v : OwnWritten). IsOk (said_here instance past k.event v.append v.text))
         what told_here
-    by true false same named h = absurd (cc)
-    by false named same other_named h = absurd (cc)
-written-said g instance past _ k w done there is = absurd (cc)
+    by true false same named h = absurd (none-some w h)
+    by false named same other_named h = absurd (none-some w h)
+written-said g instance past _ k w done there is = absurd (none-some w is)
 
 -- the same of what is written, whatever event it is for
 pub said-of_written : (g : Config) (instance : Option (List ℕ)) (past : List Request) (request : Request) (w : Written)
@@ -81,16 +83,16 @@ said-of_written g instance past (WriteFile other (Some (OfEvent name per_event.T
 
     by : (same : Bool) (found : Option NumberedEvent) → is_same instance other ≡ same → event_named name past ≡ found
         → (if same then option_map what found else None) ≡ Some w → IsOk (said_here instance past w.event w.append w.text)
-    by true None same there h = absurd (cc)
+    by true None same there h = absurd (none-some w h)
     by true (Some k) same there h =
         let here : other ≡ instance = sym (same-instance instance other same) in
         let told : IsOk (trigger_answer other past append text k.event) = rw there at asked in
         let told_here : IsOk (trigger_answer instance past append text k.event) =
         subst (λ (i : Option (List ℕ)). IsOk (trigger_answer i past append text k.event)) here told in
-        let is_that : what k ≡ w = cc in
+        let is_that : what k ≡ w = same_Some _ _ h in
         subst (λ (v : Written). IsOk (said_here instance past v.event v.append v.text)) is_that told_here
-    by false found same there h = absurd (cc)
-said-of_written g instance past _ w done is = absurd (cc)
+    by false found same there h = absurd (none-some w h)
+said-of_written g instance past _ w done is = absurd (none-some w is)
 
 -- nothing is written for an event that is not declared
 pub written-none : (g : Config) (instance : Option (List ℕ)) (past : List Request) (request : Request) (event : Definition)
@@ -108,7 +110,7 @@ written-none g instance past (WriteFile other (Some (OfEvent name per_event.Trig
     by true true named =
         let e : event.name ≡ name = (bytes_eq-Decides event.name name).0 named in
         let found : event_named name past ≡ None = ap (λ (n : List ℕ). event_named n past) (sym e) ∙ none in
-        absurd (let h = rw found at asked in cc)
+        absurd (let h : false ≡ true = rw found at asked in false≢true h)
     by true false named = refl
     by false named other_named = refl
 written-none g instance past _ event done none = refl
@@ -149,7 +151,7 @@ room-had attached hists done = by (nat_lt (trigger_count attached hists) 4) refl
   where
     by : (room : Bool) → nat_lt (trigger_count attached hists) 4 ≡ room → trigger_count attached hists < 4
     by true is = ltb-true (trigger_count attached hists) 4 is
-    by false is = absurd (let h = rw is at done in cc)
+    by false is = absurd (let h : false ≡ true = rw is at done in false≢true h)
 
 -- and it fits the table that it names
 fitted : (fits : Bool) (answered : Result Reply Refusal) → IsOk (fitting_answer fits answered) → IsOk answered × (fits ≡ true)

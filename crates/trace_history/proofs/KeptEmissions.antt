@@ -1,7 +1,7 @@
 -- Each record that a ring keeps was brought by an emission.
 use Rattle.std.proofs.Common.{◌≡◌, ◌⊎◌, inl, inr, ℕ, ◌-◌, ◌==◌, Bool, true, false, ◌&&◌, ◌||◌, if◌then◌else◌, List, [], ◌∷◌, ◌++◌, length, get_or, bytes_eq, All, Option, None, Some, refl, sym, ap, ◌∙◌, subst, eq-eqb, eqb-true}
 use Rattle.std.specs.List.{AllByRecursion, list_any}
-use Rattle.std.proofs.lemmas.Bool.{or_cases, and_parts}
+use Rattle.std.proofs.lemmas.Bool.{or_cases, and_parts, false≢true}
 use Rattle.std.proofs.lemmas.List.Elements.{All-from_recursion}
 use Rattle.std.proofs.lemmas.Slice.Eq.{bytes_eq-Decides}
 use Rattle.page_ring.specs.Account.{Reading}
@@ -181,7 +181,7 @@ here-emitted instance cpu entry entries bytes is = by (emitted (requests_of entr
     by_on : (e : Emitted) → emitted (requests_of entries) (request_of entry.command) ≡ Some e → (on : Bool)
         → (e.cpu == cpu && is_recorded instance (requests_of entries) e) ≡ on → is_that bytes (if on then Some (emitted_bytes e) else None) ≡ true
         → IsEmitted instance cpu (entry ∷ entries) bytes
-    by_on e emission false test h = absurd (cc)
+    by_on e emission false test h = absurd (false≢true h)
     by_on e emission true test h =
         let parts = and_parts (e.cpu == cpu) (is_recorded instance (requests_of entries) e) test in
         record {
@@ -199,7 +199,7 @@ here-emitted instance cpu entry entries bytes is = by (emitted (requests_of entr
 
     by : (e : Option Emitted) → emitted (requests_of entries) (request_of entry.command) ≡ e
         → is_that bytes (brought_by instance cpu (requests_of entries) e) ≡ true → IsEmitted instance cpu (entry ∷ entries) bytes
-    by None emission h = absurd (cc)
+    by None emission h = absurd (false≢true h)
     by (Some e) emission h = by_on e emission (e.cpu == cpu && is_recorded instance (requests_of entries) e) refl h
 
 later-emitted : (instance : Option (List ℕ)) (cpu : ℕ) (entry : Entry) (entries : List Entry) (bytes : List ℕ) → makes instance (request_of entry.command) ≡ false
@@ -219,7 +219,7 @@ later-emitted instance cpu entry entries bytes alive found = record {
 
 brought-emitted : (instance : Option (List ℕ)) (cpu : ℕ) (entries : List Entry) (bytes : List ℕ) → was_brought instance cpu (requests_of entries) bytes ≡ true
     → IsEmitted instance cpu entries bytes
-brought-emitted instance cpu [] bytes is = absurd (cc)
+brought-emitted instance cpu [] bytes is = absurd (false≢true is)
 brought-emitted instance cpu (entry ∷ entries) bytes is =
     by_life (makes instance (request_of entry.command)) refl is (brought-emitted instance cpu entries bytes)
   where
@@ -236,7 +236,7 @@ brought-emitted instance cpu (entry ∷ entries) bytes is =
 
     by_life : (new : Bool) → makes instance (request_of entry.command) ≡ new → (if new then false else here || before) ≡ true
         → (before ≡ true → IsEmitted instance cpu entries bytes) → IsEmitted instance cpu (entry ∷ entries) bytes
-    by_life true new h others = absurd (cc)
+    by_life true new h others = absurd (false≢true h)
     by_life false alive h others = by alive (or_cases here before h) others
 
 -- ---- its line

@@ -3,7 +3,8 @@ use Rattle.std.proofs.Common.{◌≡◌, ℕ, ◌+◌, ◌<◌, ◌≤◌, Bool,
 use Rattle.std.specs.List.{AllByRecursion}
 use Rattle.std.specs.Option.{option_to_list}
 use Rattle.std.specs.Result.{result_ok}
-use Rattle.std.proofs.lemmas.Bool.{ltb-false, leb-false}
+use Rattle.std.proofs.lemmas.Bool.{ltb-false, leb-false, false≢true}
+use Rattle.std.proofs.lemmas.Option.{none-some, same_Some}
 use Rattle.trace_format.specs.Catalogs.{id_of, event_of, id_for, IsEvent, AreEvents}
 use Rattle.trace_format.specs.Cells.{record_size_of}
 use Rattle.trace_format.specs.Definitions.{Definition, IsDefinition}
@@ -34,13 +35,13 @@ unfolding answer
 done-had_room g past request done = by (answer_with_room g past request) done
   where
     by : (r : Result Reply Refusal) → IsOk (unless_full g (length past) r) → IsOk r × (length past < g.history_limit)
-    by (Err refusal) d = absurd (cc)
+    by (Err refusal) d = absurd (false≢true d)
     by (Ok reply) d = by_room (nat_lt (length past) g.history_limit) refl d
       where
         by_room : (room : Bool) → nat_lt (length past) g.history_limit ≡ room → IsOk (unless_full g (length past) (Ok reply))
             → IsOk (let r : Result Reply Refusal = Ok reply in r) × (length past < g.history_limit)
         by_room true is d' = (refl, ltb-true (length past) g.history_limit is)
-        by_room false is d' = absurd (let h = rw is at d' in cc)
+        by_room false is d' = absurd (let h : false ≡ true = rw is at d' in false≢true h)
 
 -- what an instance was asked was done only where the instance is there
 pub asked-done : (instance : Option (List ℕ)) (past : List Request) (answered : Result Reply Refusal) → IsOk (instance_answer instance past answered) → IsOk answered
@@ -48,7 +49,7 @@ asked-done instance past answered done = by (is_there instance past) done
   where
     by : (there : Bool) → IsOk (if there then answered else Err refusal.NoSuchInstance) → IsOk answered
     by true d = d
-    by false d = absurd (cc)
+    by false d = absurd (false≢true d)
 
 -- ---- declarations
 
@@ -93,10 +94,10 @@ added-is_new g past event defined done =
         → nat_le 64 (length events) ≡ full → nat_lt g.page_bytes (record_size_of event) ≡ big
         → IsOk (added_answer (if there then Err catalog.EventExists else if many then Err catalog.TooMany else if full then Err catalog.TooMany else if big then Err catalog.TooBig else Ok (length events + 1)))
         → IsNew g past event
-    by true many full big a b c e done = absurd (cc)
-    by false true full big a b c e done = absurd (cc)
-    by false false true big a b c e done = absurd (cc)
-    by false false false true a b c e done = absurd (cc)
+    by true many full big a b c e done = absurd (false≢true done)
+    by false true full big a b c e done = absurd (false≢true done)
+    by false false true big a b c e done = absurd (false≢true done)
+    by false false false true a b c e done = absurd (false≢true done)
     by false false false false a b c e done =
         let few = ltb-false 16 (length event.fields) b in
         record {
@@ -113,15 +114,15 @@ declared-is_new g past (WriteFile instance (Some SyntheticEvents) append text) e
   where
     by_busy : (busy : Bool) → IsDefinition event
         → IsOk (if busy then Err refusal.Busy else added_answer (id_for (declared_events past) event g.page_bytes)) → IsNew g past event
-    by_busy true defined d = absurd (cc)
+    by_busy true defined d = absurd (false≢true d)
     by_busy false defined d = added-is_new g past event defined d
 
     by : (read : Result Definition ℕ) → definition_of text ≡ read → IsOk (read_declaration_answer g past append read) → result_ok read ≡ Some event → IsNew g past event
-    by (Err at) was d e = absurd (cc)
+    by (Err at) was d e = absurd (none-some event e)
     by (Ok found) was d e =
-        let same : found ≡ event = cc in
+        let same : found ≡ event = same_Some _ _ e in
         by_busy (not append && nat_lt 0 (length (declared_events past))) (definition_of-is_definition text event (was ∙ ap Ok same)) (rw same at d)
-declared-is_new g past _ event done is = absurd (cc)
+declared-is_new g past _ event done is = absurd (none-some event is)
 
 -- ---- the events of a legal history
 
@@ -172,7 +173,7 @@ named-is_definition g entries name k legal found =
 
 -- an event that is among events is among more
 found-more : (id : ℕ) (name : List ℕ) (events more : List Definition) (k : NumberedEvent) → found_from id name events ≡ Some k → found_from id name (events ++ more) ≡ Some k
-found-more id name [] more k found = absurd (cc)
+found-more id name [] more k found = absurd (none-some k found)
 found-more id name (event ∷ events) more k found = by (bytes_eq name event.name) refl (found-more (id + 1) name events more k) found
   where
     by : (same : Bool) → bytes_eq name event.name ≡ same → (found_from (id + 1) name events ≡ Some k → found_from (id + 1) name (events ++ more) ≡ Some k)

@@ -3,6 +3,7 @@ use Rattle.std.proofs.Common.{◌≡◌, ℕ, Bool, true, false, not, ◌&&◌, 
 use Rattle.std.specs.List.{AllByRecursion, filter}
 use Rattle.std.specs.Option.{option_to_list}
 use Rattle.std.proofs.lemmas.Bool.{false≢true}
+use Rattle.std.proofs.lemmas.Option.{none-some, same_Some}
 use Rattle.std.proofs.lemmas.Slice.Eq.{bytes_eq-Decides}
 use Rattle.trace_format.specs.Definitions.{Definition}
 use Rattle.trace_trigger.specs.HistSpecs.{SpecSeen}
@@ -66,7 +67,7 @@ own-none instance event past (WriteFile other (Some (OfEvent name per_event.Trig
     by : (same named : Bool) (found : Option NumberedEvent) → bytes_eq event.name name ≡ named → event_named name past ≡ found
         → (if same && named then (let o : Option OwnWritten = Some (record { append = append; text = text }) in o) else None) ≡ None
         → written_for event (if same then option_map what found else None) ≡ None
-    by true true found is there h = absurd (cc)
+    by true true found is there h = absurd (none-some _ (sym h))
     by true false None is there h = refl
     by true false (Some k) is there h =
         let names : name ≡ k.event.name = named-itself name past k there in
@@ -163,16 +164,16 @@ written-named instance past (WriteFile other (Some (OfEvent name per_event.Trigg
 
     by : (same : Bool) (found : Option NumberedEvent) → event_named name past ≡ found → (if same then option_map what found else None) ≡ Some w
         → IsNamed past (new_hist number w.event all spec)
-    by true None there h = absurd (cc)
+    by true None there h = absurd (none-some w h)
     by true (Some k) there h =
-        let same : what k ≡ w = cc in
+        let same : what k ≡ w = same_Some _ _ h in
         let event : k.event ≡ w.event = ap (λ (v : Written). v.event) same in record {
           k = k;
           there = ap (λ (n : List ℕ). event_named n past) (sym (named-itself name past k there ∙ ap (λ (e : Definition). e.name) event)) ∙ there;
           event = event;
         }
-    by false found there h = absurd (cc)
-written-named instance past _ w is number all spec = absurd (cc)
+    by false found there h = absurd (none-some w h)
+written-named instance past _ w is number all spec = absurd (none-some w is)
 
 pub all-named : (instance : Option (List ℕ)) (past : List Request) → AllByRecursion (IsNamed past) (hist_triggers instance past)
 all-named instance [] = tt

@@ -2,7 +2,7 @@
 use Rattle.std.proofs.Common.{◌≡◌, ℕ, zero, suc, ℤ, FitsSigned, w32, ◌+◌, ◌*◌, ◌/◌, ◌<◌, ◌≤◌, ◌^◌, List, [], ◌∷◌, ◌++◌, length, filter_map, replicate, slice_get, Option, None, Some, Result, Ok, Err, refl, sym, ap, ◌∙◌, subst, arith, length-append}
 use Rattle.std.specs.List.{AllZip}
 use Rattle.std.specs.Option.{option_to_list}
-use Rattle.std.proofs.lemmas.Option.{get_or_from_slice_get, slice_get_within}
+use Rattle.std.proofs.lemmas.Option.{get_or_from_slice_get, slice_get_within, none-some, same_Some}
 use Rattle.trace_record.specs.declared.head.Head.{Head}
 use Rattle.trace_format.specs.declared.kind.Kind.{Kind}
 use Rattle.trace_format.specs.declared.pair.Pair.{Pair}
@@ -58,12 +58,12 @@ length-payload event row is = length-bytes_of row.kinds row.values is.values ∙
 -- ---- events by number
 
 slice_get-more : (events more : List Definition) (index : ℕ) (event : Definition) → slice_get events index ≡ Some event → slice_get (events ++ more) index ≡ Some event
-slice_get-more [] more index event there = absurd (cc)
+slice_get-more [] more index event there = absurd (none-some event there)
 slice_get-more (first ∷ events) more zero event there = there
 slice_get-more (first ∷ events) more (suc index) event there = slice_get-more events more index event there
 
 event_of-more : (events more : List Definition) (id : ℕ) (event : Definition) → event_of events id ≡ Some event → event_of (events ++ more) id ≡ Some event
-event_of-more events more zero event there = absurd (cc)
+event_of-more events more zero event there = absurd (none-some event there)
 event_of-more events more (suc index) event there = slice_get-more events more index event there
 
 -- an event keeps its number
@@ -76,12 +76,12 @@ event_of-later (entry ∷ later) entries id event there =
 -- ---- an event's number, its record's size and the clock are small
 
 event_of-small : (events : List Definition) (id : ℕ) (event : Definition) → event_of events id ≡ Some event → id ≤ length events
-event_of-small events zero event there = absurd (cc)
+event_of-small events zero event there = absurd (none-some event there)
 event_of-small events (suc index) event there = let within = slice_get_within events index event there in omega (arith, within)
 
 event_of-fit : (g : Config) (entries : List Entry) (id : ℕ) (event : Definition) → IsLegalNewestFirst g entries
     → event_of (declared_events (requests_of entries)) id ≡ Some event → IsFit g.page_bytes event
-event_of-fit g entries zero event legal there = absurd (cc)
+event_of-fit g entries zero event legal there = absurd (none-some event there)
 event_of-fit g entries (suc index) event legal there =
     let events = declared_events (requests_of entries) in
     fit_at g.page_bytes events index event (legal-events g entries legal).fit (slice_get_within events index event there) (sym (get_or_from_slice_get events index event event there))
@@ -123,19 +123,19 @@ emission-is past (Emission name cpu pid pairs) e is = by_event (event_named name
   where
     by_row : (k : NumberedEvent) (built : Result Cells (List ℕ)) → event_named name past ≡ Some k → row_of k.event pairs ≡ built
         → emitted_row (now_of past + 1) cpu pid k built ≡ Some e → IsEmission past (Emission name cpu pid pairs) e
-    by_row k (Err field) named built h = absurd (cc)
+    by_row k (Err field) named built h = absurd (none-some e h)
     by_row k (Ok row) named built h =
         let this : Emitted = record { k = k; row = row; cpu = cpu; pid = pid; timestamp = now_of past + 1 } in
-        let same : this ≡ e = cc in
+        let same : this ≡ e = same_Some _ _ h in
         let found : IsEmission past (Emission name cpu pid pairs) this =
         record { name = name; pairs = pairs; emission = refl; named = named; built = built; time = refl } in
         subst (IsEmission past (Emission name cpu pid pairs)) same found
 
     by_event : (found : Option NumberedEvent) → event_named name past ≡ found → emitted_event (now_of past + 1) cpu pid pairs found ≡ Some e
         → IsEmission past (Emission name cpu pid pairs) e
-    by_event None named h = absurd (cc)
+    by_event None named h = absurd (none-some e h)
     by_event (Some k) named h = by_row k (row_of k.event pairs) named refl h
-emission-is past _ e is = absurd (cc)
+emission-is past _ e is = absurd (none-some e is)
 
 -- the process of an entry's emission has a number in 32 bits
 pid_of-fits : (entry : Entry) (name : List ℕ) (cpu : ℕ) (pid : ℤ) (pairs : List Pair) → IsEntry entry → request_of entry.command ≡ Emission name cpu pid pairs

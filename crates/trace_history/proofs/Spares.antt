@@ -2,7 +2,9 @@
 use Rattle.std.proofs.Common.{◌≡◌, ℕ, suc, ◌-◌, ◌<◌, Bool, true, false, ◌||◌, if◌then◌else◌, List, [], ◌∷◌, length, get_or, bytes_eq, is_some, Option, None, Some, unwrap_or, IsOk, Result, Ok, Err, refl, sym, ap, ◌∙◌, subst, arith, true≢false}
 use Rattle.std.specs.List.{list_any}
 use Rattle.std.specs.Option.{option_to_list}
+use Rattle.std.proofs.lemmas.Bool.{false≢true}
 use Rattle.std.proofs.lemmas.List.Folds.{list_any_at}
+use Rattle.std.proofs.lemmas.Option.{none-some}
 use Rattle.std.proofs.lemmas.Slice.Eq.{bytes_eq-Decides}
 use Rattle.trace_format.specs.Definitions.{Definition}
 use Rattle.trace_trigger.specs.TriggerTexts.{said_of}
@@ -29,8 +31,8 @@ use Rattle.trace_history.proofs.LegalEvents.{done-had_room, asked-done, named_in
 pub same-instance : (instance other : Option (List ℕ)) → is_same instance other ≡ true → instance ≡ other
 same-instance None None same = refl
 same-instance (Some name) (Some other) same = ap Some ((bytes_eq-Decides name other).0 same)
-same-instance None (Some other) same = absurd (cc)
-same-instance (Some name) None same = absurd (cc)
+same-instance None (Some other) same = absurd (false≢true same)
+same-instance (Some name) None same = absurd (false≢true same)
 
 -- ---- the events that are declared
 
@@ -64,8 +66,8 @@ sets-armed k past (OfEvent name per_event.Trigger) text t there is = by (bytes_e
         let e : k.event.name ≡ name = (bytes_eq-Decides k.event.name name).0 same in
         let found : event_named name past ≡ Some k = ap (λ (n : List ℕ). event_named n past) (sym e) ∙ there in
         ap (λ (o : Option NumberedEvent). spare_armed_for o text) found ∙ said-armed (length past) (said_of k.event text) t h
-    by false same h = absurd (cc)
-sets-armed k past _ text t there is = absurd (cc)
+    by false same h = absurd (none-some (Some t) h)
+sets-armed k past _ text t there is = absurd (none-some (Some t) is)
 
 set-armed : (instance : Option (List ℕ)) (k : NumberedEvent) (past : List Request) (request : Request) (t : Trigger) → event_named k.event.name past ≡ Some k
     → set_by instance (sets_trigger k.event past) request ≡ Some (Some t) → set_by instance (sets_spare past) request ≡ Some true
@@ -74,8 +76,8 @@ set-armed instance k past (WriteFile other (Some file) append text) t there is =
     by : (same : Bool) → (if same then sets_trigger k.event past file text else None) ≡ Some (Some t)
         → (if same then sets_spare past file text else None) ≡ Some true
     by true h = sets-armed k past file text t there h
-    by false h = absurd (cc)
-set-armed instance k past _ t there is = absurd (cc)
+    by false h = absurd (none-some (Some t) h)
+set-armed instance k past _ t there is = absurd (none-some (Some t) is)
 
 -- a write that is done sets none for an event that is not declared
 sets-none : (g : Config) (other : Option (List ℕ)) (past : List Request) (append : Bool) (file : File) (text : List ℕ) (event : Definition)
@@ -90,7 +92,7 @@ sets-none g other past append (OfEvent name per_event.Trigger) text event done n
     by true same =
         let e : event.name ≡ name = (bytes_eq-Decides event.name name).0 same in
         let found : event_named name past ≡ None = ap (λ (n : List ℕ). event_named n past) (sym e) ∙ none in
-        absurd (let h = rw found at asked in cc)
+        absurd (let h : false ≡ true = rw found at asked in false≢true h)
 sets-none g other past append _ text event done none = refl
 
 set-none : (g : Config) (instance : Option (List ℕ)) (past : List Request) (request : Request) (event : Definition) → IsOk (answer_with_room g past request)
@@ -141,20 +143,20 @@ set-freed instance past (WriteFile other (Some (OfInstance top.Snapshot)) append
       is = ap (λ (o : Option (List ℕ)). let r : Request = WriteFile o (Some (OfInstance top.Snapshot)) append text in r) (sym (same-instance instance other same));
       frees = written-frees (written_snapshot text) h;
     }
-    by false same h = absurd (cc)
+    by false same h = absurd (none-some false h)
 set-freed instance past (WriteFile other (Some (OfEvent name per_event.Trigger)) append text) is = by (is_same instance other) is
   where
     by : (same : Bool) → (if same then spare_armed_for (event_named name past) text else None) ≡ Some false
         → IsFreed instance (WriteFile other (Some (OfEvent name per_event.Trigger)) append text)
     by true h = absurd (armed-for (event_named name past) text h)
-    by false h = absurd (cc)
+    by false h = absurd (none-some false h)
 set-freed instance past (WriteFile other (Some file) append text) is = by (is_same instance other) is
   where
     by : (same : Bool) → (if same then sets_spare past file text else None) ≡ Some false
         → IsFreed instance (WriteFile other (Some file) append text)
-    by true h = absurd (cc)
-    by false h = absurd (cc)
-set-freed instance past _ is = absurd (cc)
+    by true h = absurd (none-some false h)
+    by false h = absurd (none-some false h)
+set-freed instance past _ is = absurd (none-some false is)
 
 -- it is freed only where no event has a trigger
 freed-unused : (g : Config) (instance : Option (List ℕ)) (past : List Request) (append : Bool) (text : List ℕ)
@@ -166,7 +168,7 @@ freed-unused g instance past append text done frees =
     by (has_trigger instance past) (subst (λ (w : Option SnapshotWrite). IsOk (spare_answer (has_trigger instance past) w)) frees asked)
   where
     by : (used : Bool) → IsOk (spare_answer used (Some Frees)) → used ≡ false
-    by true h = absurd (cc)
+    by true h = absurd (false≢true h)
     by false h = refl
 
 -- ---- an event's trigger and the spare
@@ -219,13 +221,13 @@ armed-after g instance past request k done before = record { untriggered = untri
     by_trigger : (t : Trigger) → event_named k.event.name past ≡ Some k → (set : Option (Option Trigger)) → set_trigger ≡ set
         → unwrap_or set (trigger_of instance k.event past) ≡ Some t → unwrap_or set_spare (has_spare instance past) ≡ true
     by_trigger t there None is h = by_spare t there h set_spare refl
-    by_trigger t there (Some None) is h = absurd (cc)
+    by_trigger t there (Some None) is h = absurd (none-some t h)
     by_trigger t there (Some (Some new)) is h =
         ap (λ (o : Option Bool). unwrap_or o (has_spare instance past)) (set-armed instance k past request new there is)
 
     by_life : (t : Trigger) → event_named k.event.name past ≡ Some k → (new : Bool) → makes instance request ≡ new
         → left None new set_trigger (trigger_of instance k.event past) ≡ Some t → left false new set_spare (has_spare instance past) ≡ true
-    by_life t there true new h = absurd (cc)
+    by_life t there true new h = absurd (none-some t h)
     by_life t there false new h = by_trigger t there set_trigger refl h
 
     armed : (t : Trigger) → event_named k.event.name (request ∷ past) ≡ Some k → trigger_of instance k.event (request ∷ past) ≡ Some t
@@ -236,14 +238,14 @@ armed-after g instance past request k done before = record { untriggered = untri
         more = option_to_list (declares request)
 
         by : (old : Option NumberedEvent) → event_named k.event.name past ≡ old → has_spare instance (request ∷ past) ≡ true
-        by None none = absurd (let h : None ≡ Some t = sym (none_left (makes instance request) none) ∙ attached in cc)
+        by None none = absurd (none-some t (sym (none_left (makes instance request) none) ∙ attached))
         by (Some old) was =
             let e : Some old ≡ Some k = sym (named_in-more k.event.name (declared_events past) more old was) ∙ there in
             by_life t (was ∙ e) (makes instance request) refl attached
 
 armed-legal : (g : Config) (entries : List Entry) (instance : Option (List ℕ)) (k : NumberedEvent) → IsLegalNewestFirst g entries
     → IsArmed instance (requests_of entries) k
-armed-legal g [] instance k legal = record { untriggered = λ none. refl; armed = λ t there attached. absurd (cc) }
+armed-legal g [] instance k legal = record { untriggered = λ none. refl; armed = λ t there attached. absurd (none-some t attached) }
 armed-legal g (entry ∷ entries) instance k legal =
     armed-after g instance (requests_of entries) (request_of entry.command) k
     (done-had_room g (requests_of entries) (request_of entry.command) legal.2).0 (armed-legal g entries instance k legal.3)

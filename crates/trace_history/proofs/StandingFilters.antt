@@ -1,6 +1,8 @@
 -- The filters that events have in a legal history.
 use Rattle.std.proofs.Common.{◌≡◌, ◌⊎◌, inl, inr, ℕ, Bool, true, false, if◌then◌else◌, List, [], ◌∷◌, bytes_eq, Option, None, Some, unwrap_or, IsOk, is_ok, is_some, Result, Ok, Err, refl, sym, ap, ◌∙◌, subst}
 use Rattle.std.specs.Option.{option_to_list}
+use Rattle.std.proofs.lemmas.Bool.{false≢true}
+use Rattle.std.proofs.lemmas.Option.{none-some, same_Some}
 use Rattle.std.proofs.lemmas.Slice.Eq.{bytes_eq-Decides}
 use Rattle.trace_filter.specs.declared.fault.FilterFault.{FilterFault}
 use Rattle.trace_filter.specs.Filters.{Parsed, IsFilter, IsRefused, answer_of}
@@ -32,7 +34,7 @@ takes-is_filter text event can = by (filter_or_refused event text)
     by (inl is) = is
     by (inr refused) =
         let answered : answer_of event text ≡ Err refused.0 = (refusal_is_answered event text refused.0).0 refused.1 in
-        absurd (let h = rw answered at can in cc)
+        absurd (let h : false ≡ true = rw answered at can in false≢true h)
 
 -- a request that sets something by a write to a file of an instance
 record IsWrite {A : Type 0} (instance : Option (List ℕ)) (sets : File → List ℕ → Option A) (request : Request) (v : A) : Type 0 where
@@ -50,8 +52,8 @@ set-is_write instance sets (WriteFile other (Some file) append written) v is = b
     by : (same : Bool) → (if same then sets file written else None) ≡ Some v
         → IsWrite instance sets (WriteFile other (Some file) append written) v
     by true h = record { other = other; file = file; append = append; written = written; is = refl; sets_it = h }
-    by false h = absurd (cc)
-set-is_write instance sets _ v is = absurd (cc)
+    by false h = absurd (none-some v h)
+set-is_write instance sets _ v is = absurd (none-some v is)
 
 -- what the write of a filter that was done says of its event
 asked-named : (g : Config) (other : Option (List ℕ)) (past : List Request) (append : Bool) (event written name : List ℕ) (found : Option NumberedEvent)
@@ -75,25 +77,25 @@ taken-by g other past append (OfEvent event per_event.Filter) written name k tex
   where
     by_answer : (answered : Result Parsed FilterFault) → answer_of k.event written ≡ answered → IsOk (taken_answer answered) → is_ok (answer_of k.event written) ≡ true
     by_answer (Ok filter) is d = rw is refl
-    by_answer (Err fault) is d = absurd (cc)
+    by_answer (Err fault) is d = absurd (false≢true d)
 
     by_clears : (off : Bool) → clears_filter written ≡ off → IsOk (filter_answer written k.event) → written_filter written ≡ Some text → can_take text k.event ≡ true
-    by_clears true is d s = absurd (let h = rw is at s in cc)
+    by_clears true is d s = absurd (let h : None ≡ Some text = rw is at s in none-some text h)
     by_clears false is d s =
         let h : Some written ≡ Some text = rw is at s in
-        let same : written ≡ text = cc in
+        let same : written ≡ text = same_Some _ _ h in
         rw (← same) (by_answer (answer_of k.event written) refl (rw is at d))
 taken-by g other past append (OfInstance top.EventsFilter) written name k text done there sets =
     by (clears_filter written) (can_take written k.event) refl refl (rw there at sets)
   where
     by : (off can : Bool) → clears_filter written ≡ off → can_take written k.event ≡ can → written_to_all written (Some k) ≡ Some (Some text) → can_take text k.event ≡ true
-    by true can is are s = absurd (let h = rw is at s in cc)
-    by false false is are s = absurd (let h = rw (is, are) at s in cc)
+    by true can is are s = absurd (let h : Some None ≡ Some (Some text) = rw is at s in none-some text (same_Some _ _ h))
+    by false false is are s = absurd (let h : None ≡ Some (Some text) = rw (is, are) at s in none-some (Some text) h)
     by false true is are s =
         let h : Some (Some written) ≡ Some (Some text) = rw (is, are) at s in
-        let same : written ≡ text = cc in
+        let same : written ≡ text = same_Some _ _ (same_Some _ _ h) in
         rw (← same) are
-taken-by g other past append _ written name k text done there sets = absurd (cc)
+taken-by g other past append _ written name k text done there sets = absurd (none-some (Some text) sets)
 
 -- a write sets none for an event that is not declared
 none-by : (g : Config) (other : Option (List ℕ)) (past : List Request) (append : Bool) (file : File) (written name : List ℕ)
@@ -102,7 +104,7 @@ none-by g other past append (OfEvent event per_event.Filter) written name done n
   where
     by : (same : Bool) → bytes_eq name event ≡ same → (if same then Some (written_filter written) else None) ≡ None
     by false is = refl
-    by true is = absurd (let h = asked-named g other past append event written name None done is none in cc)
+    by true is = absurd (let h : false ≡ true = asked-named g other past append event written name None done is none in false≢true h)
 none-by g other past append (OfInstance top.EventsFilter) written name done none = rw none refl
 none-by g other past append _ written name done none = refl
 
@@ -161,26 +163,26 @@ taken-after g instance past request name done before = record { unfiltered = unf
         by_set : (old : NumberedEvent) → event_named name past ≡ Some old → old ≡ k → (set : Option (Option (List ℕ))) → filter_set instance name past request ≡ set
             → unwrap_or set (filter_of instance name past) ≡ Some text → can_take text k.event ≡ true
         by_set old was same None is s = before.taken k text (was ∙ ap Some same) s
-        by_set old was same (Some None) is s = absurd (cc)
+        by_set old was same (Some None) is s = absurd (none-some text s)
         by_set old was same (Some (Some written)) is s =
-            let text_same : written ≡ text = cc in
+            let text_same : written ≡ text = same_Some _ _ s in
             set-is_taken g instance past request name k text done (was ∙ ap Some same) (is ∙ ap (λ (t : List ℕ). Some (Some t)) text_same)
 
         by_life : (old : NumberedEvent) → event_named name past ≡ Some old → old ≡ k → (new : Bool)
             → left (filter_of instance name past) new (filter_set instance name past request) ≡ Some text → can_take text k.event ≡ true
-        by_life old was same true s = absurd (cc)
+        by_life old was same true s = absurd (none-some text s)
         by_life old was same false s = by_set old was same (filter_set instance name past request) refl s
 
         by : (old : Option NumberedEvent) → event_named name past ≡ old → can_take text k.event ≡ true
-        by None none = absurd (let h : None ≡ Some text = sym (none_left (makes instance request) none) ∙ stands in cc)
+        by None none = absurd (none-some text (sym (none_left (makes instance request) none) ∙ stands))
         by (Some old) was =
             let e : Some old ≡ Some k = sym (named_in-more name (declared_events past) more old was) ∙ there in
-            let same : old ≡ k = cc in
+            let same : old ≡ k = same_Some _ _ e in
             by_life old was same (makes instance request) stands
 
 taken-legal : (g : Config) (entries : List Entry) (instance : Option (List ℕ)) (name : List ℕ) → IsLegalNewestFirst g entries
     → IsTaken instance name (requests_of entries)
-taken-legal g [] instance name legal = record { unfiltered = λ none. refl; taken = λ k text there stands. absurd (cc) }
+taken-legal g [] instance name legal = record { unfiltered = λ none. refl; taken = λ k text there stands. absurd (none-some text stands) }
 taken-legal g (entry ∷ entries) instance name legal =
     taken-after g instance (requests_of entries) (request_of entry.command) name
     (done-had_room g (requests_of entries) (request_of entry.command) legal.2).0 (taken-legal g entries instance name legal.3)

@@ -81,6 +81,12 @@ hist_takes_none definition text is e = hist_refused definition text ((refusal_is
 
 -- ---- triggers for snapshots
 
+bad_text : {A : Type 0} → ◌≡◌ {A = Result A TriggerFault} (Err faults.BadText) (Err faults.Memory) → ⊥
+bad_text e = cc
+
+no_fault : {A : Type 0} (a : A) → ◌≡◌ {A = Result A TriggerFault} (Ok a) (Err faults.Memory) → ⊥
+no_fault a e = cc
+
 then_none : {A B : Type 0} (r : Result A TriggerFault) (next : A → Result B TriggerFault) → (r ≡ Err faults.Memory → ⊥)
     → ((a : A) → next a ≡ Err faults.Memory → ⊥) → (r >>= next) ≡ Err faults.Memory → ⊥
 then_none (Ok a) next first later e = later a e
@@ -96,25 +102,26 @@ unfolding count_of
 count_takes_none word e = by (after (codes "snapshot") word) e
   where
     from : (n : Option ℕ) → count_from n ≡ Err faults.Memory → ⊥
-    from None h = cc
-    from (Some n) h = either_none (nat_lt 0 n) _ _ (λ k. cc) (λ k. cc) h
+    from None h = bad_text h
+    from (Some n) h = either_none (nat_lt 0 n) _ _ (no_fault (Some n)) bad_text h
 
     by : (rest : Option (List ℕ)) → count_after rest ≡ Err faults.Memory → ⊥
-    by None h = cc
-    by (Some []) h = cc
-    by (Some (b ∷ digits)) h = either_none (b == 58) _ _ (from (up_to (2 ^ 32 - 1) (decimal_number digits))) (λ k. cc) h
+    by None h = bad_text h
+    by (Some []) h = no_fault None h
+    by (Some (b ∷ digits)) h = either_none (b == 58) _ _ (from (up_to (2 ^ 32 - 1) (decimal_number digits))) bad_text h
 
 condition_takes_none : (tail : List ℕ) → condition_of tail ≡ Err faults.Memory → ⊥
 unfolding condition_of
-condition_takes_none tail e = either_none (list_all is_blank tail) _ _ (λ k. cc) (by (after (codes "if") (after_blanks tail))) e
+condition_takes_none tail e = either_none (list_all is_blank tail) _ _ (no_fault None) (by (after (codes "if") (after_blanks tail))) e
   where
     by : (rest : Option (List ℕ)) → condition_after rest ≡ Err faults.Memory → ⊥
-    by None h = cc
-    by (Some text) h = either_none (nat_lt 0 (prefix_len is_blank text) && nat_lt 0 (length (after_blanks text))) _ _ (λ k. cc) (λ k. cc) h
+    by None h = bad_text h
+    by (Some text) h =
+        either_none (nat_lt 0 (prefix_len is_blank text) && nat_lt 0 (length (after_blanks text))) _ _ (no_fault (Some (after_blanks text))) bad_text h
 
 only_if_takes_none : (definition : Definition) (text : List ℕ) (condition : Option (List ℕ)) → filter_of definition text condition ≡ Err faults.Memory → ⊥
 unfolding filter_of
-only_if_takes_none definition text None e = cc
+only_if_takes_none definition text None e = no_fault None e
 only_if_takes_none definition text (Some condition) e = by (answer_of definition condition) (filter_takes_none definition condition) e
   where
     by : (r : Result Parsed FilterFault) → (r ≡ Err filters.Memory → ⊥) → filter_read (length text - length condition) r ≡ Err faults.Memory → ⊥
@@ -130,25 +137,25 @@ unfolding trigger_of
 trigger_takes_none definition text body e =
     then_none (count_of (word_of body)) _ (count_takes_none (word_of body))
     (λ count. then_none (condition_of (after_word body)) _ (condition_takes_none (after_word body))
-    (λ condition. then_none (filter_of definition text condition) _ (only_if_takes_none definition text condition) (λ only_if k. cc))) e
+    (λ condition. then_none (filter_of definition text condition) _ (only_if_takes_none definition text condition) (λ only_if. no_fault _))) e
 
 snapshot_takes_none : (definition : Definition) (text : List ℕ) → snapshot_said definition text ≡ Err faults.Memory → ⊥
 unfolding snapshot_said
 snapshot_takes_none definition text e = by (after (codes "!") text) e
   where
     by : (body : Option (List ℕ)) → said_after definition text body ≡ Err faults.Memory → ⊥
-    by None h = then_none (trigger_of definition text text) _ (trigger_takes_none definition text text) (λ t k. cc) h
-    by (Some body) h = then_none (trigger_of definition text body) _ (trigger_takes_none definition text body) (λ t k. cc) h
+    by None h = then_none (trigger_of definition text text) _ (trigger_takes_none definition text text) (λ t. no_fault _) h
+    by (Some body) h = then_none (trigger_of definition text body) _ (trigger_takes_none definition text body) (λ t. no_fault _) h
 
 -- ---- all texts
 
 pub trigger_text_takes_none : (definition : Definition) (text : List ℕ) → said_of definition text ≡ Err faults.Memory → ⊥
 unfolding said_of
 trigger_text_takes_none definition text e =
-    either_none (list_all is_blank text) _ _ (λ k. cc) (by (begins (codes "hist:") text) refl (begins (codes "!hist:") text) refl) e
+    either_none (list_all is_blank text) _ _ (no_fault texts.Nothing) (by (begins (codes "hist:") text) refl (begins (codes "!hist:") text) refl) e
   where
     by : (one : Bool) → begins (codes "hist:") text ≡ one → (two : Bool) → begins (codes "!hist:") text ≡ two
         → (if one then (spec_of definition text >>= λ spec. Ok (texts.Hist spec)) else if two then (spec_of definition text >>= λ spec. Ok (texts.RemoveHist spec)) else snapshot_said definition text) ≡ Err faults.Memory → ⊥
-    by true is two h k = then_none (spec_of definition text) _ (hist_takes_none definition text (inl (so_begins (codes "hist:") text is))) (λ s m. cc) k
-    by false not_one true is k = then_none (spec_of definition text) _ (hist_takes_none definition text (inr (so_begins (codes "!hist:") text is))) (λ s m. cc) k
+    by true is two h k = then_none (spec_of definition text) _ (hist_takes_none definition text (inl (so_begins (codes "hist:") text is))) (λ s. no_fault _) k
+    by false not_one true is k = then_none (spec_of definition text) _ (hist_takes_none definition text (inr (so_begins (codes "!hist:") text is))) (λ s. no_fault _) k
     by false not_one false not_two k = snapshot_takes_none definition text k
