@@ -1,3 +1,4 @@
+pub mod ByteSetLemmas
 pub mod CaretLemmas
 pub mod HistLemmas
 pub mod LayoutLemmas

@@ -14,3 +14,4 @@ pub mod Places
 pub mod Hints
 pub mod Layout
 pub mod Explanations
+pub mod private

@@ -1,10 +1,13 @@
 //! Which byte of a line is a byte of what it writes, and where a quote begins that is not closed.
 
-ghost use Rattle.std.specs.Prelude.{◌≡◌, ◌+◌, ◌-◌, ◌^◌, ◌<◌, ◌∷◌, [], ◌++◌, List, ℕ, IfOk, OnOk};
+ghost use Rattle.std.specs.Prelude.{◌≡◌, ◌-◌, ◌^◌, ◌<◌, if◌then◌else◌, [], ◌∷◌, ◌++◌, IfOk, OnOk};
 ghost use Rattle.trace_script.specs.Tokens.{is_end};
-ghost use Rattle.trace_explain.specs.Carets.{stand_after, end_after, offset_of_byte, offsets_from, offsets_of, written_offset, quote_after, open_quote};
+ghost use Rattle.trace_explain.specs.Carets.{stand_after, offsets_of, written_offset, quote_after, open_quote};
+ghost use Rattle.trace_explain.specs.Starts.{next_stand};
+ghost use Rattle.trace_explain.specs.private.Steps as steps;
 
-use crate::cut::element_after;
+use crate::cut::{number_at, numbers_after};
+use crate::filter_due::is_quote;
 use std::alloc::{AllocError, Global};
 use trace_lex::is_blank;
 
@@ -35,125 +38,70 @@ pub(crate) fn stand_after(byte: u8) -> Stand
 {
     if is_end(byte) {
         Stand::Between
-    } else if byte == b'\'' || byte == b'"' {
+    } else if is_quote(byte) {
         Stand::InQuotes(byte)
     } else {
         Stand::InWord
     }
 }
 
-/// The offsets of a line that were found, and where its reader stands.
-#[derive(Drop)]
-struct Walk {
-    offsets: Vec<usize>,
-    stand: Stand,
-    /// The offset after the last byte of the word that is open.
-    end: usize,
-    /// The offset of the next byte.
-    at: usize,
+/// Where a byte leads.
+pub(crate) fn next_stand(stand: Stand, byte: u8) -> Stand
+    ensures { result ≡ next_stand stand byte }
+{
+    match stand {
+        Stand::InQuotes(quote) => { if byte == quote { Stand::InWord } else { stand } }
+        _ => stand_after(byte),
+    }
 }
 
-impl Walk {
-    fn new(alloc: Global) -> Walk
-        ensures offsets { result.offsets.items ≡ [] }
-        ensures stand { result.stand ≡ Stand.Between }
-        ensures end { result.end ≡ 0 }
-        ensures at { result.at ≡ 0 }
-    {
-        Walk {
-            offsets: Vec::new(alloc),
-            stand: Stand::Between,
-            end: 0,
-            at: 0,
-        }
-    }
+/// Where the word that is open ends so far, if it goes on after a byte.
+fn next_end(stand: Stand, end: usize, at: usize, byte: u8) -> usize
+    requires { at < 2 ^ 64 - 1 }
+    ensures { result ≡ steps.next_end stand end at byte }
+{
+    let stays = match stand {
+        Stand::InQuotes(quote) => byte == quote,
+        _ => is_end(byte),
+    };
+    if stays { end } else { at + 1 }
+}
 
-    /// Takes a byte that stands outside quotes and ends no word.
-    fn outside(&mut self, byte: u8) -> Result<(), AllocError>
-        requires { self.old.at < 2 ^ 64 - 1 }
-        ensures offsets { OnOk result (self.new.offsets.items ≡ self.old.offsets.items ++ offset_of_byte self.old.at byte) }
-        ensures stand { OnOk result (self.new.stand ≡ stand_after byte) }
-        ensures end { OnOk result (self.new.end ≡ end_after self.old.end self.old.at byte) }
-        ensures at { OnOk result (self.new.at ≡ self.old.at) }
-    {
-        match byte {
-            b' ' | b'\t' => self.stand = Stand::Between,
-            b'>' => {
-                self.offsets.push(self.at)?;
-                self.stand = Stand::Between;
-            }
-            b'\'' | b'"' => {
-                self.end = self.at + 1;
-                self.stand = Stand::InQuotes(byte);
-            }
-            _ => {
-                self.offsets.push(self.at)?;
-                self.end = self.at + 1;
-                self.stand = Stand::InWord;
-            }
-        }
-        Ok(())
+/// Whether the word that is open ends before a byte.
+fn ends_at(stand: Stand, byte: u8) -> bool
+    ensures { result ≡ steps.ends_at stand byte }
+{
+    match stand {
+        Stand::InWord => is_end(byte),
+        _ => false,
     }
+}
 
-    /// Takes a byte of a quoted part.
-    fn quoted(&mut self) -> Result<(), AllocError>
-        requires { self.old.at < 2 ^ 64 - 1 }
-        ensures offsets { OnOk result (self.new.offsets.items ≡ self.old.offsets.items ++ self.old.at ∷ []) }
-        ensures stand { OnOk result (self.new.stand ≡ self.old.stand) }
-        ensures end { OnOk result (self.new.end ≡ self.old.at + 1) }
-        ensures at { OnOk result (self.new.at ≡ self.old.at) }
-    {
-        self.offsets.push(self.at)?;
-        self.end = self.at + 1;
-        Ok(())
-    }
+/// Whether a word is open that ends where the line does.
+fn is_open(stand: Stand) -> bool
+    ensures { result ≡ steps.is_open stand }
+{
+    matches!(stand, Stand::InWord)
+}
 
-    /// Takes the next byte, wherever it stands.
-    #[tactic(auto, using(crate::proofs::CaretLemmas::more_offsets))]
-    fn take(&mut self, byte: u8) -> Result<(), AllocError>
-        requires { self.old.at < 2 ^ 64 - 1 }
-        ensures offsets { OnOk result ((bytes : List ℕ) →
-            self.new.offsets.items ++ offsets_from self.new.stand self.new.end (self.old.at + 1) bytes
-            ≡ self.old.offsets.items ++ offsets_from self.old.stand self.old.end self.old.at (byte ∷ bytes)) }
-        ensures at { OnOk result (self.new.at ≡ self.old.at) }
-    {
-        match self.stand {
-            Stand::Between => self.outside(byte),
-            Stand::InWord if is_end(byte) => {
-                self.offsets.push(self.end)?;
-                self.outside(byte)
-            }
-            Stand::InWord => self.outside(byte),
-            Stand::InQuotes(quote) if byte == quote => {
-                self.stand = Stand::InWord;
-                Ok(())
-            }
-            Stand::InQuotes(_) => self.quoted(),
-        }
+/// Whether a byte has an offset of its own.
+fn has_offset(stand: Stand, byte: u8) -> bool
+    ensures { result ≡ steps.has_offset stand byte }
+{
+    match stand {
+        Stand::InQuotes(quote) => byte != quote,
+        _ => !(is_blank(byte) || is_quote(byte)),
     }
+}
 
-    /// Takes the next byte, and goes on to the one after it.
-    fn step(&mut self, byte: u8) -> Result<(), AllocError>
-        requires { self.old.at < 2 ^ 64 - 1 }
-        ensures offsets { OnOk result ((bytes : List ℕ) →
-            self.new.offsets.items ++ offsets_from self.new.stand self.new.end self.new.at bytes
-            ≡ self.old.offsets.items ++ offsets_from self.old.stand self.old.end self.old.at (byte ∷ bytes)) }
-        ensures at { OnOk result (self.new.at ≡ self.old.at + 1) }
-    {
-        self.take(byte)?;
-        self.at += 1;
-        Ok(())
+/// Appends an offset, if it is there.
+pub(crate) fn push_if(offsets: &mut Vec<usize>, is_there: bool, at: usize) -> Result<(), AllocError>
+    ensures { OnOk result (offsets.new.items ≡ offsets.old.items ++ (if is_there then at ∷ [] else [])) }
+{
+    if is_there {
+        offsets.push(at)?;
     }
-
-    /// The offsets, at the end of the line.
-    fn finish(mut self) -> Result<Vec<usize>, AllocError>
-        ensures { IfOk result (λ offsets. offsets.items ≡ self.offsets.items ++ offsets_from self.stand self.end self.at []) }
-    {
-        if let Stand::InWord = self.stand {
-            self.offsets.push(self.end)?;
-        }
-        Ok(self.offsets)
-    }
+    Ok(())
 }
 
 /// The offsets of a line.
@@ -161,11 +109,17 @@ impl Walk {
 fn offsets(alloc: Global, line: &[u8]) -> Result<Vec<usize>, AllocError>
     ensures { IfOk result (λ offsets. offsets.items ≡ offsets_of line.now) }
 {
-    let mut walk = Walk::new(alloc);
-    for byte in line {
-        walk.step(*byte)?;
+    let mut offsets = Vec::new(alloc);
+    let mut stand = Stand::Between;
+    let mut end = 0;
+    for (at, byte) in line.iter().enumerate() {
+        push_if(&mut offsets, ends_at(stand, *byte), end)?;
+        push_if(&mut offsets, has_offset(stand, *byte), at)?;
+        end = next_end(stand, end, at, *byte);
+        stand = next_stand(stand, *byte);
     }
-    walk.finish()
+    push_if(&mut offsets, is_open(stand), end)?;
+    Ok(offsets)
 }
 
 /// Where the byte of this offset in what an `echo` writes stands in its line.
@@ -177,7 +131,7 @@ pub(crate) fn written_offset(
     ensures { IfOk result (λ offset. offset ≡ written_offset line.now at) }
 {
     let offsets = offsets(alloc, line)?;
-    Ok(element_after(&offsets, ECHO_PLACES, at))
+    Ok(number_at(numbers_after(ECHO_PLACES, &offsets), at))
 }
 
 /// Which quote is open after one more byte, and where it stands.
@@ -187,7 +141,7 @@ fn quote_after(before: Option<(u8, usize)>, at: usize, byte: u8) -> Option<(u8, 
     match before {
         Some((quote, _)) => { if byte == quote { None } else { before } }
         None => {
-            if byte == b'\'' || byte == b'"' {
+            if is_quote(byte) {
                 Some((byte, at))
             } else {
                 None

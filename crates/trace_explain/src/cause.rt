@@ -1,12 +1,11 @@
 //! Why the pairs of an emission are no row.
 
-ghost use Rattle.std.specs.Prelude.{◌≡◌, List, Option, Some};
-ghost use Rattle.std.specs.List.{list_all};
-ghost use Rattle.std.specs.Option.{option_copied};
-ghost use Rattle.trace_format.specs.Cells.{is_printable};
-ghost use Rattle.trace_format.specs.Rows.{field_named, pair_named};
+ghost use Rattle.std.specs.Prelude.{◌≡◌};
+ghost use Rattle.trace_format.specs.Rows.{pair_named};
 ghost use Rattle.trace_explain.specs.Causes.{misfit_of, cause_of, cause_without_event};
 
+use crate::byte_set::{ByteSet, are_all};
+use crate::named::{Likeness, first_field, pair_of};
 use trace_format::{Field, Kind, Pair};
 use trace_lex::number;
 
@@ -31,27 +30,6 @@ pub enum Cause {
     NotPrintable,
 }
 
-/// The field of a name.
-pub(crate) fn field_of<'a>(fields: &'a [Field], name: &[u8]) -> Option<&'a Field>
-    ensures { option_copied result ≡ field_named fields.now name.now }
-{
-    fields.iter().find(|field| field.name.as_bytes() == name)
-}
-
-/// The first pair of a name.
-fn pair_of<'a>(pairs: &'a [Pair], name: &[u8]) -> Option<&'a Pair>
-    ensures { option_copied result ≡ pair_named pairs.now name.now }
-{
-    pairs.iter().find(|pair| pair.name.as_bytes() == name)
-}
-
-/// Whether each byte is from 0x20 to 0x7e.
-fn are_printable(text: &[u8]) -> bool
-    ensures { result ≡ list_all is_printable text.now }
-{
-    text.iter().all(|byte| matches!(*byte, b' '..=b'~'))
-}
-
 /// Why a string is no value of a type, if it is none.
 fn misfit(kind: Kind, text: &[u8]) -> Option<Cause>
     ensures { result ≡ misfit_of kind text.now }
@@ -63,7 +41,7 @@ fn misfit(kind: Kind, text: &[u8]) -> Option<Cause>
             Some(_) => Some(Cause::OutOfRange),
         },
         Kind::Char(length) => {
-            if !are_printable(text) {
+            if !are_all(ByteSet::Printable, text) {
                 Some(Cause::NotPrintable)
             } else if text.len() < usize::from(length) {
                 None
@@ -81,7 +59,7 @@ pub(crate) fn cause_at_name(fields: &[Field], pairs: &[Pair], name: &[u8]) -> Ca
     let Some(pair) = pair_of(pairs, name) else {
         return Cause::Missing;
     };
-    let Some(field) = field_of(fields, name) else {
+    let Some(field) = first_field(Likeness::Same, name, fields) else {
         return Cause::NoField;
     };
     match misfit(field.kind, pair.value.as_bytes()) {

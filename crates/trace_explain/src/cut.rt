@@ -1,14 +1,13 @@
 //! Strings up to an offset, and from one on, whether or not they are as long; and what bytes they have.
 
-ghost use Rattle.std.specs.Prelude.{◌≡◌, ◌≤◌, ◌++◌, IfOk, drop, length, map, slice_get, take};
+ghost use Rattle.std.specs.Prelude.{◌≡◌, ◌≤◌, drop, length, map, slice_get, take};
 ghost use Rattle.std.specs.List.{count_by, prefix_len};
 ghost use Rattle.std.specs.Str.{bytes_eq};
 ghost use Rattle.trace_trigger.specs.Frames as frames;
-ghost use Rattle.trace_trigger.specs.TriggerTexts as texts;
 ghost use Rattle.trace_explain.specs.Bytes as bytes;
 
-use std::alloc::{AllocError, Global};
-use trace_lex::{is_blank, len_before};
+use crate::byte_set::{ByteSet, first_len};
+use trace_lex::len_before;
 
 /// As many bytes as there are up to an offset.
 pub(crate) fn up_to(at: usize, text: &[u8]) -> &[u8]
@@ -32,14 +31,7 @@ pub(crate) fn word_len(text: &[u8]) -> usize
     ensures value { result ≡ prefix_len frames.is_unblank text.now }
     ensures bound { result ≤ length text.now }
 {
-    text.iter().take_while(|byte| !is_blank(**byte)).count()
-}
-
-/// What comes before the first blank.
-pub(crate) fn first_word(text: &[u8]) -> &[u8]
-    ensures { result.now ≡ texts.word_of text.now }
-{
-    &text[..word_len(text)]
+    first_len(ByteSet::Unblank, text)
 }
 
 /// Whether a byte is there.
@@ -61,24 +53,13 @@ pub(crate) fn count_of(byte: u8, text: &[u8]) -> usize
     ensures value { result ≡ count_by (bytes.is_same_byte byte) text.now }
     ensures bound { result ≤ length text.now }
 {
-    text.iter().filter(|other| **other == byte).count()
-}
-
-/// How many bytes come before the first blank or this byte.
-fn part_len(byte: u8, text: &[u8]) -> usize
-    ensures value { result ≡ prefix_len (bytes.is_inside byte) text.now }
-    ensures bound { result ≤ length text.now }
-{
-    text.iter()
-        .take_while(|other| !(is_blank(**other) || **other == byte))
-        .count()
-}
-
-/// What comes before the first blank or this byte.
-pub(crate) fn part_before(byte: u8, text: &[u8]) -> &[u8]
-    ensures { result.now ≡ bytes.part_before byte text.now }
-{
-    &text[..part_len(byte, text)]
+    let mut count = 0;
+    for other in text {
+        if *other == byte {
+            count += 1;
+        }
+    }
+    count
 }
 
 /// Whether a string is this word.
@@ -100,21 +81,19 @@ pub(crate) fn is_one_of(text: &[u8], words: &[&str]) -> bool
     false
 }
 
-/// Two strings, one after the other.
-pub(crate) fn joined(alloc: Global, front: &[u8], rest: &[u8]) -> Result<Vec<u8>, AllocError>
-    ensures { IfOk result (λ text. text.items ≡ front.now ++ rest.now) }
+/// The number of an index.
+pub(crate) fn number_at(numbers: &[usize], index: usize) -> Option<usize>
+    ensures { result ≡ slice_get numbers.now index }
 {
-    let mut text = Vec::from_slice(alloc, front)?;
-    text.extend_from_slice(rest)?;
-    Ok(text)
+    numbers.get(index).copied()
 }
 
-/// The element of an index, counted from another one.
-pub(crate) fn element_after(elements: &[usize], from: usize, index: usize) -> Option<usize>
-    ensures { result ≡ slice_get (drop from elements.now) index }
+/// The numbers after so many.
+pub(crate) fn numbers_after(len: usize, numbers: &[usize]) -> &[usize]
+    ensures { result.now ≡ drop len numbers.now }
 {
-    match elements.get(from..) {
-        Some(rest) => rest.get(index).copied(),
-        None => None,
+    match numbers.get(len..) {
+        Some(rest) => rest,
+        None => &[],
     }
 }

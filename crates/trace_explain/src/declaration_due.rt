@@ -2,10 +2,10 @@
 
 ghost use Rattle.std.specs.Prelude.{◌≡◌, false};
 ghost use Rattle.trace_lex.specs.Blanks as blanks;
-ghost use Rattle.trace_explain.specs.Bytes.{part_before};
 ghost use Rattle.trace_explain.specs.DeclarationDue.{in_type, due_after, due_from, is_reserved, field_words, type_words, declaration_due_words};
 
-use crate::cut::{is_one_of, part_before};
+use crate::byte_set::{ByteSet, first_bytes};
+use crate::cut::is_one_of;
 use crate::hist_due::{begins, ends_with};
 use trace_lex::{is_blank, is_name};
 
@@ -101,13 +101,6 @@ fn is_reserved(word: &[u8]) -> bool
     is_one_of(word, &["hitcount", "common_pid", "common_cpu"])
 }
 
-/// What comes before the first blank or `;`.
-pub(crate) fn first_word(text: &[u8]) -> &[u8]
-    ensures { result.now ≡ part_before 59 text.now }
-{
-    part_before(b';', text)
-}
-
 fn field_words(word: &[u8]) -> &'static str
     ensures { result.now ≡ field_words word.now }
 {
@@ -147,7 +140,7 @@ pub(crate) fn declaration_due_words(due: DeclarationDue, rest: &[u8]) -> &'stati
         }
         DeclarationDue::FieldName | DeclarationDue::Joint => "expected `;`",
         DeclarationDue::TypeOnU | DeclarationDue::TypeName | DeclarationDue::Field => {
-            field_words(first_word(rest))
+            field_words(first_bytes(ByteSet::Inside(b';'), rest))
         }
     }
 }

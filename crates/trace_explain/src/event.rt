@@ -1,21 +1,13 @@
 //! The events that lines declared, and the commands that lines ask for.
 
 ghost use Rattle.std.specs.Prelude.{◌≡◌, IfOk};
-ghost use Rattle.std.specs.Option.{option_copied};
-ghost use Rattle.trace_explain.specs.Events.{command_of, declared_in, event_named};
+ghost use Rattle.trace_command.specs.Paths as paths;
+ghost use Rattle.trace_explain.specs.Events.{command_of, declared_at, declared_in};
 
-use crate::subject::{Subject, command_subject};
 use std::alloc::{AllocError, Global};
-use trace_command::Command;
+use trace_command::{Command, FileName, address_of};
 use trace_format::{DefinitionFault, EventDef};
 use trace_script::{Line, LineError, prepare};
-
-/// The event of a name.
-pub(crate) fn event_named<'a>(events: &'a [EventDef], name: &[u8]) -> Option<&'a EventDef>
-    ensures { option_copied result ≡ event_named events.now name.now }
-{
-    events.iter().find(|event| event.name() == name)
-}
 
 /// The command that a line asks for, if it asks for one.
 pub(crate) fn command_of(alloc: Global, line: &[u8]) -> Result<Option<Command>, AllocError>
@@ -28,19 +20,26 @@ pub(crate) fn command_of(alloc: Global, line: &[u8]) -> Result<Option<Command>, 
     }
 }
 
+/// The event that is declared by this in the file of a path, if one is.
+fn declared_at(alloc: Global, path: &[u8], text: &[u8]) -> Result<Option<EventDef>, AllocError>
+    ensures { IfOk result (λ found. found ≡ declared_at (paths.address_of path.now).file text.now) }
+{
+    let Some(FileName::SyntheticEvents) = address_of(path).file else {
+        return Ok(None);
+    };
+    match EventDef::parse(alloc, text) {
+        Ok(event) => Ok(Some(event)),
+        Err(DefinitionFault::BadDefinition { .. }) => Ok(None),
+        Err(DefinitionFault::Memory) => Err(AllocError),
+    }
+}
+
 /// The event that a command declares, if it declares one.
 pub(crate) fn declared(alloc: Global, command: &Command) -> Result<Option<EventDef>, AllocError>
     ensures { IfOk result (λ found. found ≡ declared_in command.now) }
 {
-    let Subject::Declaration = command_subject(command) else {
-        return Ok(None);
-    };
-    let Command::Write { text, .. } = command else {
-        return Ok(None);
-    };
-    match EventDef::parse(alloc, text.as_bytes()) {
-        Ok(event) => Ok(Some(event)),
-        Err(DefinitionFault::BadDefinition { .. }) => Ok(None),
-        Err(DefinitionFault::Memory) => Err(AllocError),
+    match command {
+        Command::Write { path, text, .. } => declared_at(alloc, path.as_bytes(), text.as_bytes()),
+        _ => Ok(None),
     }
 }

@@ -8,11 +8,12 @@ ghost use Rattle.trace_explain.specs.Layout.{shown_bytes};
 ghost use Rattle.trace_explain.specs.Wording.{cause_words as words_of_cause};
 
 use crate::cause::{Cause, cause_at_name, cause_without_event};
-use crate::event::{command_of, declared, event_named};
+use crate::event::{command_of, declared};
 use crate::fault_place::fault_offset;
 use crate::fault_words::{fault_words, name_of};
 use crate::hint::{command_meant, line_meant, written_in};
-use crate::layout::{push_shown, shown};
+use crate::layout::{Piece, joined, shown};
+use crate::named::{Likeness, first_event};
 use crate::place::{Place, offset_of, refusal_place, row_place};
 use crate::script_line::ScriptLine;
 use crate::subject::{command_subject, path_of};
@@ -44,7 +45,7 @@ impl Model for Explainer {
 fn cause_in(events: &[EventDef], event: &[u8], pairs: &[Pair], field: &[u8]) -> Cause
     ensures { result ≡ told.cause_in (events_of.event_named events.now event.now) pairs.now field.now }
 {
-    match event_named(events, event) {
+    match first_event(Likeness::Same, event, events) {
         Some(event) => cause_at_name(event.fields(), pairs, field),
         None => cause_without_event(pairs, field),
     }
@@ -62,22 +63,18 @@ fn row_cause(events: &[EventDef], command: &Command, field: &[u8]) -> Cause
     }
 }
 
-/// Appends a field of a row, and what is wrong with it.
-fn push_row_words(out: &mut Vec<u8>, field: &[u8], cause: Cause) -> Result<(), AllocError>
-    ensures { OnOk result (out.new.items ≡ out.old.items ++ shown_bytes field.now ++ codes ": " ++ words_of_cause cause) }
-{
-    push_shown(out, field)?;
-    out.extend_from_slice(b": ".as_slice())?;
-    out.extend_from_slice(cause_words(cause).as_bytes())
-}
-
 /// What is wrong with a row at a field.
 fn row_words(alloc: Global, field: &[u8], cause: Cause) -> Result<Vec<u8>, AllocError>
     ensures { IfOk result (λ words. words.items ≡ shown_bytes field.now ++ codes ": " ++ words_of_cause cause) }
 {
-    let mut words = Vec::new(alloc);
-    push_row_words(&mut words, field, cause)?;
-    Ok(words)
+    joined(
+        alloc,
+        &[
+            Piece::Shown(field),
+            Piece::Plain(b": "),
+            Piece::Plain(cause_words(cause).as_bytes()),
+        ],
+    )
 }
 
 /// What is wrong with a refused command.
@@ -142,6 +139,26 @@ fn told_of_command(
     let words = command_words(alloc, events, command, refusal)?;
     let meant = command_meant(alloc, events, command, refusal)?;
     shown(alloc, line, caret, refusal.name(), &words, &meant)
+}
+
+/// What is told of a refused line.
+fn told_of_refusal(
+    alloc: Global,
+    events: &[EventDef],
+    line: ScriptLine<'_>,
+    refusal: &Refusal,
+) -> Result<Vec<u8>, AllocError>
+    ensures { IfOk result (λ text. text.items ≡ told.told_of_refusal line.entry.script.now line.entry.number events.now line.entry.text.now
+        (events_of.command_of line.entry.text.now) refusal.now) }
+{
+    match command_of(alloc, line.text)? {
+        Some(command) => {
+            let told = told_of_command(alloc, events, line, &command, refusal);
+            drop(command);
+            told
+        }
+        None => Ok(Vec::new(alloc)),
+    }
 }
 
 /// What is told of a line that is no command.
@@ -230,14 +247,7 @@ impl Explainer {
                 let is_next = line.number.saturating_sub(1) == self.last;
                 told_of_fault(self.alloc, line, is_next, *fault)
             }
-            Outcome::Refused(refusal) => match command_of(self.alloc, line.text)? {
-                Some(command) => {
-                    let told = told_of_command(self.alloc, &self.events, line, &command, refusal);
-                    drop(command);
-                    told
-                }
-                None => Ok(Vec::new(self.alloc)),
-            },
+            Outcome::Refused(refusal) => told_of_refusal(self.alloc, &self.events, line, refusal),
         }
     }
 }

@@ -1,18 +1,18 @@
 //! Where a line is at fault.
 
-ghost use Rattle.std.specs.Prelude.{◌≡◌, ◌≤◌, not, IfOk, length, drop, find, position, slice_get, unwrap_or};
+ghost use Rattle.std.specs.Prelude.{◌≡◌, ◌≤◌, not, IfOk, length, find, unwrap_or};
 ghost use Rattle.std.specs.List.{prefix_len};
-ghost use Rattle.std.specs.Option.{option_copied};
-ghost use Rattle.trace_lex.specs.Blanks as blanks;
-ghost use Rattle.trace_script.specs.Lines.{is_line_byte, line_of};
+ghost use Rattle.trace_script.specs.Lines.{line_of};
 ghost use Rattle.trace_explain.specs.Places as places;
+ghost use Rattle.trace_explain.specs.private.Searches.{is_sought, word_fault};
 
+use crate::byte_set::{ByteSet, first_bytes, first_outside};
 use crate::caret::open_quote;
-use crate::cut::{after, has_byte, is_one_of, is_same, joined, up_to};
-use crate::fault_words::word_of;
+use crate::cut::{after, has_byte, is_one_of, is_same, number_at, numbers_after, up_to};
+use crate::layout::{Piece, joined};
 use crate::starts::starts;
 use std::alloc::{AllocError, Global};
-use trace_lex::{is_blank, trim_end};
+use trace_lex::trim_end;
 use trace_script::{LineError, ScriptFault, prepare};
 
 /// Where a line ends, without the blanks at its end.
@@ -32,19 +32,56 @@ fn is_arrow(line: &[u8], at: usize) -> bool
     }
 }
 
-/// The first redirection.
-fn first_arrow<'a>(line: &[u8], starts: &'a [usize]) -> Option<&'a usize>
-    ensures { option_copied result ≡ find (places.is_arrow line.now) starts.now }
+/// Whether the word that begins there has no `=`.
+fn lacks_value(line: &[u8], at: usize) -> bool
+    ensures { result ≡ places.lacks_value line.now at }
 {
-    starts.iter().find(|at| is_arrow(line, **at))
+    !has_byte(b'=', first_bytes(ByteSet::Inside(b'>'), after(at, line)))
 }
 
-/// The word of an index, or else the end.
-fn start_or_end(line: &[u8], starts: &[usize], index: usize) -> usize
-    ensures { result ≡ unwrap_or (slice_get starts.now index) (places.end_of line.now) }
+/// What begins at a start that is looked for.
+#[derive(Clone, Copy)]
+pub(crate) enum Sought {
+    /// A redirection.
+    Arrow,
+    /// A word that is no pair.
+    NoPair,
+}
+
+fn is_sought(sought: Sought, line: &[u8], at: usize) -> bool
+    ensures { result ≡ is_sought sought line.now at }
 {
-    match starts.get(index) {
-        Some(at) => *at,
+    match sought {
+        Sought::Arrow => is_arrow(line, at),
+        Sought::NoPair => lacks_value(line, at),
+    }
+}
+
+/// How many starts come before the first one that is looked for.
+fn starts_before(sought: Sought, line: &[u8], starts: &[usize]) -> usize
+    ensures value { result ≡ prefix_len (λ at. not (is_sought sought line.now at)) starts.now }
+    ensures bound { result ≤ length starts.now }
+{
+    for (index, at) in starts.iter().enumerate() {
+        if is_sought(sought, line, *at) {
+            return index;
+        }
+    }
+    starts.len()
+}
+
+/// The first start that is looked for.
+fn first_sought(sought: Sought, line: &[u8], starts: &[usize]) -> Option<usize>
+    ensures { result ≡ find (is_sought sought line.now) starts.now }
+{
+    number_at(starts, starts_before(sought, line, starts))
+}
+
+fn or_end(line: &[u8], start: Option<usize>) -> usize
+    ensures { result ≡ unwrap_or start (places.end_of line.now) }
+{
+    match start {
+        Some(at) => at,
         None => end_of(line),
     }
 }
@@ -53,43 +90,9 @@ fn start_or_end(line: &[u8], starts: &[usize], index: usize) -> usize
 fn surplus_place(line: &[u8], starts: &[usize], most: usize) -> usize
     ensures { result ≡ places.surplus_place line.now starts.now most }
 {
-    match first_arrow(line, starts) {
-        Some(arrow) => *arrow,
-        None => start_or_end(line, starts, most),
-    }
-}
-
-/// Whether the word that begins there has no `=`.
-fn lacks_value(line: &[u8], at: usize) -> bool
-    ensures { result ≡ places.lacks_value line.now at }
-{
-    !has_byte(b'=', word_of(after(at, line)))
-}
-
-/// The first of these words that is no pair.
-fn first_no_pair<'a>(line: &[u8], words: &'a [usize]) -> Option<&'a usize>
-    ensures { option_copied result ≡ find (places.lacks_value line.now) words.now }
-{
-    words.iter().find(|at| lacks_value(line, **at))
-}
-
-/// The first of these words that is no pair, or else the end.
-fn no_pair_or_end(line: &[u8], words: &[usize]) -> usize
-    ensures { result ≡ unwrap_or (find (places.lacks_value line.now) words.now) (places.end_of line.now) }
-{
-    match first_no_pair(line, words) {
-        Some(word) => *word,
-        None => end_of(line),
-    }
-}
-
-/// The words after those that come before the pairs of an emission.
-fn pairs_of(starts: &[usize]) -> &[usize]
-    ensures { result.now ≡ drop 4 starts.now }
-{
-    match starts.get(4..) {
-        Some(pairs) => pairs,
-        None => &[],
+    match first_sought(Sought::Arrow, line, starts) {
+        Some(arrow) => arrow,
+        None => or_end(line, number_at(starts, most)),
     }
 }
 
@@ -97,9 +100,12 @@ fn pairs_of(starts: &[usize]) -> &[usize]
 fn emission_place(line: &[u8], starts: &[usize]) -> usize
     ensures { result ≡ places.emission_place line.now starts.now }
 {
-    match first_arrow(line, starts) {
-        Some(arrow) => *arrow,
-        None => no_pair_or_end(line, pairs_of(starts)),
+    match first_sought(Sought::Arrow, line, starts) {
+        Some(arrow) => arrow,
+        None => or_end(
+            line,
+            first_sought(Sought::NoPair, line, numbers_after(4, starts)),
+        ),
     }
 }
 
@@ -127,19 +133,14 @@ fn arrow_place(line: &[u8], starts: &[usize]) -> usize
     }
 }
 
-/// How many words come before the first redirection.
-fn words_len(line: &[u8], starts: &[usize]) -> usize
-    ensures value { result ≡ prefix_len (places.is_no_arrow line.now) starts.now }
-    ensures bound { result ≤ length starts.now }
-{
-    starts.iter().take_while(|at| !is_arrow(line, **at)).count()
-}
-
 /// Of an `echo`: what follows its path, or is no path, or else the end.
 fn write_place(line: &[u8], starts: &[usize]) -> usize
     ensures { result ≡ places.write_place line.now starts.now }
 {
-    arrow_place(line, &starts[words_len(line, starts)..])
+    arrow_place(
+        line,
+        numbers_after(starts_before(Sought::Arrow, line, starts), starts),
+    )
 }
 
 /// How many words a line of this name has.
@@ -189,43 +190,53 @@ fn is_bad_number(alloc: Global, line: &[u8]) -> Result<bool, AllocError>
 fn has_bad_cpu(alloc: Global, line: &[u8], at: usize) -> Result<bool, AllocError>
     ensures { IfOk result (λ is_bad. is_bad ≡ places.has_bad_cpu line.now at) }
 {
-    let text = joined(alloc, up_to(at, line), b" 0 a a=1")?;
+    let text = joined(
+        alloc,
+        &[Piece::Plain(up_to(at, line)), Piece::Plain(b" 0 a a=1")],
+    )?;
     is_bad_number(alloc, &text)
 }
 
-/// The number of a line that is wrong.
+/// The number of a line that is wrong, of two.
 fn number_place(
     alloc: Global,
     name: &[u8],
     line: &[u8],
-    starts: &[usize],
+    first: Option<usize>,
+    second: Option<usize>,
 ) -> Result<Option<usize>, AllocError>
-    ensures { IfOk result (λ offset. offset ≡ places.number_place name.now line.now (slice_get starts.now 1) (slice_get starts.now 2)) }
+    ensures { IfOk result (λ offset. offset ≡ places.number_place name.now line.now first second) }
 {
-    let first = starts.get(1).copied();
-    let Some(second) = starts.get(2).copied() else {
+    let Some(at) = second else {
         return Ok(first);
     };
-    if is_same(b"emit", name) && !has_bad_cpu(alloc, line, second)? {
-        Ok(Some(second))
+    if is_same(b"emit", name) && !has_bad_cpu(alloc, line, at)? {
+        Ok(second)
     } else {
         Ok(first)
     }
 }
 
-/// Where the first byte is that no line has.
-fn bad_byte(line: &[u8]) -> Option<usize>
-    ensures { result ≡ position (λ b. not (is_line_byte b)) line.now }
+/// Where the words of a line are at fault, or its numbers.
+fn word_fault(
+    alloc: Global,
+    name: &[u8],
+    line: &[u8],
+    fault: ScriptFault,
+) -> Result<Option<usize>, AllocError>
+    ensures { IfOk result (λ offset. offset ≡ word_fault name.now line.now fault) }
 {
-    line.iter()
-        .position(|byte| !matches!(*byte, b'\t' | b' '..=b'~'))
-}
-
-/// Where the first byte is that is no blank.
-fn first_word(line: &[u8]) -> Option<usize>
-    ensures { result ≡ position (λ b. not (blanks.is_blank b)) line.now }
-{
-    line.iter().position(|byte| !is_blank(*byte))
+    let starts = starts(alloc, line)?;
+    match fault {
+        ScriptFault::WrongWords => Ok(Some(words_place(name, line, &starts))),
+        _ => number_place(
+            alloc,
+            name,
+            line,
+            number_at(&starts, 1),
+            number_at(&starts, 2),
+        ),
+    }
 }
 
 /// Where a line whose first word is this name is at fault.
@@ -239,17 +250,10 @@ pub(crate) fn fault_offset(
 {
     match fault {
         ScriptFault::LineTooLong => Ok(None),
-        ScriptFault::BadByte => Ok(bad_byte(line)),
+        ScriptFault::BadByte => Ok(first_outside(ByteSet::OfLine, line)),
         ScriptFault::UnclosedQuote => Ok(open_quote(line)),
         ScriptFault::UnknownCommand | ScriptFault::BlockOutOfPlace | ScriptFault::TooManyThreads =>
-            Ok(first_word(line)),
-        ScriptFault::WrongWords => {
-            let starts = starts(alloc, line)?;
-            Ok(Some(words_place(name, line, &starts)))
-        }
-        ScriptFault::BadNumber => {
-            let starts = starts(alloc, line)?;
-            number_place(alloc, name, line, &starts)
-        }
+            Ok(first_outside(ByteSet::Blank, line)),
+        ScriptFault::WrongWords | ScriptFault::BadNumber => word_fault(alloc, name, line, fault),
     }
 }

@@ -1,33 +1,14 @@
 //! What is wrong with a line that is no command, in words.
 
-ghost use Rattle.std.specs.Prelude.{◌≡◌, ◌≤◌, IfOk, length};
-ghost use Rattle.std.specs.List.{prefix_len};
+ghost use Rattle.std.specs.Prelude.{◌≡◌, IfOk};
 ghost use Rattle.trace_explain.specs.Wording as wording;
 
-use crate::caret::{Stand, is_end};
+use crate::caret::{Stand, is_end, next_stand};
 use crate::cut::is_same;
 use crate::filter_due::is_quote;
-use crate::starts::next_stand;
 use std::alloc::{AllocError, Global};
-use trace_lex::{blanks_len, is_blank, rest_of};
+use trace_lex::{blanks_len, rest_of};
 use trace_script::ScriptFault;
-
-/// How many bytes come before the end of a word.
-fn written_word_len(text: &[u8]) -> usize
-    ensures value { result ≡ prefix_len wording.is_in_word text.now }
-    ensures bound { result ≤ length text.now }
-{
-    text.iter()
-        .take_while(|byte| !(is_blank(**byte) || **byte == b'>'))
-        .count()
-}
-
-/// The word that some bytes of a line begin with, as it is written.
-pub(crate) fn word_of(text: &[u8]) -> &[u8]
-    ensures { result.now ≡ wording.word_of text.now }
-{
-    &text[..written_word_len(text)]
-}
 
 /// Whether a word ends before a byte.
 fn ends_word(stand: Stand, byte: u8) -> bool

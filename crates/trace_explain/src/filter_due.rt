@@ -1,11 +1,11 @@
 //! What a filter may go on with.
 
 ghost use Rattle.std.specs.Prelude.{◌≡◌};
-ghost use Rattle.std.specs.List.{list_all};
 ghost use Rattle.trace_lex.specs.Blanks.{without_end};
 ghost use Rattle.trace_script.specs.Tokens as tokens;
-ghost use Rattle.trace_explain.specs.FilterDue.{takes_equal, is_sign, after_operator, after_value, ends_value, after_bare, due_after, due_from, quoted_words, number_words, value_due_words, joint_words, signed_words, filter_due_words, meant_by_equal, meant_by_word, meant_by_half, meant_after_name, is_unnamed, ends_with_not, or_not, operator_meant};
+ghost use Rattle.trace_explain.specs.FilterDue.{takes_equal, is_sign, after_operator, after_value, ends_value, after_bare, due_after, due_from, quoted_words, number_words, value_due_words, joint_words, signed_words, filter_due_words, meant_by_equal, meant_by_word, meant_by_half, meant_after_name, ends_with_not, or_not, operator_meant};
 
+use crate::byte_set::{ByteSet, are_all};
 use crate::cut::{after, has_byte, is_same, up_to};
 use crate::hist_due::begins;
 use trace_lex::{is_blank, is_name_byte, trim_end};
@@ -269,19 +269,13 @@ fn meant_after_name(rest: &[u8]) -> &'static str
     }
 }
 
-fn are_unnamed(text: &[u8]) -> bool
-    ensures { result ≡ list_all is_unnamed text.now }
-{
-    text.iter().all(|byte| !is_name_byte(*byte))
-}
-
 /// Whether the name that a string ends with is `not`.
 fn ends_with_not(front: &[u8]) -> bool
     ensures { result ≡ ends_with_not front.now }
 {
     let start = front.len().saturating_sub(3);
-    is_same(b"not", after(start, front))
-        && are_unnamed(after(front.len().saturating_sub(4), up_to(start, front)))
+    let before = after(front.len().saturating_sub(4), up_to(start, front));
+    is_same(b"not", after(start, front)) && are_all(ByteSet::OfNoName, before)
 }
 
 /// What is meant after a field, or after the word `not`.

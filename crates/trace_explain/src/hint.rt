@@ -1,29 +1,28 @@
 //! What was meant, if something that is near is there.
 
-ghost use Rattle.std.specs.Prelude.{◌≡◌, ◌≤◌, Some, IfOk, length, option_map};
-ghost use Rattle.std.specs.List.{prefix_len};
-ghost use Rattle.trace_lex.specs.Names as names;
+ghost use Rattle.std.specs.Prelude.{◌≡◌, [], Some, IfOk, option_map, unwrap_or};
 ghost use Rattle.trace_command.specs.FileNames.{bytes_now};
 ghost use Rattle.trace_explain.specs.Hints as hints;
+ghost use Rattle.trace_explain.specs.Near as near;
 
-use crate::cause::field_of;
-use crate::cut::{after, joined, up_to};
-use crate::declaration_due::{DeclarationDue, declaration_due, first_word};
-use crate::event::event_named;
+use crate::byte_set::{ByteSet, first_bytes};
+use crate::cut::{after, up_to};
+use crate::declaration_due::{DeclarationDue, declaration_due};
 use crate::filter_due::operator_meant;
-use crate::hist_due::{begins, first_part, wrong_attribute};
+use crate::hist_due::{begins, wrong_attribute};
+use crate::layout::{Piece, joined};
+use crate::named::{Likeness, first_event, first_field};
 use crate::near_files::{near_event_file, near_file, near_top_file};
 use crate::near_words::{
-    near_attribute, near_command, near_common, near_event, near_field, near_option, near_trigger,
-    near_type,
+    near_attribute, near_command, near_common, near_option, near_trigger, near_type,
 };
 use crate::subject::{Subject, command_subject};
 use crate::trigger_due::mark_len;
 use crate::wording::filter_due_at;
 use std::alloc::{AllocError, Global};
 use trace_command::{Command, FileName, Refusal, address_of};
-use trace_format::EventDef;
-use trace_lex::{is_name_byte, len_before, trim};
+use trace_format::{EventDef, Field};
+use trace_lex::{len_before, trim};
 use trace_script::ScriptFault;
 
 /// How many bytes `instances/NAME/` has, where this follows its first `/`; 0, if it is no such path.
@@ -79,13 +78,13 @@ fn near_rest(
     }
 }
 
-fn with_front(alloc: Global, front: &[u8], rest: &[u8]) -> Result<Vec<u8>, AllocError>
+fn with_front<'a>(alloc: Global, front: &'a [u8], rest: &'a [u8]) -> Result<Vec<u8>, AllocError>
     ensures { IfOk result (λ text. text.items ≡ hints.with_front front.now rest.now) }
 {
     if rest.is_empty() {
         return Ok(Vec::new(alloc));
     }
-    joined(alloc, front, rest)
+    joined(alloc, &[Piece::Plain(front), Piece::Plain(rest)])
 }
 
 /// The first file below the mount point whose path is near; empty, if none is.
@@ -139,12 +138,32 @@ fn event_of(command: &Command) -> Option<&[u8]>
     }
 }
 
+/// The event of these whose name is near; empty, if none is.
+fn near_event<'a>(events: &'a [EventDef], name: &[u8]) -> &'a [u8]
+    ensures { result.now ≡ unwrap_or (near.near_event name.now events.now) [] }
+{
+    match first_event(Likeness::Near, name, events) {
+        Some(event) => event.name(),
+        None => b"",
+    }
+}
+
 /// The event whose name is near that of an event; empty, if none is.
 fn event_meant<'a>(events: &'a [EventDef], name: Option<&[u8]>) -> &'a [u8]
     ensures { result.now ≡ hints.event_meant events.now (option_map bytes_now name.entry) }
 {
     match name {
-        Some(name) => near_event(name, events).unwrap_or(b""),
+        Some(name) => near_event(events, name),
+        None => b"",
+    }
+}
+
+/// The field of these whose name is near; empty, if none is.
+fn near_field<'a>(fields: &'a [Field], name: &[u8]) -> &'a [u8]
+    ensures { result.now ≡ unwrap_or (near.near_field name.now fields.now) [] }
+{
+    match first_field(Likeness::Near, name, fields) {
+        Some(field) => field.name.as_bytes(),
         None => b"",
     }
 }
@@ -153,9 +172,9 @@ fn event_meant<'a>(events: &'a [EventDef], name: Option<&[u8]>) -> &'a [u8]
 fn field_of_event<'a>(event: &'a EventDef, field: &[u8]) -> &'a [u8]
     ensures { result.now ≡ hints.field_of_event (Some event.now) field.now }
 {
-    match field_of(event.fields(), field) {
+    match first_field(Likeness::Same, field, event.fields()) {
         Some(_) => b"",
-        None => near_field(field, event.fields()).unwrap_or(b""),
+        None => near_field(event.fields(), field),
     }
 }
 
@@ -166,7 +185,7 @@ fn field_meant<'a>(events: &'a [EventDef], event: Option<&[u8]>, field: &[u8]) -
     let Some(name) = event else {
         return b"";
     };
-    match event_named(events, name) {
+    match first_event(Likeness::Same, name, events) {
         Some(event) => field_of_event(event, field),
         None => b"",
     }
@@ -184,18 +203,11 @@ fn operand_meant<'a>(events: &'a [EventDef], event: Option<&[u8]>, name: &[u8]) 
     }
 }
 
-fn name_len(rest: &[u8]) -> usize
-    ensures value { result ≡ prefix_len names.is_name_byte rest.now }
-    ensures bound { result ≤ length rest.now }
-{
-    rest.iter().take_while(|byte| is_name_byte(**byte)).count()
-}
-
 /// The name that some bytes begin with.
 fn name_at(rest: &[u8]) -> &[u8]
     ensures { result.now ≡ hints.name_at rest.now }
 {
-    &rest[..name_len(rest)]
+    first_bytes(ByteSet::OfName, rest)
 }
 
 /// What a command writes.
@@ -236,7 +248,10 @@ fn value_meant(subject: Subject, text: &[u8]) -> &'static str
 {
     match subject {
         Subject::Options => near_option(trim(text)),
-        Subject::Trigger => near_trigger(first_part(after(mark_len(text), text))),
+        Subject::Trigger => near_trigger(first_bytes(
+            ByteSet::Inside(b':'),
+            after(mark_len(text), text),
+        )),
         _ => "",
     }
 }
@@ -246,7 +261,7 @@ fn declaration_meant(text: &[u8], at: usize) -> &'static str
     ensures { result.now ≡ hints.declaration_meant text.now at }
 {
     match declaration_due(up_to(at, text)) {
-        DeclarationDue::FieldType => near_type(first_word(after(at, text))),
+        DeclarationDue::FieldType => near_type(first_bytes(ByteSet::Inside(b';'), after(at, text))),
         _ => "",
     }
 }

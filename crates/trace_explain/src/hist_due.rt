@@ -1,12 +1,11 @@
 //! What a hist trigger may go on with.
 
-ghost use Rattle.std.specs.Prelude.{◌≡◌, ◌≤◌, ◌<◌, IfSome, length, reverse};
-ghost use Rattle.std.specs.List.{prefix_len};
-ghost use Rattle.trace_lex.specs.Prefixes as prefixes;
+ghost use Rattle.std.specs.Prelude.{◌≡◌, ◌≤◌, ◌<◌, IfSome, length};
 ghost use Rattle.trace_trigger.specs.TriggerTexts as texts;
 ghost use Rattle.trace_explain.specs.HistDue as due;
 
-use crate::cut::{after, count_of, has_blank, is_one_of, is_same, part_before, up_to};
+use crate::byte_set::{ByteSet, first_bytes, last_len};
+use crate::cut::{after, count_of, has_blank, is_one_of, is_same, up_to};
 use trace_lex::{len_before, rest_of};
 
 /// Whether a string begins so.
@@ -16,26 +15,11 @@ pub(crate) fn begins(beginning: &[u8], text: &[u8]) -> bool
     text.starts_with(beginning)
 }
 
-/// How many bytes come after the last `:`.
-fn last_part_len(front: &[u8]) -> usize
-    ensures value { result ≡ prefix_len (prefixes.is_not 58) (reverse front.now) }
-    ensures bound { result ≤ length front.now }
-{
-    front.iter().rev().take_while(|byte| **byte != b':').count()
-}
-
 /// What follows the last `:`.
 fn last_part(front: &[u8]) -> &[u8]
     ensures { result.now ≡ due.last_part front.now }
 {
-    &front[front.len() - last_part_len(front)..]
-}
-
-/// The attribute that some bytes begin with.
-pub(crate) fn first_part(rest: &[u8]) -> &[u8]
-    ensures { result.now ≡ due.first_part rest.now }
-{
-    part_before(b':', rest)
+    &front[front.len() - last_len(ByteSet::Except(b':'), front)..]
 }
 
 /// Whether a part ends with a byte.
@@ -151,7 +135,7 @@ fn part_words(part: &[u8], rest: &[u8]) -> &'static str
     ensures { result.now ≡ due.part_words part.now rest.now }
 {
     match part {
-        [] => attribute_words(first_part(rest)),
+        [] => attribute_words(first_bytes(ByteSet::Inside(b':'), rest)),
         _ if ends_with(b'=', part) || ends_with(b',', part) => item_words(part),
         _ => "expected `:keys=` and a field",
     }
@@ -186,7 +170,7 @@ pub(crate) fn wrong_attribute<'a>(front: &[u8], rest: &'a [u8]) -> &'a [u8]
     if has_blank(front) {
         b""
     } else {
-        wrong_attribute_at(last_part(front), first_part(rest))
+        wrong_attribute_at(last_part(front), first_bytes(ByteSet::Inside(b':'), rest))
     }
 }
 
@@ -228,7 +212,7 @@ pub(crate) fn items_of(attribute: &[u8], text: &[u8]) -> usize
     ensures { result ≡ due.items_of attribute.now text.now }
 {
     match attribute_at(attribute, text) {
-        Some(at) => count_of(b',', first_part(&text[at + 1..])) + 1,
+        Some(at) => count_of(b',', first_bytes(ByteSet::Inside(b':'), &text[at + 1..])) + 1,
         None => 0,
     }
 }
@@ -270,7 +254,10 @@ pub(crate) fn values_of(attribute: &[u8], text: &[u8]) -> usize
     ensures { result ≡ due.values_of attribute.now text.now }
 {
     match attribute_at(attribute, text) {
-        Some(at) => values_among(first_part(after(attribute.len(), after(at, text)))),
+        Some(at) => values_among(first_bytes(
+            ByteSet::Inside(b':'),
+            after(attribute.len(), after(at, text)),
+        )),
         None => 0,
     }
 }

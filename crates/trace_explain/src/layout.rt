@@ -1,8 +1,9 @@
 //! What is wrong, and under it the line with a caret under one of its bytes.
 
-ghost use Rattle.std.specs.Prelude.{◌≡◌, ◌++◌, ◌≤◌, IfOk, OnOk, map, take, length, codes};
+ghost use Rattle.std.specs.Prelude.{◌≡◌, ◌++◌, [], IfOk, OnOk, map, codes};
 ghost use Rattle.std.specs.Fmt.{decimal};
 ghost use Rattle.trace_explain.specs.Layout.{shown_byte, pad_byte, shown_bytes, shown_line, pointer, column, meant_line, shown};
+ghost use Rattle.trace_explain.specs.private.Pieces.{piece_bytes, with_pieces};
 
 use crate::cut::up_to;
 use crate::script_line::ScriptLine;
@@ -32,13 +33,65 @@ fn pad_byte(byte: u8) -> u8
 }
 
 /// Appends bytes as they are shown.
-pub(crate) fn push_shown(out: &mut Vec<u8>, bytes: &[u8]) -> Result<(), AllocError>
+fn push_shown(out: &mut Vec<u8>, bytes: &[u8]) -> Result<(), AllocError>
     ensures { OnOk result (out.new.items ≡ out.old.items ++ shown_bytes bytes.now) }
 {
     for byte in bytes {
         out.push(shown_byte(*byte))?;
     }
     Ok(())
+}
+
+/// Appends what stands before a caret.
+fn push_padding(out: &mut Vec<u8>, above: &[u8]) -> Result<(), AllocError>
+    ensures { OnOk result (out.new.items ≡ out.old.items ++ map pad_byte above.now) }
+{
+    for byte in above {
+        out.push(pad_byte(*byte))?;
+    }
+    Ok(())
+}
+
+/// A piece of what is told.
+#[derive(Clone, Copy)]
+pub(crate) enum Piece<'a> {
+    /// These bytes.
+    Plain(&'a [u8]),
+    /// These bytes as they are shown.
+    Shown(&'a [u8]),
+    /// What stands before a caret that has these bytes above.
+    Padding(&'a [u8]),
+    Number(usize),
+}
+
+fn push_piece(out: &mut Vec<u8>, piece: Piece<'_>) -> Result<(), AllocError>
+    ensures { OnOk result (out.new.items ≡ out.old.items ++ piece_bytes piece.entry) }
+{
+    match piece {
+        Piece::Plain(bytes) => out.extend_from_slice(bytes),
+        Piece::Shown(bytes) => push_shown(out, bytes),
+        Piece::Padding(above) => push_padding(out, above),
+        Piece::Number(number) => { out.extend_from_slice(Buffer::new().format(number).as_bytes()) }
+    }
+}
+
+/// Appends pieces one after the other.
+fn push_pieces(out: &mut Vec<u8>, pieces: &[Piece<'_>]) -> Result<(), AllocError>
+    ensures { OnOk result (out.new.items ≡ with_pieces out.old.items pieces.now) }
+{
+    for piece in pieces {
+        push_piece(out, *piece)?;
+    }
+    Ok(())
+}
+
+/// Pieces one after the other.
+pub(crate) fn joined(alloc: Global, pieces: &[Piece<'_>]) -> Result<Vec<u8>, AllocError>
+    ensures { IfOk result (λ text. text.items ≡ with_pieces [] pieces.now) }
+{
+    let mut text = Vec::new(alloc);
+    push_pieces(&mut text, pieces)?;
+    Ok(text)
 }
 
 /// Appends a line as it is shown.
@@ -54,35 +107,22 @@ fn push_line(out: &mut Vec<u8>, line: &[u8]) -> Result<(), AllocError>
     }
 }
 
-/// Appends what stands before a caret.
-fn push_padding(out: &mut Vec<u8>, above: &[u8]) -> Result<(), AllocError>
-    ensures { OnOk result (out.new.items ≡ out.old.items ++ map pad_byte above.now) }
-{
-    for byte in above {
-        out.push(pad_byte(*byte))?;
-    }
-    Ok(())
-}
-
 /// Appends the caret under a byte of a line; nothing, if it stands under none.
 #[tactic(auto, unfolding(crate::specs::Layout::pointer))]
 fn push_pointer(out: &mut Vec<u8>, line: &[u8], caret: Option<usize>) -> Result<(), AllocError>
     ensures { OnOk result (out.new.items ≡ out.old.items ++ pointer line.now caret) }
 {
-    let Some(at) = caret else {
-        return Ok(());
-    };
-    out.extend_from_slice(b"  ".as_slice())?;
-    push_padding(out, up_to(at, line))?;
-    out.extend_from_slice(b"^\n".as_slice())
-}
-
-/// Appends a number after a `:`.
-fn push_number(out: &mut Vec<u8>, number: usize) -> Result<(), AllocError>
-    ensures { OnOk result (out.new.items ≡ out.old.items ++ codes ":" ++ decimal number) }
-{
-    out.push(b':')?;
-    out.extend_from_slice(Buffer::new().format(number).as_bytes())
+    match caret {
+        Some(at) => push_pieces(
+            out,
+            &[
+                Piece::Plain(b"  "),
+                Piece::Padding(up_to(at, line)),
+                Piece::Plain(b"^\n"),
+            ],
+        ),
+        None => Ok(()),
+    }
 }
 
 /// Appends the column of the byte above the caret.
@@ -91,7 +131,10 @@ fn push_column(out: &mut Vec<u8>, line: &[u8], caret: Option<usize>) -> Result<(
     ensures { OnOk result (out.new.items ≡ out.old.items ++ column line.now caret) }
 {
     match caret {
-        Some(at) => push_number(out, up_to(at, line).len() + 1),
+        Some(at) => push_pieces(
+            out,
+            &[Piece::Plain(b":"), Piece::Number(up_to(at, line).len() + 1)],
+        ),
         None => Ok(()),
     }
 }
@@ -99,9 +142,14 @@ fn push_column(out: &mut Vec<u8>, line: &[u8], caret: Option<usize>) -> Result<(
 fn push_question(out: &mut Vec<u8>, meant: &[u8]) -> Result<(), AllocError>
     ensures { OnOk result (out.new.items ≡ out.old.items ++ codes "  did you mean `" ++ shown_bytes meant.now ++ codes "`?\n") }
 {
-    out.extend_from_slice(b"  did you mean `".as_slice())?;
-    push_shown(out, meant)?;
-    out.extend_from_slice(b"`?\n".as_slice())
+    push_pieces(
+        out,
+        &[
+            Piece::Plain(b"  did you mean `"),
+            Piece::Shown(meant),
+            Piece::Plain(b"`?\n"),
+        ],
+    )
 }
 
 /// Appends what was meant, if anything was.
@@ -115,39 +163,36 @@ fn push_meant(out: &mut Vec<u8>, meant: &[u8]) -> Result<(), AllocError>
     }
 }
 
-/// Appends where a line is: `SCRIPT:LINE:COLUMN`.
-fn push_place(out: &mut Vec<u8>, at: ScriptLine<'_>, caret: Option<usize>) -> Result<(), AllocError>
-    ensures { OnOk result (out.new.items ≡ out.old.items ++ shown_bytes at.entry.script.now ++ codes ":" ++ decimal at.entry.number
-        ++ column at.entry.text.now caret) }
-{
-    push_shown(out, at.script)?;
-    push_number(out, at.number)?;
-    push_column(out, at.text, caret)
-}
-
-/// Appends what is told of a place, after a `:` and a space.
-fn push_told(out: &mut Vec<u8>, words: &[u8]) -> Result<(), AllocError>
-    ensures { OnOk result (out.new.items ≡ out.old.items ++ codes ": " ++ words.now) }
-{
-    out.extend_from_slice(b": ".as_slice())?;
-    out.extend_from_slice(words)
-}
-
 /// Appends `SCRIPT:LINE:COLUMN: NAME: words`, and a newline.
-fn push_heading(
+fn push_heading<'a>(
     out: &mut Vec<u8>,
-    at: ScriptLine<'_>,
+    at: ScriptLine<'a>,
     caret: Option<usize>,
-    name: &str,
-    words: &[u8],
+    name: &'a str,
+    words: &'a [u8],
 ) -> Result<(), AllocError>
     ensures { OnOk result (out.new.items ≡ out.old.items ++ shown_bytes at.entry.script.now ++ codes ":" ++ decimal at.entry.number
         ++ column at.entry.text.now caret ++ codes ": " ++ name.now ++ codes ": " ++ words.now ++ codes "\n") }
 {
-    push_place(out, at, caret)?;
-    push_told(out, name.as_bytes())?;
-    push_told(out, words)?;
-    out.extend_from_slice(b"\n".as_slice())
+    push_pieces(
+        out,
+        &[
+            Piece::Shown(at.script),
+            Piece::Plain(b":"),
+            Piece::Number(at.number),
+        ],
+    )?;
+    push_column(out, at.text, caret)?;
+    push_pieces(
+        out,
+        &[
+            Piece::Plain(b": "),
+            Piece::Plain(name.as_bytes()),
+            Piece::Plain(b": "),
+            Piece::Plain(words),
+            Piece::Plain(b"\n"),
+        ],
+    )
 }
 
 /// Appends the line, and the caret under it.

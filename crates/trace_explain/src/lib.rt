@@ -2,6 +2,7 @@
 //! the byte where it is wrong, and what was meant, if something near is there.
 #![tactic(auto)]
 
+mod byte_set;
 mod caret;
 mod cause;
 mod cut;
@@ -15,6 +16,7 @@ mod hint;
 mod hist_due;
 mod layout;
 mod most_words;
+mod named;
 mod near;
 mod near_files;
 mod near_words;

@@ -3,11 +3,12 @@
 ghost use Rattle.std.specs.Prelude.{◌≡◌};
 ghost use Rattle.trace_explain.specs.Wording as wording;
 
-use crate::cut::{count_of, first_word};
+use crate::byte_set::{ByteSet, first_bytes};
+use crate::cut::{after, count_of};
 use crate::hist_due::{ends_with, items_of, values_of};
 use crate::openings::is_deep;
 use crate::subject::Subject;
-use crate::trigger_due::condition;
+use crate::trigger_due::condition_start;
 use trace_lex::{trim, trim_end};
 
 /// Whether a declaration has over 16 fields.
@@ -66,7 +67,7 @@ fn has_values(attribute: &[u8], text: &[u8]) -> bool
 fn trigger_most_words(text: &[u8]) -> &'static str
     ensures { result.now ≡ wording.trigger_most_words text.now }
 {
-    let word = first_word(text);
+    let word = first_bytes(ByteSet::Unblank, text);
     if has_over(3, b":keys=", word) || has_over(3, b":key=", word) {
         "a hist trigger has at most three keys"
     } else if has_values(b":values=", word)
@@ -77,7 +78,7 @@ fn trigger_most_words(text: &[u8]) -> &'static str
     } else if has_over(2, b":sort=", word) {
         "a hist trigger is sorted by at most two names"
     } else {
-        condition_most_words(condition(text))
+        condition_most_words(after(condition_start(text), text))
     }
 }
 

@@ -1,10 +1,12 @@
 //! The files whose path is near: those that are always there, and those of the events that are declared.
 
-ghost use Rattle.std.specs.Prelude.{◌≡◌, ◌++◌, IfOk, OnOk, codes, map, option_map};
+ghost use Rattle.std.specs.Prelude.{◌≡◌, IfOk, map, option_map};
 ghost use Rattle.trace_explain.specs.Near as near;
 
 use crate::cut::after;
 use crate::hist_due::begins;
+use crate::layout::{Piece, joined};
+use crate::named::{Likeness, first_name};
 use crate::near::is_near_path;
 use std::alloc::{AllocError, Global};
 use trace_format::EventDef;
@@ -20,18 +22,6 @@ fn is_other_cpu(given: &[u8]) -> bool
         }
 }
 
-/// The first of these paths that is near; empty, if none is.
-fn first_near_path(given: &[u8], paths: &[&'static str]) -> &'static str
-    ensures { result.now ≡ near.first_near_path given.now (map (λ path. path.now) paths.now) }
-{
-    for path in paths {
-        if is_near_path(given, path.as_bytes()) {
-            return path;
-        }
-    }
-    ""
-}
-
 /// The first file of a CPU whose path is near; empty, if none is.
 #[tactic(auto, unfolding(crate::specs::Near::near_cpu_file))]
 fn near_cpu_file(given: &[u8]) -> &'static str
@@ -40,7 +30,8 @@ fn near_cpu_file(given: &[u8]) -> &'static str
     if is_other_cpu(given) {
         return "";
     }
-    first_near_path(
+    first_name(
+        Likeness::NearPath,
         given,
         &[
             "per_cpu/cpu0/stats",
@@ -55,7 +46,8 @@ fn near_cpu_file(given: &[u8]) -> &'static str
 fn near_shared_file(given: &[u8]) -> &'static str
     ensures { result.now ≡ near.near_shared_file given.now }
 {
-    first_near_path(
+    first_name(
+        Likeness::NearPath,
         given,
         &[
             "trace",
@@ -106,23 +98,20 @@ pub(crate) fn near_top_file(given: &[u8]) -> &'static str
     }
 }
 
-fn push_event_path(out: &mut Vec<u8>, event: &[u8], file: &[u8]) -> Result<(), AllocError>
-    ensures { OnOk result (out.new.items ≡ out.old.items ++ codes "events/synthetic/" ++ event.now ++ codes "/" ++ file.now) }
-{
-    out.extend_from_slice(b"events/synthetic/".as_slice())?;
-    out.extend_from_slice(event)?;
-    out.extend_from_slice(b"/".as_slice())?;
-    out.extend_from_slice(file)
-}
-
 /// The path of an event's file.
 #[tactic(auto, unfolding(crate::specs::Near::event_path))]
-fn event_path(alloc: Global, event: &[u8], file: &[u8]) -> Result<Vec<u8>, AllocError>
+fn event_path<'a>(alloc: Global, event: &'a [u8], file: &'a [u8]) -> Result<Vec<u8>, AllocError>
     ensures { IfOk result (λ path. path.items ≡ near.event_path event.now file.now) }
 {
-    let mut path = Vec::new(alloc);
-    push_event_path(&mut path, event, file)?;
-    Ok(path)
+    joined(
+        alloc,
+        &[
+            Piece::Plain(b"events/synthetic/"),
+            Piece::Plain(event),
+            Piece::Plain(b"/"),
+            Piece::Plain(file),
+        ],
+    )
 }
 
 /// The path of an event's file, if it is near.

@@ -1,50 +1,20 @@
-//! The words of a line that are near: an event's or a field's name, and the fixed words of commands, declarations, options and triggers.
+//! The words of a line that are near: the fixed words of commands, declarations, options and triggers.
 
-ghost use Rattle.std.specs.Prelude.{◌≡◌, map};
-ghost use Rattle.std.specs.Option.{option_copied};
+ghost use Rattle.std.specs.Prelude.{◌≡◌};
 ghost use Rattle.trace_explain.specs.Near as near;
 
 use crate::cut::{is_one_of, is_same};
 use crate::hist_due::begins;
+use crate::named::{Likeness, first_name};
 use crate::near::is_near;
-use trace_format::{EventDef, Field};
-
-/// The first of these events whose name is near.
-pub(crate) fn near_event<'a>(given: &[u8], events: &'a [EventDef]) -> Option<&'a [u8]>
-    ensures { option_copied result ≡ near.near_event given.now events.now }
-{
-    let event = events.iter().find(|event| is_near(given, event.name()))?;
-    Some(event.name())
-}
-
-/// The first of these fields whose name is near.
-pub(crate) fn near_field<'a>(given: &[u8], fields: &'a [Field]) -> Option<&'a [u8]>
-    ensures { option_copied result ≡ near.near_field given.now fields.now }
-{
-    let field = fields
-        .iter()
-        .find(|field| is_near(given, field.name.as_bytes()))?;
-    Some(field.name.as_bytes())
-}
-
-/// The first of these names that is near; empty, if none is.
-fn first_near(given: &[u8], names: &[&'static str]) -> &'static str
-    ensures { result.now ≡ near.first_near given.now (map (λ name. name.now) names.now) }
-{
-    for name in names {
-        if is_near(given, name.as_bytes()) {
-            return name;
-        }
-    }
-    ""
-}
 
 /// The first line of a script whose name is near; empty, if none is.
 #[tactic(auto, unfolding(crate::specs::Near::near_command))]
 pub(crate) fn near_command(given: &[u8]) -> &'static str
     ensures { result.now ≡ near.near_command given.now }
 {
-    first_near(
+    first_name(
+        Likeness::Near,
         given,
         &[
             "emit", "echo", "cat", "take", "mkdir", "rmdir", "parallel", "thread", "end",
@@ -57,7 +27,8 @@ pub(crate) fn near_command(given: &[u8]) -> &'static str
 pub(crate) fn near_attribute(given: &[u8]) -> &'static str
     ensures { result.now ≡ near.near_attribute given.now }
 {
-    first_near(
+    first_name(
+        Likeness::Near,
         given,
         &[
             "keys=", "values=", "vals=", "sort=", "size=", "name=", "pause", "continue", "clear",
@@ -80,7 +51,8 @@ pub(crate) fn near_type(given: &[u8]) -> &'static str
     if is_other_type(given) {
         return "";
     }
-    first_near(
+    first_name(
+        Likeness::Near,
         given,
         &[
             "s64", "s32", "s16", "u64", "u32", "u16", "char", "pid_t", "unsigned",
@@ -98,7 +70,7 @@ pub(crate) fn near_option(given: &[u8]) -> &'static str
     } else if is_same(b"overwrite", given) {
         "overwrite"
     } else {
-        first_near(given, &["nooverwrite", "overwrite"])
+        first_name(Likeness::Near, given, &["nooverwrite", "overwrite"])
     }
 }
 
@@ -121,5 +93,5 @@ pub(crate) fn near_trigger(given: &[u8]) -> &'static str
 pub(crate) fn near_common(given: &[u8]) -> &'static str
     ensures { result.now ≡ near.near_common given.now }
 {
-    first_near(given, &["common_pid", "common_cpu"])
+    first_name(Likeness::Near, given, &["common_pid", "common_cpu"])
 }

@@ -1,10 +1,10 @@
 //! Whether too many `!` and `(` are open in a filter.
 
-ghost use Rattle.std.specs.Prelude.{◌≡◌, ◌≤◌, length, reverse, []};
-ghost use Rattle.std.specs.List.{prefix_len};
+ghost use Rattle.std.specs.Prelude.{◌≡◌, ◌≤◌, length, []};
 ghost use Rattle.trace_explain.specs.FilterDue as filters;
 ghost use Rattle.trace_explain.specs.Openings as openings;
 
+use crate::byte_set::{ByteSet, last_len};
 use crate::filter_due::{FilterDue, due_after};
 use arrayvec::ArrayVec;
 use trace_lex::is_blank;
@@ -23,18 +23,6 @@ struct Openings {
     opened: ArrayVec<u8, TOO_MANY>,
 }
 
-/// How many `!` are last.
-fn bangs_len(opened: &[u8]) -> usize
-    ensures value { result ≡ prefix_len openings.is_bang (reverse opened.now) }
-    ensures bound { result ≤ length opened.now }
-{
-    opened
-        .iter()
-        .rev()
-        .take_while(|byte| **byte == b'!')
-        .count()
-}
-
 impl Openings {
     fn new() -> Openings
         ensures due { result.due ≡ FilterDue.Operand }
@@ -51,7 +39,7 @@ impl Openings {
         ensures due { self.new.due ≡ self.old.due }
         ensures opened { self.new.opened.items ≡ openings.without_bangs self.old.opened.items }
     {
-        let len = self.opened.len() - bangs_len(self.opened.as_slice());
+        let len = self.opened.len() - last_len(ByteSet::Only(b'!'), self.opened.as_slice());
         self.opened.truncate(len);
     }
 

@@ -1,14 +1,16 @@
 //! Where in a line it is wrong.
 
-ghost use Rattle.std.specs.Prelude.{◌≡◌, ◌<◌, IfSome, IfOk, length, drop, slice_get, codes};
+ghost use Rattle.std.specs.Prelude.{◌≡◌, IfOk, codes};
 ghost use Rattle.trace_trigger.specs.TriggerTexts as texts;
 ghost use Rattle.trace_explain.specs.HistDue.{attribute_at};
 ghost use Rattle.trace_explain.specs.Places as places;
 
+use crate::byte_set::{ByteSet, first_bytes};
 use crate::caret::written_offset;
 use crate::cause::Cause;
-use crate::cut::{element_after, first_word};
+use crate::cut::{number_at, numbers_after};
 use crate::hist_due::attribute_at;
+use crate::named::first_pair;
 use crate::starts::starts;
 use crate::subject::Subject;
 use crate::trigger_due::trigger_offset;
@@ -71,7 +73,7 @@ fn cpu_place(subject: Subject) -> Place
 fn size_place(text: &[u8]) -> Place
     ensures { result ≡ places.size_place (attribute_at (codes ":size=") (texts.word_of text.now)) }
 {
-    match attribute_at(b":size=", first_word(text)) {
+    match attribute_at(b":size=", first_bytes(ByteSet::Unblank, text)) {
         Some(at) => Place::Written(at + 1),
         None => Place::Nowhere,
     }
@@ -106,14 +108,6 @@ pub(crate) fn refusal_place(subject: Subject, text: &[u8], refusal: &Refusal) ->
     }
 }
 
-/// The index of the first pair of a name.
-fn first_pair(pairs: &[Pair], name: &[u8]) -> Option<usize>
-    ensures value { result ≡ places.first_pair pairs.now name.now }
-    ensures bound { IfSome result (λ at. at < length pairs.now) }
-{
-    pairs.iter().position(|pair| pair.name.as_bytes() == name)
-}
-
 fn pair_after(from: usize, index: Option<usize>) -> Place
     ensures { result ≡ places.pair_after from index }
 {
@@ -143,23 +137,17 @@ pub(crate) fn row_place(cause: Cause, pairs: &[Pair], name: &[u8]) -> Place
     }
 }
 
-fn pair_start(starts: &[usize], from: usize, index: usize) -> Option<usize>
-    ensures { result ≡ slice_get (drop from (drop 4 starts.now)) index }
-{
-    match starts.get(4..) {
-        Some(pairs) => element_after(pairs, from, index),
-        None => None,
-    }
-}
-
 /// Where a place is that a word or a pair begins, by where each word begins.
 fn start_of(starts: &[usize], place: Place) -> Option<usize>
     ensures { result ≡ places.start_of starts.now place }
 {
     match place {
         Place::Path => starts.last().copied(),
-        Place::Word(index) => starts.get(index).copied(),
-        Place::OfPair(from, index) => pair_start(starts, from, index),
+        Place::Word(index) => number_at(starts, index),
+        Place::OfPair(from, index) => number_at(
+            numbers_after(from, numbers_after(4, starts)),
+            index,
+        ),
         _ => None,
     }
 }

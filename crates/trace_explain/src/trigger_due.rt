@@ -1,16 +1,15 @@
 //! What is wrong with what is written to a `trigger` file, where it is neither a hist trigger nor a snapshot trigger; and
 //! where the filter of a trigger begins.
 
-ghost use Rattle.std.specs.Prelude.{◌≡◌, ◌≤◌, ◌+◌, ◌-◌, ◌^◌, length, drop};
-ghost use Rattle.std.specs.List.{list_all};
-ghost use Rattle.trace_lex.specs.Blanks as blanks;
+ghost use Rattle.std.specs.Prelude.{◌≡◌, ◌≤◌, ◌+◌, ◌-◌, ◌^◌, length};
 ghost use Rattle.trace_lex.specs.Decimals as decimals;
 ghost use Rattle.trace_explain.specs.TriggerDue as triggers;
 ghost use Rattle.trace_explain.specs.Wording as wording;
 
-use crate::cut::{after, first_word, is_same, word_len};
+use crate::byte_set::{ByteSet, are_all, first_bytes};
+use crate::cut::{after, is_same, word_len};
 use crate::hist_due::begins;
-use trace_lex::{blanks_len, decimal_number, is_blank, rest_of};
+use trace_lex::{blanks_len, decimal_number, rest_of};
 
 /// What is due instead of what is written.
 #[derive(Clone, Copy)]
@@ -29,17 +28,11 @@ pub(crate) enum TriggerDue {
     Filter,
 }
 
-fn are_blanks(text: &[u8]) -> bool
-    ensures { result ≡ list_all blanks.is_blank text.now }
-{
-    text.iter().all(|byte| is_blank(*byte))
-}
-
 /// What is due after the word and the blanks that follow it.
 fn tail_due(rest: &[u8]) -> TriggerDue
     ensures { result ≡ triggers.tail_due rest.now }
 {
-    if begins(b"if", rest) && are_blanks(after(2, rest)) {
+    if begins(b"if", rest) && are_all(ByteSet::Blank, after(2, rest)) {
         TriggerDue::Filter
     } else {
         TriggerDue::Condition
@@ -83,13 +76,6 @@ pub(crate) fn condition_start(text: &[u8]) -> usize
     after_gap(text) + 2
 }
 
-/// The filter of a trigger, if it has one.
-pub(crate) fn condition(text: &[u8]) -> &[u8]
-    ensures { result.now ≡ drop (wording.condition_start text.now) text.now }
-{
-    after(condition_start(text), text)
-}
-
 /// What is due by a first word that doesn't begin with `snapshot`.
 fn word_due(word: &[u8]) -> TriggerDue
     ensures { result ≡ triggers.word_due word.now }
@@ -109,9 +95,12 @@ fn body_due(body: &[u8]) -> TriggerDue
         TriggerDue::Unblank
     } else if begins(b"snapshot", body) {
         let tail = after(word_len(body), body);
-        count_due(after(8, first_word(body)), after(blanks_len(tail), tail))
+        count_due(
+            after(8, first_bytes(ByteSet::Unblank, body)),
+            after(blanks_len(tail), tail),
+        )
     } else {
-        word_due(first_word(body))
+        word_due(first_bytes(ByteSet::Unblank, body))
     }
 }
 
@@ -134,14 +123,6 @@ pub(crate) fn mark_len(text: &[u8]) -> usize
     ensures bound { result ≤ 1 }
 {
     if begins(b"!", text) { 1 } else { 0 }
-}
-
-/// What is due in a text.
-#[tactic(auto, unfolding(crate::specs::TriggerDue::trigger_due))]
-fn trigger_due(text: &[u8]) -> TriggerDue
-    ensures { result ≡ triggers.trigger_due text.now }
-{
-    body_due(after(mark_len(text), text))
 }
 
 /// Where it is due.
@@ -170,8 +151,9 @@ fn due_words(due: TriggerDue) -> &'static str
 }
 
 /// What is wrong with a text that is no trigger.
+#[tactic(auto, unfolding(crate::specs::TriggerDue::trigger_due))]
 pub(crate) fn trigger_due_words(text: &[u8]) -> &'static str
     ensures { result.now ≡ triggers.trigger_due_words (triggers.trigger_due text.now) }
 {
-    due_words(trigger_due(text))
+    due_words(body_due(after(mark_len(text), text)))
 }

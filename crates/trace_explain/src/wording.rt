@@ -3,8 +3,9 @@
 ghost use Rattle.std.specs.Prelude.{◌≡◌};
 ghost use Rattle.trace_explain.specs.Wording as wording;
 
+use crate::byte_set::{ByteSet, first_bytes};
 use crate::cause::Cause;
-use crate::cut::{after, first_word, has_blank, up_to};
+use crate::cut::{after, has_blank, up_to};
 use crate::declaration_due::{declaration_due, declaration_due_words};
 use crate::filter_due::{FilterDue, filter_due, filter_due_words};
 use crate::hist_due::{attribute_at, begins, hist_due_words, hist_field_words};
@@ -114,7 +115,7 @@ fn exists_words(text: &[u8]) -> &'static str
 {
     if begins(b"snapshot", text) {
         "the event has a snapshot trigger already"
-    } else if attribute_at(b":name=", first_word(text)).is_some() {
+    } else if attribute_at(b":name=", first_bytes(ByteSet::Unblank, text)).is_some() {
         "expected a trigger that is new to the event and fits the table of its name"
     } else {
         "the event has this trigger already"
