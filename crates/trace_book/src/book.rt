@@ -7,13 +7,13 @@
 //!   prepare   looks      prepare_emission: Delivery     prepare: Change and Reply      refusals are found here, in their order
 //!             grows      row, hists, record             the change itself              may be refused memory
 //!             writes     its entry ahead                its entry ahead                HistoryFull comes before Memory
-//!   commit    changes    deliver                        commit                         an emission's takes no memory
+//!   commit    changes    deliver                        carry_out                      an emission's takes no memory
 //!             records    the entry counts               the entry counts
 //! ```
 //!
-//! `commit` can be refused memory only for a spare side, a hist trigger and its table, an event or an instance, and it allocates all of that before
-//! it changes anything. Nothing is ever undone. The two phases pass on data (`Change`, `Delivery`), so `commit` never looks at the command again: it
-//! makes a step of the state, and `prepare` has shown that this is the step that the definitions give the command.
+//! `carry_out` can be refused memory only for a spare side, a hist trigger and its table, an event or an instance, and it allocates all of that
+//! before it changes anything. Nothing is ever undone. The two phases pass on data (`Change`, `Delivery`), so `carry_out` never looks at the command
+//! again: it makes a step of the state, and `prepare` has shown that this is the step that the definitions give the command.
 //!
 //! Most emissions are plain (`plain.rt`): they run a shorter way, with the same two phases.
 

@@ -14,7 +14,7 @@ use Rattle.trace_state.specs.declared.state.State.{State}
 
 -- ---- where an emission is plain
 
--- the same, part by part
+-- the event at this index is plain in the instance
 pub record IsPlainAt (event : ℕ) (i : InstanceSeen) : Type 0 where
   pub tracing : i.tracing ≡ true
   pub enabled : slice_index_or i.enabled event false ≡ true

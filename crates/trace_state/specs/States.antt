@@ -1,4 +1,4 @@
--- When what a book keeps agrees with the requests that were done, and what a change does to it.
+-- When the state agrees with the requests that were done, and what a change does to it.
 use Rattle.std.specs.Prelude.{◌≡◌, ℕ, ◌+◌, ◌<◌, ◌≤◌, ◌^◌, Bool, false, List, [], ◌∷◌, ◌++◌, length, map, take, drop, slice_index_or, All, IsOk, Option, Some, None, Result, Ok, Err, ⊤}
 use Rattle.std.specs.List.{AllByRecursion, IsDistinct}
 use Rattle.std.specs.Str.{bytes_eq}

@@ -1,4 +1,4 @@
-//! Threads that share one book through a lock: a single call, a block of parts on threads of their own, and a whole run over a new book.
+//! Threads that share one book through a lock: a block of parts on threads of their own, and a whole run over a new book.
 #![tactic(auto)]
 
 mod asked;
