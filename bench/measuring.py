@@ -13,7 +13,7 @@ import time
 
 TOP = os.path.dirname(os.path.dirname(os.path.abspath(__file__)))
 # Of each program where it is built, and by what.
-PROGRAMS = {"tracectl": ("crates/tracectl/out/tracectl", "./tracectl"), "benches": ("bench/out/benches", "bench/build")}
+PROGRAMS = {"tracectl": ("crates/tracectl/out/tracectl", "./tracectl --prove"), "benches": ("bench/out/benches", "bench/build")}
 RUNS = 12
 MOST_SCRIPT_BYTES = 16 * 1024 * 1024  # the program refuses longer scripts
 

@@ -6,7 +6,7 @@ _tracectl() {
     --cpus | --pages | --page-bytes | -c) return ;;
   esac
   if [[ $word = -* ]]; then
-    mapfile -t COMPREPLY < <(compgen -W '--cpus --pages --page-bytes --explain --bars --list --try -c -h --help -V --version' -- "$word")
+    mapfile -t COMPREPLY < <(compgen -W '--cpus --pages --page-bytes --explain --bars --list -c -h --help -V --version' -- "$word")
   else
     mapfile -t COMPREPLY < <(compgen -f -- "$word")
   fi

@@ -24,18 +24,13 @@ def unusable():
     return None if shutil.which("rt") else "there is no rt"
 
 
-def lacking():
-    """What there is not to build the examples with, if anything."""
-    return unusable() or (None if LIBRARY.exists() else "there is no %s: tests/archive makes it, after rt ci" % LIBRARY.relative_to(TOP))
-
-
 def built():
     """A folder with the C programs and the shared object, which is removed at the end."""
     folder = Path(tempfile.mkdtemp())
     atexit.register(shutil.rmtree, str(folder))
     subprocess.run([str(TOP / "examples" / "c" / "build"), str(folder)], check=True)
     heap = Path(subprocess.run(["rt", "doc"], stdout=subprocess.PIPE, check=True).stdout.decode().strip()).parent / "c" / "liblibc_c.a"
-    words = ["-I", LIBRARY.parent.parent, "-Wl,--wrap=malloc,--wrap=realloc", "-o", folder / "memory", CALLING / "memory.c", LIBRARY, heap]
+    words = ["-I", LIBRARY.parent.parent, "-Wl,--wrap=malloc,--wrap=realloc", "-o", folder / "memory", CALLING / "memory.c", folder / "libtracectl_c.a", heap]
     subprocess.run([os.environ.get("CC", "cc")] + [str(word) for word in words], check=True)
     return folder
 
@@ -71,7 +66,7 @@ def example_case(name, command, folder, stdout):
 
 
 def calling_cases():
-    reason = lacking()
+    reason = unusable()
     if reason:
         print("the library for C and Python was skipped: %s" % reason, flush=True)
         return []

@@ -1,4 +1,4 @@
-"""The program's help, and what is made of it: docs/help.txt, which the starter prints, a man page, and a completion for bash.
+"""What is made of the program's help: a man page, and a completion for bash.
 
 Run by itself, with a program or with none for the one that is built, it writes these files anew.
 """
@@ -13,9 +13,8 @@ from pathlib import Path
 if __name__ == "__main__":
     sys.path.insert(0, str(Path(__file__).resolve().parent.parent))
 
-from cases.running import SECONDS, TOP, Case, run, text_differences
+from cases.running import PROGRAM, SECONDS, TOP, Case, run, text_differences
 
-HELP = TOP / "docs" / "help.txt"
 MAN_PAGE = TOP / "docs" / "tracectl.1"
 COMPLETION = TOP / "docs" / "tracectl.bash"
 
@@ -112,8 +111,8 @@ complete -o filenames -F _tracectl tracectl ./tracectl
 def made_of(program):
     """The files, and what must be in them."""
     text = run([program, "--help"]).stdout.decode()
-    version = run([program, "--version"]).stdout.decode().split()[-1]
-    return {HELP: text, MAN_PAGE: man_page(text, version), COMPLETION: completion(text)}
+    version = run([program, "--version"]).stdout.decode().split()[1]
+    return {MAN_PAGE: man_page(text, version), COMPLETION: completion(text)}
 
 
 def is_as_made(file):
@@ -149,20 +148,20 @@ def completes(_):
     return ["%s is completed by %s, expected %s" % (words, completed(words), want) for words, want in wants if completed(words) != want]
 
 
-def tells_the_time_of_a_build(_):
-    told = re.search(r'^readonly time_of_build="(.*)"$', (TOP / "tracectl").read_text(), re.M).group(1)
-    return [] if told in " ".join(HELP.read_text().split()) else ["docs/help.txt lacks %s" % told]
+def tells_the_time_of_a_proof(program):
+    told = re.search(r'^readonly TIME_OF_PROOF="(.*)"$', (TOP / "tools" / "building.bash").read_text(), re.M).group(1)
+    return [] if told in " ".join(run([program, "--help"]).stdout.decode().split()) else ["--help lacks %s" % told]
 
 
 def helping_cases():
-    return [Case("docs/%s is made of --help" % file.name, is_as_made(file)) for file in (HELP, MAN_PAGE, COMPLETION)] + [
+    return [Case("docs/%s is made of --help" % file.name, is_as_made(file)) for file in (MAN_PAGE, COMPLETION)] + [
         Case("docs/tracectl.1 is formatted", man_page_is_set),
         Case("docs/tracectl.bash completes words", completes),
-        Case("docs/help.txt tells how long the starter says that a build takes", tells_the_time_of_a_build),
+        Case("--help tells how long the starter says that a proof takes", tells_the_time_of_a_proof),
     ]
 
 
 if __name__ == "__main__":
-    built = sys.argv[1] if len(sys.argv) > 1 else TOP / "crates" / "tracectl" / "out" / "tracectl"
+    built = sys.argv[1] if len(sys.argv) > 1 else PROGRAM
     for path, content in made_of(os.path.abspath(str(built))).items():
         path.write_text(content)

@@ -1,10 +1,13 @@
 """Running a program, and comparing what it does with what it must do."""
 import itertools
+import os
 import subprocess
 from collections import namedtuple
 from pathlib import Path
 
 TOP = Path(__file__).resolve().parent.parent.parent
+# what is tested, where no other program is named
+PROGRAM = Path(os.environ.get("TRACECTL_PROGRAM") or TOP / "crates" / "tracectl" / "out" / "tracectl")
 SECONDS = 120
 MOST_SCRIPT_BYTES = 16_777_216
 
@@ -48,6 +51,24 @@ def differences(got, want):
         found.append("exit status %d, expected %d" % (got.status, want.status))
     found += text_differences("standard output", got.stdout, want.stdout)
     return found + text_differences("standard error", got.stderr, want.stderr)
+
+
+def passes(case, program):
+    """Whether a case is right. Prints what is not."""
+    try:
+        found = case.differences(program)
+    except (OSError, subprocess.SubprocessError) as error:
+        found = [str(error)]
+    for difference in found:
+        print("%s: %s" % (case.name, difference), flush=True)
+    return not found
+
+
+def run_cases(cases, program):
+    """Prints what is wrong with these cases, and how many passed and failed. Has the exit status."""
+    results = [passes(case, program) for case in cases]
+    print("%d passed, %d failed" % (results.count(True), results.count(False)))
+    return 0 if all(results) else 1
 
 
 def case_of(name, want, words=SMALL, **how):

@@ -1,75 +1,71 @@
 """The starter."""
 import os
-import re
 import resource
 import shutil
 import signal
 import subprocess
 import tempfile
 import time
-from collections import Counter
 from contextlib import contextmanager
 from pathlib import Path
 
-from cases.drawn import DRAWN, LINES
 from cases.emitting import REFUSALS, REFUSED
-from cases.helping import HELP
-from cases.listed import CHANGED, REPLIES, listed, text_of
-from cases.running import BAD_VALUE, FAILED, SECONDS, SMALL, TOP, Case, Outcome, differences, quoted, run
+from cases.running import FAILED, SECONDS, SMALL, TOP, Case, Outcome, differences, quoted, run
 from cases.scripts import wanted
-from cases.words import bad_configurations, named, refusing, unopened_scripts, versioned, word_cases, wrong_words
+from cases.words import word_cases
 
-# What stands where `rt` is looked for. It runs in a crate's folder, two below the top.
-FAILING = "echo 'rt was called' >&2; exit 9"
-LINKING = '[ "$1" != run ] || cp ../../kept out/tracectl'
-NOTING = 'echo "$PWD" >> ../../calls; sleep 0.1; ' + LINKING  # that was called
-HANGING = 'echo $$ >> ../../calls; exec sleep 100'
-TRYING = r'''[ "$*" = "try --steps 1" ] && ! grep -q clap ../../crates.txt || exit 1
-words=$(sed -nE 's/^ *(cpus|pages|page_bytes): ([0-9]+),$/--\1 \2/p; s/^use explained::.*/--explain/p; s/^use drawn::.*/--bars/p; s/^use listed::.*/--list/p' src/main.rt | tr _ -)
-name=$(sed -nE 's/^ *let name = "(.*)";$/\1/p' src/main.rt)
-"${0%/*}/../kept" $words - 2> ../../told
-status=$?
-sed "s|^<stdin>:|$name:|" ../../told >&2
-echo "run=ended status=$status proved=no" >&2
-exit $status'''  # as `rt try` does with the program that the starter writes
+SCRIPT = TOP / "examples" / "first-session"
+WORDS = SMALL[:-1] + [str(SCRIPT)]
 
-TRIED = b"tracectl: nothing is proved here: --try only runs the program, and takes about a minute\n"
+# What stands where `rt` is looked for, and where tools/unproved.py stands. Each notes that it was called.
+NOTING = 'echo "%s $$" >> "$TOP/calls"; '
+FAILING = "echo 'it was called' >&2; exit 9"
+HANGING = "exec sleep 100"
+KEEPING = 'cp "$TOP/kept" "$2"'  # of tools/unproved.py
+SLOW = "sleep 1; " + KEEPING
+OTHER_KIT = "echo 'another kit' >&2; exit 3"
+PROVING = '[ "$*" = ci ] && mkdir -p crates/tracectl/out && cp "$TOP/kept" crates/tracectl/out/tracectl && echo "rt: trace_words proved" && sleep 2'  # of rt
+
+COMPILING = b"tracectl: compiling crates/tracectl/out/tracectl-unproved, unproved, which takes about a minute\n"
+UNPROVED = b"tracectl: nothing of this program is proved; ./check proves and tests it all, ./tracectl --prove only proves it\n"
 FAR = 4_000_000_000  # seconds after 1970
 
 
 class Starter:
-    """A folder with the starter, what it reads of the repository, and a copy of the program, built or as `rt` would build it."""
+    """A folder with the starter, what it reads of the repository, and a copy of the program, proved or as it would be made."""
 
-    def __init__(self, top, program, rt, is_built):
+    def __init__(self, top, program, rt, compiler, is_built):
         self.top = Path(top)
-        self.built = self.top / "crates" / "tracectl" / "out" / "tracectl"
+        self.proved = self.top / "crates" / "tracectl" / "out" / "tracectl"
+        self.unproved = self.proved.with_name("tracectl-unproved")
         self.source = self.top / "crates" / "trace_words" / "src" / "words.rt"
-        sources = self.top / "crates" / "tracectl" / "src"
-        for place in (self.built.parent, self.source.parent, sources, self.top / "commands", self.top / "docs"):
+        for place in (self.proved.parent, self.source.parent, self.top / "commands", self.top / "tools"):
             place.mkdir(parents=True)
-        shutil.copy(str(TOP / "crates" / "trace_words" / "src" / "words.rt"), str(self.source))
-        shutil.copy(str(HELP), str(self.top / "docs"))
-        for name in ("bars.rt", "drawn.rt", "explained.rt", "listed.rt"):
-            shutil.copy(str(TOP / "crates" / "tracectl" / "src" / name), str(sources))
-        shutil.copy(str(TOP / "tracectl"), top)
-        shutil.copy(str(TOP / "crates.txt"), top)
-        shutil.copy(str(program), str(self.built if is_built else self.top / "kept"))
-        self.place(rt)
+        self.source.write_text("// a source\n")
+        (self.top / "crates.txt").write_text("trace_words: clap\ntracectl may_wait=4: trace_words\n")
+        for name in ("tracectl", "HANDLES", "tools/building.bash"):
+            shutil.copy(str(TOP / name), str(self.top / name))
+        old = time.time() - 100
+        for path in (self.source, self.source.parent, self.top / "crates.txt"):
+            os.utime(str(path), (old, old))
+        shutil.copy(str(program), str(self.proved if is_built else self.top / "kept"))
+        self.place("rt", rt)
+        self.place("unproved.py", compiler)
 
-    def place(self, rt):
-        """Puts another command where `rt` is looked for."""
-        command = self.top / "commands" / "rt"
-        command.write_text("#!/bin/sh\n%s\n" % rt)
+    def place(self, name, lines):
+        """Puts another command where `rt`, tools/unproved.py or another one is looked for."""
+        command = self.top / ("tools" if name == "unproved.py" else "commands") / name
+        command.write_text("#!/bin/sh\nTOP='%s'\n%s\n" % (self.top, (NOTING % name if name != "awk" else "") + lines))
         command.chmod(0o755)
 
     def words(self, words, settings=(), command=None):
         found_first = ["env", "PATH=%s:%s" % (self.top / "commands", os.environ["PATH"])]
         return [str(word) for word in found_first + list(settings) + [command or self.top / "tracectl"] + words]
 
-    def start(self, words, settings=(), command=None, **how):
+    def start(self, words=WORDS, settings=(), command=None, **how):
         return run(self.words(words, settings, command), **how)
 
-    def begin(self, words):
+    def begin(self, words=WORDS):
         """Starts it, and waits for nothing. What these tests were started by may have had SIGHUP ignored (nohup), which a shell could not trap."""
 
         def heed():
@@ -77,185 +73,166 @@ class Starter:
 
         return subprocess.Popen(self.words(words), stdin=subprocess.DEVNULL, stdout=subprocess.PIPE, stderr=subprocess.PIPE, preexec_fn=heed)
 
-    def calls(self):
-        """A line for each call of an `rt` that notes them."""
+    def calls(self, name):
+        """The process of each call of a command."""
         calls = self.top / "calls"
-        return calls.read_text().split() if calls.exists() else []
+        return [line.split()[1] for line in (calls.read_text().splitlines() if calls.exists() else []) if line.split()[0] == name]
 
 
 @contextmanager
-def starter(program, rt=FAILING, is_built=True):
+def starter(program, rt=FAILING, compiler=FAILING, is_built=False):
     with tempfile.TemporaryDirectory() as top:
-        yield Starter(top, program, rt, is_built)
+        yield Starter(top, program, rt, compiler, is_built)
 
 
-def started(words, rt=FAILING, is_built=True, **how):
-    """Gives what the starter does with these words, in a folder of its own with a copy of the program, or with none. The `rt` that stands there
-    does nothing but to fail, so that a build would show, or puts the copy into its place."""
-
-    def start(program):
-        with starter(program, rt, is_built) as one:
-            return one.start(words, **how)
-
-    return start
+def started(program, words, **how):
+    """What the starter does with these words over a proved program. What would make one fails, so that it would show."""
+    with starter(program, is_built=True) as one:
+        return one.start(words, **how)
 
 
-def naming(words):
-    """That the starter tells before there is a program what the program tells, but for tips on other words."""
-
-    def named_alike(program):
-        want = run([program] + words)
-        return differences(started(words, is_built=False)(program), want._replace(stderr=re.sub(rb"  tip: .*\n\n", b"", want.stderr)))
-
-    return named_alike
+def telling(got, want, *parts):
+    """What is wrong with a start that is to do what is wanted, and whose standard error is to have these parts and no more lines than they have."""
+    found = differences(got._replace(stderr=b""), want._replace(stderr=b""))
+    found += ["standard error lacks %s: %s" % (quoted(part), got.stderr) for part in parts if part not in got.stderr]
+    many = sum(part.count(b"\n") for part in parts)
+    return found + ([] if got.stderr.count(b"\n") == many else ["standard error has other lines: %s" % got.stderr])
 
 
-def builds_in_order(got):
-    """What is wrong with what a build tells: each crate once, with its place among all of them."""
-    begun = re.findall(rb"^tracectl: (\w+), (\d+) of (\d+), is being proved$", got.stderr, re.MULTILINE)
-    proved = re.findall(rb"^tracectl: (\w+) is proved, \d+ seconds$", got.stderr, re.MULTILINE)
-    places = [(int(place), int(count)) for _, place, count in begun]
-    right = places == [(place, len(proved)) for place in range(1, len(proved) + 1)] and sorted(proved) == sorted(name for name, _, _ in begun)
-    return [] if right and len(proved) > 10 and proved[-1] == b"tracectl" else ["standard error is %s" % got.stderr]
+NOT_MADE = Outcome(5, b"", b"")
 
 
-def unbuilt_cases():
-    """Without a program the starter tells what is wrong before it builds one, in words of its own, and answers what needs no program."""
-    script = TOP / "examples" / "first-session"
-    small = SMALL[:-1] + [str(script)]
-    lines = ["-c"] + script.read_text().splitlines()
-
-    def case(words, want):
-        return Case("unbuilt: ./tracectl " + named(words), lambda program: differences(started(words, is_built=False)(program), want))
-
-    def begins(part, words, **how):
-        """That a build is begun, and told."""
-
-        def begun(program):
-            got = started(words, is_built=False, **how)(program)
-            found = differences(got._replace(stderr=b""), wanted(script)) + builds_in_order(got) if how else []
-            return found + ([] if part in got.stderr and b"tracectl: building" in got.stderr else ["standard error is %s" % quoted(got.stderr)])
-
-        return begun
-
-    def tried(words, want=wanted(script)):
-        want = want._replace(stderr=TRIED + want.stderr)
-        return Case("unbuilt: ./tracectl " + named(words), lambda program: differences(started(words, rt=TRYING, is_built=False)(program), want))
-
-    refused, told = b"! %d: N1 NoSuchFile\n" % (len(LINES) + 1), b"-c:%d:5: NoSuchFile: no file has this path\n  cat nothing\n      ^\n" % (len(LINES) + 1)
-    both = Outcome(1, DRAWN.stdout + refused, DRAWN.stderr + told)
-    wrong = [words for words, _ in wrong_words()] + [["--pages", "--try", "2", "-"], ["-c", "--try", "cat trace"], ["--cpus", "-1", "-"], ["--nonsense=1", "-"]]
-    return (
-        [Case("unbuilt: ./tracectl " + named(words), naming(words)) for words in wrong]
-        + [case(words, Outcome(2, b"", BAD_VALUE)) for words in bad_configurations() + [["--try", "--pages", "1", "-"]]]
-        + [case(words, FAILED) for words in unopened_scripts() + [["--try", str(TOP)], ["--", "--try"]]]
-        + [
-            Case("unbuilt: ./tracectl --help", naming(["--help"])),
-            Case("unbuilt: ./tracectl -h", naming(["-h"])),
-            Case("unbuilt: ./tracectl --version", lambda program: versioned(started(["--version"], is_built=False)(program))),
-            Case("unbuilt: wrong words after --try", lambda program: refusing(started(["--try", "--nonsense"], is_built=False)(program), "'--nonsense' found")),
-            Case("unbuilt: --try twice", lambda program: refusing(started(["--try", "-", "--try"], is_built=False)(program), "'--try' cannot be used multiple times")),
-            Case("a build that fails", begins(b"rt was called", small)),
-            Case("a build, and then the script", begins(b"tracectl: the program is built", small, rt=LINKING)),
-            Case("a build, and then the lines", begins(b"tracectl: the program is built", SMALL[:-1] + lines, rt=LINKING)),
-            Case("a build for lines that fails", begins(b"rt was called", ["--pages=2"] + lines)),
-            Case("a build for an explained script that fails", begins(b"rt was called", ["--explain"] + small)),
-        ]
-        + [tried(words) for words in (["--try"] + small, small + ["--try"], ["--pages", "2", "--try", "--page-bytes=64", str(script)], SMALL[:-1] + lines + ["--try"])]
-        + [
-            tried(["--cpus=3", "--try", "-c", "emit 3 7 tick n=1"], Outcome(1, b"! 1: N20 NoSuchCpu\n", b"")),
-            tried(["--try", "-c", "emit 2 7 tick n=1", "--cpus", "3"], Outcome(1, b"! 1: N5 NoSuchEvent\n", b"")),
-            tried(["-c", "cat nothing", "--explain", "--try"], Outcome(1, b"! 1: N1 NoSuchFile\n", b"-c:1:5: NoSuchFile: no file has this path\n  cat nothing\n      ^\n")),
-            tried(["--bars", "-c"] + LINES + ["--try"], DRAWN),
-            tried(["--try", "--explain", "-c"] + LINES + ["cat nothing", "--bars"], both),
-            tried(["--list", "--try", "-c"] + CHANGED, Outcome(1, text_of(REPLIES) + listed(1, ["tick", "tock"], ["b", "slow"]), b"")),
-            tried(["--list", "--explain", "--try", "--bars", "-c"] + LINES + ["cat nothing"], both._replace(stdout=both.stdout + listed(1, ["tick"]))),
-            Case("--try runs the session as the program does", session_of_the_first_look),
-        ]
-    )
+def first_unproved_then_proved(program):
+    """Where there is no program one is compiled, once, and taken until there is a proved one; then nothing is said."""
+    with starter(program, compiler=KEEPING) as one:
+        found = telling(one.start(), wanted(SCRIPT), COMPILING, UNPROVED)
+        one.place("unproved.py", FAILING)
+        found += telling(one.start(), wanted(SCRIPT), UNPROVED)
+        one.place("rt", PROVING)
+        got = one.start(["--prove"])
+        found += telling(got, Outcome(0, b"", b""), b"tracectl: proving 2 crates", b"nothing is kept of earlier runs\n", b"tracectl: trace_words is proved, 1 of 2, ", b" seconds\n", b"tracectl: the program is proved\n")
+        one.place("rt", FAILING)
+        found += telling(one.start(), wanted(SCRIPT))
+        found += telling(one.start(["--prove"]), Outcome(0, b"", b""), b"tracectl: the program is proved\n")
+        return found + ([] if len(one.calls("rt")) == 1 else ["rt was called %d times" % len(one.calls("rt"))])
 
 
-def session_of_the_first_look(_):
-    """The program that the starter writes for --try, which nothing checks, calls what the main function of crates/tracectl calls."""
-    main, first_look = (TOP / "crates" / "tracectl" / "src" / "main.rt").read_text(), (TOP / "tracectl").read_text()
-    calls = [set(re.findall(r"run_session\((?:&rt|threads), (.*?),? ?\)", " ".join(text.split()).replace("( ", "("))) for text in (main, first_look)]
-    made = [set(re.findall(r"(?:Drawn|Explained|Listed|Output)::new\([a-z.(), ]*\)", text.replace("$", ""))) for text in (main, first_look.replace("true", "lists"))]
-    made = [found | set(re.findall(r"output\.end\(.*?\)", text)) for found, text in zip(made, (main, first_look))]
-    return [] if calls[0] == calls[1] and made[0] == made[1] and calls[0] else ["other calls: %s %s" % (calls, made)]
+def changed_sources(program):
+    """A source that is newer than the proved program has one compiled, and again when it changes again; so has a file that is added."""
+    with starter(program, compiler=KEEPING, is_built=True) as one:
+        shutil.copy(str(program), str(one.top / "kept"))
+        found = []
+        for path in (one.source, one.source, one.source.parent / "more.rt"):
+            now = time.time()
+            path.write_text("// another source\n")
+            os.utime(str(path), (now, now))
+            found += telling(one.start(), wanted(SCRIPT), COMPILING, UNPROVED)
+            found += telling(one.start(), wanted(SCRIPT), UNPROVED)
+        return found + ([] if len(one.calls("unproved.py")) == 3 else ["compiled %d times" % len(one.calls("unproved.py"))])
 
 
-def two_builds(program):
-    """Two are started at once: each crate is built once, and both do their scripts."""
-    script = TOP / "examples" / "first-session"
-    with starter(program, NOTING, is_built=False) as one:
-        both = [one.begin(SMALL[:-1] + [str(script)]) for _ in range(2)]
+def failed_compilation(program):
+    """It is told, nothing is run, and the next start compiles."""
+    with starter(program, compiler='echo half > "$2"; ' + FAILING) as one:
+        told = (COMPILING, b"it was called\n", b"tracectl: crates/tracectl/out/tracectl-unproved could not be compiled; ", b"tracectl-unproved.log says more\n")
+        one.place("unproved.py", FAILING)
+        found = telling(one.start(), NOT_MADE, *told)
+        one.place("unproved.py", KEEPING)
+        return found + telling(one.start(), wanted(SCRIPT), COMPILING, UNPROVED)
+
+
+def other_kit(program):
+    """Where the kit works in other ways the program is proved, and where that fails too it is told."""
+    with starter(program, rt=PROVING, compiler=OTHER_KIT) as one:
+        proving = (COMPILING, b"another kit\n", b"tracectl: so the program is proved", b"\n", b"tracectl: proving 2 crates", b"\n", b"tracectl: trace_words is proved", b"\n")
+        found = telling(one.start(), wanted(SCRIPT), *proving)
+        found += telling(one.start(), wanted(SCRIPT))
+    with starter(program, compiler=OTHER_KIT) as one:
+        told = (b"another kit\n", b"it was called\n", b"tracectl: tracectl was not proved; ", b"tracectl.log says more\n")
+        return found + telling(one.start(), NOT_MADE, COMPILING, b"tracectl: so the program is proved", b"\n", b"tracectl: proving 2 crates", b"\n", *told)
+
+
+def two_at_once(program):
+    """Of two that are started at once one compiles, the other waits, and both do their scripts."""
+    if not shutil.which("flock"):
+        return []
+    with starter(program, compiler=SLOW) as one:
+        both = [one.begin() for _ in range(2)]
         ended = [(process.communicate(timeout=SECONDS), process.returncode) for process in both]
         found = []
         for (stdout, _), status in ended:
-            found += differences(Outcome(status, stdout, b""), wanted(script))
-        built = Counter(one.calls())
-        if shutil.which("flock") and set(built.values()) != {1}:
-            found.append("built more than once: %s" % built)
-        waited = b"tracectl: another ./tracectl builds the program; this one goes on once that has ended\n"
-        return found + ([] if sum(waited in stderr for (_, stderr), _ in ended) == 1 else ["one was to wait: %s" % ended])
+            found += differences(Outcome(status, stdout, b""), wanted(SCRIPT))
+        waited = b"tracectl: another tracectl makes crates/tracectl/out/tracectl-unproved; this one goes on once that has ended\n"
+        found += [] if sum(waited in stderr for (_, stderr), _ in ended) == 1 else ["one was to wait: %s" % ended]
+        return found + ([] if len(one.calls("unproved.py")) == 1 else ["compiled %d times" % len(one.calls("unproved.py"))])
 
 
-def stopped_build(number):
-    """A signal ends a build, and what it had begun; the next start builds."""
+def stopped(words, name, number):
+    """A signal ends what it had begun, nothing half-made is left, and the next start makes what is missing."""
 
-    def stopped(program):
-        script = TOP / "examples" / "first-session"
-        with starter(program, HANGING, is_built=False) as one:
-            process = one.begin(SMALL[:-1] + [str(script)])
+    def stopping(program):
+        with starter(program, rt=HANGING, compiler=HANGING) as one:
+            process = one.begin(words)
             for _ in range(100):
-                if one.calls():
+                if one.calls(name):
                     break
                 time.sleep(0.1)
             process.send_signal(number)
             stdout, _ = process.communicate(timeout=SECONDS)
             found = differences(Outcome(process.returncode, stdout, b""), Outcome(128 + number, b"", b""))
-            left = [call for call in one.calls() if os.path.exists("/proc/%s" % call)]
-            one.place(LINKING)
-            got = one.start(SMALL[:-1] + [str(script)])
-            found += differences(got._replace(stderr=b""), wanted(script)) + builds_in_order(got)
-            return found + (["%s go on" % left] if left else [])
+            found += ["%s goes on" % call for call in one.calls(name) if os.path.exists("/proc/%s" % call)]
+            found += ["%s is left" % path for path in (one.proved, one.unproved) if path.exists()]
+            one.place("unproved.py", KEEPING)
+            return found + telling(one.start(), wanted(SCRIPT), COMPILING, UNPROVED)
 
-    return stopped
+    return stopping
 
 
 def source_of_the_future(program):
-    """It is built from once for each of its times, and told."""
-    script = TOP / "examples" / "first-session"
-    words, ahead = SMALL[:-1] + [str(script)], b"tracectl: crates/trace_words/src/words.rt is dated in the future; the program was built from it as it is\n"
+    """It is compiled once for each of its times, and told."""
+    ahead = b"tracectl: crates/trace_words/src/words.rt is dated in the future; crates/tracectl/out/tracectl-unproved was made from it as it is\n"
     found = []
-    with starter(program, LINKING, is_built=False) as one:
+    with starter(program, compiler=KEEPING) as one:
         for when in (FAR, FAR + 1):
             os.utime(str(one.source), (when, when))
-            one.place(LINKING)
-            got = one.start(words)
-            found += differences(got._replace(stderr=b""), wanted(script)) + builds_in_order(got)
-            found += [] if got.stderr.endswith(ahead) else ["standard error is %s" % quoted(got.stderr)]
-            one.place(FAILING)
-            found += differences(one.start(words), wanted(script)._replace(stderr=ahead))
+            one.place("unproved.py", KEEPING)
+            found += telling(one.start(), wanted(SCRIPT), COMPILING, ahead, UNPROVED)
+            one.place("unproved.py", FAILING)
+            found += telling(one.start(), wanted(SCRIPT), ahead, UNPROVED)
         now = time.time()
         os.utime(str(one.source), (now, now))
-        got = one.start(words)
-        return found + ([] if got.status == 5 and b"rt was called" in got.stderr else ["no build once it was written again: %s" % quoted(got.stderr)])
+        got = one.start()
+        return found + ([] if got.status == 5 and b"it was called" in got.stderr else ["not compiled once it was written again: %s" % quoted(got.stderr)])
+
+
+def what_is_lacking(program):
+    """No rt, a folder that can't be written, little memory: each is told in a sentence."""
+    with starter(program) as one:
+        (one.top / "commands" / "rt").unlink()
+        path = "PATH=%s:/usr/bin:/bin" % (one.top / "commands")
+        if not any(os.path.exists(folder + "/rt") for folder in ("/usr/bin", "/bin")):
+            found = telling(one.start(settings=[path]), NOT_MADE, b"tracectl: rt, the command of the Rattle kit, is needed and was not found\n")
+    with starter(program, compiler=KEEPING) as one:
+        one.proved.parent.rmdir()
+        one.proved.parent.write_text("no folder")
+        found += telling(one.start(), NOT_MADE, b"crates/tracectl/out cannot be written\n")
+    with starter(program, compiler=KEEPING) as one:
+        one.place("awk", "echo 2000000")
+        little = b"tracectl: 1953 MiB of memory are free, which may be too little: up to 4096 are needed\n"
+        return found + telling(one.start(), wanted(SCRIPT), little, COMPILING, UNPROVED)
 
 
 def where_it_is_started(program):
     """It does the same from another folder, by a link, with a CDPATH, and with a TMPDIR that isn't there."""
-    script = TOP / "examples" / "first-session"
-    words = SMALL[:-1] + [str(script)]
     found = []
-    for rt, is_built, more, stderr in ((FAILING, True, [], b""), (TRYING, False, ["--try"], TRIED)):
-        with starter(program, rt, is_built) as one, tempfile.TemporaryDirectory() as other:
-            link = Path(other) / "link"
-            link.symlink_to(one.top / "tracectl")
-            relative = os.path.relpath(str(one.top / "tracectl"), os.getcwd())
-            settings = ["CDPATH=.:/:%s" % one.top, "TMPDIR=%s" % (one.top / "missing")]
-            for command in (link, relative, one.top / "tracectl"):
-                found += differences(one.start(words + more, settings, command), wanted(script)._replace(stderr=stderr))
+    for compiler, is_built, more in ((FAILING, True, ()), (KEEPING, False, (COMPILING, UNPROVED))):
+        for by in ("link", "relative", "absolute"):
+            with starter(program, compiler=compiler, is_built=is_built) as one, tempfile.TemporaryDirectory() as other:
+                link = Path(other) / "link"
+                link.symlink_to(one.top / "tracectl")
+                command = {"link": link, "relative": os.path.relpath(str(one.top / "tracectl"), os.getcwd()), "absolute": None}[by]
+                settings = ["CDPATH=.:/:%s" % one.top, "TMPDIR=%s" % (one.top / "missing")]
+                found += telling(one.start(WORDS, settings, command), wanted(SCRIPT), *more)
     return found
 
 
@@ -265,35 +242,37 @@ def file_that_may_not_grow(program):
     def limit_file():
         resource.setrlimit(resource.RLIMIT_FSIZE, (30, 30))
 
-    with starter(program) as one, tempfile.TemporaryFile() as file:
+    with starter(program, is_built=True) as one, tempfile.TemporaryFile() as file:
         got = one.start(SMALL, script=REFUSED, stdout=file, before=limit_file)
         file.seek(0)
         return differences(got._replace(stdout=file.read()), FAILED._replace(stdout=REFUSALS[:30]))
 
 
+def compiler_of_another_kit(_):
+    """tools/unproved.py tells that a kit is not the one that it knows, and makes nothing."""
+    with tempfile.TemporaryDirectory() as folder:
+        top = Path(folder)
+        (top / "bin").mkdir()
+        (top / "bin" / "rtlib.py").write_text("# another one\n")
+        (top / "rt").write_text("#!/bin/sh\necho '%s/START.md'\n" % top)
+        (top / "rt").chmod(0o755)
+        got = run(["env", "PATH=%s:%s" % (top, os.environ["PATH"]), TOP / "tools" / "unproved.py", "tracectl", top / "made"])
+        return telling(got, Outcome(3, b"", b""), b"than tools/unproved.py knows, which are those of rattle-kit-13\n") + (["something was made"] if (top / "made").exists() else [])
+
+
 def starter_cases():
-    def start(program, words, **how):
-        return started(words, **how)(program)
-
-    script = TOP / "examples" / "first-session"
-    lines = ["-c"] + script.read_text().splitlines()
-    text, want = script.read_bytes(), wanted(script)
-
-    def tried(words):
-        return Case("./tracectl %s, which is built" % named(words), lambda program: differences(start(program, words, script=text), want))
-
-    return (
-        word_cases(start, "./tracectl")
-        + unbuilt_cases()
-        + [tried(words) for words in (["--try"] + SMALL, SMALL + ["--try"], SMALL[:2] + ["--try"] + SMALL[2:], SMALL[:-1] + lines + ["--try"])]
-        + [
-            Case("./tracectl -- --try, which is built", lambda program: differences(start(program, ["--", "--try"]), FAILED)),
-            Case("./tracectl with --try twice, which is built", lambda program: refusing(start(program, ["--try", "-", "--try"]), "'--try' cannot be used")),
-            Case("two builds at once", two_builds),
-            Case("a build that is terminated", stopped_build(signal.SIGTERM)),
-            Case("a build whose terminal is closed", stopped_build(signal.SIGHUP)),
-            Case("a source that is dated in the future", source_of_the_future),
-            Case("where the starter is started", where_it_is_started),
-            Case("./tracectl, into a file that may not grow", file_that_may_not_grow),
-        ]
-    )
+    return word_cases(started, "./tracectl") + [
+        Case("./tracectl: an unproved program, and then a proved one", first_unproved_then_proved),
+        Case("./tracectl: sources that change", changed_sources),
+        Case("./tracectl: a compilation that fails", failed_compilation),
+        Case("./tracectl: a kit that works in other ways", other_kit),
+        Case("./tracectl: two at once", two_at_once),
+        Case("./tracectl: a compilation that is terminated", stopped(WORDS, "unproved.py", signal.SIGTERM)),
+        Case("./tracectl: a compilation whose terminal is closed", stopped(WORDS, "unproved.py", signal.SIGHUP)),
+        Case("./tracectl: a proof that is terminated", stopped(["--prove"], "rt", signal.SIGTERM)),
+        Case("./tracectl: a source that is dated in the future", source_of_the_future),
+        Case("./tracectl: what is lacking", what_is_lacking),
+        Case("./tracectl: where it is started", where_it_is_started),
+        Case("./tracectl: into a file that may not grow", file_that_may_not_grow),
+        Case("tools/unproved.py: another kit", compiler_of_another_kit),
+    ]

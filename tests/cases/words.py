@@ -27,7 +27,7 @@ def helping(got, program):
     """What is wrong with a help that was asked for: the three lines that it shows do what it says."""
     found = differences(got._replace(stdout=b""), Outcome(0, b"", b""))
     text = got.stdout.decode()
-    found += ["help lacks %s" % quoted(part) for part in ("--cpus <N>", "--page-bytes <N>", "[default: 4080]", "--explain ", "--bars ", "--list ", "--try ", "-c <LINE>...", "Exit status:") if part not in text]
+    found += ["help lacks %s" % quoted(part) for part in ("--cpus <N>", "--page-bytes <N>", "[default: 4080]", "--explain ", "--bars ", "--list ", "-c <LINE>...", "Exit status:") if part not in text]
     lines, shown = [], None
     for line in text.splitlines():
         if line.strip().startswith("These three lines"):
@@ -72,7 +72,8 @@ def wrong_words():
         (["--list"], "required arguments were not provided"),
         (["--list", "-", "--list"], "cannot be used multiple times"),
         (["--list=r", "-"], "unexpected value 'r' for '--list' found"),
-        (["--try=no", "-"], "unexpected value 'no' for '--try' found"),
+        (["--try", "-"], "unexpected argument '--try' found"),
+        (["--prove", "-"], "unexpected argument '--prove' found"),
         (["--pages", "--list", "2", "-"], "a value is required for '--pages <N>'"),
         (["--pages", "1", "--nonsense", "-"], "unexpected argument '--nonsense' found"),
         (["--pages", "1", "missing", "extra"], "unexpected argument 'extra' found"),
@@ -152,7 +153,7 @@ def word_cases(start=lambda program, words, **how: run([program] + words, **how)
 def versioned(got):
     found = differences(got._replace(stdout=b""), Outcome(0, b"", b""))
     words = got.stdout.decode().split()
-    return found + ([] if words[:1] == ["tracectl"] and len(words) == 2 else ["no version but %s" % quoted(got.stdout)])
+    return found + ([] if words[:1] == ["tracectl"] and len(words) == 2 or words[2:] == ["unproved"] else ["no version but %s" % quoted(got.stdout)])
 
 
 def other_word_cases():

@@ -1,8 +1,7 @@
 //! What `--help` says beside the options.
 //!
-//! `docs/help.txt` is the whole text, which `./tracectl` prints while there is no program; `python3 tests/cases/helping.py` writes that file, the man
-//! page and the shell completion anew. A heading ends with a colon, what is below it is indented, and two blanks separate a term from its
-//! description.
+//! `python3 tests/cases/helping.py` makes the man page and the shell completion of the whole text. A heading ends with a colon, what is below it is
+//! indented, and two blanks separate a term from its description.
 
 pub(crate) const USAGE: &str = "tracectl [OPTIONS] SCRIPT
        tracectl [OPTIONS] -c LINE ..";
@@ -39,8 +38,9 @@ Example:
     emit 0 7 tick n=5
 
 Building:
-  ./tracectl builds the program first if it is missing or older than its sources. To build it is to prove it, which needs rt, the command
-  of the Rattle kit. The first time it takes 40 to 75 minutes of processor time, which the processors share; later seconds to minutes.
+  ./tracectl first compiles the program, in about a minute, if it is missing or older than its sources. Nothing of it is proved then, as a
+  line on standard error says. ./tracectl --prove proves it: the first time in 30 minutes to an hour. Both need rt, the command of the
+  Rattle kit.
 
 Exit status:
   0  every command succeeded
@@ -48,4 +48,4 @@ Exit status:
   2  the command line is wrong, a number is out of range, or the script has a fault
   3  out of memory, or a thread could not be started
   4  reading or writing failed, or SCRIPT can't be opened
-  5  ./tracectl could not build the program, or, under --try, not run it to its end";
+  5  ./tracectl could not compile or prove the program";

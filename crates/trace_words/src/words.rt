@@ -24,9 +24,6 @@ const BARS: &str = "bars";
 
 const LIST: &str = "list";
 
-/// For `./tracectl`, which then builds no program. Here it does nothing.
-const TRY: &str = "try";
-
 const SCRIPT: &str = "SCRIPT";
 
 const LINE: &str = "LINE";
@@ -136,16 +133,6 @@ fn add_notes<'a>(alloc: Global, arguments: &mut Vec<Arg<'a>>) -> Result<(), Allo
     )
 }
 
-/// Appends the option of a first look.
-fn add_try<'a>(alloc: Global, arguments: &mut Vec<Arg<'a>>) -> Result<(), AllocError> {
-    add_flag(
-        alloc,
-        arguments,
-        TRY,
-        "Without a built program, run SCRIPT unproved: at most 60 seconds and 1 MiB of output",
-    )
-}
-
 /// Appends the option whose words are the lines to be done.
 fn add_lines<'a>(alloc: Global, arguments: &mut Vec<Arg<'a>>) -> Result<(), AllocError> {
     let lines = Arg::new(alloc, LINE)
@@ -170,7 +157,6 @@ fn add_script<'a>(alloc: Global, arguments: &mut Vec<Arg<'a>>) -> Result<(), All
 fn add_all<'a>(alloc: Global, arguments: &mut Vec<Arg<'a>>) -> Result<(), AllocError> {
     add_config(alloc, arguments)?;
     add_notes(alloc, arguments)?;
-    add_try(alloc, arguments)?;
     add_lines(alloc, arguments)?;
     add_script(alloc, arguments)
 }
