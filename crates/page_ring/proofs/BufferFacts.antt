@@ -12,6 +12,7 @@ use Rattle.page_ring.specs.Pages.{on_page, stored, IsCircle, head_is_in_the_way}
 use Rattle.page_ring.specs.PageBuffers.{HasBuffers, HasRoom, SameBuffers, FreesPage}
 use Rattle.page_ring.specs.Writes.{MovesInCircle}
 use Rattle.page_ring.proofs.PageFacts.{all_append}
+use Rattle.page_ring.proofs.RoomFacts.{KeepsRoom, room_begun, room_same, room_taken}
 use Rattle.page_ring.specs.PageReads.{TakesFrom}
 use Rattle.page_ring.specs.Reads.{SwapsReader, TakesFirst, reader_after}
 use Rattle.page_ring.specs.Sound.{IsArranged}
@@ -38,14 +39,12 @@ circle_short pages tail low (head ∷ rest) two l h e =
     ]
 
 -- a read changes no buffer
-pub same_read : (old mid : Pages) (reader tail : StoredPage) → reader.room ≡ mid.reader.room → tail.room ≡ mid.tail.room → SameBuffers old mid → SameBuffers old (record mid { reader = reader; tail = tail })
+pub same_read : (old mid : Pages) (reader tail : StoredPage) → KeepsRoom mid.reader reader → KeepsRoom mid.tail tail → SameBuffers old mid → SameBuffers old (record mid { reader = reader; tail = tail })
 same_read old mid reader tail r t same = record {
   count = λ pages h. let b = same.count pages h in record { count = b.count; circle_room = b.circle_room; spare_room = b.spare_room };
   room = λ page_bytes h.
       let b = same.room page_bytes h in
-      let first : page_bytes ≤ mid.reader.room = b.reader in
-      let last : page_bytes ≤ mid.tail.room = b.tail in
-      record { reader = omega arith; circle = b.circle; tail = omega arith; spare = b.spare };
+      record { reader = r page_bytes b.reader; circle = b.circle; tail = t page_bytes b.tail; spare = b.spare };
 }
 
 -- the reader page has the first unread record
@@ -81,7 +80,7 @@ taken_from_reader old mid reader page number size s t p =
       tail_filled = ap (λ (x : StoredPage). x.filled) s.tail;
       tail_next = ap (λ (x : StoredPage). x.next) s.tail;
       arranged = λ pages reader_page a. rw p (arranged_read pages (reader_after reader_page mid) mid reader (s.arranged pages reader_page a) some same_number);
-      buffers = same_read old mid reader mid.tail (sym (ap (λ (x : StoredPage). x.room) t.taken)) refl s.buffers;
+      buffers = same_read old mid reader mid.tail (room_taken mid.reader reader number size t) (room_same mid.tail mid.tail refl) s.buffers;
     }
 
 -- only the tail page has unread records: it becomes the reader page
@@ -106,7 +105,7 @@ taken_from_tail old mid reader tail page number size s none same t p =
       tail_filled = sym (ap (λ (x : StoredPage). x.filled) t.taken) ∙ ap (λ (x : StoredPage). x.filled) s.tail;
       tail_next = sym (ap (λ (x : StoredPage). x.next) t.taken) ∙ ap (λ (x : StoredPage). x.next) s.tail;
       arranged = λ pages reader_page a. rw p (arranged_tail pages mid reader tail circle empty);
-      buffers = same_read old mid reader tail (ap (λ (x : StoredPage). x.room) same) (sym (ap (λ (x : StoredPage). x.room) t.taken)) s.buffers;
+      buffers = same_read old mid reader tail (room_same mid.reader reader same) (room_taken mid.tail tail number size t) s.buffers;
     }
   where
     tail_taken : (x page : StoredPage) (r : Stored) → x ≡ record page { records = r ∷ page.records } → stored x ≡ on_page page.number r ∷ stored page
@@ -164,12 +163,10 @@ moved_in_circle pages old mid page next circle has frees begun items len cap = r
         record { count = omega arith; circle_room = omega arith; spare_room = omega arith };
     room = λ page_bytes h.
         let both = frees.room page_bytes h in
-        let room : next.room ≡ page.room = ap (λ (p : StoredPage). p.room) begun in
-        let enough : page_bytes ≤ page.room = both.0 in
         record {
           reader = both.1.reader;
           circle = rw items (all_append (HasRoom page_bytes) mid.circle.items (old.tail ∷ []) both.1.circle (h.tail, tt));
-          tail = omega arith;
+          tail = room_begun page next (old.tail.number + 1) old.tail.next begun page_bytes both.0;
           spare = both.1.spare;
         };
   };

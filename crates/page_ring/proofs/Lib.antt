@@ -1,6 +1,7 @@
 mod PackedFacts
 mod PageBytesFacts
 mod PageFacts
+mod RoomFacts
 mod SoundFacts
 mod Moves
 mod BufferFacts

@@ -10,10 +10,11 @@ use Rattle.page_ring.specs.declared.pages.Pages.{Pages}
 use Rattle.page_ring.specs.Cut.{Accepted}
 use Rattle.page_ring.specs.Account.{is_reader_page}
 use Rattle.page_ring.specs.Pages.{on_page, stored, kept_in, bytes_on, IsCircle, cleared}
-use Rattle.page_ring.specs.PageBuffers.{SameBuffers}
+use Rattle.page_ring.specs.PageBuffers.{HasBuffers, IsRoomy}
 use Rattle.page_ring.specs.Writes.{MovesTail, Appends as WritesTo}
 use Rattle.page_ring.specs.Sound.{IsArranged, page_after}
 use Rattle.page_ring.proofs.PageFacts.{circle_moved, circle_lower}
+use Rattle.page_ring.proofs.RoomFacts.{room_appended}
 
 -- a record of this number is written on the tail page
 pub record Appends (old new : Pages) (number : ℕ) (bytes : List ℕ) : Type 0 where
@@ -23,7 +24,8 @@ pub record Appends (old new : Pages) (number : ℕ) (bytes : List ℕ) : Type 0 
   pub tail_next : new.tail.next ≡ number + 1
   pub circle : new.circle.items ≡ old.circle.items
   pub reader : new.reader ≡ old.reader
-  pub buffers : SameBuffers old new
+  pub count : (pages : ℕ) → HasBuffers pages old → HasBuffers pages new
+  pub room : (page_bytes : ℕ) → old.tail.filled + length bytes ≤ page_bytes → IsRoomy page_bytes old → IsRoomy page_bytes new
 
 pub stored_appended : (old new : Pages) (number : ℕ) (bytes : List ℕ) → Appends old new number bytes → stored new.tail ≡ stored old.tail ++ record { number = number; page = old.tail.number; bytes = bytes } ∷ []
 stored_appended old new number bytes h = rw (h.tail_number) h.tail_records
@@ -143,11 +145,9 @@ appends_from old new number bytes next h = record {
   tail_next = h.tail.next ∙ ap (λ (n : ℕ). n + 1) next;
   circle = ap (λ (p : Pages). p.circle.items) h.others;
   reader = ap (λ (p : Pages). p.reader) h.others;
-  buffers = subst (SameBuffers old) (sym h.others) (record {
-    count = λ pages b. record { count = b.count; circle_room = b.circle_room; spare_room = b.spare_room };
-    room = λ page_bytes b.
-        let enough : page_bytes ≤ old.tail.room = b.tail in
-        let more : old.tail.room ≤ new.tail.room = h.tail.room in
-        record { reader = b.reader; circle = b.circle; tail = omega arith; spare = b.spare };
-  });
+  count = λ pages b.
+      subst (HasBuffers pages) (sym h.others) (record { count = b.count; circle_room = b.circle_room; spare_room = b.spare_room });
+  room = λ page_bytes fits b.
+      let tail = room_appended old.tail new.tail bytes h.tail page_bytes fits b.tail in
+      subst (IsRoomy page_bytes) (sym h.others) (record { reader = b.reader; circle = b.circle; tail = tail; spare = b.spare });
 }

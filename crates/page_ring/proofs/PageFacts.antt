@@ -175,12 +175,12 @@ all_filter P p (x ∷ xs) h =
       | inr f ↦ rw f (all_filter P p xs h.1)
     ]
 
--- at most 4080 bytes a record
-pub storable_size : (xs : List Accepted) → AllByRecursion IsStorable xs → sum_by (λ r. length r.bytes) xs ≤ 4080 * length xs
-storable_size [] h = omega arith
-storable_size (x ∷ xs) h =
-    let b : length x.bytes ≤ 4080 = h.0.1 in
-    let rest = storable_size xs h.1 in
+-- at least 16 bytes a record
+pub storable_count : (xs : List Accepted) → AllByRecursion IsStorable xs → 16 * length xs ≤ sum_by (λ r. length r.bytes) xs
+storable_count [] h = omega arith
+storable_count (x ∷ xs) h =
+    let b : 16 ≤ length x.bytes = h.0.0 in
+    let rest = storable_count xs h.1 in
     rw sum_by-cons (omega arith)
 
 -- each page of the circle has records

@@ -11,13 +11,14 @@ use Rattle.page_ring.specs.declared.pages.Taken.{Taken}
 use Rattle.page_ring.specs.declared.rings.Ring.TheInside.{Inside}
 use Rattle.page_ring.specs.Cut.{Accepted}
 use Rattle.page_ring.specs.Account.{Reading, readings_from, first}
-use Rattle.page_ring.specs.Shown.{Shown}
+use Rattle.page_ring.specs.Shown.{Shown, most_offered}
 use Rattle.page_ring.specs.Pages.{on_page, stored, kept_in, unread_in, IsFirst}
 use Rattle.page_ring.specs.PageBuffers.{IsCleared}
 use Rattle.page_ring.specs.Reads.{NothingUnread, TakesFirst}
 use Rattle.page_ring.specs.Sound.{IsSound, seen, IsRising, IsStorable, page_after}
 use Rattle.page_ring.specs.private.Step.{without_first, readings_shown}
 use Rattle.page_ring.proofs.PageFacts.{circle_nonempty}
+use Rattle.page_ring.proofs.SoundFacts.{entries_few}
 
 pub circle_full : (a : Inside) → IsSound a → All (λ p. 0 < length p.records) a.pages.circle.items
 circle_full a s =
@@ -65,15 +66,14 @@ length-readings_from next (x ∷ xs) = rw (length-readings_from (x.number + 1) x
 pub readings_unread : (next : ℕ) (p : Pages) (left : List Stored) → left ≡ unread_in p → readings_from next (map (on_page 0) left) ≡ readings_from next (kept_in p)
 readings_unread next p left e = rw (e, ← unpaged-kept p) (readings_from-unpaged next (kept_in p))
 
-pub rising_unread : (a : Inside) → IsSound a → (left : List Stored) → left ≡ unread_in a.pages → IsRising a.next (2 ^ 32) (map (on_page 0) left)
+pub rising_unread : (a : Inside) → IsSound a → (left : List Stored) → left ≡ unread_in a.pages → IsRising a.next most_offered (map (on_page 0) left)
 rising_unread a s left e =
-    let few : a.accepted + a.dropped ≤ 2 ^ 32 = s.offered in
-    rw (e, ← unpaged-kept a.pages) (rising-unpaged a.next a.accepted (2 ^ 32) (kept_in a.pages) (omega arith) s.numbered)
+    let few : a.accepted + a.dropped ≤ most_offered = s.offered in
+    rw (e, ← unpaged-kept a.pages) (rising-unpaged a.next a.accepted most_offered (kept_in a.pages) (omega arith) s.numbered)
 
 pub few_unread : (a : Inside) → IsSound a → (left : List Stored) → left ≡ unread_in a.pages → length (readings_from a.next (map (on_page 0) left)) ≤ 2 ^ 32
 few_unread a s left e =
-    let few : a.accepted + a.dropped ≤ 2 ^ 32 = s.offered in
-    let counted : a.read + a.entries ≤ a.accepted = s.counted in
+    let few = entries_few a s in
     let entries : a.entries ≡ length (kept_in a.pages) = s.entries in
     rw (readings_unread a.next a.pages left e, length-readings_from a.next (kept_in a.pages)) (omega arith)
 

@@ -12,10 +12,11 @@ use Rattle.page_ring.specs.Account.{is_overrun}
 use Rattle.page_ring.specs.Pages.{on_page, stored, kept_in, head_is_in_the_way, overrun_head, cleared}
 use Rattle.page_ring.specs.Sound.{IsSound, seen, IsStorable, page_after}
 use Rattle.page_ring.specs.private.Step.{overrun_by, left_by, appended, moved}
-use Rattle.page_ring.specs.Shown.{Shown}
+use Rattle.page_ring.specs.Shown.{Shown, most_offered}
 use Rattle.page_ring.specs.Writes.{MovesTail}
 use Rattle.page_ring.proofs.Moves.{Appends, kept_appended, kept_with, kept_moved, arranged_moved, arranged_appended}
-use Rattle.page_ring.proofs.PageFacts.{AreLeft, all_append, all_weaker, near_left, reader_left, circle_left_at_tail, filter_none, filter_all, moved_records, lost_count, lost_size, loses_head, storable_size, rising_push, rising_filter, all_filter}
+use Rattle.page_ring.proofs.RoomFacts.{kept_size}
+use Rattle.page_ring.proofs.PageFacts.{AreLeft, all_append, all_weaker, near_left, reader_left, circle_left_at_tail, filter_none, filter_all, moved_records, lost_count, lost_size, loses_head, storable_count, rising_push, rising_filter, all_filter}
 
 -- what stands on the reader page is never overrun
 pub on_reader_left : (pages : ℕ) (reader : Option ℕ) (n page : ℕ) (rs : List Stored) → (0 < length rs → reader ≡ Some page) → AreLeft pages reader n (map (on_page page) rs)
@@ -72,13 +73,19 @@ lost_le_bytes a s lost h =
     let both = sum_by-filter_both (is_overrun a.page_count a.reader_page (a.pages.tail.number + 1)) (λ r. not (is_overrun a.page_count a.reader_page (a.pages.tail.number + 1) r)) (λ _. refl) (λ (r : Accepted). length r.bytes) (kept_in a.pages) in
     rw gone (both ∙ sym s.bytes)
 
-pub bytes_small : (a : Inside) → IsSound a → a.bytes ≤ 17523466567680
+pub bytes_small : (a : Inside) → IsSound a → a.bytes ≤ 4182000
 bytes_small a s =
-    let size = storable_size (kept_in a.pages) s.storable in
     let sum : a.bytes ≡ sum_by (λ r. length r.bytes) (kept_in a.pages) = s.bytes in
+    let size = kept_size a.page_count a.page_bytes a.pages s.few_pages s.short_pages s.buffers s.room in
+    omega arith
+
+-- so the kept records are few, however many were offered
+pub entries_few : (a : Inside) → IsSound a → a.entries ≤ 2 ^ 32
+entries_few a s =
     let count : a.entries ≡ length (kept_in a.pages) = s.entries in
-    let few : a.read + a.entries ≤ a.accepted = s.counted in
-    let offered : a.accepted + a.dropped ≤ 2 ^ 32 = s.offered in
+    let sum : a.bytes ≡ sum_by (λ r. length r.bytes) (kept_in a.pages) = s.bytes in
+    let size = storable_count (kept_in a.pages) s.storable in
+    let small = bytes_small a s in
     omega arith
 
 -- what the kept records are once the tail has moved on
@@ -90,7 +97,7 @@ shown_from x y k p f = rw (k, p, f) refl
 
 -- a ring stays sound where a record is written on the tail page
 pub sound_appended : (a : Inside) (p : Pages) (bytes : List ℕ) → IsSound a → Appends a.pages p a.accepted bytes
-    → 16 ≤ length bytes → a.pages.tail.filled + length bytes ≤ a.page_bytes → a.accepted + a.dropped < 2 ^ 32
+    → 16 ≤ length bytes → a.pages.tail.filled + length bytes ≤ a.page_bytes → a.accepted + a.dropped < most_offered
     → IsSound (record a { pages = p; entries = a.entries + 1; bytes = a.bytes + length bytes; accepted = a.accepted + 1 })
 sound_appended a p bytes s did head fits few =
     let kept = kept_with a.pages p a.accepted bytes did in
@@ -116,8 +123,8 @@ sound_appended a p bytes s did head fits few =
       tail_filled = omega arith;
       tail_next = did.tail_next;
       arranged = arranged_appended a.page_count a.reader_page a.pages p a.accepted bytes did s.arranged;
-      buffers = did.buffers.count a.page_count s.buffers;
-      room = did.buffers.room a.page_bytes s.room;
+      buffers = did.count a.page_count s.buffers;
+      room = did.room a.page_bytes fits s.room;
     }
 
 pub shown_appended : (a : Inside) (p : Pages) (bytes : List ℕ) → Appends a.pages p a.accepted bytes → (seen (record a { pages = p; accepted = a.accepted + 1 })).shown ≡ appended (seen a).shown bytes

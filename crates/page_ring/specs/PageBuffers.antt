@@ -3,7 +3,7 @@ use Rattle.std.specs.Prelude.{◌≡◌, ℕ, ◌+◌, ◌≤◌, []}
 use Rattle.std.specs.VecDeque.{deque_len, deque_capacity}
 use Rattle.std.specs.List.{AllByRecursion}
 use Rattle.page_ring.specs.StoredPage.{StoredPage, empty_page}
-use Rattle.page_ring.specs.Pages.{cleared}
+use Rattle.page_ring.specs.Pages.{bytes_on, cleared}
 use Rattle.page_ring.specs.declared.pages.Pages.{Pages}
 
 -- beside the reader page and the tail page there are the others of the circle, and all have a place in it and among the spare ones
@@ -12,17 +12,20 @@ pub record HasBuffers (pages : ℕ) (p : Pages) : Type 0 where
   pub circle_room : pages ≤ deque_capacity p.circle
   pub spare_room : pages ≤ deque_capacity p.spare
 
-abbrev pub HasRoom : ℕ → StoredPage → Type 0
-HasRoom page_bytes page = page_bytes ≤ page.room
+-- a page has memory for so many bytes, no more of them are filled, and its unread records lie within
+pub record HasRoom (page_bytes : ℕ) (page : StoredPage) : Type 0 where
+  pub room : page_bytes ≤ page.room
+  pub filled : page.filled ≤ page_bytes
+  pub unread : bytes_on page ≤ page.filled
 
--- each has memory for so many bytes
+-- so does each
 pub record IsRoomy (page_bytes : ℕ) (p : Pages) : Type 0 where
   pub reader : HasRoom page_bytes p.reader
   pub circle : AllByRecursion (HasRoom page_bytes) p.circle.items
   pub tail : HasRoom page_bytes p.tail
   pub spare : AllByRecursion (HasRoom page_bytes) p.spare.items
 
--- no buffer is gone or has become smaller
+-- no buffer is gone, and none has become smaller or fuller than it may be
 pub record SameBuffers (old new : Pages) : Type 0 where
   pub count : (pages : ℕ) → HasBuffers pages old → HasBuffers pages new
   pub room : (page_bytes : ℕ) → IsRoomy page_bytes old → IsRoomy page_bytes new

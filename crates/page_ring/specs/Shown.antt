@@ -1,5 +1,5 @@
 -- What a caller sees of a ring, and when that agrees with a list of events.
-use Rattle.std.specs.Prelude.{◌≡◌, ℕ, ◌+◌, List, length, Option}
+use Rattle.std.specs.Prelude.{◌≡◌, ℕ, ◌+◌, ◌^◌, List, length, Option}
 use Rattle.page_ring.specs.Events.{Event}
 use Rattle.page_ring.specs.Cut.{Accepted, cut, last_page, filled}
 use Rattle.page_ring.specs.Account.{Account, account, kept, next_number, reader_page}
@@ -44,3 +44,7 @@ StandsFor ring events = ring.shown ≡ shown_by ring.page_bytes (account ring.pa
 -- how many records were accepted or dropped
 abbrev pub offered : Seen → ℕ
 offered ring = ring.shown.accepted + ring.shown.dropped
+
+-- how many records a ring may be offered since it was new or cleared
+abbrev pub most_offered : ℕ
+most_offered = 2 ^ 60

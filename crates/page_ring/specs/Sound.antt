@@ -1,8 +1,8 @@
 -- How a ring's fields show, and what is true of them at every moment.
-use Rattle.std.specs.Prelude.{◌≡◌, ℕ, ◌+◌, ◌^◌, ◌<◌, ◌≤◌, List, [], ◌∷◌, length, sum_by, Option, Some, None, false, ⊤}
+use Rattle.std.specs.Prelude.{◌≡◌, ℕ, ◌+◌, ◌<◌, ◌≤◌, List, [], ◌∷◌, length, sum_by, Option, Some, None, false, ⊤}
 use Rattle.std.specs.List.{AllByRecursion}
 use Rattle.page_ring.specs.Cut.{Accepted}
-use Rattle.page_ring.specs.Shown.{Seen}
+use Rattle.page_ring.specs.Shown.{Seen, most_offered}
 use Rattle.page_ring.specs.Pages.{kept_in, bytes_on, IsCircle}
 use Rattle.page_ring.specs.Account.{is_reader_page}
 use Rattle.page_ring.specs.PageBuffers.{HasBuffers, IsRoomy}
@@ -57,7 +57,7 @@ pub record IsSound (a : Inside) : Type 0 where
   pub storable : AllByRecursion IsStorable (kept_in a.pages)
   pub next : a.next ≤ a.accepted
   pub counted : a.read + a.entries ≤ a.accepted
-  pub offered : a.accepted + a.dropped ≤ 2 ^ 32
+  pub offered : a.accepted + a.dropped ≤ most_offered
   pub tail_number : a.pages.tail.number ≤ a.accepted
   pub tail_begun : 0 < a.pages.tail.filled → a.pages.tail.number < a.accepted
   pub tail_filled : a.pages.tail.filled ≤ a.page_bytes

@@ -1,10 +1,11 @@
 //! The kept records of a ring, lent one after another from its pages.
 #![tactic(auto)]
 
-ghost use Rattle.std.specs.Prelude.{◌≡◌, ◌^◌, map};
+ghost use Rattle.std.specs.Prelude.{◌≡◌, map};
 ghost use Rattle.std.specs.Iterator.{YieldsFirstBy, item_count};
 ghost use Rattle.page_ring.specs.Account.{readings_from};
 ghost use Rattle.page_ring.specs.Pages.{on_page};
+ghost use Rattle.page_ring.specs.Shown.{most_offered};
 ghost use Rattle.page_ring.specs.Sound.{IsRising};
 ghost use Rattle.page_ring.specs.Unread.{unread_left};
 
@@ -36,7 +37,7 @@ impl<'a> Model for KeptRecords<'a> {
 impl<'a> KeptRecords<'a> {
     // The records that are left on the pages, where the number after that of the record before is given.
     pub(crate) fn new(next: u64, unread: Unread<'a>) -> KeptRecords<'a>
-        requires { IsRising next (2 ^ 32) (map (on_page 0) (unread_left unread)) }
+        requires { IsRising next most_offered (map (on_page 0) (unread_left unread)) }
         ensures { result ≡ readings_from next (map (on_page 0) (unread_left unread.entry)) }
     {
         KeptRecords { next, unread }

@@ -29,7 +29,7 @@ ghost use Rattle.page_ring.specs.Events as event;
 ghost use Rattle.page_ring.specs.Account.{put_answer, readings_of, stats_of, first, first_timestamp};
 ghost use Rattle.page_ring.specs.Pages.{kept_in};
 ghost use Rattle.std.specs.List.{AllByRecursion};
-ghost use Rattle.page_ring.specs.Shown.{StandsFor, offered};
+ghost use Rattle.page_ring.specs.Shown.{StandsFor, offered, most_offered};
 ghost use Rattle.page_ring.specs.private.Step.{after_put, put_answer_shown, without_first, readings_shown, stats_shown, overrun_by, left_by, appended, moved};
 
 use crate::kept_records::KeptRecords;
@@ -138,7 +138,7 @@ impl Ring {
     pub fn put(&mut self, rec: &[u8], overwrite: bool) -> Put
         requires is_record { IsRecord rec.now }
         requires fits { length rec.now ≤ self.old.page_bytes }
-        requires few { offered self.old < 2 ^ 32 }
+        requires few { offered self.old < most_offered }
         ensures stands { (events : List event.Event) → StandsFor self.old events
             → StandsFor self.new (events ++ event.Put rec.now overwrite ∷ []) }
         ensures answer { (events : List event.Event) → StandsFor self.old events
@@ -154,7 +154,7 @@ impl Ring {
     fn put_step(&mut self, rec: &[u8], overwrite: bool) -> Put
         requires is_record { IsRecord rec.now }
         requires fits { length rec.now ≤ self.old.page_bytes }
-        requires few { offered self.old < 2 ^ 32 }
+        requires few { offered self.old < most_offered }
         ensures shown { self.new.shown
             ≡ after_put self.old.pages self.old.page_bytes self.old.shown rec.now overwrite }
         ensures answer { result
@@ -204,7 +204,7 @@ impl Ring {
     }
 
     fn refuse(&mut self)
-        requires { offered self.old < 2 ^ 32 }
+        requires { offered self.old < most_offered }
         ensures shown { self.new.shown
             ≡ record self.old.shown { dropped = self.old.shown.dropped + 1 } }
         ensures pages { self.new.pages ≡ self.old.pages }
@@ -217,7 +217,7 @@ impl Ring {
     fn append(&mut self, rec: &[u8])
         requires is_record { IsRecord rec.now }
         requires fits { self.old.shown.last_filled + length rec.now ≤ self.old.page_bytes }
-        requires few { offered self.old < 2 ^ 32 }
+        requires few { offered self.old < most_offered }
         ensures shown { self.new.shown ≡ appended self.old.shown rec.now }
         ensures pages { self.new.pages ≡ self.old.pages }
         ensures page_bytes { self.new.page_bytes ≡ self.old.page_bytes }
