@@ -1,6 +1,6 @@
 -- What a list of events says of a ring, from scratch: what was accepted, taken, lost and dropped, what is
 -- kept, and what each call answers.
-use Rattle.std.specs.Prelude.{ℕ, ◌+◌, ◌-◌, ◌==◌, nat_le, Bool, false, not, ◌&&◌, ◌||◌, List, [], ◌∷◌, ◌++◌, length, fold, filter, sum_by, Option, Some, None, if◌then◌else◌}
+use Rattle.std.specs.Prelude.{ℕ, ◌+◌, ◌-◌, ◌==◌, nat_le, nat_lt, Bool, false, not, ◌&&◌, ◌||◌, List, [], ◌∷◌, ◌++◌, length, fold, filter, sum_by, Option, Some, None, if◌then◌else◌}
 use Rattle.std.specs.List.{list_any}
 use Rattle.trace_record.specs.Record.{timestamp}
 use Rattle.page_ring.specs.Events.{Event, Put, Take}
@@ -104,6 +104,10 @@ unfoldable pub readings_of : ℕ → ℕ → List Event → List Reading
 readings_of pages page_bytes events =
     let a = account pages page_bytes events in
     readings_from (next_number a) (kept page_bytes a)
+
+-- whether a record waits to be read after the events
+unfoldable pub has_waiting : ℕ → ℕ → List Event → Bool
+has_waiting pages page_bytes events = nat_lt 0 (length (readings_of pages page_bytes events))
 
 abbrev pub first_timestamp : List Accepted → ℕ
 first_timestamp [] = 0

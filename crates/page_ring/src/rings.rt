@@ -26,7 +26,7 @@ ghost use Rattle.std.specs.Prelude.{◌≡◌, ℕ, ◌+◌, ◌<◌, ◌≤◌,
 ghost use Rattle.std.specs.Option.{option_map};
 ghost use Rattle.trace_record.specs.Record.{IsRecord, timestamp};
 ghost use Rattle.page_ring.specs.Events as event;
-ghost use Rattle.page_ring.specs.Account.{put_answer, readings_of, stats_of, first, first_timestamp};
+ghost use Rattle.page_ring.specs.Account.{put_answer, readings_of, stats_of, has_waiting, first, first_timestamp};
 ghost use Rattle.page_ring.specs.Pages.{kept_in};
 ghost use Rattle.std.specs.List.{AllByRecursion};
 ghost use Rattle.page_ring.specs.Shown.{StandsFor, offered, most_offered};
@@ -332,6 +332,20 @@ impl Ring {
         ensures few { length result ≤ 2 ^ 32 }
     {
         KeptRecords::new(self.next, self.pages.unread())
+    }
+
+    /// Whether a record waits to be read: whether a consuming read would take one. Nothing is consumed.
+    pub fn has_waiting(&self) -> bool
+        ensures { (events : List event.Event) → StandsFor self.now events
+            → result ≡ has_waiting self.now.pages self.now.page_bytes events }
+    {
+        self.has_waiting_step()
+    }
+
+    fn has_waiting_step(&self) -> bool
+        ensures { result ≡ nat_lt 0 (length (readings_shown self.now.shown)) }
+    {
+        self.entries > 0
     }
 
     /// Empties the ring: it is as when it was new, statistics too.
