@@ -21,4 +21,4 @@ IsPlaceOf Nowhere size entries key = (is_among (entry_keys entries) key ≡ fals
 
 -- how many rows it counts at most: 128 bits hold each sum of so many numbers, which have 64
 abbrev pub most_rows : ℕ
-most_rows = 2 ^ 34
+most_rows = 2 ^ 62
