@@ -8,3 +8,4 @@ pub mod MergeLaws
 pub mod PipeLaws
 pub mod EachCpu
 pub mod Bounds
+mod Waiting

@@ -1,8 +1,9 @@
 -- What happened to the rings of a buffer since each was new or cleared: a list of ring events for each CPU, CPU 0 first, and what the rings
 -- then keep (ring-buffer-design.rst, "The Generic Ring Buffer": each CPU has a ring of its own).
-use Rattle.std.specs.Prelude.{ℕ, List, [], ◌++◌, length, sum_by, replicate, slice_index_or, slice_set}
+use Rattle.std.specs.Prelude.{ℕ, Bool, List, [], ◌++◌, length, sum_by, replicate, slice_index_or, slice_set}
+use Rattle.std.specs.List.{list_any}
 use Rattle.page_ring.specs.Events.{Event}
-use Rattle.page_ring.specs.Account.{Reading, readings_of, stats_of}
+use Rattle.page_ring.specs.Account.{Reading, readings_of, has_waiting, stats_of}
 use Rattle.page_ring.specs.declared.rings.RingStats.{RingStats}
 
 -- the events of a CPU's ring
@@ -28,6 +29,14 @@ cpu_readings pages page_bytes family cpu = readings_of pages page_bytes (events_
 -- how many records all rings keep
 abbrev pub kept_count : ℕ → ℕ → List (List Event) → ℕ
 kept_count pages page_bytes family = sum_by (λ events. length (readings_of pages page_bytes events)) family
+
+-- whether a record waits to be read in some ring
+abbrev pub any_has_waiting : ℕ → ℕ → List (List Event) → Bool
+any_has_waiting pages page_bytes family = list_any (has_waiting pages page_bytes) family
+
+-- and in a CPU's ring
+abbrev pub cpu_has_waiting : ℕ → ℕ → List (List Event) → ℕ → Bool
+cpu_has_waiting pages page_bytes family cpu = has_waiting pages page_bytes (events_of family cpu)
 
 -- the statistics of a CPU's ring
 abbrev pub cpu_stats : ℕ → ℕ → List (List Event) → ℕ → RingStats

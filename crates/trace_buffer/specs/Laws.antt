@@ -1,12 +1,12 @@
 -- The definitions once more, in the words of the subject.
-use Rattle.std.specs.Prelude.{◌≡◌, ◌≢◌, ℕ, ◌-◌, ◌<◌, ◌≤◌, ◌==◌, min, List, [], ◌++◌, length, map, filter, Some, slice_get, slice_index_or}
+use Rattle.std.specs.Prelude.{◌≡◌, ◌≢◌, ℕ, ◌-◌, ◌<◌, ◌≤◌, ◌==◌, nat_lt, min, List, [], ◌++◌, length, map, filter, Some, slice_get, slice_index_or}
 use Rattle.std.specs.List.Sorted.{IsPermutation, IsNonDecreasingBy, IsStableByKey}
 use Rattle.std.specs.Ordering.{nat_cmp}
 use Rattle.trace_record.specs.Record.{timestamp}
 use Rattle.page_ring.specs.Account.{Reading, first}
 use Rattle.page_ring.specs.Events.{Event}
 use Rattle.trace_buffer.specs.Buffers.{Seen, StandsFor, cpus}
-use Rattle.trace_buffer.specs.Families.{CpuReading, on_cpu, events_of, cpu_readings, kept_count}
+use Rattle.trace_buffer.specs.Families.{CpuReading, on_cpu, events_of, any_has_waiting, cpu_has_waiting, cpu_readings, kept_count}
 use Rattle.trace_buffer.specs.Orders.{kept_from, merged, consume_any, taken_of_cpu, after_cpu_reads}
 use Rattle.trace_buffer.specs.CpuCounts.{after_reads_of_each, count_of}
 
@@ -100,3 +100,14 @@ abbrev pub CpuReadsTakeSoMany : Type 0
 CpuReadsTakeSoMany =
     (pages page_bytes cpu reads : ℕ) (family : List (List Event))
     → length (taken_of_cpu pages page_bytes cpu reads family) ≡ min reads (length (cpu_readings pages page_bytes family cpu))
+
+-- a record waits exactly where consuming reads would take one
+abbrev pub WaitingIsRead : Type 0
+WaitingIsRead =
+    (pages page_bytes reads : ℕ) (family : List (List Event)) → 0 < reads
+    → any_has_waiting pages page_bytes family ≡ nat_lt 0 (length (consume_any pages page_bytes reads family).taken)
+
+abbrev pub CpuWaitingIsRead : Type 0
+CpuWaitingIsRead =
+    (pages page_bytes cpu reads : ℕ) (family : List (List Event)) → 0 < reads
+    → cpu_has_waiting pages page_bytes family cpu ≡ nat_lt 0 (length (taken_of_cpu pages page_bytes cpu reads family))

@@ -6,7 +6,7 @@ ghost use Rattle.trace_record.specs.Record.{IsRecord};
 ghost use Rattle.page_ring.specs.Events as event;
 ghost use Rattle.page_ring.specs.Account.{put_answer, readings_of};
 ghost use Rattle.page_ring.specs.Shown as shown;
-ghost use Rattle.trace_buffer.specs.Families.{events_of, with_events, with_cleared, all_cleared, cpu_readings, cpu_stats, kept_count};
+ghost use Rattle.trace_buffer.specs.Families.{events_of, with_events, with_cleared, all_cleared, any_has_waiting, cpu_has_waiting, cpu_readings, cpu_stats, kept_count};
 ghost use Rattle.trace_buffer.specs.Orders as orders;
 ghost use Rattle.trace_buffer.specs.CpuCounts.{after_reads_of_each};
 ghost use Rattle.trace_buffer.specs.Buffers as seen;
@@ -93,7 +93,7 @@ impl Buffer {
         requires cpu { cpu < seen.cpus self.old }
         requires is_record { IsRecord rec.now }
         requires fits { length rec.now ≤ self.old.page_bytes }
-        requires few { slice_index (offers self.old) cpu < 2 ^ 32 }
+        requires few { slice_index (offers self.old) cpu < shown.most_offered }
         ensures stands { (family : List (List event.Event)) → StandsFor self.old family
             → StandsFor self.new (with_events cpu (event.Put rec.now overwrite ∷ []) family) }
         ensures answer { (family : List (List event.Event)) → StandsFor self.old family
@@ -135,6 +135,28 @@ impl Buffer {
         ensures few { length result ≤ 2 ^ 32 }
     {
         self.ring(cpu).kept()
+    }
+
+    /// Whether a record waits to be read in some ring: whether a consuming read of all CPUs would take one. Nothing is consumed.
+    pub fn has_waiting(&self) -> bool
+        ensures { (family : List (List event.Event)) → StandsFor self.now family
+            → result ≡ any_has_waiting self.now.pages self.now.page_bytes family }
+    {
+        for cpu in 0..self.cpus() {
+            if self.cpu_has_waiting(cpu) {
+                return true;
+            }
+        }
+        false
+    }
+
+    /// Likewise in a CPU's ring.
+    pub fn cpu_has_waiting(&self, cpu: u32) -> bool
+        requires { cpu < seen.cpus self.now }
+        ensures { (family : List (List event.Event)) → StandsFor self.now family
+            → result ≡ cpu_has_waiting self.now.pages self.now.page_bytes family cpu }
+    {
+        self.ring(cpu).has_waiting()
     }
 
     /// The records that all rings keep, each with its CPU: by timestamp, those of one timestamp by the lower CPU, and then in ring order.

@@ -2,7 +2,7 @@
 //! contract is a theorem.
 #![tactic(auto)]
 
-ghost use Rattle.trace_buffer.specs.Laws.{OneListEach, AllAreByCpu, MergedIsInTimeOrder, OneTimeOrder, EachReadTakesEarliest, ReadsConsumeWhatTheyTake, CpuReadsConsumeWhatTheyTake, OtherCpusStay, ReadsOfEachLeaveTheSame, ReadsTakeSoMany, CpuReadsTakeSoMany};
+ghost use Rattle.trace_buffer.specs.Laws.{OneListEach, AllAreByCpu, MergedIsInTimeOrder, OneTimeOrder, EachReadTakesEarliest, ReadsConsumeWhatTheyTake, CpuReadsConsumeWhatTheyTake, OtherCpusStay, ReadsOfEachLeaveTheSame, ReadsTakeSoMany, CpuReadsTakeSoMany, WaitingIsRead, CpuWaitingIsRead};
 
 /// A buffer stands for one list of events for each CPU.
 pub fn one_list_each()
@@ -42,6 +42,14 @@ pub fn reads_of_each_leave_the_same()
 pub fn reads_take_so_many()
     ensures any { ReadsTakeSoMany }
     ensures cpu { CpuReadsTakeSoMany }
+{
+    page_ring::laws::least_is_read();
+}
+
+/// A record waits to be read exactly where consuming reads would take one.
+pub fn waiting_is_read()
+    ensures any { WaitingIsRead }
+    ensures cpu { CpuWaitingIsRead }
 {
     page_ring::laws::least_is_read();
 }
