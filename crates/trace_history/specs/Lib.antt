@@ -8,6 +8,7 @@ pub mod Rings
 pub mod FileTexts
 pub mod History
 pub mod LateMemory
+pub mod Waiting
 pub mod Laws
 pub mod TableLaws
 pub mod Trails
