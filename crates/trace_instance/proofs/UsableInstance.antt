@@ -1,5 +1,5 @@
 -- An instance that stands for a past is fit for one more request.
-use Rattle.std.proofs.Common.{◌≡◌, inl, inr, ℕ, zero, suc, ◌+◌, ◌*◌, ◌<◌, ◌≤◌, ◌^◌, Bool, true, false, not, if◌then◌else◌, List, [], ◌∷◌, ◌++◌, length, length-append, map, get_or, All, is_some, IfSome, Option, Some, None, option_map, Result, Ok, Err, refl, sym, ap, ◌∙◌, subst, arith}
+use Rattle.std.proofs.Common.{◌≡◌, inl, inr, ℕ, zero, suc, ◌+◌, ◌*◌, ◌<◌, ◌≤◌, Bool, true, false, not, if◌then◌else◌, List, [], ◌∷◌, ◌++◌, length, length-append, map, get_or, All, is_some, IfSome, Option, Some, None, option_map, Result, Ok, Err, refl, sym, ap, ◌∙◌, subst, arith}
 use Rattle.std.proofs.lemmas.List.{length-map}
 use Rattle.std.proofs.lemmas.List.Elements.{All-map}
 use Rattle.std.specs.List.{AllByRecursion}
@@ -12,6 +12,8 @@ use Rattle.trace_command.specs.Requests.{Request, Emission, request_of}
 use Rattle.trace_command.specs.declared.command.Entry.{Entry}
 use Rattle.trace_command.specs.declared.command.Config.{Config}
 use Rattle.trace_history.specs.Settings.{NumberedEvent, declared_events, event_named, is_enabled, kept_filter, now_of}
+use Rattle.page_ring.specs.Shown.{most_offered}
+use Rattle.trace_instance.specs.Deliveries.{most_requests}
 use Rattle.trace_instance.specs.Instances.{InstanceSeen, InstanceStandsFor, TablesFit, kept_trigger, IsUsableInstance}
 use Rattle.std.proofs.lemmas.List.Filters.{length-filter_both}
 use Rattle.trace_hist.specs.Groups.{admitted, grouped}
@@ -116,7 +118,7 @@ usable-stands g name past i stands = record {
 }
 
 -- where the history has room for one more, the clock and each ring's count have too
-pub few_offers : (most : ℕ) (counts : List ℕ) → most < 2 ^ 32 → AllByRecursion (λ n. n ≤ most) counts → AllByRecursion (λ n. n < 2 ^ 32) counts
+pub few_offers : (most : ℕ) (counts : List ℕ) → most < most_offered → AllByRecursion (λ n. n ≤ most) counts → AllByRecursion (λ n. n < most_offered) counts
 few_offers most [] small all = tt
 few_offers most (n ∷ counts) small all = (omega (arith, all.0, small), few_offers most counts small all.1)
 
@@ -186,7 +188,7 @@ hits_within g name table (entry ∷ entries) legal =
 
 -- so it has room for four more
 pub has_room : (name : Option (List ℕ)) (past : List Request) (tables : List Table) (a : AttachedHist) → TableStandsFor name past tables a
-    → length (hits_of name a.table past) ≤ 4 * length past → length past < 2 ^ 32 → HasRoomToCount tables a
+    → length (hits_of name a.table past) ≤ 4 * length past → length past < most_requests → HasRoomToCount tables a
 has_room name past tables a stands within short = by (table_numbered a.table tables) stands.there
   where
     by : (found : Option Seen) → option_map kept_table found ≡ Some stands.kept → IfSome found (λ hist. counted hist + 4 ≤ most_rows)

@@ -1,9 +1,10 @@
 -- When an emission can be delivered to an instance, and what it does there.
-use Rattle.std.specs.Prelude.{◌≡◌, ℕ, ◌+◌, ◌-◌, ◌<◌, ◌≤◌, ◌^◌, Bool, true, if◌then◌else◌, List, [], ◌∷◌, length, slice_index_or, slice_set, All, is_some, Option, Some, None, ⊤}
+use Rattle.std.specs.Prelude.{◌≡◌, ℕ, ◌+◌, ◌-◌, ◌<◌, ◌≤◌, Bool, true, if◌then◌else◌, List, [], ◌∷◌, length, slice_index_or, slice_set, All, is_some, Option, Some, None, ⊤}
 use Rattle.std.specs.List.{AllByRecursion}
 use Rattle.std.specs.Option.{option_map}
 use Rattle.trace_record.specs.Record.{IsRecord}
 use Rattle.page_ring.specs.Events as ring
+use Rattle.page_ring.specs.Shown.{most_offered}
 use Rattle.trace_buffer.specs.Buffers as buffers
 use Rattle.trace_buffer.specs.Families.{with_events}
 use Rattle.trace_snapshot.specs.Sides as snapshot
@@ -78,9 +79,13 @@ pub record IsDelivered (d : Delivery) (reach : Reach) (old new : InstanceSeen) :
 
 -- ---- when it can be delivered
 
+-- how many requests an instance can stand for: each offers its rings at most one record, and its histograms at most four rows
+abbrev pub most_requests : ℕ
+most_requests = most_offered
+
 -- each ring of the live side was offered few records
 abbrev pub HasFew : InstanceSeen → Type 0
-HasFew i = AllByRecursion (λ n. n < 2 ^ 32) (buffers.offers i.sides.live)
+HasFew i = AllByRecursion (λ n. n < most_offered) (buffers.offers i.sides.live)
 
 -- a record can be written here
 abbrev pub IsWritable : Option Pending → InstanceSeen → Type 0

@@ -23,6 +23,11 @@ IsThere cpus events (file.OfInstance named) = ⊤
 IsThere cpus events (file.OfCpu cpu named) = cpu < cpus
 IsThere cpus events (file.OfEvent event named) = event < length events
 
+-- its CPU is there
+abbrev pub HasCpu : ℕ → File → Type 0
+HasCpu cpus (file.OfCpu cpu named) = cpu < cpus
+HasCpu cpus _ = ⊤
+
 -- its event is there
 abbrev pub HasEvent : List Definition → File → Type 0
 HasEvent events (file.OfEvent event named) = event < length events

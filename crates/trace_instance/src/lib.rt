@@ -11,6 +11,7 @@ mod shown;
 mod tables;
 mod text;
 mod trigger;
+mod waiting;
 mod write;
 
 pub use change::{
@@ -23,4 +24,5 @@ pub use instance::Instance;
 pub use read::{FileSource, Shown, declarations, read_file};
 pub use tables::Table;
 pub use trigger::Trigger;
+pub use waiting::has_waiting;
 pub use write::{WrittenText, written_change};
