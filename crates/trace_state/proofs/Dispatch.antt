@@ -260,7 +260,7 @@ added g state past name append text event id stands is read defined free given =
 abbrev pub read_of : State → Option (List ℕ) → File → Option ℕ → Request
 read_of state name found limit = ReadFile name (Some (file_at state.catalog found)) limit
 
-read-answers : (g : Config) (state : State) (past : List Request) (name : Option (List ℕ)) (found : File) (limit : Option ℕ)
+pub read-answers : (g : Config) (state : State) (past : List Request) (name : Option (List ℕ)) (found : File) (limit : Option ℕ)
     → StandsFor g state past → is_there name past ≡ true → IsThere g.cpus state.catalog found
     → answer_with_room g past (read_of state name found limit) ≡ read_answer g name past limit (file_at state.catalog found)
 read-answers g state past name found limit stands is there =

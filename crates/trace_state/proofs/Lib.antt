@@ -14,3 +14,4 @@ pub mod PlainRuns
 pub mod MadeNames
 pub mod Making
 pub mod Dispatch
+mod PipeLooks

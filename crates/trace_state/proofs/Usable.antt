@@ -1,5 +1,5 @@
 -- A state that stands for a past is fit for one more command, and a new state stands for none.
-use Rattle.std.proofs.Common.{◌≡◌, ℕ, ◌<◌, ◌≤◌, ◌^◌, false, List, [], ◌∷◌, length, get_or, reverse, All, Option, Some, None, refl, sym, ap, ◌∙◌, subst, arith}
+use Rattle.std.proofs.Common.{◌≡◌, ℕ, ◌<◌, ◌≤◌, false, List, [], ◌∷◌, length, get_or, reverse, All, Option, Some, None, refl, sym, ap, ◌∙◌, subst, arith}
 use Rattle.std.proofs.lemmas.List.Elements.{All-cons, All-nil, All-same}
 use Rattle.std.specs.List.{AllByRecursion, IsDistinct}
 use Rattle.std.specs.Str.{bytes_eq}
@@ -13,7 +13,7 @@ use Rattle.trace_history.specs.Declarations.{IsFit}
 use Rattle.trace_history.specs.Settings.{declared_events, instance_names, is_same}
 use Rattle.trace_instance.specs.Instances.{InstanceSeen, InstanceStandsFor, IsUsableInstance}
 use Rattle.trace_history.specs.History.{IsLegal, past_of}
-use Rattle.trace_instance.specs.Deliveries.{HasFew, HasFewRows}
+use Rattle.trace_instance.specs.Deliveries.{HasFew, HasFewRows, most_requests}
 use Rattle.trace_state.specs.States.{IsUsable, StandsFor, names_of}
 use Rattle.trace_state.specs.declared.state.Named.{Named}
 use Rattle.trace_state.specs.declared.state.State.{State}
@@ -47,7 +47,7 @@ usable_instance : (g : Config) (state : State) (past : List Request) (name : Opt
 usable_instance g state past name i events stands =
     subst (λ (l : List Definition). IsUsableInstance g (length l) i) (sym events) (usable-stands g name past i stands)
 
-pub usable_from_stands : (g : Config) (state : State) (past : List Request) → IsInRange g → StandsFor g state past → length past ≤ 2 ^ 32
+pub usable_from_stands : (g : Config) (state : State) (past : List Request) → IsInRange g → StandsFor g state past → length past ≤ most_requests
     → IsUsable g state
 usable_from_stands g state past range stands short =
     let items = state.instances.items in
@@ -64,12 +64,12 @@ usable_from_stands g state past range stands short =
       each = λ k d inside. usable_instance g state past _ _ stands.events (stands.each k d inside);
     }
 
-pub few_from_stands : (g : Config) (state : State) (past : List Request) → StandsFor g state past → length past < 2 ^ 32
+pub few_from_stands : (g : Config) (state : State) (past : List Request) → StandsFor g state past → length past < most_requests
     → All (λ (n : Named). HasFew n.instance) state.instances.items
 few_from_stands g state past stands short = λ k d inside. few_offers (length past) _ short (stands.each k d inside).offered.0
 
 pub few_rows_from_stands : (g : Config) (state : State) (entries : List Entry) → IsLegal g entries → StandsFor g state (past_of entries)
-    → length (past_of entries) < 2 ^ 32 → All (λ (n : Named). HasFewRows n.instance) state.instances.items
+    → length (past_of entries) < most_requests → All (λ (n : Named). HasFewRows n.instance) state.instances.items
 unfolding IsLegal past_of
 few_rows_from_stands g state entries legal stands short = λ k d inside n attached there j a within.
     let past = past_of entries in
@@ -79,7 +79,7 @@ few_rows_from_stands g state entries legal stands short = λ k d inside n attach
     has_room name past i.tables own ((stands.each k d inside).tables n attached there j a within)
     (hits_within g name own.table (reverse entries) legal) short
 
-pub early_from_stands : (g : Config) (state : State) (past : List Request) → StandsFor g state past → length past < 2 ^ 32 → state.clock < 2 ^ 32
+pub early_from_stands : (g : Config) (state : State) (past : List Request) → StandsFor g state past → length past < most_requests → state.clock < most_requests
 early_from_stands g state past stands short = omega (arith, stands.early, short)
 
 -- ---- a new state

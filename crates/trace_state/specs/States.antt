@@ -1,5 +1,5 @@
 -- When the state agrees with the requests that were done, and what a change does to it.
-use Rattle.std.specs.Prelude.{◌≡◌, ℕ, ◌+◌, ◌<◌, ◌≤◌, ◌^◌, Bool, false, List, [], ◌∷◌, ◌++◌, length, map, take, drop, slice_index_or, All, IsOk, Option, Some, None, Result, Ok, Err, ⊤}
+use Rattle.std.specs.Prelude.{◌≡◌, ℕ, ◌+◌, ◌<◌, ◌≤◌, Bool, false, List, [], ◌∷◌, ◌++◌, length, map, take, drop, slice_index_or, All, IsOk, Option, Some, None, Result, Ok, Err, ⊤}
 use Rattle.std.specs.List.{AllByRecursion, IsDistinct}
 use Rattle.std.specs.Str.{bytes_eq}
 use Rattle.trace_record.specs.Record.{IsRecord}
@@ -31,7 +31,7 @@ use Rattle.trace_instance.specs.declared.change.Reaches.{Reaches}
 use Rattle.trace_state.specs.declared.state.Named.{Named}
 use Rattle.trace_state.specs.declared.state.Prepared.{Prepared}
 use Rattle.trace_state.specs.declared.state.State.{State}
-use Rattle.trace_instance.specs.Deliveries.{CanCountRow, CanFire, IsDelivered, row_of}
+use Rattle.trace_instance.specs.Deliveries.{CanCountRow, CanFire, IsDelivered, most_requests, row_of}
 
 -- the names of the instances, of which the top one has none
 abbrev pub names_of : List Named → List (Option (List ℕ))
@@ -56,7 +56,7 @@ pub record StandsFor (g : Config) (state : State) (past : List Request) : Type 0
 
 -- what every state of a book has, so that a command can be prepared without its past
 pub record IsUsable (g : Config) (state : State) : Type 0 where
-  pub early : state.clock ≤ 2 ^ 32
+  pub early : state.clock ≤ most_requests
   pub few_events : length state.catalog ≤ 64
   pub fit : AllByRecursion (IsFit g.page_bytes) state.catalog
   pub distinct : AreEvents [] state.catalog

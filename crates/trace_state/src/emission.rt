@@ -18,7 +18,7 @@ ghost use Rattle.trace_instance.specs.Instances.{IsAlike};
 ghost use Rattle.trace_instance.specs.KeptHists.{KeysAgree};
 ghost use Rattle.trace_instance.specs.declared.change.Pending.{Pending as PendingHere};
 ghost use Rattle.trace_state.specs.States.{StandsFor, IsPreparedEmission, IsStateAlike, IsUsable, EachCame, ArePassed};
-ghost use Rattle.trace_instance.specs.Deliveries.{CanCountRow};
+ghost use Rattle.trace_instance.specs.Deliveries.{CanCountRow, most_requests};
 
 use crate::memory::EmissionMemory;
 use crate::resolve::find_likely;
@@ -121,7 +121,7 @@ impl State {
         size: usize,
         row: &Row,
     ) -> Result<Option<Pending>, AllocError>
-        requires early { self.now.clock ≤ 2 ^ 32 }
+        requires early { self.now.clock ≤ most_requests }
         requires index { index < 64 }
         requires size { size ≡ size_of_all row.now.kinds }
         requires small { size < 2 ^ 12 }

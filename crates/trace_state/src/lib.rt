@@ -9,6 +9,7 @@ mod prepare;
 mod resolve;
 mod row;
 mod state;
+mod waiting;
 
 pub use change::Change;
 pub use memory::EmissionMemory;

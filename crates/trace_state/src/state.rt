@@ -1,11 +1,11 @@
 //! The state that a book's requests lead to: the events, the clock and the instances.
 
-ghost use Rattle.std.specs.Prelude.{◌≡◌, ◌+◌, ◌^◌, ◌≤◌, ◌<◌, [], length, slice_index_or, All, IfOk, IfErr, OnOk, OnErr, Option};
+ghost use Rattle.std.specs.Prelude.{◌≡◌, ◌+◌, ◌≤◌, ◌<◌, [], length, slice_index_or, All, IfOk, IfErr, OnOk, OnErr, Option};
 ghost use Rattle.trace_command.specs.Configs.{IsInRange};
 ghost use Rattle.trace_command.specs.declared.refusal.Refusal.TheVariants as refusal;
 ghost use Rattle.trace_state.specs.States as states;
 ghost use Rattle.trace_instance.specs.Changes.{with_event, IsApplied, IsLawful};
-ghost use Rattle.trace_instance.specs.Deliveries.{CanCountRow, CanFire, HasFew, HasFewRows, IsWritable, row_of};
+ghost use Rattle.trace_instance.specs.Deliveries.{CanCountRow, CanFire, HasFew, HasFewRows, IsWritable, most_requests, row_of};
 ghost use Rattle.trace_state.specs.declared.state.Named.{Named};
 ghost use Rattle.trace_instance.specs.KeptHists.{KeysAgree};
 
@@ -126,7 +126,7 @@ impl State {
     pub fn deliver(&mut self, config: &Config, delivery: &Delivery)
         requires usable { states.IsUsable config.now self.old }
         requires ready { states.CanEmit config.now self.old delivery.now }
-        requires early { self.old.clock < 2 ^ 32 }
+        requires early { self.old.clock < most_requests }
         requires few { All (λ n. HasFew n.instance) self.old.instances.items }
         requires few_rows { All (λ n. HasFewRows n.instance) self.old.instances.items }
         ensures { states.IsEmitted self.old self.new delivery.now }

@@ -1,7 +1,7 @@
 //! Emissions of the plain kind, which most are: the only instance is the top one, and it records the event, which has no filter and no triggers
 //! there. Their record is made from the pairs at once, in memory that is kept, with no row and no delivery to each instance.
 
-ghost use Rattle.std.specs.Prelude.{◌≡◌, ℕ, ℤ, ◌+◌, ◌<◌, ◌≤◌, ◌^◌, true, List, length, All, Some, IfSome, IfOk, OnOk, OnErr};
+ghost use Rattle.std.specs.Prelude.{◌≡◌, ℕ, ℤ, ◌+◌, ◌<◌, ◌≤◌, true, List, length, All, Some, IfSome, IfOk, OnOk, OnErr};
 ghost use Rattle.trace_command.specs.Configs.{IsInRange};
 ghost use Rattle.trace_command.specs.Refusals.{IsFoundEarly};
 ghost use Rattle.trace_command.specs.Requests.{Request, Emission};
@@ -10,7 +10,7 @@ ghost use Rattle.trace_format.specs.Rows.{row_of};
 ghost use Rattle.trace_history.specs.History.{emission_answer};
 ghost use Rattle.trace_record.specs.Record.{IsRecord};
 ghost use Rattle.trace_state.specs.States as states;
-ghost use Rattle.trace_instance.specs.Deliveries.{HasFew, IsWritable};
+ghost use Rattle.trace_instance.specs.Deliveries.{HasFew, IsWritable, most_requests};
 ghost use Rattle.trace_state.specs.States.{StandsFor, IsUsable};
 ghost use Rattle.trace_state.specs.Plain as plain;
 ghost use Rattle.trace_state.specs.private.PlainBytes.{IsRecordOf};
@@ -70,7 +70,7 @@ impl State {
         requires usable { IsUsable config.now self.old }
         requires one { length self.old.instances.items ≡ 1 }
         requires ready { states.CanBeWritten config.now self.old.instances.items (Some pending.now) }
-        requires early { self.old.clock < 2 ^ 32 }
+        requires early { self.old.clock < most_requests }
         requires few { All (λ n. HasFew n.instance) self.old.instances.items }
         ensures { (event : ℕ) (row : Cells) (cpu : ℕ) (pid : ℤ) → plain.IsPlainIn event self.old.instances.items
             → states.IsEmitted self.old self.new (plain.plain_delivery event row cpu pid pending.now) }
