@@ -1,2 +1,3 @@
 pub mod SameBases
 pub mod Asking
+pub mod BookCalls

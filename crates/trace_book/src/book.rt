@@ -1,27 +1,23 @@
-//! The book: a history of commands, and the state that it leads to.
+//! The book: a history of commands, and the tracer that they led to.
 //!
-//! A command runs in two phases, so that a refused one changes nothing, wherever the refusal is found and whichever allocation fails:
+//! A command runs in the tracer's two phases (`Live`, trace_live), and between them its entry is written ahead:
 //!
 //! ```text
-//!                        emission                       any other command
-//!   prepare   looks      prepare_emission: Delivery     prepare: Change and Reply      refusals are found here, in their order
-//!             grows      row, hists, record             the change itself              may be refused memory
-//!             writes     its entry ahead                its entry ahead                HistoryFull comes before Memory
-//!   commit    changes    deliver                        carry_out                      an emission's takes no memory
-//!             records    the entry counts               the entry counts
+//!   prepare   looks      what can be refused is found, HistoryFull last; the memory of the change is allocated
+//!             writes     the entry is written ahead, which may be refused memory
+//!   commit    changes    the change is made
+//!             records    the entry counts
 //! ```
 //!
-//! `carry_out` can be refused memory only for a spare side, a hist trigger and its table, an event or an instance, and it allocates all of that
-//! before it changes anything. Nothing is ever undone. The two phases pass on data (`Change`, `Delivery`), so `carry_out` never looks at the command
-//! again: it makes a step of the state, and `prepare` has shown that this is the step that the definitions give the command.
+//! So a command that is refused leaves nothing, and one that is done leaves its entry.
 //!
 //! Most emissions are plain (`plain.rt`): they run a shorter way, with the same two phases.
 
 mod plain;
 
-ghost use Rattle.std.specs.Prelude.{◌≡◌, ◌+◌, ◌<◌, [], ◌∷◌, ◌++◌, All, drop, length, is_some, IfOk, IfErr, IfSome, OnOk, OnErr, ◌≢◌};
+ghost use Rattle.std.specs.Prelude.{◌≡◌, ◌<◌, [], ◌∷◌, ◌++◌, All, length, is_some, IfOk, IfErr, IfSome, OnOk, OnErr, ◌≢◌};
 ghost use Rattle.std.specs.List.{slice_get};
-ghost use Rattle.std.specs.Option.{option_and_then, option_copied, option_map};
+ghost use Rattle.std.specs.Option.{option_copied, option_map};
 ghost use Rattle.trace_command.specs.FileNames.{bytes_now};
 ghost use Rattle.trace_command.specs.Configs.{IsInRange};
 ghost use Rattle.trace_history.specs.History.{answer_to, past_of, IsLegal};
@@ -30,40 +26,30 @@ ghost use Rattle.trace_command.specs.Refusals.{OrMemory, IsFoundEarly};
 ghost use Rattle.trace_command.specs.Requests.{request_of};
 ghost use Rattle.trace_history.specs.Settings.{declared_events, instance_names, is_there, now_of, ticks};
 ghost use Rattle.trace_instance.specs.Instances.{InstanceStandsFor};
-ghost use Rattle.trace_state.specs.States.{StandsFor};
 ghost use Rattle.trace_command.specs.declared.refusal.Refusal.TheVariants as refusal;
+ghost use Rattle.trace_book.specs.private.BookCalls.{IsBookCall};
 
-use std::alloc::{AllocError, Global};
+use std::alloc::Global;
 use std::marker::Model;
 use std::slice;
 use trace_command::{BorrowedEmission, Command, Config, Refusal, Reply};
-use trace_format::{BorrowedPair, Catalog, EventDef, Pair, borrowed};
-use trace_instance::{Delivery, Instance, Pending, event_at};
+use trace_format::{EventDef, Pair, borrowed};
+use trace_instance::Instance;
+use trace_live::{Live, let_go, let_go_change, let_go_delivery, single};
 use trace_log::{Entries, History};
-use trace_state::{EmissionMemory, Named, Prepared, State};
 
-/// A tracer: its configuration, the history of the commands done, and the state that they led to. Commands name files as in ftrace.rst and run one at
-/// a time.
+/// A tracer and the history of the commands done. Commands name files as in ftrace.rst and run one at a time.
 pub struct Book {
-    alloc: Global,
-    config: Config,
+    live: Live,
     history: History,
-    state: State,
-    memory: EmissionMemory,
-    // The record of the plain emission that ran last, whose memory serves the next one.
-    pending: Pending,
 }
 
 impl Drop for Book {
     // Not derived, so that no crate above proves the drops of its parts.
     fn drop(self) {
         let Book {
-            alloc: _,
-            config: _,
+            live: _,
             history: _,
-            state: _,
-            memory: _,
-            pending: _,
         } = self;
     }
 }
@@ -88,20 +74,10 @@ impl Book {
         ensures out_of_range { ¬ IsInRange config → IfErr result (λ r. r ≡ refusal.BadValue) }
         ensures refused { IfErr result (λ r. r ≢ refusal.Memory → (r ≡ refusal.BadValue) × ¬ IsInRange config) }
     {
-        if !config.is_in_range() {
-            return Err(Refusal::BadValue);
-        }
-        let state = State::new(alloc, &config)?;
+        let live = Live::new(alloc, config)?;
         Ok(Book {
-            alloc,
-            config,
+            live,
             history: History::new(alloc),
-            state,
-            memory: EmissionMemory::new(alloc),
-            pending: Pending {
-                cpu: 0,
-                bytes: Vec::new(alloc),
-            },
         })
     }
 
@@ -148,21 +124,15 @@ impl Book {
         pairs: &[Pair],
     ) -> Result<Reply, Refusal>
         requires { All (λ entry. entry.ticket < ticket) self.old.entries }
-        ensures reply { OrMemory result (answer_to self.old.config self.old.entries (Command.Emit event.now cpu pid pairs.now)) }
-        ensures early { IsFoundEarly (answer_to self.old.config self.old.entries (Command.Emit event.now cpu pid pairs.now))
-            → result ≡ answer_to self.old.config self.old.entries (Command.Emit event.now cpu pid pairs.now) }
-        ensures done { OnOk result (self.new.entries
-            ≡ self.old.entries ++ record { ticket = ticket; by = by; command = Command.Emit event.now cpu pid pairs.now } ∷ []) }
-        ensures refused { OnErr result (self.new.entries ≡ self.old.entries) }
-        ensures config { self.new.config ≡ self.old.config }
-        ensures legal { IsLegal self.new.config self.new.entries }
+        ensures { IsBookCall self.old self.new
+            (record { ticket = ticket; by = by; command = Command.Emit event.now cpu pid pairs.now }) result }
     {
         if let Some(pair) = single(pairs) {
             let emission = BorrowedEmission::new(event, cpu, pid, slice::from_ref(&pair));
             return self.ask_emission(ticket, by, &emission);
         }
-        let Ok(pairs) = borrowed(self.alloc, pairs) else {
-            return Err(self.state.refusal_without_memory(&self.config, cpu, event));
+        let Ok(pairs) = borrowed(self.live.alloc(), pairs) else {
+            return Err(self.live.refusal_without_memory(cpu, event));
         };
         self.ask_emission(ticket, by, &BorrowedEmission::new(event, cpu, pid, &pairs))
     }
@@ -201,72 +171,43 @@ impl Book {
         emission: &BorrowedEmission<'_>,
     ) -> Result<Reply, Refusal>
         requires { All (λ entry. entry.ticket < ticket) self.old.entries }
-        ensures reply { OrMemory result (answer_to self.old.config self.old.entries emission.now) }
-        ensures early { IsFoundEarly (answer_to self.old.config self.old.entries emission.now)
-            → result ≡ answer_to self.old.config self.old.entries emission.now }
-        ensures late_memory { TakesMemoryLate (request_of emission.now)
-            → IfErr (answer_to self.old.config self.old.entries emission.now) (λ r. result ≡ Err r) }
-        ensures done { OnOk result (self.new.entries
-            ≡ self.old.entries ++ record { ticket = ticket; by = by; command = emission.now } ∷ []) }
-        ensures refused { OnErr result (self.new.entries ≡ self.old.entries) }
-        ensures config { self.new.config ≡ self.old.config }
-        ensures legal { IsLegal self.new.config self.new.entries }
+        ensures { IsBookCall self.old self.new (record { ticket = ticket; by = by; command = emission.now }) result }
     {
+        let limit = self.live.config().history_limit;
         let (event, cpu, pid, pairs) = emission.parts();
-        let delivery = match self
-            .state
-            .prepare_emission(&mut self.memory, &self.config, event, cpu, pid, pairs)
-        {
+        let delivery = match self.live.prepare_emission(limit, event, cpu, pid, pairs) {
             Ok(delivery) => delivery,
             Err(refusal) => return Err(refusal),
         };
-        if self.config.history_limit <= self.history.len() as u64 {
-            return refused_late(delivery, Refusal::HistoryFull);
-        }
         let Ok(()) = self
             .history
             .write_emission_ahead(ticket, by, event, cpu, pid, pairs)
         else {
-            return refused_late(delivery, Refusal::Memory);
+            let_go_delivery(delivery);
+            return Err(Refusal::Memory);
         };
-        self.state.deliver(&self.config, &delivery);
-        self.memory.keep(delivery);
+        self.live.deliver(delivery);
         self.history.append_written();
         Ok(Reply::Done)
     }
 
-    // As `ask`, for a command other than an emission. The limit of the history is checked before memory is allocated for one more entry. Errors are
-    // matched, and what was prepared is dropped by a call, since with `?` the proof of this function takes five times as long.
+    // As `ask`, for a command other than an emission. Errors are matched, and what was prepared is dropped by a call, since with `?` the proof of this
+    // function takes five times as long.
     fn ask_other(&mut self, ticket: u64, by: u32, command: &Command) -> Result<Reply, Refusal>
         requires rises { All (λ entry. entry.ticket < ticket) self.old.entries }
         requires other { ticks (request_of command.now) ≡ 0 }
-        ensures reply { OrMemory result (answer_to self.old.config self.old.entries command.now) }
-        ensures early { IsFoundEarly (answer_to self.old.config self.old.entries command.now)
-            → result ≡ answer_to self.old.config self.old.entries command.now }
-        ensures late_memory { TakesMemoryLate (request_of command.now)
-            → IfErr (answer_to self.old.config self.old.entries command.now) (λ r. result ≡ Err r) }
-        ensures done { OnOk result (self.new.entries
-            ≡ self.old.entries ++ record { ticket = ticket; by = by; command = command.now } ∷ []) }
-        ensures refused { OnErr result (self.new.entries ≡ self.old.entries) }
-        ensures config { self.new.config ≡ self.old.config }
-        ensures legal { IsLegal self.new.config self.new.entries }
+        ensures { IsBookCall self.old self.new (record { ticket = ticket; by = by; command = command.now }) result }
     {
-        let prepared = match self.state.prepare(
-            self.alloc,
-            &self.config,
-            self.history.len() as u64,
-            command,
-        ) {
+        let limit = self.live.config().history_limit;
+        let prepared = match self.live.prepare(limit, command) {
             Ok(prepared) => prepared,
             Err(refusal) => return Err(refusal),
         };
-        if self.history.len() as u64 >= self.config.history_limit {
-            return refuse(prepared, Refusal::HistoryFull);
-        }
         let Ok(()) = self.history.write_ahead(ticket, by, command) else {
-            return refuse(prepared, Refusal::Memory);
+            let_go_change(prepared);
+            return Err(Refusal::Memory);
         };
-        match self.state.carry_out(&self.config, prepared) {
+        match self.live.carry_out(prepared) {
             Ok(reply) => {
                 self.history.append_written();
                 Ok(reply)
@@ -287,7 +228,7 @@ impl Book {
     pub fn now(&self) -> u64
         ensures { result ≡ now_of (past_of self.now.entries) }
     {
-        self.state.clock
+        self.live.now()
     }
 
     /// The number of commands done.
@@ -301,17 +242,14 @@ impl Book {
     pub fn event(&self, index: usize) -> Option<&EventDef>
         ensures { option_copied result ≡ slice_get (declared_events (past_of self.now.entries)) index }
     {
-        if index >= self.state.catalog.len() {
-            return None;
-        }
-        Some(event_at(&self.state.catalog, index))
+        self.live.event(index)
     }
 
     /// The name of the instance at this index, from 0, in order of creation, not counting the top one; `None` beyond the last one.
     pub fn instance_name(&self, index: usize) -> Option<&[u8]>
         ensures { option_map bytes_now result ≡ slice_get (instance_names (past_of self.now.entries)) index }
     {
-        made_name(&self.state.instances, index)
+        self.live.instance_name(index)
     }
 
     /// The instance with this name, or the top one if no name is given. `Some` exactly if the history has it.
@@ -320,57 +258,6 @@ impl Book {
         ensures stands { IfSome result (λ instance.
             InstanceStandsFor self.now.config (option_map bytes_now name.entry) (past_of self.now.entries) instance.now) }
     {
-        let index = self.state.index_of(name)?;
-        Some(&self.state.instances[index].instance)
+        self.live.instance(name)
     }
-}
-
-// The pair, if the list has exactly one.
-fn single(pairs: &[Pair]) -> Option<BorrowedPair<'_>>
-    ensures { IfSome result (λ pair. pairs.now ≡ pair ∷ []) }
-{
-    match pairs {
-        [pair] => Some(BorrowedPair::of(pair)),
-        _ => None,
-    }
-}
-
-// The name of an instance, if it has one.
-fn name_of(named: &Named) -> Option<&[u8]>
-    ensures { option_map bytes_now result ≡ named.now.name }
-{
-    match &named.name {
-        Some(name) => Some(name.as_bytes()),
-        None => None,
-    }
-}
-
-// The name of the instance at this index among those after the first.
-fn made_name(instances: &[Named], index: usize) -> Option<&[u8]>
-    ensures { option_map bytes_now result ≡ option_and_then (λ n. n.name) (slice_get (drop 1 instances.now) index) }
-{
-    let [_, made @ ..] = instances else {
-        return None;
-    };
-    name_of(made.get(index)?)
-}
-
-/// Drops a command, out of line.
-#[inline(never)]
-pub(crate) fn let_go(_command: Command) {}
-
-// Drops what was prepared for a command that is refused.
-fn refuse(_prepared: Prepared, refusal: Refusal) -> Result<Reply, Refusal>
-    ensures { result ≡ Err refusal }
-{
-    Err(refusal)
-}
-
-// Drops the delivery prepared for an emission that is refused. Out of line, so that emissions that are done don't pay for the code that drops it.
-#[cold]
-#[inline(never)]
-fn refused_late(_delivery: Delivery, refusal: Refusal) -> Result<Reply, Refusal>
-    ensures { result ≡ Err refusal }
-{
-    Err(refusal)
 }

@@ -7,10 +7,11 @@ ghost use Rattle.trace_book.specs.Bases.{numbers_of};
 ghost use Rattle.trace_book.specs.Asks.{GoesOn, IsDone, IsRefused};
 ghost use Rattle.trace_command.specs.declared.command.Config.{Config};
 
-use crate::book::{Book, let_go};
+use crate::book::Book;
 use std::sync::Wait;
 use ticket_lock::{Pass, TicketLock, Worn};
 use trace_command::{BorrowedEmission, Command, Refusal, Reply};
+use trace_live::let_go;
 
 /// The answer if no ticket is left. Out of line, so that other calls don't pay for dropping the command.
 #[cold]

@@ -7,10 +7,11 @@ ghost use Rattle.trace_command.specs.Requests.{request_of};
 ghost use Rattle.trace_history.specs.History.{answer_to, IsLegal};
 ghost use Rattle.trace_history.specs.LateMemory.{TakesMemoryLate};
 
-use crate::book::{Book, let_go};
+use crate::book::Book;
 use std::alloc::Global;
 use std::marker::Model;
 use trace_command::{BorrowedEmission, Command, Config, Refusal, Reply};
+use trace_live::let_go;
 
 /// The caller's number in the history.
 const CALLER: u32 = 0;

@@ -16,20 +16,20 @@ use Rattle.trace_trigger.specs.declared.fault.TriggerFault.{TriggerFault}
 use Rattle.trace_trigger.specs.declared.trigger.TriggerText.{TriggerText}
 use Rattle.trace_trigger.specs.declared.trigger.TriggerText.TheVariants.{Nothing, Attach, Remove, Hist, RemoveHist}
 use Rattle.trace_command.specs.Paths.{OfEvent}
-use Rattle.trace_command.specs.Requests.{Request, WriteFile, request_of}
+use Rattle.trace_command.specs.Requests.{Request, WriteFile}
 use Rattle.trace_command.specs.declared.command.Config.{Config}
-use Rattle.trace_command.specs.declared.command.Entry.{Entry}
 use Rattle.trace_command.specs.declared.command.Reply.{Reply}
 use Rattle.trace_command.specs.declared.refusal.Refusal.{Refusal}
 use Rattle.trace_command.specs.declared.file_name.EventFile.TheVariants as per_event
-use Rattle.trace_history.specs.History.{answer_with_room, fitting_answer, missing_event, unless_refused, named_trigger_answer, trigger_answer, said_answer, new_hist_answer, room_answer, trigger_count, requests_of, IsLegalNewestFirst}
+use Rattle.trace_history.specs.History.{answer_with_room, fitting_answer, missing_event, unless_refused, named_trigger_answer, trigger_answer, said_answer, new_hist_answer, room_answer, trigger_count, requests_of}
 use Rattle.trace_history.specs.HistTriggers.{HistTrigger, Written, fits_that, has_same, hist_triggers, hists_of, kept_by, left_by, named_by, new_hist, says_same, written_to}
 use Rattle.trace_history.specs.Laws.{AtMostFourTriggers}
+use Rattle.trace_history.specs.Pasts.{AreDone}
 use Rattle.trace_history.specs.Settings.{NumberedEvent, is_same, makes, event_named, declares, declared_events}
 use Rattle.trace_history.specs.Triggers.{Trigger, written_trigger, trigger_of}
 use Rattle.trace_history.proofs.EventHists.{hists_of-after, hists_of-made, own_after, own_said}
 use Rattle.trace_history.proofs.Events.{named_in-fewer, index_of_id}
-use Rattle.trace_history.proofs.LegalEvents.{done-had_room, asked-done, named_in-more, named-is_numbered}
+use Rattle.trace_history.proofs.LegalEvents.{done-legal, asked-done, named_in-more, named-is_numbered}
 use Rattle.trace_history.proofs.OwnFiles.{OwnWritten, as_written, own-declared, own-none, own_written, trigger_after, trigger_of-after}
 use Rattle.trace_history.proofs.Spares.{same-instance}
 
@@ -267,17 +267,19 @@ few-after g instance past request k done before = record { no_trigger = no_trigg
             let e : Some old ≡ Some k = sym (named_in-more k.event.name (declared_events past) more old was) ∙ there in
             by_life (was ∙ e) (makes instance request) refl
 
-few-legal : (g : Config) (entries : List Entry) (instance : Option (List ℕ)) (k : NumberedEvent) → IsLegalNewestFirst g entries
-    → AreFew instance (requests_of entries) k
-few-legal g [] instance k legal = record { no_trigger = λ none. refl; no_hists = λ none. refl; few = λ there. omega arith }
-few-legal g (entry ∷ entries) instance k legal =
-    few-after g instance (requests_of entries) (request_of entry.command) k
-    (done-had_room g (requests_of entries) (request_of entry.command) legal.2).0 (few-legal g entries instance k legal.3)
+few-done : (g : Config) (past : List Request) (instance : Option (List ℕ)) (k : NumberedEvent) → AreDone g past → AreFew instance past k
+few-done g [] instance k done = record { no_trigger = λ none. refl; no_hists = λ none. refl; few = λ there. omega arith }
+few-done g (request ∷ past) instance k done = few-after g instance past request k done.0 (few-done g past instance k done.1)
 
-pub at_most_four_triggers : AtMostFourTriggers
-at_most_four_triggers g entries instance name k legal there =
-    let past = requests_of entries in
+-- an event has few triggers where each request was done
+pub few-triggers : (g : Config) (past : List Request) (instance : Option (List ℕ)) (name : List ℕ) (k : NumberedEvent) → AreDone g past
+    → event_named name past ≡ Some k → trigger_count (trigger_of instance k.event past) (hists_of instance k.event past) ≤ 4
+few-triggers g past instance name k done there =
     let numbered = named-is_numbered (declared_events past) name k there in
     let index = index_of_id (declared_events past) name k.id k.event numbered.named numbered.there in
     let same : name ≡ k.event.name = (bytes_eq-Decides name k.event.name).0 index.named in
-    (few-legal g entries instance k legal).few (subst (λ (n : List ℕ). event_named n past ≡ Some k) same there)
+    (few-done g past instance k done).few (subst (λ (n : List ℕ). event_named n past ≡ Some k) same there)
+
+pub at_most_four_triggers : AtMostFourTriggers
+at_most_four_triggers g entries instance name k legal there =
+    few-triggers g (requests_of entries) instance name k (done-legal g entries legal) there

@@ -19,6 +19,7 @@ use Rattle.trace_command.specs.Paths.{SyntheticEvents}
 use Rattle.trace_command.specs.Requests.{Request, WriteFile, request_of}
 use Rattle.trace_history.specs.Settings.{NumberedEvent, event_named, event_named_in, is_there, numbered_event, declares, declared_events}
 use Rattle.trace_history.specs.Declarations.{IsFit}
+use Rattle.trace_history.specs.Pasts.{AreDone}
 use Rattle.trace_command.specs.declared.command.Config.{Config}
 use Rattle.trace_command.specs.declared.command.Entry.{Entry}
 use Rattle.trace_command.specs.declared.command.Reply.{Reply}
@@ -42,6 +43,12 @@ done-had_room g past request done = by (answer_with_room g past request) done
             → IsOk (let r : Result Reply Refusal = Ok reply in r) × (length past < g.history_limit)
         by_room true is d' = (refl, ltb-true (length past) g.history_limit is)
         by_room false is d' = absurd (let h : false ≡ true = rw is at d' in false≢true h)
+
+-- the requests of a legal history were done
+pub done-legal : (g : Config) (entries : List Entry) → IsLegalNewestFirst g entries → AreDone g (requests_of entries)
+done-legal g [] legal = tt
+done-legal g (entry ∷ entries) legal =
+    ((done-had_room g (requests_of entries) (request_of entry.command) legal.2).0, done-legal g entries legal.3)
 
 -- what an instance was asked was done only where the instance is there
 pub asked-done : (instance : Option (List ℕ)) (past : List Request) (answered : Result Reply Refusal) → IsOk (instance_answer instance past answered) → IsOk answered

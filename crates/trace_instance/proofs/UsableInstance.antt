@@ -8,8 +8,7 @@ use Rattle.trace_filter.specs.Filters.{Parsed}
 use Rattle.trace_format.specs.Cells.{Cells}
 use Rattle.trace_format.specs.Definitions.{Definition}
 use Rattle.trace_format.specs.Rows.{row_of}
-use Rattle.trace_command.specs.Requests.{Request, Emission, request_of}
-use Rattle.trace_command.specs.declared.command.Entry.{Entry}
+use Rattle.trace_command.specs.Requests.{Request, Emission}
 use Rattle.trace_command.specs.declared.command.Config.{Config}
 use Rattle.trace_history.specs.Settings.{NumberedEvent, declared_events, event_named, is_enabled, kept_filter, now_of}
 use Rattle.page_ring.specs.Shown.{most_offered}
@@ -25,13 +24,14 @@ use Rattle.trace_hist.specs.Hists.{Seen, counted}
 use Rattle.trace_entries.specs.RowPlaces.{most_rows}
 use Rattle.trace_entries.specs.Hits.{Hit}
 use Rattle.trace_history.specs.Emissions.{Emitted, emitted, emitted_event, emitted_row}
-use Rattle.trace_history.specs.History.{IsLegalNewestFirst, requests_of, trigger_count}
+use Rattle.trace_history.specs.History.{trigger_count}
+use Rattle.trace_history.specs.Pasts.{AreDone}
 use Rattle.trace_history.specs.HistTriggers.{HistTrigger, asked_by, counted_by, empties, hist_triggers, hists_of, hits_of, is_of, is_paused, those_of}
 use Rattle.trace_history.specs.Triggers as triggers
 use Rattle.trace_history.specs.Triggers.{trigger_of}
 use Rattle.trace_history.proofs.SaidHists.{said-spec}
 use Rattle.trace_history.proofs.AttachedHists.{hist_triggers_are_those_attached}
-use Rattle.trace_history.proofs.FewTriggers.{at_most_four_triggers}
+use Rattle.trace_history.proofs.FewTriggers.{few-triggers}
 use Rattle.trace_history.proofs.Members.{IsIn, each-in, in-contains, in-filter}
 use Rattle.trace_history.proofs.OwnFiles.{IsNamed, all-named}
 use Rattle.trace_history.proofs.TableSteps.{nothing-counted, rows-few}
@@ -143,43 +143,35 @@ emitted-named past (Emission name cpu pid pairs) e is = (name, found (event_name
     found (Some k) same = built k (row_of k.event pairs) same
 emitted-named past _ e is = absurd (cc)
 
--- in a legal history a table counts at most four rows of a request, one for each trigger of its event
+-- where each request was done a table counts at most four rows of the next, one for each trigger of its event
 hists-few : (trigger : Option triggers.Trigger) (hists : List HistTrigger) → trigger_count trigger hists ≤ 4 → length hists ≤ 4
 hists-few None hists few = few
 hists-few (Some t) hists few = omega (arith, few)
 
-few_counted : (g : Config) (name : Option (List ℕ)) (table : ℕ) (paused : Bool) (entries : List Entry) (request : Request) (o : Option Emitted)
-    → IsLegalNewestFirst g entries → emitted (requests_of entries) request ≡ o
-    → length (counted_by table paused (hist_triggers name (requests_of entries)) o) ≤ 4
-few_counted g name table true entries request o legal is = omega arith
-few_counted g name table false entries request None legal is =
-    let none = ap (λ (rows : List Hit). length rows) (nothing-counted table false (hist_triggers name (requests_of entries))) in
+few_counted : (g : Config) (name : Option (List ℕ)) (table : ℕ) (paused : Bool) (past : List Request) (request : Request) (o : Option Emitted)
+    → AreDone g past → emitted past request ≡ o → length (counted_by table paused (hist_triggers name past) o) ≤ 4
+few_counted g name table true past request o done is = omega arith
+few_counted g name table false past request None done is =
+    let none = ap (λ (rows : List Hit). length rows) (nothing-counted table false (hist_triggers name past)) in
     omega (arith, none)
-few_counted g name table false entries request (Some e) legal is =
-    let past = requests_of entries in
+few_counted g name table false past request (Some e) done is =
     let named = emitted-named past request e is in
-    let all = at_most_four_triggers g entries name named.0 e.k legal named.1 in
+    let all = few-triggers g past name named.0 e.k done named.1 in
     let few = hists-few (trigger_of name e.k.event past) (hists_of name e.k.event past) all in
     let rows = rows-few table e (hist_triggers name past) in
     omega (arith, few, rows)
 
-pub hits_within : (g : Config) (name : Option (List ℕ)) (table : ℕ) (entries : List Entry) → IsLegalNewestFirst g entries
-    → length (hits_of name table (requests_of entries)) ≤ 4 * length (requests_of entries)
-hits_within g name table [] legal = omega arith
-hits_within g name table (entry ∷ entries) legal =
-    by (empties (asked_by name table past request)) (hits_within g name table entries legal.3)
+pub hits_within : (g : Config) (name : Option (List ℕ)) (table : ℕ) (past : List Request) → AreDone g past
+    → length (hits_of name table past) ≤ 4 * length past
+hits_within g name table [] done = omega arith
+hits_within g name table (request ∷ past) done =
+    by (empties (asked_by name table past request)) (hits_within g name table past done.1)
   where
-    past : List Request
-    past = requests_of entries
-
-    request : Request
-    request = request_of entry.command
-
     rows : List Hit
     rows = counted_by table (is_paused name table past) (hist_triggers name past) (emitted past request)
 
     few : length rows ≤ 4
-    few = few_counted g name table (is_paused name table past) entries request (emitted past request) legal.3 refl
+    few = few_counted g name table (is_paused name table past) past request (emitted past request) done.1 refl
 
     by : (emptied : Bool) → length (hits_of name table past) ≤ 4 * length past
         → length (if emptied then [] else hits_of name table past ++ rows) ≤ 4 * length (request ∷ past)

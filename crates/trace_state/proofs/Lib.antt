@@ -6,7 +6,6 @@ pub mod Stands
 pub mod Usable
 pub mod Alike
 pub mod Histories
-pub mod TakenLate
 pub mod Resolving
 pub mod Emitting
 pub mod Plain

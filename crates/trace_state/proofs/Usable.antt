@@ -1,5 +1,5 @@
 -- A state that stands for a past is fit for one more command, and a new state stands for none.
-use Rattle.std.proofs.Common.{◌≡◌, ℕ, ◌<◌, ◌≤◌, false, List, [], ◌∷◌, length, get_or, reverse, All, Option, Some, None, refl, sym, ap, ◌∙◌, subst, arith}
+use Rattle.std.proofs.Common.{◌≡◌, ℕ, ◌<◌, ◌≤◌, false, List, [], ◌∷◌, length, get_or, All, Option, Some, None, refl, sym, ap, ◌∙◌, subst, arith}
 use Rattle.std.proofs.lemmas.List.Elements.{All-cons, All-nil, All-same}
 use Rattle.std.specs.List.{AllByRecursion, IsDistinct}
 use Rattle.std.specs.Str.{bytes_eq}
@@ -7,12 +7,11 @@ use Rattle.trace_format.specs.Catalogs.{AreEvents}
 use Rattle.trace_format.specs.Definitions.{Definition}
 use Rattle.trace_command.specs.Configs.{IsInRange}
 use Rattle.trace_command.specs.Requests.{Request}
-use Rattle.trace_command.specs.declared.command.Entry.{Entry}
 use Rattle.trace_command.specs.declared.command.Config.{Config}
 use Rattle.trace_history.specs.Declarations.{IsFit}
 use Rattle.trace_history.specs.Settings.{declared_events, instance_names, is_same}
 use Rattle.trace_instance.specs.Instances.{InstanceSeen, InstanceStandsFor, IsUsableInstance}
-use Rattle.trace_history.specs.History.{IsLegal, past_of}
+use Rattle.trace_history.specs.Pasts.{AreDone}
 use Rattle.trace_instance.specs.Deliveries.{HasFew, HasFewRows, most_requests}
 use Rattle.trace_state.specs.States.{IsUsable, StandsFor, names_of}
 use Rattle.trace_state.specs.declared.state.Named.{Named}
@@ -68,16 +67,14 @@ pub few_from_stands : (g : Config) (state : State) (past : List Request) → Sta
     → All (λ (n : Named). HasFew n.instance) state.instances.items
 few_from_stands g state past stands short = λ k d inside. few_offers (length past) _ short (stands.each k d inside).offered.0
 
-pub few_rows_from_stands : (g : Config) (state : State) (entries : List Entry) → IsLegal g entries → StandsFor g state (past_of entries)
-    → length (past_of entries) < most_requests → All (λ (n : Named). HasFewRows n.instance) state.instances.items
-unfolding IsLegal past_of
-few_rows_from_stands g state entries legal stands short = λ k d inside n attached there j a within.
-    let past = past_of entries in
+pub few_rows_from_stands : (g : Config) (state : State) (past : List Request) → AreDone g past → StandsFor g state past → length past < most_requests
+    → All (λ (n : Named). HasFewRows n.instance) state.instances.items
+few_rows_from_stands g state past done stands short = λ k d inside n attached there j a within.
     let name = (get_or state.instances.items k d).name in
     let i = (get_or state.instances.items k d).instance in
     let own = get_or (get_or i.hists n attached) j a in
     has_room name past i.tables own ((stands.each k d inside).tables n attached there j a within)
-    (hits_within g name own.table (reverse entries) legal) short
+    (hits_within g name own.table past done) short
 
 pub early_from_stands : (g : Config) (state : State) (past : List Request) → StandsFor g state past → length past < most_requests → state.clock < most_requests
 early_from_stands g state past stands short = omega (arith, stands.early, short)

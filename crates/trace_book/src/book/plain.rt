@@ -1,11 +1,9 @@
 //! Emissions of the plain kind, from the history's entry to the ring.
 
-ghost use Rattle.std.specs.Prelude.{◌≡◌, ◌<◌, [], ◌∷◌, ◌++◌, All, Ok, true, false, IfOk, OnErr};
-ghost use Rattle.trace_history.specs.History.{answer_to, IsLegal};
-ghost use Rattle.trace_history.specs.LateMemory.{TakesMemoryLate};
-ghost use Rattle.trace_command.specs.Refusals.{IsFoundEarly};
-ghost use Rattle.trace_command.specs.Requests.{request_of};
+ghost use Rattle.std.specs.Prelude.{◌≡◌, ◌<◌, All, Ok, Err, true, false, IfOk, OnErr};
 ghost use Rattle.trace_command.specs.declared.command.Reply.TheVariants.{Done};
+ghost use Rattle.trace_command.specs.declared.refusal.Refusal.TheVariants as refusal;
+ghost use Rattle.trace_book.specs.private.BookCalls.{IsBookCall};
 
 use super::Book;
 use std::alloc::AllocError;
@@ -22,29 +20,15 @@ impl Book {
         emission: &BorrowedEmission<'_>,
     ) -> Result<bool, AllocError>
         requires { All (λ entry. entry.ticket < ticket) self.old.entries }
-        ensures reply { IfOk result (λ ran. ran ≡ true → answer_to self.old.config self.old.entries emission.now ≡ Ok Done) }
-        ensures early { OnErr result (¬ IsFoundEarly (answer_to self.old.config self.old.entries emission.now)) }
-        ensures late_memory { OnErr result (¬ TakesMemoryLate (request_of emission.now)) }
-        ensures done { IfOk result (λ ran. ran ≡ true → self.new.entries
-            ≡ self.old.entries ++ record { ticket = ticket; by = by; command = emission.now } ∷ []) }
-        ensures other { IfOk result (λ ran. ran ≡ false → self.new.entries ≡ self.old.entries) }
-        ensures refused { OnErr result (self.new.entries ≡ self.old.entries) }
-        ensures config { self.new.config ≡ self.old.config }
-        ensures legal { IsLegal self.new.config self.new.entries }
+        ensures ran { IfOk result (λ ran. ran ≡ true
+            → IsBookCall self.old self.new (record { ticket = ticket; by = by; command = emission.now }) (Ok Done)) }
+        ensures other { IfOk result (λ ran. ran ≡ false → self.new ≡ self.old) }
+        ensures refused { OnErr result
+            (IsBookCall self.old self.new (record { ticket = ticket; by = by; command = emission.now }) (Err refusal.Memory)) }
     {
-        if self.config.history_limit <= self.history.len() as u64 {
-            return Ok(false);
-        }
+        let limit = self.live.config().history_limit;
         let (event, cpu, pid, pairs) = emission.parts();
-        let prepared = match self.state.prepare_plain(
-            self.memory.event(),
-            &mut self.pending,
-            &self.config,
-            event,
-            cpu,
-            pid,
-            pairs,
-        ) {
+        let prepared = match self.live.prepare_plain(limit, event, cpu, pid, pairs) {
             Ok(prepared) => prepared,
             Err(error) => return Err(error),
         };
@@ -57,8 +41,7 @@ impl Book {
         {
             return Err(error);
         }
-        self.state.deliver_plain(&self.config, &self.pending);
-        self.memory.keep_event(index);
+        self.live.deliver_plain(index);
         self.history.append_written();
         Ok(true)
     }

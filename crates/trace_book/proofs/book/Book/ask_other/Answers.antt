@@ -1,179 +1,121 @@
-use Rattle.std.proofs.Common.{[], ◌∷◌, ◌++◌, All, subst, ◌≡◌, ◌<◌, arith, rules, refl, ap, sym, ◌∙◌, length-append}
+use Rattle.std.proofs.Common.{List, [], ◌∷◌, ◌++◌, All, subst, ◌≡◌, ◌<◌, length, Ok, arith, rules, refl, ap, sym, ◌∙◌}
+use Rattle.trace_command.specs.Refusals.{IsRefusal}
 use Rattle.trace_command.specs.Requests.{request_of}
+use Rattle.trace_command.specs.declared.command.Config.{Config}
+use Rattle.trace_command.specs.declared.command.Entry.{Entry}
 use Rattle.trace_history.specs.History.{past_of}
 use Rattle.trace_log.specs.HistorySeen.{HistorySeen}
+use Rattle.trace_state.specs.States.{IsPrepared}
+use Rattle.trace_state.proofs.Histories.{length-past_of, past_of-push}
+use Rattle.trace_live.specs.Lives.{limited_answer}
 use Rattle.trace_book.specs.BookSeen.{BookSeen}
-use Rattle.trace_command.specs.declared.command.Entry.{Entry}
-use Rattle.trace_state.proofs.Alike.{unchanged-stands}
-use Rattle.trace_state.proofs.Usable.{usable_from_stands}
-use Rattle.trace_state.proofs.Histories.{length-past_of, past_of-push, answer-done, answer-full, refused-reply, refused-early, late-done, IsLegal-push}
-use Rattle.trace_state.proofs.Stands.{stands_after}
-use Rattle.trace_state.proofs.TakenLate.{late_memory-refused, late_memory-full, late_memory-done}
+use Rattle.trace_book.specs.Books.{seen}
+use Rattle.trace_book.specs.private.BookCalls.{IsBookCall}
+use Rattle.trace_book.proofs.BookCalls.{refused-call, memory-call, done-call}
 use Rattle.trace_book.proofs.book.Book.ask_other.Goals as goal
 
-pub prepare-requires-clause-usable : goal.prepare-requires-clause-usable
-prepare-requires-clause-usable c =
+pub returns-in-Err : goal.returns-in-Err
+returns-in-Err c =
     let book = c.self.inside in
-    usable_from_stands book.config book.state (past_of book.history.entries) c.self.invariant.in_range c.self.invariant.stands
-    (omega (arith, length-past_of book.history.entries, c.self.invariant.few))
+    let g = book.live.config in
+    let past = past_of book.history.entries in
+    let entry : Entry = record { ticket = c.args.ticket; by = c.args.by; command = c.args.command.now } in
+    let refused : IsRefusal c.in-Err.refusal (limited_answer g.history_limit g past (request_of c.args.command.now)) =
+    rw c.config.ensures at c.in-Err.ensures.prepared past c.self.invariant.lives in
+    rw (← c.self.view_is)
+    (refused-call (seen book) (seen book) entry c.in-Err.refusal c.self.invariant.legal refl refl refused
+    (c.in-Err.ensures.memory past c.self.invariant.lives))
 
 pub invariant_of-self : goal.invariant_of-self
 invariant_of-self c = record {
-  in_range = c.self.invariant.in_range;
-  few = rw c.write_ahead.ensures.entries c.self.invariant.few;
   legal = rw c.write_ahead.ensures.entries c.self.invariant.legal;
-  stands = rw c.write_ahead.ensures.entries c.self.invariant.stands;
+  lives = rw c.write_ahead.ensures.entries c.self.invariant.lives;
 }
 
-pub returns-in-Err-clause-reply : goal.returns-in-Err-clause-reply
-returns-in-Err-clause-reply c =
+pub returns-in_default : goal.returns-in_default
+returns-in_default c =
     let book = c.self.inside in
     let past = past_of book.history.entries in
-    let prepared = c.in-Err.ensures.prepared past (length-past_of book.history.entries ∙ search rules) c.self.invariant.stands in
-    rw (← c.self.view_is) (refused-reply book.config past (request_of c.args.command.now) book.state c.in-Err.refusal prepared)
+    let entry : Entry = record { ticket = c.args.ticket; by = c.args.by; command = c.args.command.now } in
+    let limit = ap (λ (k : Config). k.history_limit) c.config.ensures in
+    let room : length book.history.entries < book.live.config.history_limit =
+    omega (arith, length-past_of book.history.entries, c.self.invariant.lives.count, c.in-Ok.ensures.room, limit) in
+    rw (← c.self.view_is)
+    (memory-call (seen book) _ entry c.in-Ok.prepared.reply c.self.invariant.legal refl c.write_ahead.ensures.entries
+    (c.in-Ok.ensures.prepared past c.self.invariant.lives).0 room)
 
-pub returns-in-Err-clause-early : goal.returns-in-Err-clause-early
-returns-in-Err-clause-early c =
-    let book = c.self.inside in
-    let past = past_of book.history.entries in
-    let prepared = c.in-Err.ensures.prepared past (length-past_of book.history.entries ∙ search rules) c.self.invariant.stands in
-    rw (← c.self.view_is) (λ early. sym (refused-early book.config past (request_of c.args.command.now) book.state c.in-Err.refusal prepared early))
-
-pub returns-then-len-self-clause-reply : goal.returns-then-len-self-clause-reply
-returns-then-len-self-clause-reply c =
-    let book = c.self.inside in
-    let past = past_of book.history.entries in
-    let prepared = c.in-Ok.ensures.prepared past (length-past_of book.history.entries ∙ search rules) c.self.invariant.stands in
-    rw (← c.self.view_is, c.refuse.ensures) (λ other. answer-full book.config past (request_of c.args.command.now) c.in-Ok.prepared.reply prepared.0
-    (omega (arith, length-past_of book.history.entries, c.len.ensures)))
-
-pub returns-then-len-self-clause-early : goal.returns-then-len-self-clause-early
-returns-then-len-self-clause-early c =
-    let book = c.self.inside in
-    let past = past_of book.history.entries in
-    let prepared = c.in-Ok.ensures.prepared past (length-past_of book.history.entries ∙ search rules) c.self.invariant.stands in
-    rw (← c.self.view_is, c.refuse.ensures) (λ early. sym (answer-full book.config past (request_of c.args.command.now) c.in-Ok.prepared.reply prepared.0
-    (omega (arith, length-past_of book.history.entries, c.len.ensures))))
-
-pub returns-in_default-clause-early : goal.returns-in_default-clause-early
-returns-in_default-clause-early c =
-    let book = c.self.inside in
-    let past = past_of book.history.entries in
-    let prepared = c.in-Ok.ensures.prepared past (length-past_of book.history.entries ∙ search rules) c.self.invariant.stands in
-    rw (← c.self.view_is) (λ early. absurd (late-done book.config past (request_of c.args.command.now) c.in-Ok.prepared.reply prepared.0 early))
-
-pub carry_out-requires-clause-ready : goal.carry_out-requires-clause-ready
-carry_out-requires-clause-ready c =
-    let book = c.self.inside in
-    let past = past_of book.history.entries in
-    (c.in-Ok.ensures.prepared past (length-past_of book.history.entries ∙ search rules) c.self.invariant.stands).2
+pub carry_out-requires-clause-room : goal.carry_out-requires-clause-room
+carry_out-requires-clause-room c =
+    let limit = ap (λ (k : Config). k.history_limit) c.config.ensures in
+    omega (arith, c.in-Ok.ensures.room, limit, c.self.invariant.lives.in_range.few_entries)
 
 pub invariant_of-self-in-Err-carry_out : goal.invariant_of-self-in-Err-carry_out
 invariant_of-self-in-Err-carry_out c =
-    let book = c.self.inside in
-    let stands = c.self.invariant.stands in record {
-      in_range = c.self.invariant.in_range;
-      few = rw c.write_ahead.ensures.entries c.self.invariant.few;
-      legal = rw c.write_ahead.ensures.entries c.self.invariant.legal;
-      stands = rw c.write_ahead.ensures.entries (unchanged-stands book.config _ _ (past_of book.history.entries) c.in-Err-carry_out.ensures.refused stands);
+    let past = past_of c.self.inside.history.entries in record {
+      legal = rw (c.write_ahead.ensures.entries, c.carry_out.ensures.config) c.self.invariant.legal;
+      lives = rw c.write_ahead.ensures.entries (c.in-Err-carry_out.ensures.refused past c.self.invariant.lives);
     }
 
-pub returns-in-Err-carry_out-clause-early : goal.returns-in-Err-carry_out-clause-early
-returns-in-Err-carry_out-clause-early c =
+pub returns-in-Err-carry_out : goal.returns-in-Err-carry_out
+returns-in-Err-carry_out c =
     let book = c.self.inside in
     let past = past_of book.history.entries in
-    let prepared = c.in-Ok.ensures.prepared past (length-past_of book.history.entries ∙ search rules) c.self.invariant.stands in
-    rw (← c.self.view_is) (λ early. absurd (late-done book.config past (request_of c.args.command.now) c.in-Ok.prepared.reply prepared.0 early))
+    let entry : Entry = record { ticket = c.args.ticket; by = c.args.by; command = c.args.command.now } in
+    let limit = ap (λ (k : Config). k.history_limit) c.config.ensures in
+    let room : length book.history.entries < book.live.config.history_limit =
+    omega (arith, length-past_of book.history.entries, c.self.invariant.lives.count, c.in-Ok.ensures.room, limit) in
+    rw (← c.self.view_is, c.in-Err-carry_out.ensures.memory)
+    (memory-call (seen book) _ entry c.in-Ok.prepared.reply c.self.invariant.legal c.carry_out.ensures.config c.write_ahead.ensures.entries
+    (c.in-Ok.ensures.prepared past c.self.invariant.lives).0 room)
 
 pub invariant_of-self-in-Ok-carry_out : goal.invariant_of-self-in-Ok-carry_out
 invariant_of-self-in-Ok-carry_out c =
     let book = c.self.inside in
-    let g = book.config in
     let past = past_of book.history.entries in
     let request = request_of c.args.command.now in
     let entry : Entry = record { ticket = c.args.ticket; by = c.args.by; command = c.args.command.now } in
     let written : c.write_ahead.new.self.ahead ≡ entry ∷ [] = search rules in
     let items : c.append_written.new.self.entries ≡ book.history.entries ++ entry ∷ [] =
     ap (λ (h : HistorySeen). h.entries) c.append_written.ensures ∙ rw (c.write_ahead.ensures.entries, written) refl in
-    let prepared = c.in-Ok.ensures.prepared past (length-past_of book.history.entries ∙ search rules) c.self.invariant.stands in
-    let done = answer-done g past request c.in-Ok.prepared.reply prepared.0
-    (omega (arith, length-past_of book.history.entries, c.len.ensures)) in
-    let Below : BookSeen → Type 0 = λ seen. All (λ (e : Entry). e.ticket < c.args.ticket) seen.entries in
+    let prepared : IsPrepared book.live.config past request book.live.state (Ok c.in-Ok.prepared) = c.in-Ok.ensures.prepared past c.self.invariant.lives in
+    let limit = ap (λ (k : Config). k.history_limit) c.config.ensures in
+    let room : length book.history.entries < book.live.config.history_limit =
+    omega (arith, length-past_of book.history.entries, c.self.invariant.lives.count, c.in-Ok.ensures.room, limit) in
+    let Below : BookSeen → Type 0 = λ before. All (λ (e : Entry). e.ticket < c.args.ticket) before.entries in
     let below : All (λ (e : Entry). e.ticket < c.args.ticket) book.history.entries = subst Below (sym c.self.view_is) c.requires.rises in
-    let stands = c.self.invariant.stands in
+    let after : BookSeen = record { config = c.carry_out.new.self.config; entries = c.append_written.new.self.entries } in
+    let call : IsBookCall (seen book) after entry (Ok c.in-Ok.prepared.reply) =
+    done-call (seen book) after entry c.in-Ok.prepared.reply c.self.invariant.legal c.carry_out.ensures.config items
+    (c.ranges.ticket.fits, c.ranges.by.fits, c.in-Ok.ensures.fits) below prepared.0 room in
     record {
-      in_range = c.self.invariant.in_range;
-      few = rw items (omega (arith, length-append book.history.entries (entry ∷ []), c.len.ensures, c.self.invariant.in_range.few_entries));
-      legal = rw items (IsLegal-push g book.history.entries entry c.self.invariant.legal (c.ranges.ticket.fits, c.ranges.by.fits, c.in-Ok.ensures.fits) below (rw done refl));
-      stands = rw (items, past_of-push) (stands_after g book.state c.carry_out.new.self past request c.in-Ok.prepared c.self.invariant.in_range stands prepared c.in-Ok-carry_out.ensures.done);
+      legal = call.legal;
+      lives = rw (items, past_of-push) (c.in-Ok-carry_out.ensures.done past request c.self.invariant.lives prepared);
     }
 
-pub returns-in-Ok-carry_out-clause-reply : goal.returns-in-Ok-carry_out-clause-reply
-returns-in-Ok-carry_out-clause-reply c =
+pub returns-in-Ok-carry_out : goal.returns-in-Ok-carry_out
+returns-in-Ok-carry_out c =
     let book = c.self.inside in
     let past = past_of book.history.entries in
-    let prepared = c.in-Ok.ensures.prepared past (length-past_of book.history.entries ∙ search rules) c.self.invariant.stands in
-    rw (← c.self.view_is, c.in-Ok-carry_out.ensures.reply) (answer-done book.config past (request_of c.args.command.now) c.in-Ok.prepared.reply prepared.0
-    (omega (arith, length-past_of book.history.entries, c.len.ensures)))
+    let entry : Entry = record { ticket = c.args.ticket; by = c.args.by; command = c.args.command.now } in
+    let written : c.write_ahead.new.self.ahead ≡ entry ∷ [] = search rules in
+    let items : c.append_written.new.self.entries ≡ book.history.entries ++ entry ∷ [] =
+    ap (λ (h : HistorySeen). h.entries) c.append_written.ensures ∙ rw (c.write_ahead.ensures.entries, written) refl in
+    let prepared : IsPrepared book.live.config past (request_of c.args.command.now) book.live.state (Ok c.in-Ok.prepared) =
+    c.in-Ok.ensures.prepared past c.self.invariant.lives in
+    let limit = ap (λ (k : Config). k.history_limit) c.config.ensures in
+    let room : length book.history.entries < book.live.config.history_limit =
+    omega (arith, length-past_of book.history.entries, c.self.invariant.lives.count, c.in-Ok.ensures.room, limit) in
+    let Below : BookSeen → Type 0 = λ before. All (λ (e : Entry). e.ticket < c.args.ticket) before.entries in
+    let below : All (λ (e : Entry). e.ticket < c.args.ticket) book.history.entries = subst Below (sym c.self.view_is) c.requires.rises in
+    rw (← c.self.view_is, c.in-Ok-carry_out.ensures.reply)
+    (done-call (seen book) _ entry c.in-Ok.prepared.reply c.self.invariant.legal c.carry_out.ensures.config items
+    (c.ranges.ticket.fits, c.ranges.by.fits, c.in-Ok.ensures.fits) below prepared.0 room)
 
-pub returns-in-Ok-carry_out-clause-early : goal.returns-in-Ok-carry_out-clause-early
-returns-in-Ok-carry_out-clause-early c =
+pub append_written-requires : goal.append_written-requires
+append_written-requires c =
     let book = c.self.inside in
-    let past = past_of book.history.entries in
-    let prepared = c.in-Ok.ensures.prepared past (length-past_of book.history.entries ∙ search rules) c.self.invariant.stands in
-    rw (← c.self.view_is) (λ early. absurd (late-done book.config past (request_of c.args.command.now) c.in-Ok.prepared.reply prepared.0 early))
-
-pub carry_out-requires-clause-usable : goal.carry_out-requires-clause-usable
-carry_out-requires-clause-usable c =
-    let book = c.self.inside in
-    let stands = c.self.invariant.stands in
-    usable_from_stands book.config _ (past_of book.history.entries) c.self.invariant.in_range stands
-    (omega (arith, length-past_of book.history.entries, c.self.invariant.few))
-
-pub returns-in-Ok-carry_out-clause-legal : goal.returns-in-Ok-carry_out-clause-legal
-returns-in-Ok-carry_out-clause-legal c = (invariant_of-self-in-Ok-carry_out c).legal
-
-pub returns-in-Err-clause-late_memory : goal.returns-in-Err-clause-late_memory
-returns-in-Err-clause-late_memory c =
-    let book = c.self.inside in
-    let past = past_of book.history.entries in
-    let prepared = c.in-Err.ensures.prepared past (length-past_of book.history.entries ∙ search rules) c.self.invariant.stands in
-    rw (← c.self.view_is) (λ late.
-    late_memory-refused book.config past (request_of c.args.command.now) book.state c.in-Err.refusal _ prepared
-    (c.in-Err.ensures.memory past c.self.invariant.stands late) refl)
-
-pub returns-then-len-self-clause-late_memory : goal.returns-then-len-self-clause-late_memory
-returns-then-len-self-clause-late_memory c =
-    let book = c.self.inside in
-    let past = past_of book.history.entries in
-    let prepared = c.in-Ok.ensures.prepared past (length-past_of book.history.entries ∙ search rules) c.self.invariant.stands in
-    rw (← c.self.view_is, c.refuse.ensures) (λ late.
-    late_memory-full book.config past (request_of c.args.command.now) c.in-Ok.prepared.reply _ prepared.0
-    (omega (arith, length-past_of book.history.entries, c.len.ensures)) refl)
-
-pub returns-in_default-clause-late_memory : goal.returns-in_default-clause-late_memory
-returns-in_default-clause-late_memory c =
-    let book = c.self.inside in
-    let past = past_of book.history.entries in
-    let prepared = c.in-Ok.ensures.prepared past (length-past_of book.history.entries ∙ search rules) c.self.invariant.stands in
-    rw (← c.self.view_is) (λ late.
-    late_memory-done book.config past (request_of c.args.command.now) c.in-Ok.prepared.reply _ prepared.0
-    (omega (arith, length-past_of book.history.entries, c.len.ensures)))
-
-pub returns-in-Err-carry_out-clause-late_memory : goal.returns-in-Err-carry_out-clause-late_memory
-returns-in-Err-carry_out-clause-late_memory c =
-    let book = c.self.inside in
-    let past = past_of book.history.entries in
-    let prepared = c.in-Ok.ensures.prepared past (length-past_of book.history.entries ∙ search rules) c.self.invariant.stands in
-    rw (← c.self.view_is) (λ late.
-    late_memory-done book.config past (request_of c.args.command.now) c.in-Ok.prepared.reply _ prepared.0
-    (omega (arith, length-past_of book.history.entries, c.len.ensures)))
-
-pub returns-in-Ok-carry_out-clause-late_memory : goal.returns-in-Ok-carry_out-clause-late_memory
-returns-in-Ok-carry_out-clause-late_memory c =
-    let book = c.self.inside in
-    let past = past_of book.history.entries in
-    let prepared = c.in-Ok.ensures.prepared past (length-past_of book.history.entries ∙ search rules) c.self.invariant.stands in
-    rw (← c.self.view_is) (λ late.
-    late_memory-done book.config past (request_of c.args.command.now) c.in-Ok.prepared.reply _ prepared.0
-    (omega (arith, length-past_of book.history.entries, c.len.ensures)))
+    let entry : Entry = record { ticket = c.args.ticket; by = c.args.by; command = c.args.command.now } in
+    let written : c.write_ahead.new.self.ahead ≡ entry ∷ [] = search rules in
+    let ahead = ap (λ (entries : List Entry). length entries) written in
+    let entries = ap (λ (entries : List Entry). length entries) c.write_ahead.ensures.entries in
+    omega (arith, ahead, entries, length-past_of book.history.entries, c.self.invariant.lives.few)

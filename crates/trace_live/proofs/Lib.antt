@@ -1,0 +1,4 @@
+pub mod Limits
+pub mod Living
+pub mod Calls
+pub mod BookAnswers

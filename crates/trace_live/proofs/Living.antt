@@ -1,0 +1,107 @@
+-- A tracer that keeps no history: what it is fit for, and what led to it after one command more.
+use Rattle.std.proofs.Common.{◌≡◌, ℕ, ℤ, ◌+◌, ◌<◌, List, [], ◌∷◌, All, IsOk, Ok, refl, sym, ◌∙◌, subst, arith}
+use Rattle.trace_command.specs.Configs.{IsInRange}
+use Rattle.trace_command.specs.Requests.{Request}
+use Rattle.trace_command.specs.declared.command.Config.{Config}
+use Rattle.trace_command.specs.declared.command.Reply.{Reply}
+use Rattle.trace_command.specs.declared.command.Reply.TheVariants.{Done}
+use Rattle.trace_history.specs.History.{answer_with_room}
+use Rattle.trace_instance.specs.Deliveries.{HasFew, HasFewRows}
+use Rattle.trace_instance.specs.declared.change.Delivery.{Delivery}
+use Rattle.trace_state.specs.States.{IsEmitted, IsPrepared, IsPreparedEmission, IsStateAlike, IsStep, IsUnchanged, IsUsable, StandsFor}
+use Rattle.trace_state.specs.Plain.{IsPreparedPlain}
+use Rattle.trace_state.specs.declared.state.Named.{Named}
+use Rattle.trace_state.specs.declared.state.Prepared.{Prepared}
+use Rattle.trace_state.specs.declared.state.State.{State}
+use Rattle.trace_state.proofs.Alike.{state_alike-stands, unchanged-stands}
+use Rattle.trace_state.proofs.PlainRuns.{IsWrittenPlain, stands-after}
+use Rattle.trace_state.proofs.Stands.{stands_after, stands_after_emission}
+use Rattle.trace_state.proofs.Usable.{few_from_stands, few_rows_from_stands, usable_from_stands}
+use Rattle.trace_live.specs.LiveSeen.{LiveSeen}
+use Rattle.trace_live.specs.Lives.{IsLive, most_done}
+
+-- ---- what it is fit for
+
+pub live-usable : (g : Config) (past : List Request) (live : LiveSeen) → IsLive g past live → IsUsable g live.state
+live-usable g past live is = usable_from_stands g live.state past is.in_range is.stands is.few
+
+pub live-early : (g : Config) (past : List Request) (live : LiveSeen) → IsLive g past live → live.done < most_done → live.state.clock < most_done
+live-early g past live is room = omega (arith, is.stands.early, is.count, room)
+
+pub live-few : (g : Config) (past : List Request) (live : LiveSeen) → IsLive g past live → live.done < most_done
+    → All (λ (n : Named). HasFew n.instance) live.state.instances.items
+live-few g past live is room = few_from_stands g live.state past is.stands (omega (arith, is.count, room))
+
+pub live-few_rows : (g : Config) (past : List Request) (live : LiveSeen) → IsLive g past live → live.done < most_done
+    → All (λ (n : Named). HasFewRows n.instance) live.state.instances.items
+live-few_rows g past live is room = few_rows_from_stands g live.state past is.are_done is.stands (omega (arith, is.count, room))
+
+-- ---- where no command is done
+
+with_state : (g : Config) (past : List Request) (old new : LiveSeen) → IsLive g past old → new.done ≡ old.done → StandsFor g new.state past
+    → IsLive g past new
+with_state g past old new is done stands = record {
+  in_range = is.in_range;
+  are_done = is.are_done;
+  count = done ∙ is.count;
+  few = is.few;
+  stands = stands;
+}
+
+pub live-same : (g : Config) (past : List Request) (old new : LiveSeen) → IsLive g past old → new.done ≡ old.done → new.state ≡ old.state
+    → IsLive g past new
+live-same g past old new is done state =
+    with_state g past old new is done (subst (λ (s : State). StandsFor g s past) (sym state) is.stands)
+
+pub live-alike : (g : Config) (past : List Request) (old new : LiveSeen) → IsLive g past old → new.done ≡ old.done → IsStateAlike old.state new.state
+    → IsLive g past new
+live-alike g past old new is done alike = with_state g past old new is done (state_alike-stands g old.state new.state past alike is.stands)
+
+pub live-unchanged : (g : Config) (past : List Request) (old new : LiveSeen) → IsLive g past old → new.done ≡ old.done
+    → IsUnchanged old.state new.state → IsLive g past new
+live-unchanged g past old new is done same = with_state g past old new is done (unchanged-stands g old.state new.state past same is.stands)
+
+-- ---- after one command more
+
+more : (g : Config) (past : List Request) (old new : LiveSeen) (request : Request) (reply : Reply) → IsLive g past old → old.done < most_done
+    → new.done ≡ old.done + 1 → answer_with_room g past request ≡ Ok reply → StandsFor g new.state (request ∷ past) → IsLive g (request ∷ past) new
+more g past old new request reply is room done given stands =
+    let answered : IsOk (answer_with_room g past request) = rw given refl in record {
+      in_range = is.in_range;
+      are_done = (answered, is.are_done);
+      count = omega (arith, is.count, done);
+      few = omega (arith, is.count, room);
+      stands = stands;
+    }
+
+pub live-changed : (g : Config) (past : List Request) (old new : LiveSeen) (request : Request) (prepared : Prepared) → IsLive g past old
+    → old.done < most_done → new.done ≡ old.done + 1 → IsPrepared g past request old.state (Ok prepared)
+    → IsStep old.state new.state prepared.change → IsLive g (request ∷ past) new
+live-changed g past old new request prepared is room done ready step =
+    more g past old new request prepared.reply is room done ready.0
+    (stands_after g old.state new.state past request prepared is.in_range is.stands ready step)
+
+pub live-emitted : (g : Config) (past : List Request) (old new : LiveSeen) (request : Request) (delivery : Delivery) → IsLive g past old
+    → old.done < most_done → new.done ≡ old.done + 1 → IsPreparedEmission g past request old.state (Ok delivery)
+    → IsEmitted old.state new.state delivery → IsLive g (request ∷ past) new
+live-emitted g past old new request delivery is room done ready emitted =
+    more g past old new request Done is room done ready.0
+    (stands_after_emission g old.state new.state past request delivery is.stands ready emitted)
+
+pub live-plain : (g : Config) (past : List Request) (old new : LiveSeen) (request : Request) (cpu : ℕ) (pid : ℤ) (event : ℕ) → IsLive g past old
+    → old.done < most_done → new.done ≡ old.done + 1 → IsPreparedPlain g old.state request cpu pid event old.pending
+    → IsWrittenPlain old.state new.state old.pending → IsLive g (request ∷ past) new
+live-plain g past old new request cpu pid event is room done ready wrote =
+    more g past old new request Done is room done (ready.prepared past is.stands).0
+    (stands-after g old.state new.state past request cpu pid event old.pending is.stands ready wrote)
+
+-- ---- a new one
+
+pub live-new : (g : Config) (live : LiveSeen) → IsInRange g → live.done ≡ 0 → StandsFor g live.state [] → IsLive g [] live
+live-new g live range none stands = record {
+  in_range = range;
+  are_done = tt;
+  count = none;
+  few = omega arith;
+  stands = stands;
+}

@@ -1,0 +1,4 @@
+pub mod Lives
+pub mod LiveSeen
+pub mod LiveFields
+pub mod LiveLaws

@@ -1,0 +1,27 @@
+-- A tracer that keeps no history answers as a book does.
+use Rattle.std.specs.Prelude.{◌≡◌, ◌≢◌, List, ◌∷◌, ◌++◌, Err}
+use Rattle.trace_command.specs.Configs.{IsInRange}
+use Rattle.trace_command.specs.Requests.{request_of}
+use Rattle.trace_command.specs.declared.command.Command.{Command}
+use Rattle.trace_command.specs.declared.command.Config.{Config}
+use Rattle.trace_command.specs.declared.command.Entry.{Entry}
+use Rattle.trace_command.specs.declared.refusal.Refusal.TheVariants.{HistoryFull}
+use Rattle.trace_history.specs.History.{answer_to, past_of, IsLegal}
+use Rattle.trace_history.specs.Pasts.{AreDone}
+use Rattle.trace_live.specs.Lives.{live_answer}
+
+-- the requests of a legal history were done one after another, so a tracer that was asked them can have come to where they lead
+abbrev pub LegalHistoriesWereDone : Type 0
+LegalHistoriesWereDone = (g : Config) (entries : List Entry) → IsLegal g entries → AreDone g (past_of entries)
+
+-- asked the commands of a legal history, it answers each as a book does, and so does all of them
+abbrev pub HistoriesAreAnsweredAlike : Type 0
+HistoriesAreAnsweredAlike =
+    (g : Config) (before after : List Entry) (entry : Entry) → IsInRange g → IsLegal g (before ++ entry ∷ after)
+    → live_answer g (past_of before) (request_of entry.command) ≡ answer_to g before entry.command
+
+-- and so it does what a book refuses, but for what a full history refuses alone
+abbrev pub RefusalsAreAlike : Type 0
+RefusalsAreAlike =
+    (g : Config) (entries : List Entry) (command : Command) → IsInRange g → answer_to g entries command ≢ Err HistoryFull
+    → live_answer g (past_of entries) (request_of command) ≡ answer_to g entries command

@@ -1,0 +1,19 @@
+//! Dropping what is not needed any more, out of line, so that calls that do without don't pay for the code.
+
+use trace_command::Command;
+use trace_instance::Delivery;
+use trace_state::Prepared;
+
+/// Drops a command, out of line.
+#[inline(never)]
+pub fn let_go(_command: Command) {}
+
+/// Drops what was prepared for a command that is refused.
+#[cold]
+#[inline(never)]
+pub fn let_go_change(_prepared: Prepared) {}
+
+/// Drops what was prepared for an emission that is refused.
+#[cold]
+#[inline(never)]
+pub fn let_go_delivery(_delivery: Delivery) {}

@@ -1,0 +1,11 @@
+//! A tracer that keeps no history: it runs commands one after another in memory that does not grow with their number.
+#![tactic(auto)]
+
+mod discard;
+pub mod laws;
+mod live;
+mod pair;
+
+pub use discard::{let_go, let_go_change, let_go_delivery};
+pub use live::Live;
+pub use pair::single;

@@ -1,0 +1,128 @@
+//! Whole calls: a command is done, or refused.
+
+ghost use Rattle.std.specs.Prelude.{◌≡◌, List, Ok, Err, true, false, IfOk, OnErr};
+ghost use Rattle.trace_command.specs.Requests.{Request, Emission, request_of};
+ghost use Rattle.trace_command.specs.declared.command.Reply.TheVariants.{Done};
+ghost use Rattle.trace_command.specs.declared.refusal.Refusal.TheVariants as refusal;
+ghost use Rattle.trace_history.specs.Settings.{ticks};
+ghost use Rattle.trace_live.specs.Lives.{IsLive, IsCall};
+
+use super::{Live, MOST_DONE};
+use crate::discard::let_go;
+use crate::pair::single;
+use std::alloc::AllocError;
+use std::slice;
+use trace_command::{BorrowedEmission, Command, Refusal, Reply};
+use trace_format::{Pair, borrowed};
+
+impl Live {
+    /// Runs a command, or refuses it. The answer is the one that the commands done before it give. A refused command changes nothing.
+    ///
+    /// If an allocation is refused, `Memory` may replace the answer, but never `NoSuchFile`, `NotReadable`, `NotWritable`, `BadValue`, `NoSuchEvent`,
+    /// `InstanceExists`, `NoSuchInstance` or `NoSuchCpu`, and never a refusal of a command that allocates late (`TakesMemoryLate`): `rmdir`, or a
+    /// write of anything but a declaration, a filter that doesn't clear, a trigger with a filter, or a hist trigger.
+    pub fn ask(&mut self, command: Command) -> Result<Reply, Refusal>
+        ensures call { (past : List Request) → IsLive self.old.config past self.old
+            → IsCall past self.new (request_of command) result }
+        ensures config { self.new.config ≡ self.old.config }
+    {
+        let answer = match &command {
+            Command::Emit {
+                event,
+                cpu,
+                pid,
+                pairs,
+            } => self.ask_pairs(event.as_bytes(), *cpu, *pid, pairs.as_slice()),
+            _ => self.ask_other(&command),
+        };
+        let_go(command);
+        answer
+    }
+
+    // As `ask`, for an emission of these pairs. For a single pair no list is allocated.
+    fn ask_pairs(
+        &mut self,
+        event: &[u8],
+        cpu: u32,
+        pid: i32,
+        pairs: &[Pair],
+    ) -> Result<Reply, Refusal>
+        ensures call { (past : List Request) → IsLive self.old.config past self.old
+            → IsCall past self.new (Emission event.now cpu pid pairs.now) result }
+        ensures config { self.new.config ≡ self.old.config }
+    {
+        if let Some(pair) = single(pairs) {
+            let emission = BorrowedEmission::new(event, cpu, pid, slice::from_ref(&pair));
+            return self.ask_emission(&emission);
+        }
+        let Ok(pairs) = borrowed(self.alloc, pairs) else {
+            return Err(self.refusal_without_memory(cpu, event));
+        };
+        self.ask_emission(&BorrowedEmission::new(event, cpu, pid, &pairs))
+    }
+
+    /// As `ask`, for an emission whose strings are borrowed.
+    pub fn ask_emission(&mut self, emission: &BorrowedEmission<'_>) -> Result<Reply, Refusal>
+        ensures call { (past : List Request) → IsLive self.old.config past self.old
+            → IsCall past self.new (request_of emission.now) result }
+        ensures config { self.new.config ≡ self.old.config }
+    {
+        if self.ask_plain(emission)? {
+            return Ok(Reply::Done);
+        }
+        self.ask_any(emission)
+    }
+
+    // Runs an emission, if it is of the plain kind. Whether it ran. It fails only if memory is refused.
+    #[inline(always)]
+    fn ask_plain(&mut self, emission: &BorrowedEmission<'_>) -> Result<bool, AllocError>
+        ensures ran { (past : List Request) → IsLive self.old.config past self.old → IfOk result (λ ran. ran ≡ true
+            → IsCall past self.new (request_of emission.now) (Ok Done)) }
+        ensures other { (past : List Request) → IsLive self.old.config past self.old → IfOk result (λ ran. ran ≡ false
+            → IsLive self.new.config past self.new) }
+        ensures refused { (past : List Request) → IsLive self.old.config past self.old
+            → OnErr result (IsCall past self.new (request_of emission.now) (Err refusal.Memory)) }
+        ensures config { self.new.config ≡ self.old.config }
+    {
+        let (event, cpu, pid, pairs) = emission.parts();
+        let prepared = match self.prepare_plain(MOST_DONE, event, cpu, pid, pairs) {
+            Ok(prepared) => prepared,
+            Err(error) => return Err(error),
+        };
+        let Some(index) = prepared else {
+            return Ok(false);
+        };
+        self.deliver_plain(index);
+        Ok(true)
+    }
+
+    // As `ask_emission`, for an emission of any kind. Out of line, so that plain ones don't pay for its locals.
+    #[inline(never)]
+    fn ask_any(&mut self, emission: &BorrowedEmission<'_>) -> Result<Reply, Refusal>
+        ensures call { (past : List Request) → IsLive self.old.config past self.old
+            → IsCall past self.new (request_of emission.now) result }
+        ensures config { self.new.config ≡ self.old.config }
+    {
+        let (event, cpu, pid, pairs) = emission.parts();
+        match self.prepare_emission(MOST_DONE, event, cpu, pid, pairs) {
+            Ok(delivery) => {
+                self.deliver(delivery);
+                Ok(Reply::Done)
+            }
+            Err(refusal) => Err(refusal),
+        }
+    }
+
+    // As `ask`, for a command other than an emission.
+    fn ask_other(&mut self, command: &Command) -> Result<Reply, Refusal>
+        requires { ticks (request_of command.now) ≡ 0 }
+        ensures call { (past : List Request) → IsLive self.old.config past self.old
+            → IsCall past self.new (request_of command.now) result }
+        ensures config { self.new.config ≡ self.old.config }
+    {
+        match self.prepare(MOST_DONE, command) {
+            Ok(prepared) => self.carry_out(prepared),
+            Err(refusal) => Err(refusal),
+        }
+    }
+}
