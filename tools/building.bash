@@ -34,7 +34,7 @@ add_crate() {
   done
 }
 
-# Finds the crates that this one is built from, and the sources.
+# Finds these crates and those that they are built from, and the sources.
 find_sources() {
   local line crate
   while IFS= read -r line; do
@@ -44,7 +44,7 @@ find_sources() {
   done < "$top/crates.txt"
   crates=()
   sources=("$top/crates.txt")
-  add_crate "$1"
+  for crate in "$@"; do add_crate "$crate"; done
 }
 
 # The sources for which a test of find holds, each with its time.
@@ -166,13 +166,14 @@ compile() {
 
 # --- Proving ---
 
-# Copies a crate and those that it is built from, without their planted bugs, as a repository.
+# Copies the crates that were found, without their planted bugs, as a repository: `copy_crates TO [PART]`, with another part of each.
 copy_crates() {
   local crate part
   mkdir -p "$1/.git" # rt asks for the top of a repository
   for crate in "${crates[@]}"; do
     mkdir -p "$1/crates/$crate"
-    for part in "$top/crates/$crate"/{src,specs,proofs,stdin,stdout,args,status,data}; do
+    for part in src specs proofs stdin stdout args status data ${2-}; do
+      part=$top/crates/$crate/$part
       [ ! -e "$part" ] || cp -R -- "$part" "$1/crates/$crate/"
     done
     grep -E "^$crate[ :]" "$top/crates.txt" >> "$1/crates.txt"

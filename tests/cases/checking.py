@@ -8,6 +8,7 @@ from cases.running import TOP, Case, Outcome, differences, run
 from cases.words import named
 
 CHECKED = "echo \"%s $* RT_JOBS=$RT_JOBS $TRACECTL_PROGRAM\"\necho '%d passed, %d failed'\nexit %d"
+CRATES = "tracectl trace_lex trace_hist trace_text trace_book trace_snapshot ticket_lock trace_explain trace_list trace_items trace_parts trace_words trace_log".split()
 CHECK_USAGE = b"usage: ./check [--quick | --planted [CRATE..] | --help]\n"
 
 
@@ -18,7 +19,8 @@ def checked(words, commands, settings=(), by=None):
             (Path(top) / folder).mkdir(parents=True)
         shutil.copy(str(TOP / "check"), top)
         shutil.copy(str(TOP / "tools" / "building.bash"), str(Path(top) / "tools"))
-        (Path(top) / "crates.txt").write_text("tracectl:\n")
+        (Path(top) / "crates.txt").write_text("".join("%s:\n" % crate for crate in CRATES))
+        (Path(top) / "HANDLES").write_text("")
         os.utime(str(Path(top) / "crates.txt"), (0, 0))
         link = Path(top) / "commands" / "link"
         link.symlink_to(Path(top) / "check")
@@ -54,9 +56,13 @@ def check_cases():
     proved = dict(tests, **{"crates/tracectl/out/tracectl": ""})
     compiled = dict(whole, **{"tools/unproved.py": "touch $2"})
     unproved = "(nothing of the program is proved)\n"
+    telling = "echo \"rt: $(cut -d: -f1 crates.txt | tr '\\n' ' ')proved\"\necho '100 passed, 0 failed'"
+    ahead = [" min: %s proved\n" % crates for crates in ("trace_lex", "trace_snapshot ticket_lock", "trace_text", "tracectl", " ".join(CRATES))]
     return [
         case("all of it", [], whole, each, 0, jobs, last=b"\n174 passed, 0 failed\n"),
         case("all of it, and rt shares the processors", [], whole, ["rt ci RT_JOBS= "], 0, last=b"\n174 passed, 0 failed\n"),
+        case("all of it, and the chain is proved ahead", [], dict(tests, rt=telling), ahead, 0, last=b"\n174 passed, 0 failed\n"),
+        case("all of it, and little of its memory is free", [], dict(tests, rt=telling, awk="echo 9000000"), ahead[-1:], 0, last=b"\n174 passed, 0 failed\n"),
         case("by a link, with a CDPATH and a TMPDIR that isn't there", [], whole, each, 0, elsewhere, "link", last=b"\n174 passed, 0 failed\n"),
         case("by a relative path, likewise", [], whole, each, 0, elsewhere, "relative", last=b"\n174 passed, 0 failed\n"),
         case("a test that fails", [], dict(whole, **{"tests/threads": CHECKED % ("", 2, 1, 1)}), [], 1, jobs, last=b"\n173 passed, 1 failed\n"),
