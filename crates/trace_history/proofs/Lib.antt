@@ -35,3 +35,4 @@ pub mod TrailExamples
 pub mod Triggered
 pub mod Trailing
 pub mod Unworn
+pub mod WaitingExamples

@@ -20,3 +20,4 @@ pub mod SnapshotExamples
 pub mod HistTriggerExamples
 pub mod SettingExamples
 pub mod TrailExamples
+pub mod WaitingExamples

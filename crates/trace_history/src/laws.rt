@@ -1,10 +1,12 @@
 //! What the words of the answers mean in legal histories, what they give worked scripts, and what callers' trails come to. Entries stand newest
 //! first, those of a book reversed; in trails they stand as in a book. Each function does nothing: its contract is a theorem.
 
+ghost use Rattle.std.specs.Prelude.{[]};
 ghost use Rattle.trace_history.specs.Examples.{small, IsAnswered, merged_reads, instances, instance_made_again, recording_off, lost_line_after_overrun, precedence_and_kept_filter};
 ghost use Rattle.trace_history.specs.SnapshotExamples.{two_snapshots, counted_trigger, unlimited_trigger, removed_trigger, trigger_of_disabled_event, refused_triggers, sides_of_an_instance};
 ghost use Rattle.trace_history.specs.HistTriggerExamples.{shown_triggers, refused_hist_triggers, paused_and_cleared, counted_unrecorded, histograms_of_an_instance, removed_hist_triggers, hist_triggers_anew, four_triggers, triggers_of_two_events, shared_table, table_of_one_event, refused_by_two_rules};
 ghost use Rattle.trace_history.specs.SettingExamples.{switched, filters_of_all, options_of_an_instance, recorded_by_its_settings, emptied, refused_in_order, eight_instances, short, full_history};
+ghost use Rattle.trace_history.specs.WaitingExamples.{AreTold, looks};
 ghost use Rattle.trace_history.specs.Laws.{FiltersAreOfTheirEvents, FiltersHoldAsTheirTrees, RecordsShowTheirRows, KeptRecordsShowEmissions, KeptSpareRecordsShowEmissions, SnapshotsSwapTheSides, TriggersSwapTheSides, SnapshotsStay, TriggersHaveTheirSpare, SparesBeginEmpty, PipeReadsConsumeWhatTheyShow, WholePipeReadsConsumeWhatTheyShow, AtMostFourTriggers, HistTriggersDiffer, HistTriggersAreInOrder, HistTriggersAreThoseAttached};
 ghost use Rattle.trace_history.specs.TableLaws.{CountedRowsAreOfEmissions, EmissionsAreCountedOnce, EmissionsAreCounted, UnmetEmissionsAreNotCounted, NamedTablesAreUnions, OnlyAskingPauses, PausesCountNothing, ClearsLeaveNone, OtherRequestsLeaveHistTriggers, OtherRequestsLeaveTables, TablesBeginEmpty, TablesAreAskedThroughEach, JoiningPausesOrLeaves, OtherTriggersLeaveTables, TablesGoWithTheirLast, NamedTablesAreShared, SharedTablesFit, SharedTablesAreShownAlike};
 ghost use Rattle.trace_history.specs.TrailLaws.{TrailsHoldDoneCallsOnce, EachCallIsAnswered, LoneCallersAreAnswered, WornIsNoAnswer, MemoryIsNoAnswer};
@@ -142,6 +144,11 @@ pub fn setting_examples_are_answered()
     ensures refused { IsAnswered (small 1) refused_in_order }
     ensures instances { IsAnswered (small 1) eight_instances }
     ensures full { IsAnswered short full_history }
+{}
+
+/// And to a worked script with looks at pipes: each command is done, and each look tells what stands beside it.
+pub fn waiting_example_is_told()
+    ensures { AreTold (small 2) [] looks }
 {}
 
 /// Each call of a caller that was done stands once in the history, in the order in which the caller asked: its entries are of just the commands
