@@ -36,3 +36,4 @@ pub mod Triggered
 pub mod Trailing
 pub mod Unworn
 pub mod WaitingExamples
+pub mod Looks

@@ -273,18 +273,18 @@ missing g past (OfInstance file) = None
 missing g past (OfCpu cpu file) = missing_cpu g cpu
 missing g past (OfEvent event file) = missing_event past event
 
--- a refusal, or else the answer
-abbrev pub unless_refused : Option Refusal → Result Reply Refusal → Result Reply Refusal
+-- a refusal, or else the answer: a reply, or what a look tells (`Waiting`)
+abbrev pub unless_refused : {A : Type 0} → Option Refusal → Result A Refusal → Result A Refusal
 unless_refused (Some refusal) answered = Err refusal
 unless_refused None answered = answered
 
 -- a file that is there is answered; a path may name none
-abbrev pub file_answer : Config → List Request → (File → Result Reply Refusal) → Option File → Result Reply Refusal
+abbrev pub file_answer : {A : Type 0} → Config → List Request → (File → Result A Refusal) → Option File → Result A Refusal
 file_answer g past answered None = Err NoSuchFile
 file_answer g past answered (Some file) = unless_refused (missing g past file) (answered file)
 
 -- the instance comes before all else
-abbrev pub instance_answer : Option (List ℕ) → List Request → Result Reply Refusal → Result Reply Refusal
+abbrev pub instance_answer : {A : Type 0} → Option (List ℕ) → List Request → Result A Refusal → Result A Refusal
 instance_answer instance past answered = if is_there instance past then answered else Err NoSuchInstance
 
 -- the answer, were there no limit on the history

@@ -1,7 +1,8 @@
 -- What the words of the answers mean in legal histories, and after any requests what pipe reads consume and which records snapshots move. The newest
 -- entry comes first.
-use Rattle.std.specs.Prelude.{◌≡◌, ◌↔◌, ℕ, ◌==◌, ◌<◌, ◌≤◌, ℤ, Bool, IsTrue, true, false, not, ◌&&◌, ◌||◌, List, [], ◌∷◌, ◌++◌, length, map, All, Option, Some, None, Result, Ok}
+use Rattle.std.specs.Prelude.{◌≡◌, ◌↔◌, ℕ, ◌==◌, ◌<◌, ◌≤◌, nat_lt, ℤ, Bool, IsTrue, true, false, not, ◌&&◌, ◌||◌, List, [], ◌∷◌, ◌++◌, length, map, All, Option, Some, None, Result, Ok}
 use Rattle.std.specs.List.{AllPairs, Contains, filter, list_any}
+use Rattle.std.specs.Result.{result_err}
 use Rattle.page_ring.specs.Account.{Reading}
 use Rattle.trace_buffer.specs.Families.{CpuReading, on_cpu, cpu_readings}
 use Rattle.trace_lex.specs.Decimals.{written_number}
@@ -15,8 +16,8 @@ use Rattle.trace_trigger.specs.declared.fault.TriggerFault.{TriggerFault}
 use Rattle.trace_trigger.specs.declared.trigger.TriggerText.{TriggerText}
 use Rattle.trace_trigger.specs.declared.trigger.TriggerText.TheVariants.{Hist, RemoveHist}
 use Rattle.trace_command.specs.Configs.{IsInRange}
-use Rattle.trace_history.specs.History.{trigger_count, requests_of, IsLegalNewestFirst}
-use Rattle.trace_command.specs.Paths.{OfInstance, OfCpu}
+use Rattle.trace_history.specs.History.{answer_with_room, trigger_count, requests_of, IsLegalNewestFirst}
+use Rattle.trace_command.specs.Paths.{File, OfInstance, OfCpu}
 use Rattle.trace_command.specs.Requests.{Request, WriteFile, ReadFile, request_of}
 use Rattle.trace_command.specs.declared.file_name.CpuFile.TheVariants as per_cpu
 use Rattle.trace_command.specs.declared.file_name.TopFile.TheVariants as top
@@ -25,6 +26,7 @@ use Rattle.trace_history.specs.Rings.{new_rings, with_emitted, rings, other_ring
 use Rattle.trace_history.specs.Settings.{NumberedEvent, event_named, declared_events, filter_of, is_same, makes}
 use Rattle.trace_history.specs.Snapshots.{exchanges, has_spare}
 use Rattle.trace_history.specs.Triggers.{acts, trigger_of, has_trigger}
+use Rattle.trace_history.specs.Waiting.{waiting, waits_in}
 use Rattle.trace_history.specs.HistTriggers.{HistTrigger, Written, hist_triggers, hists_of, is_of, says_same, has_same, kept_by, left_by, new_hist, written_to}
 use Rattle.trace_command.specs.declared.command.Config.{Config}
 use Rattle.trace_command.specs.declared.command.Entry.{Entry}
@@ -223,3 +225,20 @@ pub record IsAttached (instance : Option (List ℕ)) (t : HistTrigger) (past : L
 abbrev pub HistTriggersAreThoseAttached : Type 0
 HistTriggersAreThoseAttached =
     (instance : Option (List ℕ)) (t : HistTrigger) (past : List Request) → Contains (hist_triggers instance past) t ↔ IsAttached instance t past
+
+-- a look at a pipe tells whether a read of it takes a record, unless its limit is 0
+abbrev pub LooksTellWhatReadsTake : Type 0
+LooksTellWhatReadsTake =
+    (g : Config) (instance : Option (List ℕ)) (past : List Request) (limit : ℕ) → 0 < limit
+    → waits_in g instance past (OfInstance top.TracePipe) ≡ Ok (nat_lt 0 (length (pipe_read g (Some limit) (rings g instance past)).taken))
+
+abbrev pub CpuLooksTellWhatReadsTake : Type 0
+CpuLooksTellWhatReadsTake =
+    (g : Config) (instance : Option (List ℕ)) (past : List Request) (cpu limit : ℕ) → 0 < limit
+    → waits_in g instance past (OfCpu cpu per_cpu.TracePipe) ≡ Ok (nat_lt 0 (length (cpu_pipe_read g cpu (Some limit) (rings g instance past)).taken))
+
+-- and it is refused as a read with a limit is, were there no limit on the history
+abbrev pub LooksAreRefusedAsReads : Type 0
+LooksAreRefusedAsReads =
+    (g : Config) (past : List Request) (instance : Option (List ℕ)) (file : Option File) (limit : ℕ)
+    → result_err (waiting g past instance file) ≡ result_err (answer_with_room g past (ReadFile instance file (Some limit)))

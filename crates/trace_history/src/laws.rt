@@ -7,7 +7,7 @@ ghost use Rattle.trace_history.specs.SnapshotExamples.{two_snapshots, counted_tr
 ghost use Rattle.trace_history.specs.HistTriggerExamples.{shown_triggers, refused_hist_triggers, paused_and_cleared, counted_unrecorded, histograms_of_an_instance, removed_hist_triggers, hist_triggers_anew, four_triggers, triggers_of_two_events, shared_table, table_of_one_event, refused_by_two_rules};
 ghost use Rattle.trace_history.specs.SettingExamples.{switched, filters_of_all, options_of_an_instance, recorded_by_its_settings, emptied, refused_in_order, eight_instances, short, full_history};
 ghost use Rattle.trace_history.specs.WaitingExamples.{AreTold, looks};
-ghost use Rattle.trace_history.specs.Laws.{FiltersAreOfTheirEvents, FiltersHoldAsTheirTrees, RecordsShowTheirRows, KeptRecordsShowEmissions, KeptSpareRecordsShowEmissions, SnapshotsSwapTheSides, TriggersSwapTheSides, SnapshotsStay, TriggersHaveTheirSpare, SparesBeginEmpty, PipeReadsConsumeWhatTheyShow, WholePipeReadsConsumeWhatTheyShow, AtMostFourTriggers, HistTriggersDiffer, HistTriggersAreInOrder, HistTriggersAreThoseAttached};
+ghost use Rattle.trace_history.specs.Laws.{FiltersAreOfTheirEvents, FiltersHoldAsTheirTrees, RecordsShowTheirRows, KeptRecordsShowEmissions, KeptSpareRecordsShowEmissions, SnapshotsSwapTheSides, TriggersSwapTheSides, SnapshotsStay, TriggersHaveTheirSpare, SparesBeginEmpty, PipeReadsConsumeWhatTheyShow, WholePipeReadsConsumeWhatTheyShow, AtMostFourTriggers, HistTriggersDiffer, HistTriggersAreInOrder, HistTriggersAreThoseAttached, LooksTellWhatReadsTake, CpuLooksTellWhatReadsTake, LooksAreRefusedAsReads};
 ghost use Rattle.trace_history.specs.TableLaws.{CountedRowsAreOfEmissions, EmissionsAreCountedOnce, EmissionsAreCounted, UnmetEmissionsAreNotCounted, NamedTablesAreUnions, OnlyAskingPauses, PausesCountNothing, ClearsLeaveNone, OtherRequestsLeaveHistTriggers, OtherRequestsLeaveTables, TablesBeginEmpty, TablesAreAskedThroughEach, JoiningPausesOrLeaves, OtherTriggersLeaveTables, TablesGoWithTheirLast, NamedTablesAreShared, SharedTablesFit, SharedTablesAreShownAlike};
 ghost use Rattle.trace_history.specs.TrailLaws.{TrailsHoldDoneCallsOnce, EachCallIsAnswered, LoneCallersAreAnswered, WornIsNoAnswer, MemoryIsNoAnswer};
 ghost use Rattle.trace_history.specs.TrailExamples.{FirstMakes, SecondMakes, ExactlyOneMakes};
@@ -55,6 +55,17 @@ pub fn pipe_reads_consume_what_they_show()
     ensures all { WholePipeReadsConsumeWhatTheyShow }
 {
     trace_buffer::laws::reads_consume_what_they_take();
+}
+
+/// A look at a pipe tells whether a read of it takes a record, whether it is of one CPU's pipe or of the pipe of all; and it is refused as a read
+/// with a limit is, but never since a history is full.
+pub fn looks_tell_what_reads_take()
+    ensures all { LooksTellWhatReadsTake }
+    ensures cpu { CpuLooksTellWhatReadsTake }
+    ensures refused { LooksAreRefusedAsReads }
+{
+    trace_buffer::laws::waiting_is_read();
+    trace_buffer::laws::reads_take_so_many();
 }
 
 /// In a legal history an event has at most four triggers in an instance. Its hist triggers are those that were attached and not taken away since; no

@@ -1,12 +1,11 @@
 //! Whether a record waits to be read in a pipe: a look, which consumes nothing and takes no memory.
 
-ghost use Rattle.std.specs.Prelude.{◌≡◌, ℕ, List, Option, Some};
+ghost use Rattle.std.specs.Prelude.{◌≡◌, ℕ, List, Option};
 ghost use Rattle.trace_buffer.specs.Buffers as buffers;
 ghost use Rattle.trace_command.specs.Requests.{Request};
 ghost use Rattle.trace_command.specs.declared.command.Config.{Config};
 ghost use Rattle.trace_format.specs.Definitions.{Definition};
-ghost use Rattle.trace_history.specs.History.{read_answer};
-ghost use Rattle.trace_history.specs.Waiting.{unless_unread, waits_in};
+ghost use Rattle.trace_history.specs.Waiting.{waits_in};
 ghost use Rattle.trace_instance.specs.Files.{HasCpu, file_at};
 ghost use Rattle.trace_instance.specs.Instances.{InstanceStandsFor};
 
@@ -18,9 +17,7 @@ use trace_command::{CpuFile, Refusal, TopFile};
 pub fn has_waiting(instance: &Instance, file: File) -> Result<bool, Refusal>
     requires cpu { HasCpu (buffers.cpus instance.now.sides.live) file }
     ensures { (g : Config) (name : Option (List ℕ)) (past : List Request) (events : List Definition)
-        → InstanceStandsFor g name past instance.now
-        → result ≡ unless_unread (waits_in g name past (Some (file_at events file)))
-        (read_answer g name past (Some 0) (file_at events file)) }
+        → InstanceStandsFor g name past instance.now → result ≡ waits_in g name past (file_at events file) }
 {
     match file {
         File::OfInstance(TopFile::TracePipe) => Ok(instance.buffer().has_waiting()),

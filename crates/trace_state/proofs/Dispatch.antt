@@ -75,10 +75,19 @@ readable g source (file.OfEvent event named) usable there = record {
 -- ---- what an address answers
 
 -- a file that is there is answered
-answered-there : (g : Config) (past : List Request) (name : Option (List ℕ)) (answered : paths.File → Result Reply Refusal) (named : paths.File)
+answered-there : {A : Type 0} (g : Config) (past : List Request) (name : Option (List ℕ)) (answered : paths.File → Result A Refusal) (named : paths.File)
     → is_there name past ≡ true → missing g past named ≡ None
     → instance_answer name past (file_answer g past answered (Some named)) ≡ answered named
 answered-there g past name answered named is none = rw (is, none) refl
+
+-- and so is one that was found
+pub answered-found : {A : Type 0} (g : Config) (state : State) (past : List Request) (name : Option (List ℕ)) (answered : paths.File → Result A Refusal)
+    (found : File) → StandsFor g state past → is_there name past ≡ true → IsThere g.cpus state.catalog found
+    → instance_answer name past (file_answer g past answered (Some (file_at state.catalog found))) ≡ answered (file_at state.catalog found)
+answered-found g state past name answered found stands is there =
+    answered-there g past name answered (file_at state.catalog found) is
+    (nothing_missing g past state.catalog found stands.events
+    (subst (λ (events : List Definition). AreEvents [] events) (sym stands.events) stands.distinct) there)
 
 -- a refusal of an equal answer
 refused-as : (refused : Refusal) (one other : Result Reply Refusal) → other ≡ one → IsRefusal refused one → IsRefusal refused other
@@ -108,9 +117,7 @@ write-answers : (g : Config) (state : State) (past : List Request) (name : Optio
     → StandsFor g state past → is_there name past ≡ true → IsThere g.cpus state.catalog found
     → answer_with_room g past (write_to state name found append text) ≡ write_answer g name past append text (file_at state.catalog found)
 write-answers g state past name found append text stands is there =
-    answered-there g past name (write_answer g name past append text) (file_at state.catalog found) is
-    (nothing_missing g past state.catalog found stands.events
-    (subst (λ (events : List Definition). AreEvents [] events) (sym stands.events) stands.distinct) there)
+    answered-found g state past name (write_answer g name past append text) found stands is there
 
 usable-at : (g : Config) (state : State) (past : List Request) (index : ℕ) (d : Named) → IsUsable g state → StandsFor g state past
     → index < length state.instances.items
@@ -260,13 +267,11 @@ added g state past name append text event id stands is read defined free given =
 abbrev pub read_of : State → Option (List ℕ) → File → Option ℕ → Request
 read_of state name found limit = ReadFile name (Some (file_at state.catalog found)) limit
 
-pub read-answers : (g : Config) (state : State) (past : List Request) (name : Option (List ℕ)) (found : File) (limit : Option ℕ)
+read-answers : (g : Config) (state : State) (past : List Request) (name : Option (List ℕ)) (found : File) (limit : Option ℕ)
     → StandsFor g state past → is_there name past ≡ true → IsThere g.cpus state.catalog found
     → answer_with_room g past (read_of state name found limit) ≡ read_answer g name past limit (file_at state.catalog found)
 read-answers g state past name found limit stands is there =
-    answered-there g past name (read_answer g name past limit) (file_at state.catalog found) is
-    (nothing_missing g past state.catalog found stands.events
-    (subst (λ (events : List Definition). AreEvents [] events) (sym stands.events) stands.distinct) there)
+    answered-found g state past name (read_answer g name past limit) found stands is there
 
 read-done : (g : Config) (state : State) (past : List Request) (name : Option (List ℕ)) (index : ℕ) (found : File) (limit : Option ℕ)
     (shown : Shown) → IsUsable g state → StandsFor g state past → is_there name past ≡ true → IsAt state index name
