@@ -35,11 +35,11 @@ pub done-had_room : (g : Config) (past : List Request) (request : Request) → I
 unfolding answer
 done-had_room g past request done = by (answer_with_room g past request) done
   where
-    by : (r : Result Reply Refusal) → IsOk (unless_full g (length past) r) → IsOk r × (length past < g.history_limit)
+    by : (r : Result Reply Refusal) → IsOk (unless_full g.history_limit (length past) r) → IsOk r × (length past < g.history_limit)
     by (Err refusal) d = absurd (false≢true d)
     by (Ok reply) d = by_room (nat_lt (length past) g.history_limit) refl d
       where
-        by_room : (room : Bool) → nat_lt (length past) g.history_limit ≡ room → IsOk (unless_full g (length past) (Ok reply))
+        by_room : (room : Bool) → nat_lt (length past) g.history_limit ≡ room → IsOk (unless_full g.history_limit (length past) (Ok reply))
             → IsOk (let r : Result Reply Refusal = Ok reply in r) × (length past < g.history_limit)
         by_room true is d' = (refl, ltb-true (length past) g.history_limit is)
         by_room false is d' = absurd (let h : false ≡ true = rw is at d' in false≢true h)

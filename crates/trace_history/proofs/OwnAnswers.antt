@@ -245,12 +245,12 @@ with_room g past (WriteFile instance file append text) =
 with_room g past (ReadFile instance file limit) =
     in_instance instance past _ (on_file g past (read_answer g instance past limit) file (shown g instance past limit))
 
-unless_full_is : (g : Config) (count : ℕ) (r : Result Reply Refusal) → IsOwn r → IsOwn (unless_full g count r)
-unless_full_is g count (Err refusal) a = a
-unless_full_is g count (Ok reply) a = either (nat_lt count g.history_limit) _ _ a tt
+unless_full_is : (limit count : ℕ) (r : Result Reply Refusal) → IsOwn r → IsOwn (unless_full limit count r)
+unless_full_is limit count (Err refusal) a = a
+unless_full_is limit count (Ok reply) a = either (nat_lt count limit) _ _ a tt
 
 pub answers-are_own : (g : Config) (entries : List Entry) (command : Command) → IsOwn (answer_to g entries command)
 unfolding answer
 answers-are_own g entries command =
     let past = past_of entries in
-    unless_full_is g (length past) (answer_with_room g past (request_of command)) (with_room g past (request_of command))
+    unless_full_is g.history_limit (length past) (answer_with_room g past (request_of command)) (with_room g past (request_of command))

@@ -295,14 +295,14 @@ answer_with_room g past (RemoveInstance name) = remove_answer past name
 answer_with_room g past (WriteFile instance file append text) = instance_answer instance past (file_answer g past (write_answer g instance past append text) file)
 answer_with_room g past (ReadFile instance file limit) = instance_answer instance past (file_answer g past (read_answer g instance past limit) file)
 
--- what would be done is refused where the history is full
-abbrev pub unless_full : Config → ℕ → Result Reply Refusal → Result Reply Refusal
-unless_full g count (Err refusal) = Err refusal
-unless_full g count (Ok reply) = if nat_lt count g.history_limit then Ok reply else Err HistoryFull
+-- what would be done is refused where as many requests were done as the limit says
+abbrev pub unless_full : ℕ → ℕ → Result Reply Refusal → Result Reply Refusal
+unless_full limit count (Err refusal) = Err refusal
+unless_full limit count (Ok reply) = if nat_lt count limit then Ok reply else Err HistoryFull
 
 -- the answer that the requests done so far give a request
 unfoldable pub answer : Config → List Request → Request → Result Reply Refusal
-answer g past request = unless_full g (length past) (answer_with_room g past request)
+answer g past request = unless_full g.history_limit (length past) (answer_with_room g past request)
 
 -- ---- histories
 

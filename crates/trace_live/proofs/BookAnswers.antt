@@ -25,13 +25,13 @@ answers-alike : (limit : ℕ) (g : Config) (past : List Request) (request : Requ
 unfolding answer limited_answer
 answers-alike limit g past request above other = by (answer_with_room g past request) other
   where
-    by : (r : Result Reply Refusal) → unless_full g (length past) r ≢ Err HistoryFull
-        → unless_full (record g { history_limit = limit }) (length past) r ≡ unless_full g (length past) r
+    by : (r : Result Reply Refusal) → unless_full g.history_limit (length past) r ≢ Err HistoryFull
+        → unless_full limit (length past) r ≡ unless_full g.history_limit (length past) r
     by (Err refusal) differs = refl
     by (Ok reply) differs = by_room (nat_lt (length past) g.history_limit) refl
       where
         by_room : (room : Bool) → nat_lt (length past) g.history_limit ≡ room
-            → unless_full (record g { history_limit = limit }) (length past) (Ok reply) ≡ unless_full g (length past) (Ok reply)
+            → unless_full limit (length past) (Ok reply) ≡ unless_full g.history_limit (length past) (Ok reply)
         by_room true is =
             let few : length past < g.history_limit = ltb-true (length past) g.history_limit is in
             let room : length past < limit = omega arith in

@@ -37,7 +37,7 @@ pub early-with_room : (limit : ℕ) (g : Config) (past : List Request) (request 
 unfolding limited_answer
 early-with_room limit g past request early = by (answer_with_room g past request) early
   where
-    by : (r : Result Reply Refusal) → IsFoundEarly (unless_full (record g { history_limit = limit }) (length past) r) → IsFoundEarly r
+    by : (r : Result Reply Refusal) → IsFoundEarly (unless_full limit (length past) r) → IsFoundEarly r
     by (Err refusal) e = e
     by (Ok reply) e = by_room (nat_lt (length past) limit) refl
       where

@@ -25,7 +25,7 @@ most_done = most_requests
 
 -- the answer that the requests done so far give a request where no more than so many are done: HistoryFull to what would be one too many
 unfoldable pub limited_answer : ℕ → Config → List Request → Request → Result Reply Refusal
-limited_answer limit g past request = unless_full (record g { history_limit = limit }) (length past) (answer_with_room g past request)
+limited_answer limit g past request = unless_full limit (length past) (answer_with_room g past request)
 
 -- the answer of a tracer that keeps no history. The limit of its configuration is one of histories, and says nothing of it.
 abbrev pub live_answer : Config → List Request → Request → Result Reply Refusal
