@@ -10,17 +10,17 @@ use Rattle.trace_history.specs.History.{answer_to, past_of, IsLegal}
 use Rattle.trace_history.specs.Pasts.{AreDone}
 use Rattle.trace_live.specs.Lives.{live_answer}
 
--- the requests of a legal history were done one after another, so a tracer that was asked them can have come to where they lead
+-- the requests of a legal history were done one after another, as `IsLive` says of those that led to a tracer
 abbrev pub LegalHistoriesWereDone : Type 0
 LegalHistoriesWereDone = (g : Config) (entries : List Entry) → IsLegal g entries → AreDone g (past_of entries)
 
--- asked the commands of a legal history, it answers each as a book does, and so does all of them
+-- each command of a legal history is answered as the book answered it, so it is done
 abbrev pub HistoriesAreAnsweredAlike : Type 0
 HistoriesAreAnsweredAlike =
     (g : Config) (before after : List Entry) (entry : Entry) → IsInRange g → IsLegal g (before ++ entry ∷ after)
     → live_answer g (past_of before) (request_of entry.command) ≡ answer_to g before entry.command
 
--- and so it does what a book refuses, but for what a full history refuses alone
+-- and any command is answered as by a book, unless that answers HistoryFull
 abbrev pub RefusalsAreAlike : Type 0
 RefusalsAreAlike =
     (g : Config) (entries : List Entry) (command : Command) → IsInRange g → answer_to g entries command ≢ Err HistoryFull

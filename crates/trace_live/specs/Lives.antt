@@ -19,7 +19,7 @@ use Rattle.trace_live.specs.LiveSeen.{LiveSeen}
 
 -- ---- answers
 
--- how many commands a tracer that keeps no history does
+-- how many commands a tracer that keeps no history does: 2^60
 abbrev pub most_done : ℕ
 most_done = most_requests
 
