@@ -41,6 +41,11 @@ pub record IsLive (g : Config) (past : List Request) (live : LiveSeen) : Type 0 
   pub few : length past ≤ most_done
   pub stands : StandsFor g live.state past
 
+-- some requests led to it
+pub record WasLedTo (live : LiveSeen) : Type 0 where
+  pub past : List Request
+  pub lives : IsLive live.config past live
+
 -- ---- what is prepared
 
 -- what was prepared for a request where no more than so many are done, or why it is refused

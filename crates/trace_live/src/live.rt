@@ -33,7 +33,7 @@ ghost use Rattle.trace_command.specs.Requests.{Request};
 ghost use Rattle.trace_command.specs.declared.refusal.Refusal.TheVariants as refusal;
 ghost use Rattle.trace_history.specs.Settings.{declared_events, instance_names, is_there, now_of};
 ghost use Rattle.trace_instance.specs.Instances.{InstanceStandsFor};
-ghost use Rattle.trace_live.specs.Lives.{IsLive};
+ghost use Rattle.trace_live.specs.Lives.{IsLive, WasLedTo};
 
 use std::alloc::Global;
 use std::marker::Model;
@@ -76,11 +76,11 @@ impl Model for Live {
 
     ghost Value = { LiveSeen };
 
-    ghost use Rattle.trace_live.specs.LiveFields.{seen, HasPast};
+    ghost use Rattle.trace_live.specs.LiveFields.{seen, IsLed};
 
     ghost view = { seen };
 
-    ghost invariant = { HasPast };
+    ghost invariant = { IsLed };
 }
 
 impl Live {
@@ -127,6 +127,13 @@ impl Live {
         ensures { (past : List Request) → IsLive self.now.config past self.now → result ≡ length past }
     {
         self.done
+    }
+
+    /// A theorem: some requests led to it. So the clauses say something also to whoever has a tracer, and no list of what was done.
+    pub fn was_led(&self)
+        ensures { WasLedTo self.now }
+    {
+        let _done = self.done;
     }
 
     /// The clock: the number of emissions done.
