@@ -1,5 +1,5 @@
 -- What calls come to.
-use Rattle.std.proofs.Common.{◌≡◌, ◌<◌, List, ◌∷◌, length, Result, Ok, Err, IfOk, IfErr, OnOk, OnErr, refl, sym, subst, arith}
+use Rattle.std.proofs.Common.{◌≡◌, ℕ, ◌<◌, List, ◌∷◌, length, Result, Ok, Err, IfOk, IfErr, OnOk, OnErr, refl, sym, subst, arith}
 use Rattle.trace_command.specs.Refusals.{IsFoundEarly, IsRefusal}
 use Rattle.trace_command.specs.Requests.{Request}
 use Rattle.trace_command.specs.declared.command.Config.{Config}
@@ -11,27 +11,28 @@ use Rattle.trace_history.specs.LateMemory.{TakesMemoryLate}
 use Rattle.trace_state.specs.States.{IsPrepared}
 use Rattle.trace_state.specs.declared.state.Prepared.{Prepared}
 use Rattle.trace_live.specs.LiveSeen.{LiveSeen}
-use Rattle.trace_live.specs.Lives.{IsCall, IsLive, live_answer, most_done}
+use Rattle.trace_live.specs.Lives.{IsCallWithin, IsLive, limited_answer}
 use Rattle.trace_live.proofs.Limits.{early-with_room, limited-done, limited-late}
 
 -- one that is done
-pub call-done : (g : Config) (past : List Request) (new : LiveSeen) (request : Request) (reply : Reply) → new.config ≡ g
-    → answer_with_room g past request ≡ Ok reply → length past < most_done → IsLive new.config (request ∷ past) new → IsCall past new request (Ok reply)
-call-done g past new request reply config done room lives =
+pub call-done : (limit : ℕ) (g : Config) (past : List Request) (new : LiveSeen) (request : Request) (reply : Reply) → new.config ≡ g
+    → answer_with_room g past request ≡ Ok reply → length past < limit → IsLive new.config (request ∷ past) new
+    → IsCallWithin limit past new request (Ok reply)
+call-done limit g past new request reply config done room lives =
     let given : answer_with_room new.config past request ≡ Ok reply = rw config done in
-    let is : live_answer new.config past request ≡ Ok reply = limited-done most_done new.config past request reply given room in record {
+    let is : limited_answer limit new.config past request ≡ Ok reply = limited-done limit new.config past request reply given room in record {
       reply = is;
-      early = λ early. absurd (limited-late most_done new.config past request reply given early);
+      early = λ early. absurd (limited-late limit new.config past request reply given early);
       late_memory = λ late. rw is tt;
       done = lives;
       refused = tt;
     }
 
 -- one that is refused
-pub call-refused : (past : List Request) (new : LiveSeen) (request : Request) (refusal : Refusal)
-    → IsRefusal refusal (live_answer new.config past request) → (TakesMemoryLate request → refusal ≡ Memory → ⊥) → IsLive new.config past new
-    → IsCall past new request (Err refusal)
-call-refused past new request refusal is other lives = record {
+pub call-refused : (limit : ℕ) (past : List Request) (new : LiveSeen) (request : Request) (refusal : Refusal)
+    → IsRefusal refusal (limited_answer limit new.config past request) → (TakesMemoryLate request → refusal ≡ Memory → ⊥) → IsLive new.config past new
+    → IsCallWithin limit past new request (Err refusal)
+call-refused limit past new request refusal is other lives = record {
   reply = is.0;
   early = λ early. sym (is.1 early);
   late_memory = λ late. rw (is.0 (other late)) refl;
@@ -40,41 +41,41 @@ call-refused past new request refusal is other lives = record {
 }
 
 -- one that could be done, for which memory is refused
-pub call-memory : (g : Config) (past : List Request) (new : LiveSeen) (request : Request) (reply : Reply) → new.config ≡ g
-    → answer_with_room g past request ≡ Ok reply → length past < most_done → IsLive new.config past new → IsCall past new request (Err Memory)
-call-memory g past new request reply config done room lives =
+pub call-memory : (limit : ℕ) (g : Config) (past : List Request) (new : LiveSeen) (request : Request) (reply : Reply) → new.config ≡ g
+    → answer_with_room g past request ≡ Ok reply → length past < limit → IsLive new.config past new → IsCallWithin limit past new request (Err Memory)
+call-memory limit g past new request reply config done room lives =
     let given : answer_with_room new.config past request ≡ Ok reply = rw config done in
-    let is : live_answer new.config past request ≡ Ok reply = limited-done most_done new.config past request reply given room in record {
+    let is : limited_answer limit new.config past request ≡ Ok reply = limited-done limit new.config past request reply given room in record {
       reply = λ other. absurd (other refl);
-      early = λ early. absurd (limited-late most_done new.config past request reply given early);
+      early = λ early. absurd (limited-late limit new.config past request reply given early);
       late_memory = λ late. rw is tt;
       done = tt;
       refused = lives;
     }
 
 -- one for which memory is refused before all was looked at, but after what is found early
-pub call-out_of_memory : (past : List Request) (new : LiveSeen) (request : Request) → (IsFoundEarly (answer_with_room new.config past request) → ⊥)
-    → (TakesMemoryLate request → ⊥) → IsLive new.config past new → IsCall past new request (Err Memory)
-call-out_of_memory past new request late other lives = record {
+pub call-out_of_memory : (limit : ℕ) (past : List Request) (new : LiveSeen) (request : Request) → (IsFoundEarly (answer_with_room new.config past request) → ⊥)
+    → (TakesMemoryLate request → ⊥) → IsLive new.config past new → IsCallWithin limit past new request (Err Memory)
+call-out_of_memory limit past new request late other lives = record {
   reply = λ differs. absurd (differs refl);
-  early = λ early. absurd (late (early-with_room most_done new.config past request early));
+  early = λ early. absurd (late (early-with_room limit new.config past request early));
   late_memory = λ is. absurd (other is);
   done = tt;
   refused = lives;
 }
 
 -- one whose change was prepared, and which is done or refused memory then
-pub call-carried : (past : List Request) (old new : LiveSeen) (request : Request) (prepared : Prepared) (result : Result Reply Refusal)
-    → new.config ≡ old.config → IsLive old.config past old → IsPrepared old.config past request old.state (Ok prepared) → old.done < most_done
+pub call-carried : (limit : ℕ) (past : List Request) (old new : LiveSeen) (request : Request) (prepared : Prepared) (result : Result Reply Refusal)
+    → new.config ≡ old.config → IsLive old.config past old → IsPrepared old.config past request old.state (Ok prepared) → old.done < limit
     → OnOk result ((p : List Request) (r : Request) → IsLive old.config p old → IsPrepared old.config p r old.state (Ok prepared)
     → IsLive new.config (r ∷ p) new)
     → IfOk result (λ reply. reply ≡ prepared.reply) → OnErr result ((p : List Request) → IsLive old.config p old → IsLive new.config p new)
-    → IfErr result (λ refusal. refusal ≡ Memory) → IsCall past new request result
-call-carried past old new request prepared (Ok reply) config lives given room carried is kept memory =
-    let left : length past < most_done = omega (arith, lives.count, room) in
-    subst (λ (r : Reply). IsCall past new request (Ok r)) (sym is)
-    (call-done old.config past new request prepared.reply config given.0 left (carried past request lives given))
-call-carried past old new request prepared (Err refusal) config lives given room carried is kept memory =
-    let left : length past < most_done = omega (arith, lives.count, room) in
-    subst (λ (r : Refusal). IsCall past new request (Err r)) (sym memory)
-    (call-memory old.config past new request prepared.reply config given.0 left (kept past lives))
+    → IfErr result (λ refusal. refusal ≡ Memory) → IsCallWithin limit past new request result
+call-carried limit past old new request prepared (Ok reply) config lives given room carried is kept memory =
+    let left : length past < limit = omega (arith, lives.count, room) in
+    subst (λ (r : Reply). IsCallWithin limit past new request (Ok r)) (sym is)
+    (call-done limit old.config past new request prepared.reply config given.0 left (carried past request lives given))
+call-carried limit past old new request prepared (Err refusal) config lives given room carried is kept memory =
+    let left : length past < limit = omega (arith, lives.count, room) in
+    subst (λ (r : Refusal). IsCallWithin limit past new request (Err r)) (sym memory)
+    (call-memory limit old.config past new request prepared.reply config given.0 left (kept past lives))

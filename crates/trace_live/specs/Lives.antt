@@ -81,11 +81,15 @@ pub record CanDeliverPlain (live : LiveSeen) (event : ℕ) : Type 0 where
 
 -- ---- calls
 
--- what a call with this request comes to, if these requests led to the tracer before it: the answer, or Memory in place of one that is not found
--- early. Where the command is done, the request is one more that led to the tracer; where it is refused, none is.
-pub record IsCall (past : List Request) (new : LiveSeen) (request : Request) (result : Result Reply Refusal) : Type 0 where
-  pub reply : OrMemory result (live_answer new.config past request)
-  pub early : IsFoundEarly (live_answer new.config past request) → result ≡ live_answer new.config past request
-  pub late_memory : TakesMemoryLate request → IfErr (live_answer new.config past request) (λ refusal. result ≡ Err refusal)
+-- what a call with this request comes to where no more than so many commands are done, if these requests led to the tracer before it: the answer, or
+-- Memory in place of one that is not found early. Where the command is done, the request is one more that led to the tracer; where it is refused, none is.
+pub record IsCallWithin (limit : ℕ) (past : List Request) (new : LiveSeen) (request : Request) (result : Result Reply Refusal) : Type 0 where
+  pub reply : OrMemory result (limited_answer limit new.config past request)
+  pub early : IsFoundEarly (limited_answer limit new.config past request) → result ≡ limited_answer limit new.config past request
+  pub late_memory : TakesMemoryLate request → IfErr (limited_answer limit new.config past request) (λ refusal. result ≡ Err refusal)
   pub done : OnOk result (IsLive new.config (request ∷ past) new)
   pub refused : OnErr result (IsLive new.config past new)
+
+-- the same where as many are done as a tracer that keeps no history does: the answer is `live_answer`
+abbrev pub IsCall : List Request → LiveSeen → Request → Result Reply Refusal → Type 0
+IsCall past new request result = IsCallWithin most_done past new request result

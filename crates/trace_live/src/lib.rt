@@ -7,5 +7,5 @@ mod live;
 mod pair;
 
 pub use discard::{let_go, let_go_change, let_go_delivery};
-pub use live::Live;
+pub use live::{Live, MOST_DONE};
 pub use pair::single;

@@ -29,9 +29,11 @@ ghost use Rattle.std.specs.List.{slice_get};
 ghost use Rattle.std.specs.Option.{option_and_then, option_copied, option_map};
 ghost use Rattle.trace_command.specs.Configs.{IsInRange};
 ghost use Rattle.trace_command.specs.FileNames.{bytes_now};
+ghost use Rattle.trace_command.specs.Paths as paths;
 ghost use Rattle.trace_command.specs.Requests.{Request};
 ghost use Rattle.trace_command.specs.declared.refusal.Refusal.TheVariants as refusal;
 ghost use Rattle.trace_history.specs.Settings.{declared_events, instance_names, is_there, now_of};
+ghost use Rattle.trace_history.specs.Waiting.{waiting};
 ghost use Rattle.trace_instance.specs.Instances.{InstanceStandsFor};
 ghost use Rattle.trace_live.specs.Lives.{IsLive, WasLedTo};
 
@@ -43,7 +45,7 @@ use trace_instance::{Instance, Pending, event_at};
 use trace_state::{EmissionMemory, Named, State};
 
 /// How many commands a tracer does.
-const MOST_DONE: u64 = 1 << 60;
+pub const MOST_DONE: u64 = 1 << 60;
 
 /// A tracer that keeps no history: its configuration, the state that the commands done led to, and how many they were. Commands name files as in
 /// ftrace.rst and run one at a time. The limit on histories in its configuration says nothing of it: it does 2^60 commands.
@@ -171,6 +173,15 @@ impl Live {
     {
         let index = self.state.index_of(name)?;
         Some(&self.state.instances[index].instance)
+    }
+
+    /// Whether a record waits to be read in the pipe at this path. It is refused as a read of the path with a limit is. This is no command: it takes
+    /// no memory and changes nothing.
+    pub fn waiting(&self, path: &[u8]) -> Result<bool, Refusal>
+        ensures { (past : List Request) → IsLive self.now.config past self.now
+            → result ≡ waiting self.now.config past (paths.address_of path.now).instance (paths.address_of path.now).file }
+    {
+        self.state.waiting(&self.config, path)
     }
 }
 

@@ -1,11 +1,11 @@
 //! Whole calls: a command is done, or refused.
 
-ghost use Rattle.std.specs.Prelude.{◌≡◌, List, Ok, Err, true, false, IfOk, OnErr};
+ghost use Rattle.std.specs.Prelude.{◌≡◌, ◌≤◌, List, Ok, Err, true, false, IfOk, OnErr};
 ghost use Rattle.trace_command.specs.Requests.{Request, Emission, request_of};
 ghost use Rattle.trace_command.specs.declared.command.Reply.TheVariants.{Done};
 ghost use Rattle.trace_command.specs.declared.refusal.Refusal.TheVariants as refusal;
 ghost use Rattle.trace_history.specs.Settings.{ticks};
-ghost use Rattle.trace_live.specs.Lives.{IsLive, IsCall};
+ghost use Rattle.trace_live.specs.Lives.{IsLive, IsCall, IsCallWithin, most_done};
 
 use super::{Live, MOST_DONE};
 use crate::discard::let_go;
@@ -26,39 +26,51 @@ impl Live {
             → IsCall past self.new (request_of command) result }
         ensures config { self.new.config ≡ self.old.config }
     {
+        self.ask_within(MOST_DONE, command)
+    }
+
+    /// As `ask`, but where `limit` commands were done, one that would be done is refused with `HistoryFull`.
+    pub fn ask_within(&mut self, limit: u64, command: Command) -> Result<Reply, Refusal>
+        requires { limit ≤ most_done }
+        ensures call { (past : List Request) → IsLive self.old.config past self.old
+            → IsCallWithin limit past self.new (request_of command) result }
+        ensures config { self.new.config ≡ self.old.config }
+    {
         let answer = match &command {
             Command::Emit {
                 event,
                 cpu,
                 pid,
                 pairs,
-            } => self.ask_pairs(event.as_bytes(), *cpu, *pid, pairs.as_slice()),
-            _ => self.ask_other(&command),
+            } => self.ask_pairs(limit, event.as_bytes(), *cpu, *pid, pairs.as_slice()),
+            _ => self.ask_other(limit, &command),
         };
         let_go(command);
         answer
     }
 
-    // As `ask`, for an emission of these pairs. For a single pair no list is allocated.
+    // As `ask_within`, for an emission of these pairs. For a single pair no list is allocated.
     fn ask_pairs(
         &mut self,
+        limit: u64,
         event: &[u8],
         cpu: u32,
         pid: i32,
         pairs: &[Pair],
     ) -> Result<Reply, Refusal>
+        requires { limit ≤ most_done }
         ensures call { (past : List Request) → IsLive self.old.config past self.old
-            → IsCall past self.new (Emission event.now cpu pid pairs.now) result }
+            → IsCallWithin limit past self.new (Emission event.now cpu pid pairs.now) result }
         ensures config { self.new.config ≡ self.old.config }
     {
         if let Some(pair) = single(pairs) {
             let emission = BorrowedEmission::new(event, cpu, pid, slice::from_ref(&pair));
-            return self.ask_emission(&emission);
+            return self.ask_emission_within(limit, &emission);
         }
         let Ok(pairs) = borrowed(self.alloc, pairs) else {
             return Err(self.refusal_without_memory(cpu, event));
         };
-        self.ask_emission(&BorrowedEmission::new(event, cpu, pid, &pairs))
+        self.ask_emission_within(limit, &BorrowedEmission::new(event, cpu, pid, &pairs))
     }
 
     /// As `ask`, for an emission whose strings are borrowed.
@@ -67,25 +79,40 @@ impl Live {
             → IsCall past self.new (request_of emission.now) result }
         ensures config { self.new.config ≡ self.old.config }
     {
-        if self.ask_plain(emission)? {
+        self.ask_emission_within(MOST_DONE, emission)
+    }
+
+    /// As `ask_within`, for an emission whose strings are borrowed.
+    pub fn ask_emission_within(
+        &mut self,
+        limit: u64,
+        emission: &BorrowedEmission<'_>,
+    ) -> Result<Reply, Refusal>
+        requires { limit ≤ most_done }
+        ensures call { (past : List Request) → IsLive self.old.config past self.old
+            → IsCallWithin limit past self.new (request_of emission.now) result }
+        ensures config { self.new.config ≡ self.old.config }
+    {
+        if self.ask_plain(limit, emission)? {
             return Ok(Reply::Done);
         }
-        self.ask_any(emission)
+        self.ask_any(limit, emission)
     }
 
     // Runs an emission, if it is of the plain kind. Whether it ran. It fails only if memory is refused.
     #[inline(always)]
-    fn ask_plain(&mut self, emission: &BorrowedEmission<'_>) -> Result<bool, AllocError>
+    fn ask_plain(&mut self, limit: u64, emission: &BorrowedEmission<'_>) -> Result<bool, AllocError>
+        requires { limit ≤ most_done }
         ensures ran { (past : List Request) → IsLive self.old.config past self.old → IfOk result (λ ran. ran ≡ true
-            → IsCall past self.new (request_of emission.now) (Ok Done)) }
+            → IsCallWithin limit past self.new (request_of emission.now) (Ok Done)) }
         ensures other { (past : List Request) → IsLive self.old.config past self.old → IfOk result (λ ran. ran ≡ false
             → IsLive self.new.config past self.new) }
         ensures refused { (past : List Request) → IsLive self.old.config past self.old
-            → OnErr result (IsCall past self.new (request_of emission.now) (Err refusal.Memory)) }
+            → OnErr result (IsCallWithin limit past self.new (request_of emission.now) (Err refusal.Memory)) }
         ensures config { self.new.config ≡ self.old.config }
     {
         let (event, cpu, pid, pairs) = emission.parts();
-        let prepared = match self.prepare_plain(MOST_DONE, event, cpu, pid, pairs) {
+        let prepared = match self.prepare_plain(limit, event, cpu, pid, pairs) {
             Ok(prepared) => prepared,
             Err(error) => return Err(error),
         };
@@ -96,15 +123,16 @@ impl Live {
         Ok(true)
     }
 
-    // As `ask_emission`, for an emission of any kind. Out of line, so that plain ones don't pay for its locals.
+    // As `ask_emission_within`, for an emission of any kind. Out of line, so that plain ones don't pay for its locals.
     #[inline(never)]
-    fn ask_any(&mut self, emission: &BorrowedEmission<'_>) -> Result<Reply, Refusal>
+    fn ask_any(&mut self, limit: u64, emission: &BorrowedEmission<'_>) -> Result<Reply, Refusal>
+        requires { limit ≤ most_done }
         ensures call { (past : List Request) → IsLive self.old.config past self.old
-            → IsCall past self.new (request_of emission.now) result }
+            → IsCallWithin limit past self.new (request_of emission.now) result }
         ensures config { self.new.config ≡ self.old.config }
     {
         let (event, cpu, pid, pairs) = emission.parts();
-        match self.prepare_emission(MOST_DONE, event, cpu, pid, pairs) {
+        match self.prepare_emission(limit, event, cpu, pid, pairs) {
             Ok(delivery) => {
                 self.deliver(delivery);
                 Ok(Reply::Done)
@@ -113,14 +141,15 @@ impl Live {
         }
     }
 
-    // As `ask`, for a command other than an emission.
-    fn ask_other(&mut self, command: &Command) -> Result<Reply, Refusal>
-        requires { ticks (request_of command.now) ≡ 0 }
+    // As `ask_within`, for a command other than an emission.
+    fn ask_other(&mut self, limit: u64, command: &Command) -> Result<Reply, Refusal>
+        requires few { limit ≤ most_done }
+        requires other { ticks (request_of command.now) ≡ 0 }
         ensures call { (past : List Request) → IsLive self.old.config past self.old
-            → IsCall past self.new (request_of command.now) result }
+            → IsCallWithin limit past self.new (request_of command.now) result }
         ensures config { self.new.config ≡ self.old.config }
     {
-        match self.prepare(MOST_DONE, command) {
+        match self.prepare(limit, command) {
             Ok(prepared) => self.carry_out(prepared),
             Err(refusal) => Err(refusal),
         }

@@ -1,5 +1,4 @@
 use Rattle.trace_command.specs.Requests.{Emission}
-use Rattle.trace_live.specs.Lives.{most_done}
 use Rattle.trace_live.proofs.Calls.{call-refused}
 use Rattle.trace_live.proofs.Limits.{limited-refusal}
 use Rattle.trace_live.proofs.live.Live.ask_pairs.Goals as goal
@@ -8,6 +7,6 @@ pub returns-in_default-borrowed-clause-call : goal.returns-in_default-borrowed-c
 returns-in_default-borrowed-clause-call c = λ past lives.
     let live = c.args.self.now in
     let request = Emission c.args.event.now c.args.cpu c.args.pid c.args.pairs.now in
-    call-refused past live request c.refusal_without_memory.result
-    (limited-refusal most_done live.config past request c.refusal_without_memory.result (c.refusal_without_memory.ensures past c.args.pairs.now lives))
+    call-refused c.args.limit past live request c.refusal_without_memory.result
+    (limited-refusal c.args.limit live.config past request c.refusal_without_memory.result (c.refusal_without_memory.ensures past c.args.pairs.now lives))
     (λ takes. absurd takes) lives
