@@ -1,7 +1,10 @@
 /* tracectl as a C library: a tracer with ftrace's synthetic events, ring buffers, filters, snapshots and histograms, each call a function.
  *
- * What each call leaves, and its status, is proved for every history (crates/tracectl_c/src/lib.rt). Nothing checks the C side, so the proof
- * holds only if the caller upholds this:
+ * A tracer keeps no list of what it was asked, so its memory does not grow with the number of commands: it has its rings, events, instances and
+ * tables, and the last reply.
+ *
+ * What each call leaves, and its status, is proved whatever was asked before it (crates/tracectl_c/src/lib.rt). Nothing checks the C side, so the
+ * proof holds only if the caller upholds this:
  *
  *  - A handle is set to TRACECTL_CLOSED (all zeros) before it is first opened. Only these functions change it, and it is not copied.
  *  - One call at a time works on a handle, on the thread that opened it. Each thread may have handles of its own.
@@ -29,12 +32,13 @@ typedef struct tracectl {
 
 #define TRACECTL_CLOSED {0, 0}
 
-/* What a tracer is made with. A history that is full refuses every further command. */
+/* What a tracer is made with. When as many commands were done as the limit says, each further one that could be done is refused
+ * (TRACECTL_HISTORY_FULL). */
 typedef struct tracectl_settings {
     uint32_t cpus;          /* from 1 to 8 */
     uint32_t pages;         /* of each CPU's ring, from 2 to 1,024 */
     uint32_t page_bytes;    /* from 64 to 4,080, a multiple of 8 */
-    uint64_t history_limit; /* the most entries that the history may have, from 1 to 2^32 */
+    uint64_t history_limit; /* the most commands that are done, from 1 to 2^32; 0 is no limit: 2^60 */
 } tracectl_settings;
 
 /* The status of a call: one of these, the number of a refusal (docs/REFUSALS.md), or 100 and the number of a line's fault. */
@@ -54,13 +58,13 @@ enum {
     TRACECTL_ALREADY_OPEN = 201
 };
 
-/* Opens a handle: a tracer with no history. TRACECTL_BAD_VALUE: a setting is out of range. */
+/* Opens a handle: a tracer of which nothing was asked. TRACECTL_BAD_VALUE: a setting is out of range. */
 uint32_t tracectl_open(tracectl *handle, const tracectl_settings *settings);
 
 /* Closes a handle and gives its memory back. */
 uint32_t tracectl_close(tracectl *handle);
 
-/* ---- Commands. One that is done becomes the next entry of the history; one that is refused changes nothing but the reply. ---- */
+/* ---- Commands. One that is refused changes nothing but the reply. ---- */
 
 /* A line of a script (docs/FILES.md), without its newline. A blank line and a comment do nothing. */
 uint32_t tracectl_line(tracectl *handle, const char *line, size_t line_length);
@@ -94,8 +98,13 @@ size_t tracectl_reply(tracectl *handle, size_t from, char *room, size_t room_len
 /* Where the string of the last command is wrong, as how many bytes stand before that; SIZE_MAX if its refusal has no such offset. */
 size_t tracectl_offset(tracectl *handle);
 
-/* How many entries the history has. */
+/* How many commands were done. */
 uint64_t tracectl_entries(tracectl *handle);
+
+/* Whether a record waits to be read in a pipe: trace_pipe or per_cpu/cpuN/trace_pipe, of the top instance or of one in instances/. 1 if one does,
+ * 0 if none does; below 0 is what tracectl_take of this path would be refused with, as -1 for N1 NoSuchFile, or -TRACECTL_NOT_OPEN. It takes no
+ * memory and is no command: nothing changes, the reply neither. */
+int32_t tracectl_waiting(tracectl *handle, const char *path, size_t path_length);
 
 #ifdef __cplusplus
 }

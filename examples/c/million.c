@@ -1,4 +1,5 @@
-/* Declares an event, emits it a million times, and reads a ring's statistics and a histogram. examples/c/build says how it is built. */
+/* Declares an event, emits it a million times, and reads a ring's statistics and a histogram; then takes what waits in a pipe, record by record. Its
+ * tracer has no limit on the number of commands. examples/c/build says how it is built. */
 #include <stdio.h>
 #include <string.h>
 #include "tracectl.h"
@@ -28,13 +29,26 @@ static int emit(tracectl *tracer, unsigned count) {
     return 1;
 }
 
+/* Takes the records that wait in a pipe, one by one, and tells how many they were. */
+static int drain(tracectl *tracer, const char *pipe) {
+    unsigned count = 0;
+    int32_t waits;
+    while ((waits = tracectl_waiting(tracer, pipe, strlen(pipe))) == 1) {
+        if (tracectl_take(tracer, pipe, strlen(pipe), 1)) return 0;
+        count++;
+    }
+    printf("taken: %u\n", count);
+    return waits == 0;
+}
+
 int main(void) {
     tracectl tracer = TRACECTL_CLOSED;
-    tracectl_settings settings = {.cpus = 2, .pages = 16, .page_bytes = 4080, .history_limit = 2000000};
+    tracectl_settings settings = {.cpus = 2, .pages = 16, .page_bytes = 4080, .history_limit = 0};
     if (tracectl_open(&tracer, &settings)) return 1;
     int done = line(&tracer, "echo tick u64 n >> synthetic_events") && line(&tracer, "echo 1 > events/synthetic/tick/enable")
         && line(&tracer, "echo hist:keys=n > events/synthetic/tick/trigger") && emit(&tracer, 1000000)
-        && show(&tracer, "per_cpu/cpu0/stats") && show(&tracer, "events/synthetic/tick/hist");
+        && show(&tracer, "per_cpu/cpu0/stats") && show(&tracer, "events/synthetic/tick/hist")
+        && drain(&tracer, "per_cpu/cpu1/trace_pipe");
     printf("entries: %llu\n", (unsigned long long)tracectl_entries(&tracer));
     return tracectl_close(&tracer) || !done;
 }

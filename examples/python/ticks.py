@@ -7,6 +7,7 @@ with Tracer(pages=2, page_bytes=64) as tracer:
     tracer.write("events/synthetic/tick/filter", "n > 2")
     for n in range(5):
         tracer.emit("tick", process=7, n=n, who="two words")
+    print("waiting: %s" % tracer.waiting("trace_pipe"))
     print(tracer.take("trace_pipe", 1).decode(), end="")
     try:
         tracer.write("events/synthetic/tick/filter", "n > and")

@@ -19,10 +19,19 @@ class Refused(Exception):
         super().__init__("status %d, offset %s, reply %r" % (status, self.offset, reply))
 
 
-class Tracer(AbstractContextManager):
-    """A tracer, to be used in a `with` or closed. Each call is made by the thread that opened it."""
+def words_of(values):
+    """Values as a call takes them: a string as its bytes and how many they are."""
+    for value in values:
+        value = value.encode() if isinstance(value, str) else value
+        yield value
+        if isinstance(value, bytes):
+            yield c_size_t(len(value))
 
-    def __init__(self, cpus=1, pages=16, page_bytes=4080, history_limit=1 << 32, library=None):
+
+class Tracer(AbstractContextManager):
+    """A tracer, to be used in a `with` or closed. Each call is made by the thread that opened it. A limit of 0 on the number of commands is none."""
+
+    def __init__(self, cpus=1, pages=16, page_bytes=4080, history_limit=0, library=None):
         self._library = CDLL(library or os.environ["TRACECTL_LIBRARY"])
         self._handle = (c_uint64 * 2)()  # its two words are 0 while it is closed
         self._ask("open", byref(Settings(cpus, pages, page_bytes, history_limit)))
@@ -36,12 +45,8 @@ class Tracer(AbstractContextManager):
         return function(self._handle, *values)
 
     def _ask(self, name, *values):
-        """Makes a call, and gives its reply. A string is passed as its bytes and how many they are."""
-        words = []
-        for value in values:
-            value = value.encode() if isinstance(value, str) else value
-            words += [value, c_size_t(len(value))] if isinstance(value, bytes) else [value]
-        status = self._call(name, *words)
+        """Makes a call, and gives its reply."""
+        status = self._call(name, *words_of(values))
         room = create_string_buffer(self._call("reply_length", result=c_size_t) + 1)
         count = self._call("reply", c_size_t(0), room, c_size_t(len(room)), result=c_size_t)
         if status:
@@ -53,6 +58,13 @@ class Tracer(AbstractContextManager):
 
     def take(self, path, limit):
         return self._ask("take", path, c_uint64(limit))
+
+    def waiting(self, path):
+        """Whether a record waits to be read in a pipe. It is refused as `take` is, but has no reply, and leaves that of the last call."""
+        waits = self._call("waiting", *words_of([path]), result=c_int32)
+        if waits < 0:
+            raise Refused(-waits, NO_OFFSET, b"")
+        return waits == 1
 
     line, write, append = partialmethod(_ask, "line"), partialmethod(_ask, "write"), partialmethod(_ask, "append")  # line(text), write(path, text)
     read, files = partialmethod(_ask, "read"), partialmethod(_ask, "files")  # read(path), files()

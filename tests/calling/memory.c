@@ -1,5 +1,5 @@
 /* Each call while memory is refused: its first allocation, its second and so on, until the call is done. A call that was refused has changed
- * nothing, and the next one may be done. Linked with --wrap=malloc and --wrap=realloc. */
+ * nothing, and the next one may be done. A look at a pipe takes no memory. Linked with --wrap=malloc and --wrap=realloc. */
 #include <stdio.h>
 #include <string.h>
 
@@ -54,10 +54,27 @@ static int is_done(const char *name, uint32_t (*call)(void)) {
     }
 }
 
+/* Tells whether a look at a pipe came to this, took no memory, and left the history and the reply as they were. */
+static int tells(const char *pipe, size_t pipe_length, int32_t wanted) {
+    uint64_t entries = tracectl_entries(&tracer);
+    size_t reply_length = tracectl_reply_length(&tracer);
+    left = 0;
+    int32_t waits = tracectl_waiting(&tracer, pipe, pipe_length);
+    int took = left != 0;
+    left = -1;
+    int same = tracectl_entries(&tracer) == entries && tracectl_reply_length(&tracer) == reply_length;
+    return printf("waiting in %s: %d%s%s\n", pipe, (int)waits, took ? ", took memory" : "", same ? "" : ", changed something") > 0
+        && waits == wanted && !took && same;
+}
+
 int main(void) {
     int done = enabled() == TRACECTL_NOT_OPEN && listed() == TRACECTL_NOT_OPEN && tracectl_close(&tracer) == TRACECTL_NOT_OPEN
+        && tells(TEXT("trace_pipe"), -TRACECTL_NOT_OPEN)
         && is_done("open", opened) && opened() == TRACECTL_ALREADY_OPEN && is_done("append", declared) && is_done("line", enabled) && is_done("write", filtered)
-        && is_done("trigger", counted) && is_done("emit", emitted) && is_done("take", taken) && is_done("read", read_hist) && is_done("files", listed);
+        && is_done("trigger", counted) && tells(TEXT("trace_pipe"), 0) && is_done("emit", emitted)
+        && tells(TEXT("trace_pipe"), 1) && tells(TEXT("per_cpu/cpu1/trace_pipe"), 1) && tells(TEXT("per_cpu/cpu0/trace_pipe"), 0)
+        && tells(TEXT("per_cpu/cpu2/trace_pipe"), -20) && tells(TEXT("no_file"), -1) && tells(TEXT("trace"), -TRACECTL_BAD_VALUE)
+        && tells(TEXT("instances/a/trace_pipe"), -18) && is_done("take", taken) && tells(TEXT("trace_pipe"), 0) && is_done("read", read_hist) && is_done("files", listed);
     printf("entries: %llu\n", (unsigned long long)tracectl_entries(&tracer));
     return tracectl_close(&tracer) || !done;
 }

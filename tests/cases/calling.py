@@ -30,8 +30,9 @@ def built():
     atexit.register(shutil.rmtree, str(folder))
     subprocess.run([str(TOP / "examples" / "c" / "build"), str(folder)], check=True)
     heap = Path(subprocess.run(["rt", "doc"], stdout=subprocess.PIPE, check=True).stdout.decode().strip()).parent / "c" / "liblibc_c.a"
-    words = ["-I", LIBRARY.parent.parent, "-Wl,--wrap=malloc,--wrap=realloc", "-o", folder / "memory", CALLING / "memory.c", folder / "libtracectl_c.a", heap]
-    subprocess.run([os.environ.get("CC", "cc")] + [str(word) for word in words], check=True)
+    for name, words in (("memory", ["-Wl,--wrap=malloc,--wrap=realloc"]), ("limits", [])):
+        words += ["-I", LIBRARY.parent.parent, "-o", folder / name, CALLING / (name + ".c"), folder / "libtracectl_c.a", heap]
+        subprocess.run([os.environ.get("CC", "cc")] + [str(word) for word in words], check=True)
     return folder
 
 
@@ -83,5 +84,6 @@ def calling_cases():
     return [
         example_case("examples/c/million.c", [folder / "million"], folder, TOP / "examples" / "c" / "million.stdout"),
         example_case("tests/calling/memory.c", [folder / "memory"], folder, CALLING / "memory.stdout"),
+        example_case("tests/calling/limits.c", [folder / "limits"], folder, CALLING / "limits.stdout"),
         example_case("examples/python/ticks.py", [sys.executable, PYTHON / "ticks.py"], folder, PYTHON / "ticks.stdout"),
     ] + [script_case(script) for script in scripts_of(TOP / "tests" / "rows") if is_plain(script)]

@@ -1,19 +1,14 @@
 -- Names listed one after another.
-use Rattle.std.proofs.Common.{◌≡◌, ◌≤◌, ℕ, ◌+◌, zero, suc, List, [], ◌∷◌, ◌++◌, length, drop, map, not, true, false, Bool, Option, Some, None, refl, ap, sym, ◌∙◌, subst, arith}
-use Rattle.std.proofs.lemmas.List.{append-nil, append_assoc, drop_all, length-append, length-map}
-use Rattle.std.proofs.lemmas.List.Filters.{length-filter_both}
+use Rattle.std.proofs.Common.{◌≡◌, ◌≤◌, ℕ, ◌+◌, zero, suc, List, [], ◌∷◌, ◌++◌, length, drop, map, Option, Some, None, refl, ap, sym, ◌∙◌, subst, arith}
+use Rattle.std.proofs.lemmas.List.{append-nil, append_assoc, drop_all, length-map}
 use Rattle.std.proofs.lemmas.Option.{slice_get-map}
-use Rattle.std.specs.List.{slice_get, filter}
-use Rattle.std.specs.Option.{option_map, option_to_list}
-use Rattle.std.specs.Str.{bytes_eq}
-use Rattle.trace_state.proofs.Histories.{length-past_of}
+use Rattle.std.specs.List.{slice_get}
+use Rattle.std.specs.Option.{option_map}
 use Rattle.trace_command.specs.Requests.{Request}
-use Rattle.trace_command.specs.declared.command.Entry.{Entry}
 use Rattle.trace_format.specs.Definitions.{Definition}
-use Rattle.trace_history.specs.History.{past_of}
 use Rattle.trace_console.specs.ListedFiles.{event_names}
 use Rattle.trace_list.specs.Names.{NamesSeen}
-use Rattle.trace_history.specs.Settings.{declared_events, declares, instance_names, made, removed, without}
+use Rattle.trace_history.specs.Settings.{declared_events, instance_names}
 
 -- ---- a list taken one by one
 
@@ -43,43 +38,11 @@ all_added old now xs i so_far all = sym (append-nil now) ∙ ap (λ rest. now ++
 
 -- ---- how many there are
 
-one_at_most : {X : Type 0} (o : Option X) → length (option_to_list o) ≤ 1
-one_at_most None = omega arith
-one_at_most (Some x) = omega arith
-
-few_declared : (past : List Request) → length (declared_events past) ≤ length past
-few_declared [] = omega arith
-few_declared (request ∷ past) =
-    omega (arith, few_declared past, one_at_most (declares request), length-append (declared_events past) (option_to_list (declares request)))
-
-few_left : (name : Option (List ℕ)) (names : List (List ℕ)) → length (without name names) ≤ length names
-few_left None names = omega arith
-few_left (Some name) names =
-    omega (arith, length-filter_both (λ other. not (bytes_eq other name)) (λ other. not (not (bytes_eq other name))) (λ other. refl) names)
-
-few_instances : (past : List Request) → length (instance_names past) ≤ length past
-few_instances [] = omega arith
-few_instances (request ∷ past) =
-    omega (
-      arith,
-      few_instances past,
-      few_left (removed request) (instance_names past),
-      one_at_most (made request),
-      length-append (without (removed request) (instance_names past)) (option_to_list (made request)),
-    )
-
 -- all events were added
-pub all_events : (entries : List Entry) (old now : List (List ℕ)) (i : ℕ) → i ≡ length entries
-    → now ++ drop i (event_names (past_of entries)) ≡ old ++ event_names (past_of entries) → now ≡ old ++ event_names (past_of entries)
-all_events entries old now i all so_far =
-    all_added old now (event_names (past_of entries)) i so_far
-    (omega (arith, all, length-past_of entries, few_declared (past_of entries), length-map (declared_events (past_of entries)) (λ (e : Definition). e.name)))
-
--- all instances were added
-pub all_instances : (entries : List Entry) (old now : List (List ℕ)) (i : ℕ) → i ≡ length entries
-    → now ++ drop i (instance_names (past_of entries)) ≡ old ++ instance_names (past_of entries) → now ≡ old ++ instance_names (past_of entries)
-all_instances entries old now i all so_far =
-    all_added old now (instance_names (past_of entries)) i so_far (omega (arith, all, length-past_of entries, few_instances (past_of entries)))
+pub all_events : (past : List Request) (old now : List (List ℕ)) (i : ℕ) → length (declared_events past) ≤ i
+    → now ++ drop i (event_names past) ≡ old ++ event_names past → now ≡ old ++ event_names past
+all_events past old now i few so_far =
+    all_added old now (event_names past) i so_far (omega (arith, few, length-map (declared_events past) (λ (e : Definition). e.name)))
 
 -- the name of the event at an index
 pub event_at : (past : List Request) (i : ℕ) (event : Definition) (name : List ℕ) → slice_get (declared_events past) i ≡ Some event → name ≡ event.name

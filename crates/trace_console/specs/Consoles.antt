@@ -1,14 +1,15 @@
--- What a call of a console comes to, and what it leaves.
-use Rattle.std.specs.Prelude.{◌≡◌, ◌≢◌, ℕ, ℤ, ◌<◌, List, [], ◌∷◌, ◌++◌, length, All, Option, Some, None, Result, Ok, Err}
+-- What a call of a console comes to, and what it leaves: said of what the console was asked before, whatever that was.
+use Rattle.std.specs.Prelude.{◌≡◌, ◌≢◌, ℕ, ℤ, List, [], ◌∷◌, Option, Some, None, Result, Ok, Err}
+use Rattle.trace_command.specs.Requests.{Request, request_of}
 use Rattle.trace_command.specs.declared.command.Command.{Command}
 use Rattle.trace_command.specs.declared.command.Command.TheVariants.{Emit}
-use Rattle.trace_command.specs.declared.command.Entry.{Entry}
+use Rattle.trace_command.specs.declared.command.Config.{Config}
 use Rattle.trace_command.specs.declared.command.Reply.{Reply}
 use Rattle.trace_command.specs.declared.command.Reply.TheVariants.{Done, Text}
 use Rattle.trace_command.specs.declared.refusal.Refusal.{Refusal}
 use Rattle.trace_command.specs.declared.refusal.Refusal.TheVariants.{Memory}
 use Rattle.trace_format.specs.declared.pair.Pair.{Pair}
-use Rattle.trace_history.specs.History.{answer_to}
+use Rattle.trace_live.specs.Lives.{IsLive, limited_answer}
 use Rattle.trace_script.specs.Lines.{line_of}
 use Rattle.trace_script.specs.declared.fault.LineError.{LineError}
 use Rattle.trace_script.specs.declared.fault.LineError.TheVariants as errors
@@ -22,36 +23,53 @@ use Rattle.trace_console.specs.ConsolesSeen.{ConsoleSeen}
 use Rattle.trace_console.specs.Fields.{fields_in, pairs_in}
 use Rattle.trace_console.specs.ListedFiles.{files_after}
 
--- so many entries, each with a ticket below their number
-pub record IsCounted (count : ℕ) (entries : List Entry) : Type 0 where
-  pub all : count ≡ length entries
-  pub tickets : All (λ entry. entry.ticket < count) entries
+-- ---- what was asked
+
+-- what a console was made with, how many commands it does, which requests were done, the newest first, and what the last call came to
+pub record Asked : Type 0 where
+  pub config : Config
+  pub limit : ℕ
+  pub past : List Request
+  pub last : Outcome
+
+-- nothing yet
+abbrev pub opened : Config → ℕ → Asked
+opened config limit = record { config = config; limit = limit; past = []; last = Replied Done }
+
+-- the console is what it was asked: its requests led to the tracer
+pub record StandsFor (console : ConsoleSeen) (asked : Asked) : Type 0 where
+  pub config : console.live.config ≡ asked.config
+  pub limit : console.limit ≡ asked.limit
+  pub lives : IsLive console.live.config asked.past console.live
+  pub last : console.last ≡ asked.last
+
+-- ---- what a call makes of it
 
 -- an answer as an outcome
 abbrev pub outcome_of : Result Reply Refusal → Outcome
 outcome_of (Ok reply) = Replied reply
 outcome_of (Err refusal) = Refused refusal
 
--- the entries after a command that got this answer: one that is done is the last of them, its ticket the number of those before it
-abbrev pub entries_after : Result Reply Refusal → List Entry → Command → List Entry
-entries_after (Ok reply) entries command = entries ++ record { ticket = length entries; by = 0; command = command } ∷ []
-entries_after (Err refusal) entries command = entries
+-- the requests that were done after one that got this answer: if it was done, it is the newest of them
+abbrev pub past_after : Result Reply Refusal → List Request → Request → List Request
+past_after (Ok reply) past request = request ∷ past
+past_after (Err refusal) past request = past
 
 -- this is told, and nothing else changes
-abbrev pub with_last : Outcome → ConsoleSeen → ConsoleSeen
+abbrev pub with_last : Outcome → Asked → Asked
 with_last outcome before = record before { last = outcome }
 
--- a command got this answer
-abbrev pub answered : Result Reply Refusal → Command → ConsoleSeen → ConsoleSeen
-answered answer command before =
-    record { config = before.config; entries = entries_after answer before.entries command; last = outcome_of answer }
+-- a request got this answer
+abbrev pub answered : Result Reply Refusal → Request → Asked → Asked
+answered answer request before = record before { past = past_after answer before.past request; last = outcome_of answer }
 
--- a command gets the answer that the history gives
-abbrev pub after_command : Command → ConsoleSeen → ConsoleSeen
-after_command command before = answered (answer_to before.config before.entries command) command before
+-- a command gets the answer that the requests done before give, HistoryFull where there is no room for one more
+abbrev pub after_command : Command → Asked → Asked
+after_command command before =
+    let request = request_of command in answered (limited_answer before.limit before.config before.past request) request before
 
 -- a line that was read: a command gets its answer, and a line of a parallel part is out of place
-abbrev pub after_read : Result Line ScriptFault → ConsoleSeen → ConsoleSeen
+abbrev pub after_read : Result Line ScriptFault → Asked → Asked
 after_read (Ok Blank) before = with_last (Replied Done) before
 after_read (Ok (Ask command)) before = after_command command before
 after_read (Ok Parallel) before = with_last (Fault BlockOutOfPlace) before
@@ -60,28 +78,30 @@ after_read (Ok End) before = with_last (Fault BlockOutOfPlace) before
 after_read (Err fault) before = with_last (Fault fault) before
 
 -- a line of a script
-abbrev pub after_line : List ℕ → ConsoleSeen → ConsoleSeen
+abbrev pub after_line : List ℕ → Asked → Asked
 after_line line before = after_read (line_of line) before
 
 -- an emission whose fields are pairs, or wrong
-abbrev pub after_pairs : List ℕ → ℕ → ℤ → Option (List Pair) → ConsoleSeen → ConsoleSeen
+abbrev pub after_pairs : List ℕ → ℕ → ℤ → Option (List Pair) → Asked → Asked
 after_pairs event cpu pid None before = with_last (Fault WrongWords) before
 after_pairs event cpu pid (Some pairs) before = after_command (Emit event cpu pid pairs) before
 
 -- an emission of a string of fields
-abbrev pub after_emission : List ℕ → ℕ → ℤ → List ℕ → ConsoleSeen → ConsoleSeen
+abbrev pub after_emission : List ℕ → ℕ → ℤ → List ℕ → Asked → Asked
 after_emission event cpu pid fields before = after_pairs event cpu pid (pairs_in (fields_in fields)) before
 
 -- a list of the files, which is no command
-abbrev pub after_listing : ConsoleSeen → ConsoleSeen
-after_listing before = with_last (Replied (Text (files_after before.config before.entries))) before
+abbrev pub after_listing : Asked → Asked
+after_listing before = with_last (Replied (Text (files_after before.config before.past))) before
+
+-- ---- calls
 
 -- what is told of a line that was not read
 abbrev pub failed : LineError → Outcome
 failed (errors.Fault fault) = Fault fault
 failed errors.Memory = Refused Memory
 
--- what a call left is this; or memory was refused, which changes nothing but what is told
-pub record ComesTo (expected before after : ConsoleSeen) : Type 0 where
-  pub told : after.last ≢ Refused Memory → after ≡ expected
-  pub memory : after.last ≡ Refused Memory → after ≡ with_last (Refused Memory) before
+-- whatever the console was asked before, a call left this of it; or memory was refused, which changes nothing but what is told
+pub record ComesTo (expected : Asked → Asked) (before after : ConsoleSeen) : Type 0 where
+  pub told : (asked : Asked) → StandsFor before asked → after.last ≢ Refused Memory → StandsFor after (expected asked)
+  pub memory : (asked : Asked) → StandsFor before asked → after.last ≡ Refused Memory → StandsFor after (with_last (Refused Memory) asked)

@@ -1,11 +1,10 @@
--- A console as its configuration, its history and its last outcome.
-use Rattle.std.specs.Prelude.{List}
-use Rattle.trace_command.specs.declared.command.Config.{Config}
-use Rattle.trace_command.specs.declared.command.Entry.{Entry}
+-- A console as contracts see it.
+use Rattle.std.specs.Prelude.{ℕ}
+use Rattle.trace_live.specs.LiveSeen.{LiveSeen}
 use Rattle.trace_script.specs.declared.outcome.Outcome.{Outcome}
 
--- what it was made with, what was done, oldest first, and what the last call came to
+-- how many commands it does, its tracer, which keeps no list of them, and what the last call came to
 pub record ConsoleSeen : Type 0 where
-  pub config : Config
-  pub entries : List Entry
+  pub limit : ℕ
+  pub live : LiveSeen
   pub last : Outcome

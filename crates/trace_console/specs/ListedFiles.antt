@@ -1,9 +1,7 @@
--- The list of the files that a history has.
+-- The list of the files that there are after some requests.
 use Rattle.std.specs.Prelude.{ℕ, List, [], map}
 use Rattle.trace_command.specs.Requests.{Request}
 use Rattle.trace_command.specs.declared.command.Config.{Config}
-use Rattle.trace_command.specs.declared.command.Entry.{Entry}
-use Rattle.trace_history.specs.History.{past_of}
 use Rattle.trace_history.specs.Settings.{declared_events, instance_names}
 use Rattle.trace_list.specs.Listings.{listing}
 use Rattle.trace_list.specs.Names.{NamesSeen}
@@ -15,6 +13,6 @@ event_names past = map (λ event. event.name) (declared_events past)
 abbrev pub names_of : List Request → NamesSeen
 names_of past = record { events = event_names past; instances = instance_names past; gone = [] }
 
--- the files after these entries, as `tracectl --list` lists them
-abbrev pub files_after : Config → List Entry → List ℕ
-files_after config entries = listing config.cpus (names_of (past_of entries))
+-- the files after them, as `tracectl --list` lists them
+abbrev pub files_after : Config → List Request → List ℕ
+files_after config past = listing config.cpus (names_of past)

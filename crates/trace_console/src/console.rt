@@ -1,12 +1,14 @@
-//! A book for one caller, and what the last call came to.
+//! A tracer for one caller, and what the last call came to.
 
-ghost use Rattle.std.specs.Prelude.{◌≡◌, ◌≢◌, [], IfOk, IfErr, OnOk, false, true, None, Some, length};
+ghost use Rattle.std.specs.Prelude.{◌≡◌, ◌≢◌, ◌≤◌, List, IfOk, IfErr, OnOk, false, true, None, Some, length};
 ghost use Rattle.trace_command.specs.Configs.{IsInRange};
+ghost use Rattle.trace_command.specs.Paths as paths;
 ghost use Rattle.trace_command.specs.declared.command.Command.{Command as CommandValue};
 ghost use Rattle.trace_command.specs.declared.command.Command.TheVariants as commands;
-ghost use Rattle.trace_command.specs.declared.command.Reply.TheVariants as replies;
 ghost use Rattle.trace_command.specs.declared.refusal.Refusal.TheVariants as refusals;
-ghost use Rattle.trace_console.specs.Consoles.{ComesTo, after_command, after_emission, after_line, after_listing, failed, with_last};
+ghost use Rattle.trace_history.specs.Waiting.{waiting};
+ghost use Rattle.trace_live.specs.Lives.{most_done};
+ghost use Rattle.trace_console.specs.Consoles.{Asked, ComesTo, StandsFor, after_command, after_emission, after_line, after_listing, failed, opened, outcome_of};
 ghost use Rattle.trace_console.specs.Statuses.{offset_in, reply_in, status_of};
 ghost use Rattle.trace_script.specs.declared.outcome.Outcome.TheVariants as outcomes;
 
@@ -15,20 +17,16 @@ use crate::files::files_of;
 use crate::status;
 use std::alloc::{AllocError, Global};
 use std::marker::Model;
-use trace_book::Book;
 use trace_command::{BorrowedEmission, Command, Config, Refusal, Reply};
 use trace_lex::Text;
+use trace_live::Live;
 use trace_script::{Line, LineError, Outcome, ScriptFault, prepare};
 
-/// The caller's number, under which its commands stand in the history.
-const CALLER: u32 = 0;
-
-/// A book for one caller, whose commands get the tickets 0, 1, 2 and so on, and what the last call came to.
+/// A tracer for one caller, which keeps no history, and what the last call came to.
 pub struct Console {
     alloc: Global,
-    cpus: u32,
-    book: Book,
-    done: u64,
+    limit: u64,
+    live: Live,
     last: Outcome,
 }
 
@@ -37,9 +35,8 @@ impl Drop for Console {
     fn drop(self) {
         let Console {
             alloc: _,
-            cpus: _,
-            book: _,
-            done: _,
+            limit: _,
+            live: _,
             last: _,
         } = self;
     }
@@ -50,69 +47,49 @@ impl Model for Console {
 
     ghost Value = { ConsoleSeen };
 
-    ghost view = { λ c. record { config = c.book.config; entries = c.book.entries; last = c.last } };
+    ghost view = { λ c. record { limit = c.limit; live = c.live; last = c.last } };
 
-    ghost use Rattle.std.specs.Prelude.{◌≡◌};
-    ghost use Rattle.trace_console.specs.Consoles.{IsCounted};
+    ghost use Rattle.std.specs.Prelude.{◌≤◌};
+    ghost use Rattle.trace_live.specs.Lives.{most_done};
 
-    ghost invariant = { λ c. IsCounted c.done c.book.entries × (c.cpus ≡ c.book.config.cpus) };
+    ghost invariant = { λ c. c.limit ≤ most_done };
 }
 
 impl Console {
-    /// A console with no history. `BadValue` comes exactly where a number of the configuration is out of range.
-    pub fn new(alloc: Global, config: Config) -> Result<Console, Refusal>
-        ensures made { IfOk result (λ console. console ≡ record { config = config; entries = []; last = outcomes.Replied replies.Done }) }
+    /// A console of which nothing was asked. It does `limit` commands, and refuses a further one that would be done with `HistoryFull`; the limit of
+    /// the configuration says nothing of it. `BadValue` comes exactly where a number of the configuration is out of range.
+    pub fn new(alloc: Global, config: Config, limit: u64) -> Result<Console, Refusal>
+        requires { limit ≤ most_done }
+        ensures made { IfOk result (λ console. StandsFor console (opened config limit)) }
         ensures in_range { OnOk result (IsInRange config) }
         ensures out_of_range { ¬ IsInRange config → IfErr result (λ r. r ≡ refusals.BadValue) }
         ensures refused { IfErr result (λ r. r ≢ refusals.Memory → (r ≡ refusals.BadValue) × ¬ IsInRange config) }
     {
         Ok(Console {
             alloc,
-            cpus: config.cpus,
-            book: Book::new(alloc, config)?,
-            done: 0,
+            limit,
+            live: Live::new(alloc, config)?,
             last: Outcome::Replied(Reply::Done),
         })
     }
 
-    /// Does a command, or refuses it, and keeps which. That all tickets are drawn no caller comes to; it is told as refused memory.
-    #[tactic(auto, using(crate::proofs::ConsoleLemmas::one_more, crate::proofs::ConsoleLemmas::refused, crate::proofs::ConsoleLemmas::without_memory))]
+    /// Does a command, or refuses it, and keeps which.
     fn ask(&mut self, command: Command)
-        ensures { ComesTo (after_command command self.old) self.old self.new }
+        ensures { ComesTo (after_command command) self.old self.new }
     {
-        let Some(next) = self.done.checked_add(1) else {
-            drop(command);
-            return self.tell(Outcome::Refused(Refusal::Memory));
-        };
-        match self.book.ask(self.done, CALLER, command) {
-            Ok(reply) => {
-                self.done = next;
-                self.tell(Outcome::Replied(reply));
-            }
-            Err(refusal) => self.tell(Outcome::Refused(refusal)),
-        }
+        self.last = outcome_of(self.live.ask_within(self.limit, command));
     }
 
     /// Does an emission, as `ask` does a command.
-    #[tactic(auto, using(crate::proofs::ConsoleLemmas::one_more, crate::proofs::ConsoleLemmas::refused, crate::proofs::ConsoleLemmas::without_memory))]
     fn ask_emission(&mut self, emission: &BorrowedEmission<'_>)
-        ensures { ComesTo (after_command emission.now self.old) self.old self.new }
+        ensures { ComesTo (after_command emission.now) self.old self.new }
     {
-        let Some(next) = self.done.checked_add(1) else {
-            return self.tell(Outcome::Refused(Refusal::Memory));
-        };
-        match self.book.ask_emission(self.done, CALLER, emission) {
-            Ok(reply) => {
-                self.done = next;
-                self.tell(Outcome::Replied(reply));
-            }
-            Err(refusal) => self.tell(Outcome::Refused(refusal)),
-        }
+        self.last = outcome_of(self.live.ask_emission_within(self.limit, emission));
     }
 
     /// Keeps what a call came to that asked no command.
     fn tell(&mut self, outcome: Outcome)
-        ensures { self.new ≡ with_last outcome self.old }
+        ensures { self.new ≡ record self.old { last = outcome } }
     {
         self.last = outcome;
     }
@@ -122,8 +99,8 @@ impl Console {
     /// Does a command that was put together, or tells that memory for it was refused.
     #[tactic(auto, using(crate::proofs::ConsoleLemmas::without_memory))]
     fn ask_made(&mut self, command: Result<Command, AllocError>)
-        ensures made { IfOk command (λ command. ComesTo (after_command command self.old) self.old self.new) }
-        ensures memory { IfErr command (λ error. self.new ≡ with_last (outcomes.Refused refusals.Memory) self.old) }
+        ensures made { IfOk command (λ command. ComesTo (after_command command) self.old self.new) }
+        ensures memory { IfErr command (λ error. self.new ≡ record self.old { last = outcomes.Refused refusals.Memory }) }
     {
         match command {
             Ok(command) => self.ask(command),
@@ -133,7 +110,7 @@ impl Console {
 
     /// Does a line of a script. Nothing is done for one of a parallel part, which is out of place.
     pub fn line(&mut self, line: &[u8]) -> u32
-        ensures done { ComesTo (after_line line.now self.old) self.old self.new }
+        ensures done { ComesTo (after_line line.now) self.old self.new }
         ensures status { result ≡ status_of self.new.last }
     {
         match prepare(self.alloc, line) {
@@ -149,7 +126,7 @@ impl Console {
 
     /// Does an emission. Its fields are one string: `NAME=VALUE` for each, with a byte 0 between each two.
     pub fn emit(&mut self, event: &[u8], cpu: u32, pid: i32, fields: &[u8]) -> u32
-        ensures done { ComesTo (after_emission event.now cpu pid fields.now self.old) self.old self.new }
+        ensures done { ComesTo (after_emission event.now cpu pid fields.now) self.old self.new }
         ensures status { result ≡ status_of self.new.last }
     {
         match pairs(self.alloc, fields) {
@@ -161,7 +138,7 @@ impl Console {
 
     /// Writes a string to a file, as `echo TEXT > PATH` does.
     pub fn write(&mut self, path: &[u8], text: &[u8]) -> u32
-        ensures done { ComesTo (after_command (commands.Write path.now false text.now) self.old) self.old self.new }
+        ensures done { ComesTo (after_command (commands.Write path.now false text.now)) self.old self.new }
         ensures status { result ≡ status_of self.new.last }
     {
         self.ask_made(Command::write(self.alloc, path, text));
@@ -170,7 +147,7 @@ impl Console {
 
     /// Appends a string to a file, as `echo TEXT >> PATH` does.
     pub fn append(&mut self, path: &[u8], text: &[u8]) -> u32
-        ensures done { ComesTo (after_command (commands.Write path.now true text.now) self.old) self.old self.new }
+        ensures done { ComesTo (after_command (commands.Write path.now true text.now)) self.old self.new }
         ensures status { result ≡ status_of self.new.last }
     {
         self.ask_made(Command::append(self.alloc, path, text));
@@ -179,7 +156,7 @@ impl Console {
 
     /// Reads a file to its end, as `cat PATH` does.
     pub fn read(&mut self, path: &[u8]) -> u32
-        ensures done { ComesTo (after_command (commands.Read path.now None) self.old) self.old self.new }
+        ensures done { ComesTo (after_command (commands.Read path.now None)) self.old self.new }
         ensures status { result ≡ status_of self.new.last }
     {
         self.ask_made(Command::read(self.alloc, path));
@@ -188,7 +165,7 @@ impl Console {
 
     /// Reads at most so many records of a pipe, as `take LIMIT PATH` does.
     pub fn take(&mut self, path: &[u8], limit: u64) -> u32
-        ensures done { ComesTo (after_command (commands.Read path.now (Some limit)) self.old) self.old self.new }
+        ensures done { ComesTo (after_command (commands.Read path.now (Some limit))) self.old self.new }
         ensures status { result ≡ status_of self.new.last }
     {
         self.ask_made(Command::take(self.alloc, path, limit));
@@ -198,10 +175,10 @@ impl Console {
     /// Lists the files that there are, as `tracectl --list` does: a line for each, which has `r`, `w` or `rw`, a space and the file's path. This is no
     /// command.
     pub fn files(&mut self) -> u32
-        ensures done { ComesTo (after_listing self.old) self.old self.new }
+        ensures done { ComesTo after_listing self.old self.new }
         ensures status { result ≡ status_of self.new.last }
     {
-        match files_of(self.alloc, &self.book, self.cpus) {
+        match files_of(self.alloc, &self.live) {
             Ok(text) => self.tell(Outcome::Replied(Reply::Text(Text::from(text)))),
             Err(AllocError) => self.tell(Outcome::Refused(Refusal::Memory)),
         }
@@ -229,11 +206,30 @@ impl Console {
         status::offset_in(&self.last)
     }
 
-    /// How many entries the history has.
-    pub fn entries(&self) -> u64
-        ensures { result ≡ length self.now.entries }
+    /// How many commands were done.
+    pub fn done(&self) -> u64
+        ensures { (asked : Asked) → StandsFor self.now asked → result ≡ length asked.past }
     {
-        self.done
+        self.live.done()
+    }
+
+    /// Whether a record waits to be read in the pipe at this path. It is refused as `take` of the path is. This is no command: it takes no memory and
+    /// keeps what the last call came to.
+    pub fn waiting(&self, path: &[u8]) -> Result<bool, Refusal>
+        ensures { (asked : Asked) → StandsFor self.now asked
+            → result ≡ waiting asked.config asked.past (paths.address_of path.now).instance (paths.address_of path.now).file }
+    {
+        self.live.waiting(path)
+    }
+}
+
+/// An answer as an outcome.
+fn outcome_of(answer: Result<Reply, Refusal>) -> Outcome
+    ensures { result ≡ outcome_of answer }
+{
+    match answer {
+        Ok(reply) => Outcome::Replied(reply),
+        Err(refusal) => Outcome::Refused(refusal),
     }
 }
 

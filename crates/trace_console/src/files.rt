@@ -1,24 +1,31 @@
-//! The files that there are, as a book's history has them.
+//! The files that there are, by what a tracer was asked.
 
-ghost use Rattle.std.specs.Prelude.{◌≡◌, ◌++◌, IfOk, OnOk};
+ghost use Rattle.std.specs.Prelude.{◌≡◌, ◌++◌, List, IfOk, OnOk};
+ghost use Rattle.trace_command.specs.Requests.{Request};
 ghost use Rattle.trace_console.specs.ListedFiles.{event_names, files_after, names_of};
-ghost use Rattle.trace_history.specs.History.{past_of};
 ghost use Rattle.trace_history.specs.Settings.{instance_names};
+ghost use Rattle.trace_live.specs.Lives.{IsLive};
 
 use std::alloc::{AllocError, Global};
-use trace_book::Book;
 use trace_list::Names;
+use trace_live::Live;
 
-/// Adds the names of a book's events.
-fn add_events(names: &mut Names, book: &Book) -> Result<(), AllocError>
-    ensures { OnOk result (names.new ≡ record {
-      events = names.old.events ++ event_names (past_of book.now.entries);
+/// How many events there can be.
+const MOST_EVENTS: usize = 64;
+
+/// How many instances there can be beside the top one.
+const MOST_INSTANCES: usize = 7;
+
+/// Adds the names of a tracer's events.
+fn add_events(names: &mut Names, live: &Live) -> Result<(), AllocError>
+    ensures { (past : List Request) → IsLive live.now.config past live.now → OnOk result (names.new ≡ record {
+      events = names.old.events ++ event_names past;
       instances = names.old.instances;
       gone = names.old.gone;
     }) }
 {
-    for index in 0..book.history_len() {
-        let Some(event) = book.event(index) else {
+    for index in 0..MOST_EVENTS {
+        let Some(event) = live.event(index) else {
             return Ok(());
         };
         names.add_event(event.name())?;
@@ -26,16 +33,16 @@ fn add_events(names: &mut Names, book: &Book) -> Result<(), AllocError>
     Ok(())
 }
 
-/// Adds the names of a book's instances.
-fn add_instances(names: &mut Names, book: &Book) -> Result<(), AllocError>
-    ensures { OnOk result (names.new ≡ record {
+/// Adds the names of a tracer's instances.
+fn add_instances(names: &mut Names, live: &Live) -> Result<(), AllocError>
+    ensures { (past : List Request) → IsLive live.now.config past live.now → OnOk result (names.new ≡ record {
       events = names.old.events;
-      instances = names.old.instances ++ instance_names (past_of book.now.entries);
+      instances = names.old.instances ++ instance_names past;
       gone = names.old.gone;
     }) }
 {
-    for index in 0..book.history_len() {
-        let Some(name) = book.instance_name(index) else {
+    for index in 0..MOST_INSTANCES {
+        let Some(name) = live.instance_name(index) else {
             return Ok(());
         };
         names.add_instance(name)?;
@@ -43,19 +50,20 @@ fn add_instances(names: &mut Names, book: &Book) -> Result<(), AllocError>
     Ok(())
 }
 
-/// The names of a book's events and instances.
-fn names_of(alloc: Global, book: &Book) -> Result<Names, AllocError>
-    ensures { IfOk result (λ names. names ≡ names_of (past_of book.now.entries)) }
+/// The names of a tracer's events and instances.
+fn names_of(alloc: Global, live: &Live) -> Result<Names, AllocError>
+    ensures { (past : List Request) → IsLive live.now.config past live.now → IfOk result (λ names. names ≡ names_of past) }
 {
     let mut names = Names::new(alloc);
-    add_events(&mut names, book)?;
-    add_instances(&mut names, book)?;
+    add_events(&mut names, live)?;
+    add_instances(&mut names, live)?;
     Ok(names)
 }
 
-/// The list of the files, with so many CPUs.
-pub(crate) fn files_of(alloc: Global, book: &Book, cpus: u32) -> Result<Vec<u8>, AllocError>
-    ensures { cpus ≡ book.now.config.cpus → IfOk result (λ text. text.items ≡ files_after book.now.config book.now.entries) }
+/// The list of the files.
+pub(crate) fn files_of(alloc: Global, live: &Live) -> Result<Vec<u8>, AllocError>
+    ensures { (past : List Request) → IsLive live.now.config past live.now
+        → IfOk result (λ text. text.items ≡ files_after live.now.config past) }
 {
-    names_of(alloc, book)?.list(cpus)
+    names_of(alloc, live)?.list(live.config().cpus)
 }

@@ -1,31 +1,59 @@
 -- What a call leaves of a handle, and its status.
-use Rattle.std.specs.Prelude.{◌≡◌, ◌^◌, ◌-◌, ℕ, List, [], length, Option, Some, None}
+use Rattle.std.specs.Prelude.{◌≡◌, ◌≢◌, ◌^◌, ◌-◌, ◌==◌, if◌then◌else◌, max, ℕ, ℤ, pos, neg_ℤ, Bool, true, false, List, [], length, Option, Some, None, Result, Ok, Err}
+use Rattle.trace_command.specs.Paths.{address_of}
+use Rattle.trace_command.specs.Refusals.{number_of}
 use Rattle.trace_command.specs.declared.command.Config.{Config}
-use Rattle.trace_command.specs.declared.command.Reply.TheVariants.{Done}
-use Rattle.trace_console.specs.Consoles.{ComesTo}
+use Rattle.trace_command.specs.declared.refusal.Refusal.{Refusal}
+use Rattle.trace_history.specs.Waiting.{waiting}
+use Rattle.trace_live.specs.Lives.{most_done}
+use Rattle.trace_console.specs.Consoles.{Asked, ComesTo, StandsFor}
 use Rattle.trace_console.specs.ConsolesSeen.{ConsoleSeen}
 use Rattle.trace_console.specs.Statuses.{offset_in, reply_in, status_of}
-use Rattle.trace_script.specs.declared.outcome.Outcome.TheVariants.{Replied}
 use Rattle.tracectl_c.specs.declared.Settings.{Settings}
 
-abbrev pub config_of : Settings → Config
-config_of s = record { cpus = s.cpus; pages = s.pages; page_bytes = s.page_bytes; history_limit = s.history_limit }
+-- ---- settings
 
--- a console that was just made
-abbrev pub opened : Config → ConsoleSeen
-opened config = record { config = config; entries = []; last = Replied Done }
+-- how many commands are done: a limit of 0 is none but the greatest
+abbrev pub limit_of : Settings → ℕ
+limit_of s = if s.history_limit == 0 then most_done else s.history_limit
+
+-- what the tracer is made with. Its limit says nothing, but has to be in its range, where 0 is not.
+abbrev pub config_of : Settings → Config
+config_of s = record { cpus = s.cpus; pages = s.pages; page_bytes = s.page_bytes; history_limit = max 1 s.history_limit }
+
+-- ---- calls
+
+-- there is a console, and it was asked this
+abbrev pub WasAsked : Asked → Option ConsoleSeen → Type 0
+WasAsked asked None = ⊥
+WasAsked asked (Some console) = StandsFor console asked
 
 -- a call that makes this of a console, or is refused memory; 200 is told of a handle that is not open, which stays so
-abbrev pub Does : (ConsoleSeen → ConsoleSeen) → Option ConsoleSeen → Option ConsoleSeen → ℕ → Type 0
+abbrev pub Does : (Asked → Asked) → Option ConsoleSeen → Option ConsoleSeen → ℕ → Type 0
 Does expected None after status = (status ≡ 200) × (after ≡ None)
 Does expected (Some before) None status = ⊥
-Does expected (Some before) (Some after) status = (status ≡ status_of after.last) × ComesTo (expected before) before after
+Does expected (Some before) (Some after) status = (status ≡ status_of after.last) × ComesTo expected before after
 
--- the number of entries, the length of the reply and the offset; 0, 0 and the greatest number where there is none
-abbrev pub entries_read : Option ConsoleSeen → ℕ
-entries_read None = 0
-entries_read (Some console) = length console.entries
+-- ---- looks
 
+-- 1 if a record waits and 0 if none does; or the number of the refusal, below 0
+abbrev pub waiting_number : Result Bool Refusal → ℤ
+waiting_number (Ok true) = pos 1
+waiting_number (Ok false) = pos 0
+waiting_number (Err refusal) = neg_ℤ (pos (number_of refusal))
+
+-- that of the pipe at this path, whatever the console was asked; -200 where there is none
+abbrev pub TellsWaiting : List ℕ → Option ConsoleSeen → ℤ → Type 0
+TellsWaiting path None told = told ≡ neg_ℤ (pos 200)
+TellsWaiting path (Some console) told = (asked : Asked) → StandsFor console asked
+    → told ≡ waiting_number (waiting asked.config asked.past (address_of path).instance (address_of path).file)
+
+-- how many commands were done, whichever they were; 0 where there is no console
+abbrev pub TellsDone : Option ConsoleSeen → ℕ → Type 0
+TellsDone None told = told ≡ 0
+TellsDone (Some console) told = (asked : Asked) → StandsFor console asked → told ≡ length asked.past
+
+-- the length of the reply and the offset; 0 and the greatest number where there is none
 abbrev pub length_read : Option ConsoleSeen → ℕ
 length_read None = 0
 length_read (Some console) = length (reply_in console.last)

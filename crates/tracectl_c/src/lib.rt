@@ -1,13 +1,14 @@
 //! tracectl for C: a static library whose exports are the calls of a console. `tracectl.h` declares them and says what C must uphold.
 #![tactic(auto)]
 
-ghost use Rattle.std.specs.Prelude.{◌≡◌, ◌≢◌, None, Some, false, true, length, min, take, drop, ◌++◌, IfSome};
+ghost use Rattle.std.specs.Prelude.{◌≡◌, ◌≢◌, ◌≤◌, None, Some, false, true, length, min, take, drop, ◌++◌, IfSome};
 ghost use Rattle.trace_command.specs.Configs.{IsInRange};
 ghost use Rattle.trace_command.specs.declared.command.Command.{Command as CommandValue};
 ghost use Rattle.trace_command.specs.declared.command.Command.TheVariants as commands;
-ghost use Rattle.trace_console.specs.Consoles.{after_command, after_emission, after_line, after_listing};
+ghost use Rattle.trace_live.specs.Lives.{most_done};
+ghost use Rattle.trace_console.specs.Consoles.{StandsFor, after_command, after_emission, after_line, after_listing, opened};
 ghost use Rattle.tracectl_c.specs.Handles.{console_of};
-ghost use Rattle.tracectl_c.specs.Calls.{Does, config_of, entries_read, offset_read, opened, reply_read};
+ghost use Rattle.tracectl_c.specs.Calls.{Does, WasAsked, TellsDone, TellsWaiting, config_of, limit_of, offset_read, reply_read, waiting_number};
 
 mod handle;
 mod opening;
@@ -18,14 +19,18 @@ use handle::Handle;
 use std::alloc::Global;
 use trace_command::{Config, Refusal};
 use trace_console::Console;
+use trace_live::MOST_DONE;
 
 /// The status of a call whose handle is not open.
 const NOT_OPEN: u32 = 200;
 
+/// What `tracectl_waiting` tells of a handle that is not open.
+const NONE_TO_LOOK_AT: i32 = -200;
+
 /// The status of `tracectl_open` where the handle is open already.
 const ALREADY_OPEN: u32 = 201;
 
-/// What a tracer is made with.
+/// What a tracer is made with. A limit of 0 is none.
 #[repr(C)]
 pub struct Settings {
     pub cpus: u32,
@@ -34,20 +39,45 @@ pub struct Settings {
     pub history_limit: u64,
 }
 
-/// A console of its own on the heap: none if memory is refused.
-fn boxed(alloc: Global, config: Config) -> Option<Box<Console, Global>>
-    requires { IsInRange config }
-    ensures { IfSome result (λ console. console.value ≡ opened config) }
+/// What the tracer is made with, which heeds no limit, so that any in range may stand for none.
+fn config_of(settings: &Settings) -> Config
+    ensures { result ≡ config_of settings.now }
 {
-    let console = Console::new(alloc, config).ok()?;
+    Config {
+        cpus: settings.cpus,
+        pages: settings.pages,
+        page_bytes: settings.page_bytes,
+        history_limit: settings.history_limit.max(1),
+    }
+}
+
+/// How many commands are done.
+fn limit_of(settings: &Settings) -> u64
+    ensures { result ≡ limit_of settings.now }
+{
+    if settings.history_limit == 0 {
+        MOST_DONE
+    } else {
+        settings.history_limit
+    }
+}
+
+/// A console of its own on the heap: none if memory is refused.
+fn boxed(alloc: Global, config: Config, limit: u64) -> Option<Box<Console, Global>>
+    requires in_range { IsInRange config }
+    requires few { limit ≤ most_done }
+    ensures { IfSome result (λ console. StandsFor console.value (opened config limit)) }
+{
+    let console = Console::new(alloc, config, limit).ok()?;
     Box::new(alloc, console).ok()
 }
 
-/// Opens a handle: a tracer with no history. A handle that is open stays as it is.
+/// Opens a handle: a tracer of which nothing was asked. A handle that is open stays as it is.
 #[unsafe(no_mangle)]
 pub extern "C" fn tracectl_open(alloc: Global, handle: &mut Handle, settings: &Settings) -> u32
     ensures open { console_of handle.old ≢ None → (result ≡ 201) × (console_of handle.new ≡ console_of handle.old) }
-    ensures made { result ≡ 0 → (console_of handle.new ≡ Some (opened (config_of settings.now))) × IsInRange (config_of settings.now) }
+    ensures made { result ≡ 0 → WasAsked (opened (config_of settings.now) (limit_of settings.now)) (console_of handle.new)
+        × IsInRange (config_of settings.now) }
     ensures refused { result ≢ 0 → console_of handle.new ≡ console_of handle.old }
     ensures out_of_range { console_of handle.old ≡ None → ¬ IsInRange (config_of settings.now) → result ≡ 4 }
     ensures memory { console_of handle.old ≡ None → IsInRange (config_of settings.now) → result ≢ 0 → result ≡ 23 }
@@ -55,16 +85,11 @@ pub extern "C" fn tracectl_open(alloc: Global, handle: &mut Handle, settings: &S
     if handle.is_open() {
         return ALREADY_OPEN;
     }
-    let config = Config {
-        cpus: settings.cpus,
-        pages: settings.pages,
-        page_bytes: settings.page_bytes,
-        history_limit: settings.history_limit,
-    };
+    let config = config_of(settings);
     if !config.is_in_range() {
         return u32::from(Refusal::BadValue.number());
     }
-    let Some(console) = boxed(alloc, config) else {
+    let Some(console) = boxed(alloc, config, limit_of(settings)) else {
         return u32::from(Refusal::Memory.number());
     };
     handle.keep(console);
@@ -249,18 +274,44 @@ pub extern "C" fn tracectl_offset(alloc: Global, handle: &mut Handle) -> usize
     offset
 }
 
-/// How many entries the history has; 0 where the handle is not open.
+/// How many commands were done; 0 where the handle is not open.
 #[unsafe(no_mangle)]
 pub extern "C" fn tracectl_entries(alloc: Global, handle: &mut Handle) -> u64
-    ensures entries { result ≡ entries_read (console_of handle.old) }
+    ensures entries { TellsDone (console_of handle.old) result }
     ensures same { console_of handle.new ≡ console_of handle.old }
 {
     let Some(console) = handle.take(alloc) else {
         return 0;
     };
-    let count = console.entries();
+    let count = console.done();
     handle.keep(console);
     count
+}
+
+/// Tells whether a record waits: 1 if one does and 0 if none does; or the number of the refusal, below 0.
+fn told(waits: Result<bool, Refusal>) -> i32
+    ensures { result ≡ waiting_number waits }
+{
+    match waits {
+        Ok(true) => 1,
+        Ok(false) => 0,
+        Err(refusal) => -i32::from(refusal.number()),
+    }
+}
+
+/// Whether a record waits to be read in the pipe at this path: 1 if one does, 0 if none does; or the number of the refusal that `tracectl_take` of it
+/// would have, below 0. It is no command: the reply stays, too.
+#[unsafe(no_mangle)]
+pub extern "C" fn tracectl_waiting(alloc: Global, handle: &mut Handle, path: &[u8]) -> i32
+    ensures waiting { TellsWaiting path.now (console_of handle.old) result }
+    ensures same { console_of handle.new ≡ console_of handle.old }
+{
+    let Some(console) = handle.take(alloc) else {
+        return NONE_TO_LOOK_AT;
+    };
+    let waits = told(console.waiting(path));
+    handle.keep(console);
+    waits
 }
 
 /// Closes a handle.

@@ -1,0 +1,28 @@
+/* How many commands a tracer does: as many as its limit says, and then none that could be done; without a limit more. Which limits are in range. */
+#include <stdio.h>
+
+#include "tracectl.h"
+
+#define TEXT(text) (text), sizeof(text) - 1
+
+static tracectl_settings with(uint64_t limit) {
+    tracectl_settings settings = {.cpus = 1, .pages = 2, .page_bytes = 64, .history_limit = limit};
+    return settings;
+}
+
+/* Reads more often than the limit says, and asks then for what is refused in any case. */
+static int try_limit(uint64_t limit) {
+    tracectl tracer = TRACECTL_CLOSED;
+    tracectl_settings settings = with(limit);
+    uint32_t opened = tracectl_open(&tracer, &settings);
+    if (opened) return printf("limit %llu: status %u\n", (unsigned long long)limit, (unsigned)opened) > 0;
+    for (int i = 0; i < 3; i++) printf("%u ", (unsigned)tracectl_read(&tracer, TEXT("trace")));
+    printf("%u ", (unsigned)tracectl_read(&tracer, TEXT("no_file")));
+    printf("limit %llu: entries: %llu\n", (unsigned long long)limit, (unsigned long long)tracectl_entries(&tracer));
+    return tracectl_close(&tracer) == TRACECTL_DONE;
+}
+
+int main(void) {
+    return !(try_limit(1) && try_limit(2) && try_limit(0) && try_limit((uint64_t)1 << 32) && try_limit(((uint64_t)1 << 32) + 1)
+        && try_limit((uint64_t)1 << 60) && try_limit(UINT64_MAX));
+}
