@@ -1,5 +1,5 @@
 -- A book's answers are those of a tracer with no history, but where its history is full.
-use Rattle.std.proofs.Common.{◌≡◌, ◌≢◌, ℕ, ◌<◌, ◌≤◌, Bool, true, false, nat_lt, List, [], ◌∷◌, ◌++◌, length, reverse, IsOk, Result, Ok, Err, refl, ap, ◌∙◌, subst, arith, append_assoc, ltb-true}
+use Rattle.std.proofs.Common.{◌≡◌, ◌≢◌, ℕ, ◌<◌, ◌≤◌, Bool, true, false, nat_lt, List, [], ◌∷◌, ◌++◌, length, reverse, IsOk, Result, Ok, Err, refl, ap, ◌∙◌, subst, sym, arith, append_assoc, ltb-true}
 use Rattle.std.proofs.lemmas.Bool.{lt-ltb}
 use Rattle.std.proofs.lemmas.List.{reverse-append}
 use Rattle.trace_command.specs.Configs.{IsInRange}
@@ -11,7 +11,7 @@ use Rattle.trace_command.specs.declared.refusal.Refusal.{Refusal}
 use Rattle.trace_command.specs.declared.refusal.Refusal.TheVariants.{HistoryFull}
 use Rattle.trace_history.specs.History.{answer, answer_with_room, past_of, unless_full, IsLegal, IsLegalNewestFirst}
 use Rattle.trace_history.proofs.LegalEvents.{done-legal}
-use Rattle.trace_live.specs.LiveLaws.{LegalHistoriesWereDone, HistoriesAreAnsweredAlike, RefusalsAreAlike}
+use Rattle.trace_live.specs.LiveLaws.{LegalHistoriesWereDone, HistoriesAreAnsweredAlike, RefusalsAreAlike, LimitsAreAlike}
 use Rattle.trace_live.specs.Lives.{limited_answer, most_done}
 
 -- a book's limit is one like any other
@@ -37,6 +37,9 @@ answers-alike limit g past request above other = by (answer_with_room g past req
             let room : length past < limit = omega arith in
             rw (is, lt-ltb (length past) limit room) refl
         by_room false is = absurd (differs (rw is refl))
+
+pub limits_are_alike : LimitsAreAlike
+limits_are_alike g entries command = sym (book-answer g (past_of entries) (request_of command))
 
 few_in_range : (g : Config) → IsInRange g → g.history_limit ≤ most_done
 few_in_range g range = omega (arith, range.few_entries)

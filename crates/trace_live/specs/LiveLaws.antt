@@ -8,7 +8,7 @@ use Rattle.trace_command.specs.declared.command.Entry.{Entry}
 use Rattle.trace_command.specs.declared.refusal.Refusal.TheVariants.{HistoryFull}
 use Rattle.trace_history.specs.History.{answer_to, past_of, IsLegal}
 use Rattle.trace_history.specs.Pasts.{AreDone}
-use Rattle.trace_live.specs.Lives.{live_answer}
+use Rattle.trace_live.specs.Lives.{limited_answer, live_answer}
 
 -- the requests of a legal history were done one after another, as `IsLive` says of those that led to a tracer
 abbrev pub LegalHistoriesWereDone : Type 0
@@ -25,3 +25,9 @@ abbrev pub RefusalsAreAlike : Type 0
 RefusalsAreAlike =
     (g : Config) (entries : List Entry) (command : Command) → IsInRange g → answer_to g entries command ≢ Err HistoryFull
     → live_answer g (past_of entries) (request_of command) ≡ answer_to g entries command
+
+-- asked within the limit of a book's history, it answers as the book does
+abbrev pub LimitsAreAlike : Type 0
+LimitsAreAlike =
+    (g : Config) (entries : List Entry) (command : Command)
+    → limited_answer g.history_limit g (past_of entries) (request_of command) ≡ answer_to g entries command

@@ -1,4 +1,4 @@
-use Rattle.trace_live.proofs.BookAnswers.{legal_histories_were_done, histories_are_answered_alike, refusals_are_alike}
+use Rattle.trace_live.proofs.BookAnswers.{legal_histories_were_done, histories_are_answered_alike, limits_are_alike, refusals_are_alike}
 use Rattle.trace_live.proofs.laws.lives_answer_as_books.Goals as goal
 
 pub returns : goal.returns
@@ -6,4 +6,5 @@ returns c = record {
   done = legal_histories_were_done;
   histories = histories_are_answered_alike;
   refusals = refusals_are_alike;
+  limits = limits_are_alike;
 }
