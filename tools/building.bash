@@ -219,19 +219,20 @@ prove() {
 
 # --- Choosing ---
 
-# Puts into `program` the proved program, if it is current, or else an unproved one, which is compiled if need be; into `is_proved` which of them it is.
+# Puts into `program` the proved program of a crate, if it is current, or else an unproved one, which is compiled if need be; into `is_proved` which of
+# them it is.
 choose_program() {
-  proved=$top/crates/tracectl/out/tracectl
+  proved=$top/crates/$1/out/$1
   program=$proved
   is_proved=yes
-  find_sources tracectl
+  find_sources "$1"
   if ! is_current "$proved"; then
-    if compile tracectl "$proved-unproved"; then
+    if compile "$1" "$proved-unproved"; then
       program=$proved-unproved
       is_proved=no
     else
       say "so the program is proved, which needs no such knowledge"
-      prove tracectl "$proved"
+      prove "$1" "$proved"
     fi
   fi
   [ ! -s "$program-ahead" ] || tell_of_future "$program"
