@@ -61,7 +61,7 @@ def check_cases():
     return [
         case("all of it", [], whole, each, 0, jobs, last=b"\n174 passed, 0 failed\n"),
         case("all of it, and rt shares the processors", [], whole, ["rt ci RT_JOBS= "], 0, last=b"\n174 passed, 0 failed\n"),
-        case("all of it, and the chain is proved ahead", [], dict(tests, rt=telling), ahead, 0, last=b"\n174 passed, 0 failed\n"),
+        case("all of it, and the chain is proved ahead", [], dict(tests, rt=telling, awk="echo 20000000"), ahead, 0, last=b"\n174 passed, 0 failed\n"),
         case("all of it, and little of its memory is free", [], dict(tests, rt=telling, awk="echo 9000000"), ahead[-1:], 0, last=b"\n174 passed, 0 failed\n"),
         case("by a link, with a CDPATH and a TMPDIR that isn't there", [], whole, each, 0, elsewhere, "link", last=b"\n174 passed, 0 failed\n"),
         case("by a relative path, likewise", [], whole, each, 0, elsewhere, "relative", last=b"\n174 passed, 0 failed\n"),
