@@ -28,7 +28,7 @@ impl Access {
 }
 
 /// How a file of an instance itself can be used.
-pub(crate) fn top_access(file: TopFile) -> Access
+pub fn top_access(file: TopFile) -> Access
     ensures { result ≡ top_access file }
 {
     match file {
@@ -44,7 +44,7 @@ pub(crate) fn top_access(file: TopFile) -> Access
 }
 
 /// How a file of a CPU can be used.
-pub(crate) fn cpu_access(file: CpuFile) -> Access
+pub fn cpu_access(file: CpuFile) -> Access
     ensures { result ≡ cpu_access file }
 {
     match file {
@@ -54,7 +54,7 @@ pub(crate) fn cpu_access(file: CpuFile) -> Access
 }
 
 /// How a file of an event can be used.
-pub(crate) fn event_access(file: EventFile) -> Access
+pub fn event_access(file: EventFile) -> Access
     ensures { result ≡ event_access file }
 {
     match file {

@@ -5,5 +5,5 @@ mod access;
 mod listing;
 mod names;
 
-pub use access::Access;
+pub use access::{Access, cpu_access, event_access, top_access};
 pub use names::Names;

@@ -1,0 +1,9 @@
+pub mod NumberLemmas
+pub mod AfterRequests
+pub mod ListLemmas
+pub mod ThereLemmas
+pub mod SerialLemmas
+pub mod JoinLemmas
+pub mod EntryLaws
+pub mod AddressLaws
+pub mod EntryLemmas

@@ -1,0 +1,138 @@
+-- Numbers of nodes, unpacked.
+use Rattle.std.proofs.Common.{◌≡◌, ℕ, ◌+◌, ◌*◌, ◌-◌, ◌/◌, ◌%◌, ◌<◌, ◌≤◌, ◌^◌, Option, Some, None, IfNone, slice_get, refl, sym, ap, ◌∙◌, subst, arith, lit<}
+use Rattle.std.proofs.lemmas.Option.{none-some, same_Some}
+use Rattle.trace_command.specs.declared.file_name.CpuFile.TheVariants as per_cpu
+use Rattle.trace_command.specs.declared.file_name.EventFile.TheVariants as per_event
+use Rattle.trace_command.specs.declared.file_name.TopFile.TheVariants as top
+use Rattle.mount_tree.specs.Nodes.{FitsItsTypes, index_of, number_from, number_of, owner_number, owner_of, place_of}
+use Rattle.mount_tree.specs.declared.file.File.TheVariants.{SyntheticEvents, OfInstance, SystemEnable, OfCpu, OfEvent, Inject}
+use Rattle.mount_tree.specs.declared.folder.Folder.TheVariants.{Root, Instances, Options, PerCpu, Cpu, Events, Synthetic, Event}
+use Rattle.mount_tree.specs.declared.node.Node.{Node}
+use Rattle.mount_tree.specs.declared.node.Node.TheVariants as nodes
+use Rattle.mount_tree.specs.declared.node.Owner.{Owner}
+use Rattle.mount_tree.specs.declared.node.Owner.TheVariants.{Top, Made}
+use Rattle.mount_tree.specs.private.Places.{nodes_of}
+
+-- the three numbers that are packed in one
+pub record AreIn (number owner index place : ℕ) : Type 0 where
+  pub whose : owner ≡ (number - 1) / 8192
+  pub which : index ≡ (number - 1) / 32 % 256
+  pub kind : place ≡ (number - 1) % 32
+
+pub unpacked : (owner index place : ℕ) → index < 256 → place < 32 → AreIn (number_from owner index place) owner index place
+unpacked owner index place few small = record { whose = omega arith; which = omega arith; kind = omega arith }
+
+-- a kind's number is small, and the node is at it among those of its owner and index
+pub place-below : (node : Node) → place_of node < 32
+place-below (nodes.Folder o Root) = lit< tt
+place-below (nodes.Folder o Instances) = lit< tt
+place-below (nodes.Folder o Options) = lit< tt
+place-below (nodes.Folder o PerCpu) = lit< tt
+place-below (nodes.Folder o (Cpu k)) = lit< tt
+place-below (nodes.Folder o Events) = lit< tt
+place-below (nodes.Folder o Synthetic) = lit< tt
+place-below (nodes.Folder o (Event k)) = lit< tt
+place-below (nodes.File o SyntheticEvents) = lit< tt
+place-below (nodes.File o (OfInstance top.Trace)) = lit< tt
+place-below (nodes.File o (OfInstance top.TracePipe)) = lit< tt
+place-below (nodes.File o (OfInstance top.Overwrite)) = lit< tt
+place-below (nodes.File o (OfInstance top.TraceOptions)) = lit< tt
+place-below (nodes.File o (OfInstance top.TracingOn)) = lit< tt
+place-below (nodes.File o (OfInstance top.Snapshot)) = lit< tt
+place-below (nodes.File o (OfInstance top.EventsEnable)) = lit< tt
+place-below (nodes.File o (OfInstance top.EventsFilter)) = lit< tt
+place-below (nodes.File o SystemEnable) = lit< tt
+place-below (nodes.File o (OfCpu k per_cpu.Trace)) = lit< tt
+place-below (nodes.File o (OfCpu k per_cpu.TracePipe)) = lit< tt
+place-below (nodes.File o (OfCpu k per_cpu.Stats)) = lit< tt
+place-below (nodes.File o (OfEvent k per_event.Enable)) = lit< tt
+place-below (nodes.File o (OfEvent k per_event.Filter)) = lit< tt
+place-below (nodes.File o (OfEvent k per_event.Trigger)) = lit< tt
+place-below (nodes.File o (OfEvent k per_event.Hist)) = lit< tt
+place-below (nodes.File o (OfEvent k per_event.Format)) = lit< tt
+place-below (nodes.File o (Inject k)) = lit< tt
+
+pub at_place : (node : Node) → slice_get (nodes_of (owner_of node) (index_of node)) (place_of node) ≡ Some node
+at_place (nodes.Folder o Root) = refl
+at_place (nodes.Folder o Instances) = refl
+at_place (nodes.Folder o Options) = refl
+at_place (nodes.Folder o PerCpu) = refl
+at_place (nodes.Folder o (Cpu k)) = refl
+at_place (nodes.Folder o Events) = refl
+at_place (nodes.Folder o Synthetic) = refl
+at_place (nodes.Folder o (Event k)) = refl
+at_place (nodes.File o SyntheticEvents) = refl
+at_place (nodes.File o (OfInstance top.Trace)) = refl
+at_place (nodes.File o (OfInstance top.TracePipe)) = refl
+at_place (nodes.File o (OfInstance top.Overwrite)) = refl
+at_place (nodes.File o (OfInstance top.TraceOptions)) = refl
+at_place (nodes.File o (OfInstance top.TracingOn)) = refl
+at_place (nodes.File o (OfInstance top.Snapshot)) = refl
+at_place (nodes.File o (OfInstance top.EventsEnable)) = refl
+at_place (nodes.File o (OfInstance top.EventsFilter)) = refl
+at_place (nodes.File o SystemEnable) = refl
+at_place (nodes.File o (OfCpu k per_cpu.Trace)) = refl
+at_place (nodes.File o (OfCpu k per_cpu.TracePipe)) = refl
+at_place (nodes.File o (OfCpu k per_cpu.Stats)) = refl
+at_place (nodes.File o (OfEvent k per_event.Enable)) = refl
+at_place (nodes.File o (OfEvent k per_event.Filter)) = refl
+at_place (nodes.File o (OfEvent k per_event.Trigger)) = refl
+at_place (nodes.File o (OfEvent k per_event.Hist)) = refl
+at_place (nodes.File o (OfEvent k per_event.Format)) = refl
+at_place (nodes.File o (Inject k)) = refl
+
+-- the owner of a number is one
+pub one_owner : (a b : Owner) → owner_number a ≡ owner_number b → a ≡ b
+one_owner Top Top same = refl
+one_owner Top (Made s) same = absurd (omega arith)
+one_owner (Made s) Top same = absurd (omega arith)
+one_owner (Made s) (Made t) same = ap Made (omega arith)
+
+pub packed : (node : Node) (number : ℕ) → FitsItsTypes node → number_of node ≡ number
+    → AreIn number (owner_number (owner_of node)) (index_of node) (place_of node)
+unfolding number_of
+packed node number fits is =
+    rw (sym is) (unpacked (owner_number (owner_of node)) (index_of node) (place_of node) (omega (arith, fits.index)) (place-below node))
+
+-- a node is the one that its number, unpacked, says
+pub found_again : (node : Node) (number : ℕ) (owner : Owner) → FitsItsTypes node → number_of node ≡ number → owner_number owner ≡ (number - 1) / 8192
+    → slice_get (nodes_of owner ((number - 1) / 32 % 256)) ((number - 1) % 32) ≡ Some node
+found_again node number owner fits is whose =
+    let are = packed node number fits is in
+    let same : owner ≡ owner_of node = one_owner owner (owner_of node) (whose ∙ sym are.whose) in
+    rw (same, sym are.which, sym are.kind) (at_place node)
+
+pub same_number : (a b : Node) → FitsItsTypes a → FitsItsTypes b → number_of a ≡ number_of b → a ≡ b
+same_number a b first second same =
+    let are = packed b (number_of b) second refl in
+    let one = found_again a (number_of b) (owner_of b) first same are.whose in
+    let other = found_again b (number_of b) (owner_of b) second refl are.whose in
+    let found : Some a ≡ Some b = sym one ∙ other in
+    cc
+
+-- ---- numbers that no node has
+
+pub not_zero : (number : ℕ) → number < 1 → (node : Node) → FitsItsTypes node → number_of node ≡ number → ⊥
+unfolding number_of
+not_zero number zero node fits is = absurd (omega (arith, is, zero))
+
+pub no_owner : (number : ℕ) → ((owner : Owner) → owner_number owner ≤ 2 ^ 32 → owner_number owner ≡ (number - 1) / 8192 → ⊥)
+    → (node : Node) → FitsItsTypes node → number_of node ≡ number → ⊥
+no_owner number none node fits is = none (owner_of node) fits.owner (packed node number fits is).whose
+
+pub no_node : (number : ℕ) (owner : Owner) → owner_number owner ≡ (number - 1) / 8192
+    → slice_get (nodes_of owner ((number - 1) / 32 % 256)) ((number - 1) % 32) ≡ None
+    → (node : Node) → FitsItsTypes node → number_of node ≡ number → ⊥
+no_node number owner whose none node fits is =
+    none-some node (sym none ∙ found_again node number owner fits is whose)
+
+pub other_number : (number : ℕ) (owner : Owner) (found : Node) → owner_number owner ≡ (number - 1) / 8192
+    → slice_get (nodes_of owner ((number - 1) / 32 % 256)) ((number - 1) % 32) ≡ Some found → (number_of found ≡ number → ⊥)
+    → (node : Node) → FitsItsTypes node → number_of node ≡ number → ⊥
+other_number number owner found whose at differs node fits is =
+    let same : node ≡ found = same_Some node found (sym (found_again node number owner fits is whose) ∙ at) in
+    differs (subst (λ (n : Node). number_of n ≡ number) same is)
+
+pub if_none : {A : Type 0} {P Q : Type 0} (o : Option A) → IfNone o P → (P → Q) → IfNone o Q
+if_none None holds weaker = weaker holds
+if_none (Some x) holds weaker = tt

@@ -1,0 +1,11 @@
+use Rattle.std.proofs.Common.{sym, ◌∙◌}
+use Rattle.mount_tree.specs.Children.{fixed_children}
+use Rattle.mount_tree.specs.Entries.{child_of}
+use Rattle.mount_tree.proofs.EntryLemmas.{named_later}
+use Rattle.mount_tree.proofs.entry.fixed_named.Goals as goal
+
+pub loop-index-preserved : goal.loop-index-preserved
+loop-index-preserved c =
+    named_later c.args.name.now (fixed_children c.args.owner c.args.folder) c.loop-index.index (child_of c.in-Some.entry) (sym c.in-Some.ensures)
+    (sym c.if-eq.ensures)
+    ∙ c.loop-index.invariant

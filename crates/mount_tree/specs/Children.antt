@@ -1,0 +1,139 @@
+-- Which folders and files each folder has, in the order in which docs/FILES.md lists them, and which there are at all.
+use Rattle.std.specs.Prelude.{ℕ, zero, suc, Bool, true, false, ◌&&◌, nat_lt, is_some, if◌then◌else◌, List, [], ◌∷◌, ◌++◌, map, Option, codes}
+use Rattle.std.specs.Fmt.{decimal}
+use Rattle.std.specs.List.{find}
+use Rattle.std.specs.Option.{option_map}
+use Rattle.std.specs.Str.{bytes_eq}
+use Rattle.trace_command.specs.declared.file_name.CpuFile.TheVariants as per_cpu
+use Rattle.trace_command.specs.declared.file_name.EventFile.TheVariants as per_event
+use Rattle.trace_command.specs.declared.file_name.TopFile.TheVariants as top
+use Rattle.mount_tree.specs.Scenes.{SceneSeen, event_at, instance_at}
+use Rattle.mount_tree.specs.TreeNames.{file_name, file_parent}
+use Rattle.mount_tree.specs.declared.file.File.{File}
+use Rattle.mount_tree.specs.declared.file.File.TheVariants.{SyntheticEvents, OfInstance, SystemEnable, OfCpu, OfEvent, Inject}
+use Rattle.mount_tree.specs.declared.folder.Folder.{Folder}
+use Rattle.mount_tree.specs.declared.folder.Folder.TheVariants as folders
+use Rattle.mount_tree.specs.declared.node.Node.{Node}
+use Rattle.mount_tree.specs.declared.node.Node.TheVariants as nodes
+use Rattle.mount_tree.specs.declared.node.Owner.{Owner}
+use Rattle.mount_tree.specs.declared.node.Owner.TheVariants.{Top, Made}
+use Rattle.mount_tree.specs.declared.scene.Event.{Event}
+use Rattle.mount_tree.specs.declared.scene.Instance.{Instance}
+
+-- ---- what is there
+
+abbrev pub is_top : Owner → Bool
+is_top Top = true
+is_top (Made serial) = false
+
+abbrev pub owner_is_there : SceneSeen → Owner → Bool
+owner_is_there scene Top = true
+owner_is_there scene (Made serial) = is_some (instance_at serial scene.instances)
+
+abbrev pub folder_is_there : SceneSeen → Owner → Folder → Bool
+folder_is_there scene owner folders.Instances = is_top owner
+folder_is_there scene owner (folders.Cpu cpu) = nat_lt cpu scene.cpus
+folder_is_there scene owner (folders.Event event) = is_some (event_at event scene.events)
+folder_is_there scene owner _ = true
+
+-- a file is there where its folder is, but that of the declarations only at the top
+abbrev pub file_is_there : SceneSeen → Owner → File → Bool
+file_is_there scene owner SyntheticEvents = is_top owner
+file_is_there scene owner file = folder_is_there scene owner (file_parent file)
+
+abbrev pub is_there : SceneSeen → Node → Bool
+is_there scene (nodes.Folder owner folder) = owner_is_there scene owner && folder_is_there scene owner folder
+is_there scene (nodes.File owner file) = owner_is_there scene owner && file_is_there scene owner file
+
+-- ---- the entries of a folder
+
+pub record Child : Type 0 where
+  pub name : List ℕ
+  pub node : Node
+
+abbrev pub file_child : Owner → File → Child
+file_child owner file = record { name = file_name file; node = nodes.File owner file }
+
+abbrev pub folder_child : Owner → List ℕ → Folder → Child
+folder_child owner name folder = record { name = name; node = nodes.Folder owner folder }
+
+-- what every instance has in its own folder
+abbrev pub own_children : Owner → List Child
+own_children owner =
+    file_child owner (OfInstance top.Snapshot)
+    ∷ file_child owner (OfInstance top.TracingOn)
+    ∷ file_child owner (OfInstance top.Trace)
+    ∷ file_child owner (OfInstance top.TracePipe)
+    ∷ folder_child owner (codes "options") folders.Options
+    ∷ file_child owner (OfInstance top.TraceOptions)
+    ∷ folder_child owner (codes "events") folders.Events
+    ∷ folder_child owner (codes "per_cpu") folders.PerCpu
+    ∷ []
+
+-- the top instance's own folder, the mounted one, has two entries more
+abbrev pub root_children : Owner → List Child
+root_children Top =
+    file_child Top SyntheticEvents ∷ own_children Top ++ folder_child Top (codes "instances") folders.Instances ∷ []
+root_children (Made serial) = own_children (Made serial)
+
+-- what a folder has always
+abbrev pub fixed_children : Owner → Folder → List Child
+fixed_children owner folders.Root = root_children owner
+fixed_children owner folders.Options = file_child owner (OfInstance top.Overwrite) ∷ []
+fixed_children owner (folders.Cpu cpu) =
+    file_child owner (OfCpu cpu per_cpu.Stats)
+    ∷ file_child owner (OfCpu cpu per_cpu.Trace)
+    ∷ file_child owner (OfCpu cpu per_cpu.TracePipe)
+    ∷ []
+fixed_children owner folders.Events =
+    file_child owner (OfInstance top.EventsEnable)
+    ∷ folder_child owner (codes "synthetic") folders.Synthetic
+    ∷ []
+fixed_children owner folders.Synthetic =
+    file_child owner SystemEnable
+    ∷ file_child owner (OfInstance top.EventsFilter)
+    ∷ []
+fixed_children owner (folders.Event event) =
+    file_child owner (OfEvent event per_event.Format)
+    ∷ file_child owner (OfEvent event per_event.Enable)
+    ∷ file_child owner (OfEvent event per_event.Filter)
+    ∷ file_child owner (OfEvent event per_event.Trigger)
+    ∷ file_child owner (OfEvent event per_event.Hist)
+    ∷ file_child owner (Inject event)
+    ∷ []
+fixed_children owner _ = []
+
+-- `cpuN`
+unfoldable pub cpu_name : ℕ → List ℕ
+cpu_name cpu = codes "cpu" ++ decimal cpu
+
+abbrev pub cpu_child : Owner → ℕ → Child
+cpu_child owner cpu = folder_child owner (cpu_name cpu) (folders.Cpu cpu)
+
+-- the folders of so many CPUs
+abbrev pub cpu_children : Owner → ℕ → List Child
+cpu_children owner zero = []
+cpu_children owner (suc cpu) = cpu_children owner cpu ++ cpu_child owner cpu ∷ []
+
+abbrev pub event_child : Owner → Event → Child
+event_child owner event = folder_child owner event.name (folders.Event event.index)
+
+abbrev pub instance_child : Instance → Child
+instance_child instance = folder_child (Made instance.serial) instance.name folders.Root
+
+-- what a folder has for the CPUs, events and instances that there are
+abbrev pub made_children : SceneSeen → Owner → Folder → List Child
+made_children scene owner folders.Instances = map instance_child scene.instances
+made_children scene owner folders.PerCpu = cpu_children owner scene.cpus
+made_children scene owner folders.Synthetic = map (event_child owner) scene.events
+made_children scene owner _ = []
+
+-- the entries of what a node names, in order: none, if it is no folder or is not there
+abbrev pub children : SceneSeen → Node → List Child
+children scene (nodes.Folder owner folder) =
+    if is_there scene (nodes.Folder owner folder) then fixed_children owner folder ++ made_children scene owner folder else []
+children scene (nodes.File owner file) = []
+
+-- the node of a name among entries
+abbrev pub node_named : List ℕ → List Child → Option Node
+node_named name entries = option_map (λ (c : Child). c.node) (find (λ (c : Child). bytes_eq c.name name) entries)

@@ -1,0 +1,10 @@
+pub mod Nodes
+pub mod TreeNames
+pub mod FileKinds
+pub mod Scenes
+pub mod Children
+pub mod Entries
+pub mod NodePaths
+pub mod private
+pub mod ScenesAfter
+pub mod TreeLaws

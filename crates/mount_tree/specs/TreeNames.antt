@@ -1,0 +1,56 @@
+-- What files are called, and the folders that they are in.
+use Rattle.std.specs.Prelude.{ℕ, List, codes}
+use Rattle.trace_command.specs.declared.file_name.CpuFile.{CpuFile}
+use Rattle.trace_command.specs.declared.file_name.CpuFile.TheVariants as per_cpu
+use Rattle.trace_command.specs.declared.file_name.EventFile.{EventFile}
+use Rattle.trace_command.specs.declared.file_name.EventFile.TheVariants as per_event
+use Rattle.trace_command.specs.declared.file_name.TopFile.{TopFile}
+use Rattle.trace_command.specs.declared.file_name.TopFile.TheVariants as top
+use Rattle.mount_tree.specs.declared.file.File.{File}
+use Rattle.mount_tree.specs.declared.file.File.TheVariants.{SyntheticEvents, OfInstance, SystemEnable, OfCpu, OfEvent, Inject}
+use Rattle.mount_tree.specs.declared.folder.Folder.{Folder}
+use Rattle.mount_tree.specs.declared.folder.Folder.TheVariants.{Root, Options, Cpu, Events, Synthetic, Event}
+
+abbrev pub top_file_name : TopFile → List ℕ
+top_file_name top.Trace = codes "trace"
+top_file_name top.TracePipe = codes "trace_pipe"
+top_file_name top.Overwrite = codes "overwrite"
+top_file_name top.TraceOptions = codes "trace_options"
+top_file_name top.TracingOn = codes "tracing_on"
+top_file_name top.Snapshot = codes "snapshot"
+top_file_name top.EventsEnable = codes "enable"
+top_file_name top.EventsFilter = codes "filter"
+
+abbrev pub cpu_file_name : CpuFile → List ℕ
+cpu_file_name per_cpu.Trace = codes "trace"
+cpu_file_name per_cpu.TracePipe = codes "trace_pipe"
+cpu_file_name per_cpu.Stats = codes "stats"
+
+abbrev pub event_file_name : EventFile → List ℕ
+event_file_name per_event.Enable = codes "enable"
+event_file_name per_event.Filter = codes "filter"
+event_file_name per_event.Trigger = codes "trigger"
+event_file_name per_event.Hist = codes "hist"
+event_file_name per_event.Format = codes "format"
+
+abbrev pub file_name : File → List ℕ
+file_name SyntheticEvents = codes "synthetic_events"
+file_name (OfInstance file) = top_file_name file
+file_name SystemEnable = codes "enable"
+file_name (OfCpu cpu file) = cpu_file_name file
+file_name (OfEvent event file) = event_file_name file
+file_name (Inject event) = codes "inject"
+
+abbrev pub top_file_parent : TopFile → Folder
+top_file_parent top.Overwrite = Options
+top_file_parent top.EventsEnable = Events
+top_file_parent top.EventsFilter = Synthetic
+top_file_parent _ = Root
+
+abbrev pub file_parent : File → Folder
+file_parent SyntheticEvents = Root
+file_parent (OfInstance file) = top_file_parent file
+file_parent SystemEnable = Synthetic
+file_parent (OfCpu cpu file) = Cpu cpu
+file_parent (OfEvent event file) = Event event
+file_parent (Inject event) = Event event

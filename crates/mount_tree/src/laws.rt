@@ -1,0 +1,49 @@
+//! What the numbers, entries and paths of nodes come to, and what requests do to a scene. Each function does nothing: its contract is a theorem.
+
+ghost use Rattle.mount_tree.specs.TreeLaws.{DeclaringAddsAnEvent, EventsAreDeclared, FoundNodesAreThere, ListsAreLookups, MakingAddsAnInstance, NamesGoWithSerials, NumbersNameNodes, OthersLeaveTheScene, PathsAreJoined, PathsNameTheirFiles, RemovedNodesAreGone, RemovingTakesItOut};
+
+/// Two nodes of one number are the same, so a number names one node.
+
+pub fn numbers_name_nodes()
+    ensures { NumbersNameNodes }
+{}
+
+/// After the requests that were done, the instances are those of trace_history, each with the number of those that were made before it; the events
+/// are those that were declared, but for those named as a file beside their folder.
+pub fn scenes_are_of_their_pasts()
+    ensures instances { NamesGoWithSerials }
+    ensures events { EventsAreDeclared }
+{}
+
+/// What a request that is done does to a scene: what `add_instance`, `remove_instance` and `add_event` do, or nothing.
+pub fn requests_change_scenes()
+    ensures made { MakingAddsAnInstance }
+    ensures removed { RemovingTakesItOut }
+    ensures declared { DeclaringAddsAnEvent }
+    ensures others { OthersLeaveTheScene }
+{}
+
+/// A node of an instance that was removed is never there again, whatever is made later.
+pub fn removed_nodes_are_gone()
+    ensures { RemovedNodesAreGone }
+{}
+
+/// What a look-up finds is there.
+pub fn found_nodes_are_there()
+    ensures { FoundNodesAreThere }
+{}
+
+/// In a scene with names as a tracer has: a folder's list has each name once, and a look-up of a name finds what is listed under it.
+pub fn lists_are_lookups()
+    ensures { ListsAreLookups }
+{}
+
+/// The path of what a look-up finds is the folder's path and the name, and a slash if it is a folder.
+pub fn paths_are_joined()
+    ensures { PathsAreJoined }
+{}
+
+/// The path of a file that is there names, for a command, that file of that instance.
+pub fn paths_name_their_files()
+    ensures { PathsNameTheirFiles }
+{}

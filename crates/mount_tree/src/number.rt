@@ -1,0 +1,147 @@
+//! The number of a node, which a file system tells as its inode and node number, and the node of a number.
+//!
+//! A number is one more than three numbers packed: whose the node is, the CPU or event, and the kind.
+//!
+//! ```text
+//!     number - 1   =   owner: 33 bits   index: 8 bits   kind: 5 bits
+//! ```
+
+ghost use Rattle.std.specs.Prelude.{◌≡◌, ◌≢◌, ◌≤◌, ◌^◌, IfSome, IfNone, slice_get};
+ghost use Rattle.mount_tree.specs.Nodes.{FitsItsTypes, index_of, number_of, owner_number, owner_of, place_of};
+ghost use Rattle.mount_tree.specs.private.Places.{nodes_of};
+
+use crate::file::File;
+use crate::folder::Folder;
+use crate::node::{Node, Owner};
+use trace_command::{CpuFile, EventFile, TopFile};
+
+/// The values of the index, and of the kind.
+const INDEXES: u64 = 256;
+
+const PLACES: u64 = 32;
+
+impl Node {
+    /// The mounted folder. Its number is 1.
+    pub fn top() -> Node {
+        Node::Folder(Owner::Top, Folder::Root)
+    }
+
+    /// Whose it is.
+    pub fn owner(self) -> Owner
+        ensures { result ≡ owner_of self }
+    {
+        match self {
+            Node::Folder(owner, _) | Node::File(owner, _) => owner,
+        }
+    }
+
+    fn index(self) -> u8
+        ensures { result ≡ index_of self }
+    {
+        match self {
+            Node::Folder(_, folder) => folder.index(),
+            Node::File(_, file) => file.index(),
+        }
+    }
+
+    fn place(self) -> u8
+        ensures { result ≡ place_of self }
+    {
+        match self {
+            Node::Folder(_, folder) => folder.place(),
+            Node::File(_, file) => file.place(),
+        }
+    }
+
+    /// Its number. No two nodes have one number.
+    #[tactic(auto, unfolding(crate::specs::Nodes::number_of))]
+    pub fn number(self) -> u64
+        ensures { result ≡ number_of self }
+    {
+        (self.owner().number() * INDEXES + u64::from(self.index())) * PLACES
+            + u64::from(self.place())
+            + 1
+    }
+
+    /// The node of this number; `None`, if no node has it. Whether the node is there is not looked at.
+    pub fn from_number(number: u64) -> Option<Node>
+        ensures found { IfSome result (λ node. FitsItsTypes node × (number_of node ≡ number)) }
+        ensures none { IfNone result ((node : Node) → FitsItsTypes node → number_of node ≢ number) }
+    {
+        let Some(packed) = number.checked_sub(1) else {
+            return None;
+        };
+        let Some(owner) = owner_from(packed / (INDEXES * PLACES)) else {
+            return None;
+        };
+        let index = (packed / PLACES % INDEXES) as u8;
+        let place = (packed % PLACES) as u8;
+        let Some(node) = node_from(owner, index, place) else {
+            return None;
+        };
+        same_number(node, number)
+    }
+}
+
+// The node, if this is its number.
+fn same_number(node: Node, number: u64) -> Option<Node>
+    ensures found { IfSome result (λ other. (other ≡ node) × (number_of node ≡ number)) }
+    ensures none { IfNone result (number_of node ≢ number) }
+{
+    if node.number() == number {
+        Some(node)
+    } else {
+        None
+    }
+}
+
+// The owner of this number.
+fn owner_from(number: u64) -> Option<Owner>
+    ensures found { IfSome result (λ owner. owner_number owner ≡ number) }
+    ensures none { IfNone result ((owner : Owner) → owner_number owner ≤ 2 ^ 32 → owner_number owner ≢ number) }
+{
+    let Some(serial) = number.checked_sub(1) else {
+        return Some(Owner::Top);
+    };
+    match u32::try_from(serial) {
+        Ok(serial) => Some(Owner::Made(serial)),
+        Err(_) => None,
+    }
+}
+
+// The node of this kind, of the CPU or event at this index if it is one of those.
+fn node_from(owner: Owner, index: u8, place: u8) -> Option<Node>
+    ensures { result ≡ slice_get (nodes_of owner index) place }
+{
+    let node = match place {
+        0 => Node::Folder(owner, Folder::Root),
+        1 => Node::Folder(owner, Folder::Instances),
+        2 => Node::Folder(owner, Folder::Options),
+        3 => Node::Folder(owner, Folder::PerCpu),
+        4 => Node::Folder(owner, Folder::Cpu(index)),
+        5 => Node::Folder(owner, Folder::Events),
+        6 => Node::Folder(owner, Folder::Synthetic),
+        7 => Node::Folder(owner, Folder::Event(index)),
+        8 => Node::File(owner, File::SyntheticEvents),
+        9 => Node::File(owner, File::OfInstance(TopFile::Trace)),
+        10 => Node::File(owner, File::OfInstance(TopFile::TracePipe)),
+        11 => Node::File(owner, File::OfInstance(TopFile::Overwrite)),
+        12 => Node::File(owner, File::OfInstance(TopFile::TraceOptions)),
+        13 => Node::File(owner, File::OfInstance(TopFile::TracingOn)),
+        14 => Node::File(owner, File::OfInstance(TopFile::Snapshot)),
+        15 => Node::File(owner, File::OfInstance(TopFile::EventsEnable)),
+        16 => Node::File(owner, File::OfInstance(TopFile::EventsFilter)),
+        17 => Node::File(owner, File::SystemEnable),
+        18 => Node::File(owner, File::OfCpu(index, CpuFile::Trace)),
+        19 => Node::File(owner, File::OfCpu(index, CpuFile::TracePipe)),
+        20 => Node::File(owner, File::OfCpu(index, CpuFile::Stats)),
+        21 => Node::File(owner, File::OfEvent(index, EventFile::Enable)),
+        22 => Node::File(owner, File::OfEvent(index, EventFile::Filter)),
+        23 => Node::File(owner, File::OfEvent(index, EventFile::Trigger)),
+        24 => Node::File(owner, File::OfEvent(index, EventFile::Hist)),
+        25 => Node::File(owner, File::OfEvent(index, EventFile::Format)),
+        26 => Node::File(owner, File::Inject(index)),
+        _ => return None,
+    };
+    Some(node)
+}
