@@ -7,3 +7,4 @@ pub mod JoinLemmas
 pub mod EntryLaws
 pub mod AddressLaws
 pub mod EntryLemmas
+pub mod SoundLemmas

@@ -23,7 +23,7 @@ use Rattle.mount_tree.specs.declared.scene.Event.{Event}
 use Rattle.mount_tree.specs.declared.scene.Instance.{Instance}
 use Rattle.mount_tree.proofs.ListLemmas.{none-filter}
 
-abbrev instance_names_of : List Instance → List (List ℕ)
+abbrev pub instance_names_of : List Instance → List (List ℕ)
 instance_names_of instances = map (λ (i : Instance). i.name) instances
 
 -- ---- names
@@ -52,10 +52,10 @@ names-instances_after (request ∷ past) =
     (left-names (removed request) (instances_after past) ∙ ap (λ (names : List (List ℕ)). without (removed request) names) (names-instances_after past))
     ∙ ap (λ (names : List (List ℕ)). without (removed request) (instance_names past) ++ names) (made-names (made_after past) (made request))
 
-abbrev event_names_of : List Event → List (List ℕ)
+abbrev pub event_names_of : List Event → List (List ℕ)
 event_names_of events = map (λ (e : Event). e.name) events
 
-abbrev definition_names : List Definition → List (List ℕ)
+abbrev pub definition_names : List Definition → List (List ℕ)
 definition_names events = map (λ (d : Definition). d.name) events
 
 shown-names : (index : ℕ) (name : List ℕ) → event_names_of (shown_event index name) ≡ filter has_folder (name ∷ [])

@@ -6,7 +6,7 @@ use Rattle.trace_command.specs.declared.file_name.CpuFile.TheVariants as per_cpu
 use Rattle.trace_command.specs.declared.file_name.EventFile.{EventFile}
 use Rattle.trace_command.specs.declared.file_name.EventFile.TheVariants as per_event
 use Rattle.trace_command.specs.declared.file_name.TopFile.{TopFile}
-use Rattle.trace_command.specs.declared.file_name.TopFile.TheVariants as top
+use Rattle.trace_command.specs.declared.file_name.TopFile.TheVariants as top_files
 use Rattle.mount_tree.specs.declared.file.File.{File}
 use Rattle.mount_tree.specs.declared.file.File.TheVariants.{SyntheticEvents, OfInstance, SystemEnable, OfCpu, OfEvent, Inject}
 use Rattle.mount_tree.specs.declared.folder.Folder.{Folder}
@@ -32,14 +32,14 @@ folder_place Synthetic = 6
 folder_place (Event event) = 7
 
 abbrev pub top_place : TopFile → ℕ
-top_place top.Trace = 9
-top_place top.TracePipe = 10
-top_place top.Overwrite = 11
-top_place top.TraceOptions = 12
-top_place top.TracingOn = 13
-top_place top.Snapshot = 14
-top_place top.EventsEnable = 15
-top_place top.EventsFilter = 16
+top_place top_files.Trace = 9
+top_place top_files.TracePipe = 10
+top_place top_files.Overwrite = 11
+top_place top_files.TraceOptions = 12
+top_place top_files.TracingOn = 13
+top_place top_files.Snapshot = 14
+top_place top_files.EventsEnable = 15
+top_place top_files.EventsFilter = 16
 
 abbrev pub cpu_place : CpuFile → ℕ
 cpu_place per_cpu.Trace = 18
@@ -84,6 +84,10 @@ index_of (nodes.File owner file) = file_index file
 abbrev pub place_of : Node → ℕ
 place_of (nodes.Folder owner folder) = folder_place folder
 place_of (nodes.File owner file) = file_place file
+
+-- the mounted folder
+abbrev pub top : Node
+top = nodes.Folder Top Root
 
 -- the number of a node: that of the mounted folder is 1
 abbrev pub number_from : ℕ → ℕ → ℕ → ℕ

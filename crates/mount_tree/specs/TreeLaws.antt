@@ -5,6 +5,7 @@ use Rattle.std.specs.Str.{bytes_eq}
 use Rattle.trace_command.specs.Paths.{address_of}
 use Rattle.trace_command.specs.Requests.{Request}
 use Rattle.trace_command.specs.declared.command.Config.{Config}
+use Rattle.trace_format.specs.Catalogs.{AreEvents}
 use Rattle.trace_format.specs.Definitions.{Definition}
 use Rattle.trace_history.specs.Pasts.{AreDone}
 use Rattle.trace_history.specs.Settings.{declared_events, declares, instance_names, made, removed}
@@ -87,9 +88,11 @@ pub record IsSound (scene : SceneSeen) : Type 0 where
   pub distinct_instances : IsDistinct bytes_eq (map (λ (i : Instance). i.name) scene.instances)
   pub distinct_serials : IsDistinct nat_eq (map (λ (i : Instance). i.serial) scene.instances)
 
--- the requests that were done leave a scene so
+-- The requests that were done leave a scene so. That no two events have one name is what a tracer keeps of them (`AreEvents`).
 abbrev pub ScenesAreSound : Type 0
-ScenesAreSound = (g : Config) (past : List Request) → g.cpus ≤ 8 → AreDone g past → IsSound (scene_after g.cpus past)
+ScenesAreSound =
+    (g : Config) (past : List Request) → g.cpus ≤ 8 → AreDone g past → AreEvents [] (declared_events past)
+    → IsSound (scene_after g.cpus past)
 
 -- a list has each name once, and a look-up of it finds just what is listed
 abbrev pub ListsAreLookups : Type 0

@@ -1,4 +1,4 @@
--- What files are called, and the folders that they are in.
+-- What files are called, and the folders that folders and files are in.
 use Rattle.std.specs.Prelude.{ℕ, List, codes}
 use Rattle.trace_command.specs.declared.file_name.CpuFile.{CpuFile}
 use Rattle.trace_command.specs.declared.file_name.CpuFile.TheVariants as per_cpu
@@ -9,7 +9,11 @@ use Rattle.trace_command.specs.declared.file_name.TopFile.TheVariants as top
 use Rattle.mount_tree.specs.declared.file.File.{File}
 use Rattle.mount_tree.specs.declared.file.File.TheVariants.{SyntheticEvents, OfInstance, SystemEnable, OfCpu, OfEvent, Inject}
 use Rattle.mount_tree.specs.declared.folder.Folder.{Folder}
-use Rattle.mount_tree.specs.declared.folder.Folder.TheVariants.{Root, Options, Cpu, Events, Synthetic, Event}
+use Rattle.mount_tree.specs.declared.folder.Folder.TheVariants.{Root, Instances, Options, PerCpu, Cpu, Events, Synthetic, Event}
+use Rattle.mount_tree.specs.declared.node.Node.{Node}
+use Rattle.mount_tree.specs.declared.node.Node.TheVariants as nodes
+use Rattle.mount_tree.specs.declared.node.Owner.{Owner}
+use Rattle.mount_tree.specs.declared.node.Owner.TheVariants.{Top, Made}
 
 abbrev pub top_file_name : TopFile → List ℕ
 top_file_name top.Trace = codes "trace"
@@ -54,3 +58,18 @@ file_parent SystemEnable = Synthetic
 file_parent (OfCpu cpu file) = Cpu cpu
 file_parent (OfEvent event file) = Event event
 file_parent (Inject event) = Event event
+
+abbrev pub folder_parent : Folder → Folder
+folder_parent (Cpu cpu) = PerCpu
+folder_parent Synthetic = Events
+folder_parent (Event event) = Synthetic
+folder_parent _ = Root
+
+-- an instance's own folder is in `instances`, and the mounted one in itself
+abbrev pub in_parent : Owner → Folder → Node
+in_parent (Made serial) Root = nodes.Folder Top Instances
+in_parent owner folder = nodes.Folder owner (folder_parent folder)
+
+abbrev pub node_parent : Node → Node
+node_parent (nodes.Folder owner folder) = in_parent owner folder
+node_parent (nodes.File owner file) = nodes.Folder owner (file_parent file)

@@ -2,6 +2,7 @@
 
 ghost use Rattle.std.specs.Prelude.{◌≡◌};
 ghost use Rattle.mount_tree.specs.Nodes.{folder_index, folder_place};
+ghost use Rattle.mount_tree.specs.TreeNames.{folder_parent};
 
 /// A folder of an instance.
 #[derive(Clone, Copy)]
@@ -25,6 +26,19 @@ pub enum Folder {
 }
 
 impl Folder {
+    /// The folder of the same instance that it is in; that of the instance's own is itself.
+    pub fn parent(self) -> Folder
+        ensures { result ≡ folder_parent self }
+    {
+        match self {
+            Folder::Cpu(_) => Folder::PerCpu,
+            Folder::Synthetic => Folder::Events,
+            Folder::Event(_) => Folder::Synthetic,
+            Folder::Root | Folder::Instances | Folder::Options | Folder::PerCpu | Folder::Events =>
+                Folder::Root,
+        }
+    }
+
     /// The number of the CPU or the index of the event whose folder it is; else 0.
     pub(crate) fn index(self) -> u8
         ensures { result ≡ folder_index self }

@@ -1,9 +1,8 @@
 //! What the numbers, entries and paths of nodes come to, and what requests do to a scene. Each function does nothing: its contract is a theorem.
 
-ghost use Rattle.mount_tree.specs.TreeLaws.{DeclaringAddsAnEvent, EventsAreDeclared, FoundNodesAreThere, ListsAreLookups, MakingAddsAnInstance, NamesGoWithSerials, NumbersNameNodes, OthersLeaveTheScene, PathsAreJoined, PathsNameTheirFiles, RemovedNodesAreGone, RemovingTakesItOut};
+ghost use Rattle.mount_tree.specs.TreeLaws.{DeclaringAddsAnEvent, EventsAreDeclared, FoundNodesAreThere, ListsAreLookups, MakingAddsAnInstance, NamesGoWithSerials, NumbersNameNodes, OthersLeaveTheScene, PathsAreJoined, PathsNameTheirFiles, RemovedNodesAreGone, RemovingTakesItOut, ScenesAreSound};
 
 /// Two nodes of one number are the same, so a number names one node.
-
 pub fn numbers_name_nodes()
     ensures { NumbersNameNodes }
 {}
@@ -31,6 +30,11 @@ pub fn removed_nodes_are_gone()
 /// What a look-up finds is there.
 pub fn found_nodes_are_there()
     ensures { FoundNodesAreThere }
+{}
+
+/// The requests that a tracer did leave a scene in which all have names, and no two have one name or one number.
+pub fn scenes_are_sound()
+    ensures { ScenesAreSound }
 {}
 
 /// In a scene with names as a tracer has: a folder's list has each name once, and a look-up of a name finds what is listed under it.

@@ -7,7 +7,8 @@
 //! ```
 
 ghost use Rattle.std.specs.Prelude.{◌≡◌, ◌≢◌, ◌≤◌, ◌^◌, IfSome, IfNone, slice_get};
-ghost use Rattle.mount_tree.specs.Nodes.{FitsItsTypes, index_of, number_of, owner_number, owner_of, place_of};
+ghost use Rattle.mount_tree.specs.Nodes.{FitsItsTypes, index_of, number_of, owner_number, owner_of, place_of, top};
+ghost use Rattle.mount_tree.specs.TreeNames.{node_parent};
 ghost use Rattle.mount_tree.specs.private.Places.{nodes_of};
 
 use crate::file::File;
@@ -22,8 +23,24 @@ const PLACES: u64 = 32;
 
 impl Node {
     /// The mounted folder. Its number is 1.
-    pub fn top() -> Node {
+    #[tactic(auto, unfolding(crate::specs::Nodes::number_of))]
+    pub fn top() -> Node
+        ensures { (result ≡ top) × (number_of result ≡ 1) }
+    {
         Node::Folder(Owner::Top, Folder::Root)
+    }
+
+    /// The folder that it is in: that of the mounted folder is itself.
+    pub fn parent(self) -> Node
+        ensures { result ≡ node_parent self }
+    {
+        match self {
+            Node::Folder(Owner::Made(_), Folder::Root) => {
+                Node::Folder(Owner::Top, Folder::Instances)
+            }
+            Node::Folder(owner, folder) => Node::Folder(owner, folder.parent()),
+            Node::File(owner, file) => Node::Folder(owner, file.parent()),
+        }
     }
 
     /// Whose it is.

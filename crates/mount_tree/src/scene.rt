@@ -1,10 +1,10 @@
 //! What a look-up needs of a tracer.
 
-ghost use Rattle.std.specs.Prelude.{◌≡◌, ◌<◌, ◌≤◌, ◌↔◌, IsTrue, OnOk, OnErr, option_copied, is_some};
+ghost use Rattle.std.specs.Prelude.{List, ℕ, ◌≡◌, ◌<◌, ◌≤◌, ◌↔◌, IsTrue, OnOk, OnErr, option_copied, is_some};
 ghost use Rattle.std.specs.Option.{option_map};
 ghost use Rattle.trace_command.specs.FileNames.{bytes_now};
 ghost use Rattle.mount_tree.specs.Children.{folder_is_there, file_is_there, is_there, is_top, owner_is_there};
-ghost use Rattle.mount_tree.specs.Scenes.{event_at, event_name, has_folder, instance_at, instance_name, most_events, most_made, new_scene, with_event, with_instance, without_instance, without_named};
+ghost use Rattle.mount_tree.specs.Scenes.{event_at, event_name, has_folder, instance_at, instance_name, most_events, most_made, new_scene, SceneSeen as SceneValue, with_event, with_instance, without_instance, without_named};
 
 use crate::file::File;
 use crate::folder::Folder;
@@ -105,6 +105,24 @@ impl Scene {
         ensures { self.new ≡ without_instance name.now self.old }
     {
         take_out(&mut self.instances, name);
+    }
+
+    /// Takes back the event that was added last, of this name.
+    pub fn take_back_event(&mut self, name: &[u8])
+        ensures { (before : SceneValue) → self.old ≡ with_event name.now before → self.new ≡ before }
+    {
+        if has_folder(name) {
+            drop(self.events.pop());
+        }
+        self.declared = self.declared.saturating_sub(1);
+    }
+
+    /// Takes back the instance that was added last.
+    pub fn take_back_instance(&mut self)
+        ensures { (before : SceneValue) (name : List ℕ) → self.old ≡ with_instance name before → self.new ≡ before }
+    {
+        drop(self.instances.pop());
+        self.made = self.made.saturating_sub(1);
     }
 
     /// Whether another instance can be added.
