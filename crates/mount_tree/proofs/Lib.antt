@@ -8,3 +8,4 @@ pub mod EntryLaws
 pub mod AddressLaws
 pub mod EntryLemmas
 pub mod SoundLemmas
+pub mod TreeExamples

@@ -8,3 +8,4 @@ pub mod NodePaths
 pub mod private
 pub mod ScenesAfter
 pub mod TreeLaws
+pub mod TreeExamples

@@ -1,5 +1,6 @@
 //! What the numbers, entries and paths of nodes come to, and what requests do to a scene. Each function does nothing: its contract is a theorem.
 
+ghost use Rattle.mount_tree.specs.TreeExamples.{ListsOfFolders, LookUps, NumbersAndPaths, SecondOfItsName};
 ghost use Rattle.mount_tree.specs.TreeLaws.{DeclaringAddsAnEvent, EventsAreDeclared, FoundNodesAreThere, ListsAreLookups, MakingAddsAnInstance, NamesGoWithSerials, NumbersNameNodes, OthersLeaveTheScene, PathsAreJoined, PathsNameTheirFiles, RemovedNodesAreGone, RemovingTakesItOut, ScenesAreSound};
 
 /// Two nodes of one number are the same, so a number names one node.
@@ -50,4 +51,12 @@ pub fn paths_are_joined()
 /// The path of a file that is there names, for a command, that file of that instance.
 pub fn paths_name_their_files()
     ensures { PathsNameTheirFiles }
+{}
+
+/// The definitions can be computed, and they give a worked scene these lists, look-ups, numbers and paths.
+pub fn examples_are_computed()
+    ensures requests { SecondOfItsName }
+    ensures lists { ListsOfFolders }
+    ensures found { LookUps }
+    ensures numbers { NumbersAndPaths }
 {}

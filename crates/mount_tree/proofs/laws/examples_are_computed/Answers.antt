@@ -1,0 +1,14 @@
+use Rattle.mount_tree.proofs.TreeExamples.{lists, look_ups, numbers, second-of_its_name}
+use Rattle.mount_tree.proofs.laws.examples_are_computed.Goals as goal
+
+pub returns-clause-requests : goal.returns-clause-requests
+returns-clause-requests c = second-of_its_name
+
+pub returns-clause-lists : goal.returns-clause-lists
+returns-clause-lists c = lists
+
+pub returns-clause-found : goal.returns-clause-found
+returns-clause-found c = look_ups
+
+pub returns-clause-numbers : goal.returns-clause-numbers
+returns-clause-numbers c = numbers
