@@ -9,3 +9,4 @@ pub mod AddressLaws
 pub mod EntryLemmas
 pub mod SoundLemmas
 pub mod TreeExamples
+pub mod WalkLemmas

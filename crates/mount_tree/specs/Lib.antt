@@ -9,3 +9,4 @@ pub mod private
 pub mod ScenesAfter
 pub mod TreeLaws
 pub mod TreeExamples
+pub mod Walks

@@ -2,6 +2,7 @@
 
 ghost use Rattle.mount_tree.specs.TreeExamples.{ListsOfFolders, LookUps, NumbersAndPaths, SecondOfItsName};
 ghost use Rattle.mount_tree.specs.TreeLaws.{DeclaringAddsAnEvent, EventsAreDeclared, FoundNodesAreThere, ListsAreLookups, MakingAddsAnInstance, NamesGoWithSerials, NumbersNameNodes, OthersLeaveTheScene, PathsAreJoined, PathsNameTheirFiles, RemovedNodesAreGone, RemovingTakesItOut, ScenesAreSound};
+ghost use Rattle.mount_tree.specs.Walks.{TreesAreListed};
 
 /// Two nodes of one number are the same, so a number names one node.
 pub fn numbers_name_nodes()
@@ -59,4 +60,9 @@ pub fn examples_are_computed()
     ensures lists { ListsOfFolders }
     ensures found { LookUps }
     ensures numbers { NumbersAndPaths }
+{}
+
+/// A walk through all folders finds the files that `tracectl --list` lists, in its order, each to be used as it says, and each event's `inject`.
+pub fn trees_are_listed()
+    ensures { TreesAreListed }
 {}

@@ -1,0 +1,43 @@
+-- A walk through a mounted tracer, and the lines that `tracectl --list` prints of it.
+use Rattle.std.specs.Prelude.{◌≡◌, ℕ, zero, suc, List, [], map}
+use Rattle.std.specs.List.{flat_map}
+use Rattle.trace_list.specs.Listings.{line_of, listing}
+use Rattle.trace_list.specs.Names.{NamesSeen}
+use Rattle.mount_tree.specs.Children.{Child, children}
+use Rattle.mount_tree.specs.FileKinds.{access_of_file}
+use Rattle.mount_tree.specs.NodePaths.{path_of}
+use Rattle.mount_tree.specs.Nodes.{top}
+use Rattle.mount_tree.specs.Scenes.{SceneSeen}
+use Rattle.mount_tree.specs.TreeLaws.{IsSound}
+use Rattle.mount_tree.specs.declared.file.File.{File}
+use Rattle.mount_tree.specs.declared.file.File.TheVariants.{Inject}
+use Rattle.mount_tree.specs.declared.node.Node.{Node}
+use Rattle.mount_tree.specs.declared.node.Node.TheVariants as nodes
+use Rattle.mount_tree.specs.declared.node.Owner.{Owner}
+use Rattle.mount_tree.specs.declared.scene.Event.{Event}
+use Rattle.mount_tree.specs.declared.scene.Instance.{Instance}
+
+-- the line of a file in a list: how it can be used, and its path. The file `inject`, which no script has, has no line.
+abbrev pub line_in : SceneSeen → Owner → File → List ℕ
+line_in scene owner (Inject event) = []
+line_in scene owner file = line_of (access_of_file file) (path_of scene (nodes.File owner file))
+
+-- the lines of the files below a node, folder by folder, down to so many folders
+abbrev pub lines_below : SceneSeen → ℕ → Node → List ℕ
+lines_below scene zero node = []
+lines_below scene (suc depth) (nodes.File owner file) = line_in scene owner file
+lines_below scene (suc depth) (nodes.Folder owner folder) =
+    flat_map (λ (c : Child). lines_below scene depth c.node) (children scene (nodes.Folder owner folder))
+
+-- the names of a scene
+abbrev pub scene_names : SceneSeen → NamesSeen
+scene_names scene = record {
+  events = map (λ (e : Event). e.name) scene.events;
+  instances = map (λ (i : Instance). i.name) scene.instances;
+  gone = [];
+}
+
+-- The folders below the mounted one are six deep: `instances/NAME/events/synthetic/EVENT` and its files. A walk through them all finds the files that
+-- `tracectl --list` lists, each once, in its order and to be used as it says.
+abbrev pub TreesAreListed : Type 0
+TreesAreListed = (scene : SceneSeen) → IsSound scene → lines_below scene 7 top ≡ listing scene.cpus (scene_names scene)
