@@ -10,3 +10,4 @@ pub mod EntryLemmas
 pub mod SoundLemmas
 pub mod TreeExamples
 pub mod WalkLemmas
+pub mod ReachLemmas

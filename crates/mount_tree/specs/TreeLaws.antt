@@ -1,5 +1,5 @@
 -- What the numbers, entries and paths of nodes come to, and what requests do to a scene.
-use Rattle.std.specs.Prelude.{◌≡◌, ℕ, nat_eq, ◌<◌, ◌≤◌, true, false, List, [], ◌∷◌, ◌++◌, map, Option, Some, None, codes}
+use Rattle.std.specs.Prelude.{◌≡◌, ◌≢◌, ℕ, nat_eq, ◌<◌, ◌≤◌, true, false, List, [], ◌∷◌, ◌++◌, map, Option, Some, None, codes}
 use Rattle.std.specs.List.{AllByRecursion, IsDistinct, filter}
 use Rattle.std.specs.Str.{bytes_eq}
 use Rattle.trace_command.specs.Paths.{address_of}
@@ -12,9 +12,10 @@ use Rattle.trace_history.specs.Settings.{declared_events, declares, instance_nam
 use Rattle.trace_lex.specs.Names.{is_name}
 use Rattle.mount_tree.specs.Children.{Child, children, is_there, node_named}
 use Rattle.mount_tree.specs.NodePaths.{address_meant, path_of}
-use Rattle.mount_tree.specs.Nodes.{FitsItsTypes, number_of, owner_of}
+use Rattle.mount_tree.specs.Nodes.{FitsItsTypes, number_of, owner_of, top}
 use Rattle.mount_tree.specs.Scenes.{SceneSeen, has_folder, with_event, with_instance, without_instance}
 use Rattle.mount_tree.specs.ScenesAfter.{events_after, instances_after, made_after, scene_after}
+use Rattle.mount_tree.specs.TreeNames.{node_parent}
 use Rattle.mount_tree.specs.declared.file.File.{File}
 use Rattle.mount_tree.specs.declared.folder.Folder.TheVariants as folders
 use Rattle.mount_tree.specs.declared.node.Node.{Node}
@@ -100,6 +101,16 @@ ListsAreLookups =
     (scene : SceneSeen) (folder : Node) → IsSound scene
     → IsDistinct bytes_eq (map (λ (c : Child). c.name) (children scene folder))
     × AllByRecursion (λ (c : Child). node_named c.name (children scene folder) ≡ Some c.node) (children scene folder)
+
+-- a look-up of some name in the folder finds the node
+pub record IsFoundIn (scene : SceneSeen) (folder node : Node) : Type 0 where
+  pub name : List ℕ
+  pub found : node_named name (children scene folder) ≡ Some node
+
+-- and all that is there, but the mounted folder itself, is found in the folder that it is in
+abbrev pub NodesAreFound : Type 0
+NodesAreFound =
+    (scene : SceneSeen) (node : Node) → IsSound scene → is_there scene node ≡ true → node ≢ top → IsFoundIn scene (node_parent node) node
 
 -- ---- paths
 

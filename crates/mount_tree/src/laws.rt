@@ -1,7 +1,7 @@
 //! What the numbers, entries and paths of nodes come to, and what requests do to a scene. Each function does nothing: its contract is a theorem.
 
 ghost use Rattle.mount_tree.specs.TreeExamples.{ListsOfFolders, LookUps, NumbersAndPaths, SecondOfItsName};
-ghost use Rattle.mount_tree.specs.TreeLaws.{DeclaringAddsAnEvent, EventsAreDeclared, FoundNodesAreThere, ListsAreLookups, MakingAddsAnInstance, NamesGoWithSerials, NumbersNameNodes, OthersLeaveTheScene, PathsAreJoined, PathsNameTheirFiles, RemovedNodesAreGone, RemovingTakesItOut, ScenesAreSound};
+ghost use Rattle.mount_tree.specs.TreeLaws.{DeclaringAddsAnEvent, EventsAreDeclared, FoundNodesAreThere, ListsAreLookups, MakingAddsAnInstance, NamesGoWithSerials, NodesAreFound, NumbersNameNodes, OthersLeaveTheScene, PathsAreJoined, PathsNameTheirFiles, RemovedNodesAreGone, RemovingTakesItOut, ScenesAreSound};
 ghost use Rattle.mount_tree.specs.Walks.{TreesAreListed};
 
 /// Two nodes of one number are the same, so a number names one node.
@@ -29,9 +29,10 @@ pub fn removed_nodes_are_gone()
     ensures { RemovedNodesAreGone }
 {}
 
-/// What a look-up finds is there.
+/// What a look-up finds is there; and in a scene with names as a tracer has, all that is there is found by a look-up in the folder that it is in.
 pub fn found_nodes_are_there()
-    ensures { FoundNodesAreThere }
+    ensures there { FoundNodesAreThere }
+    ensures found { NodesAreFound }
 {}
 
 /// The requests that a tracer did leave a scene in which all have names, and no two have one name or one number.
