@@ -1,0 +1,5 @@
+pub mod PartLemmas
+pub mod NumberLemmas
+pub mod Opcodes
+pub mod Decoding
+pub mod Framing
