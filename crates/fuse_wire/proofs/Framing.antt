@@ -69,7 +69,7 @@ pub record IsIn (bytes : List ℕ) (request : Request) : Type 0 where
   pub pid : first_32 (drop 32 bytes) ≡ request.pid
   pub parts : Are (body request.operation) (drop 40 bytes)
 
-request_in : (bytes : List ℕ) (request : Request) → IsRequest bytes request → IsIn bytes request
+pub request_in : (bytes : List ℕ) (request : Request) → IsRequest bytes request → IsIn bytes request
 request_in bytes request is =
     let len = number_at (length bytes) _ bytes 0 4 refl is.parts in
     let opcode = number_at (opcode_of request.operation) _ bytes 4 8 refl len.1 in

@@ -4,4 +4,5 @@ pub mod Replies
 pub mod Alignment
 pub mod Directories
 pub mod Laws
+pub mod Examples
 pub mod private

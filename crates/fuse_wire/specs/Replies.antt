@@ -91,6 +91,10 @@ message error unique body = bytes_of (out_header (16 + length body) error unique
 abbrev pub reply_bytes : ℕ → Reply → List ℕ
 reply_bytes unique reply = message (error_of reply) unique (bytes_of (reply_body reply))
 
+-- the message that a polled file may be ready: FUSE_NOTIFY_POLL in place of an error, no unique, and fuse_notify_poll_wakeup_out: kh
+abbrev pub wakeup_bytes : ℕ → List ℕ
+wakeup_bytes wakeup = message 1 0 (bytes_of (U64 wakeup ∷ []))
+
 -- `len` has room for its length
 abbrev pub IsSendable : Reply → Type 0
 IsSendable (replies.Data bytes) = 16 + length bytes < 2 ^ 32

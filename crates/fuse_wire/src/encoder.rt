@@ -3,7 +3,7 @@
 ghost use Rattle.std.specs.Prelude.{◌≡◌, ◌+◌, ◌<◌, ◌^◌, [], ◌++◌, length, OnOk, OnErr};
 ghost use Rattle.std.specs.List.{flat_map};
 ghost use Rattle.fuse_wire.specs.Parts.{bytes_of};
-ghost use Rattle.fuse_wire.specs.Replies.{attr, init_out, out_header, message, reply_bytes, IsSendable};
+ghost use Rattle.fuse_wire.specs.Replies.{attr, init_out, out_header, message, reply_bytes, wakeup_bytes, IsSendable};
 
 use crate::attributes::Attributes;
 use crate::reply::{Agreement, Reply};
@@ -12,6 +12,9 @@ use std::alloc::AllocError;
 
 /// How many bytes a reply's header takes.
 const HEADER_SIZE: u32 = 16;
+
+/// What a wakeup has in place of an error.
+const WAKEUP: u32 = 1;
 
 /// The attributes of a node.
 fn attribute_words(attributes: &Attributes) -> [Word; 11]
@@ -79,6 +82,15 @@ fn push_words(out: &mut Vec<u8>, unique: u64, words: &[Word]) -> Result<(), Allo
     ensures { OnOk result (out.new.items ≡ out.old.items ++ message 0 unique (flat_map (λ word. word) words.now)) }
 {
     push_message(out, 0, unique, words.as_flattened())
+}
+
+/// Appends a header and a body of one word, by one move.
+#[inline(always)]
+fn push_word(out: &mut Vec<u8>, unique: u64, body: Word) -> Result<(), AllocError>
+    ensures { OnOk result (out.new.items ≡ out.old.items ++ message 0 unique body) }
+{
+    let words = [pair(HEADER_SIZE + 8, 0), word(unique), body];
+    out.extend_from_slice(words.as_flattened())
 }
 
 /// Appends a header and a body: words, and the attributes of a node.
@@ -155,12 +167,12 @@ fn push_reply(unique: u64, reply: &Reply<'_>, out: &mut Vec<u8>) -> Result<(), A
             push_words(out, unique, &[word(*handle), pair(*flags, 0)])
         }
         Reply::Data(bytes) => push_message(out, 0, unique, bytes.as_slice()),
-        Reply::Written { size } => push_words(out, unique, &[pair(*size, 0)]),
+        Reply::Written { size } => push_word(out, unique, pair(*size, 0)),
         Reply::StatFs {
             block_size,
             name_length,
         } => push_stat_fs(out, unique, *block_size, *name_length),
-        Reply::Poll { events } => push_words(out, unique, &[pair(*events, 0)]),
+        Reply::Poll { events } => push_word(out, unique, pair(*events, 0)),
     }
 }
 
@@ -172,6 +184,20 @@ pub fn encode(unique: u64, reply: &Reply<'_>, out: &mut Vec<u8>) -> Result<(), A
 {
     out.clear();
     let pushed = push_reply(unique, reply, out);
+    if pushed.is_err() {
+        out.clear();
+    }
+    pushed
+}
+
+/// Empties `out` and writes the message into it that a polled file may be ready: of the poll whose request has this number as `wakeup`. No reply
+/// comes to it. If memory is refused, `out` is empty.
+pub fn encode_wakeup(wakeup: u64, out: &mut Vec<u8>) -> Result<(), AllocError>
+    ensures ok { OnOk result (out.new.items ≡ wakeup_bytes wakeup) }
+    ensures err { OnErr result (out.new.items ≡ []) }
+{
+    out.clear();
+    let pushed = push_message(out, WAKEUP, 0, [word(wakeup)].as_flattened());
     if pushed.is_err() {
         out.clear();
     }

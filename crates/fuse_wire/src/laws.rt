@@ -1,0 +1,22 @@
+//! What the layouts of requests and replies say together, and bytes that were met. Each function does nothing: its contract is a theorem.
+
+ghost use Rattle.fuse_wire.specs.Examples.{AreRequests, AreReplies};
+ghost use Rattle.fuse_wire.specs.Laws.{RequestsHaveBytes, RequestsDiffer, RepliesTellTheirLength, RepliesDiffer};
+
+/// Each request whose numbers have room has bytes. No bytes are two requests.
+pub fn requests_are_told_apart()
+    ensures have { RequestsHaveBytes }
+    ensures differ { RequestsDiffer }
+{}
+
+/// A reply begins with the number of its bytes. Replies with the same bytes are to the same request, and have the same error and the same body.
+pub fn replies_are_told_apart()
+    ensures length { RepliesTellTheirLength }
+    ensures differ { RepliesDiffer }
+{}
+
+/// Bytes that a kernel sent are the requests that were made, and bytes that it took are the replies.
+pub fn messages_are_as_met()
+    ensures requests { AreRequests }
+    ensures replies { AreReplies }
+{}
