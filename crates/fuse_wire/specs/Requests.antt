@@ -1,6 +1,6 @@
 -- Requests as bytes: what a kernel sends by linux/fuse.h, version 7, minor 31. Later minors leave these structs alike, but for fuse_init_in, which
 -- grew at its end, and fuse_in_header, whose padding was given a meaning that only a server that asks for it meets.
-use Rattle.std.specs.Prelude.{◌≡◌, ℕ, ◌+◌, ◌*◌, ◌==◌, Bool, false, List, [], ◌∷◌, ◌++◌, length}
+use Rattle.std.specs.Prelude.{◌≡◌, ℕ, ◌+◌, ◌*◌, ◌==◌, ◌||◌, Bool, not, false, List, [], ◌∷◌, ◌++◌, length}
 use Rattle.std.specs.List.{list_any}
 use Rattle.fuse_wire.specs.Parts.{Part, U32, U64, Ignored, Name, Bytes, Anything, Are}
 use Rattle.fuse_wire.specs.declared.request.DecodeError.{DecodeError}
@@ -43,6 +43,10 @@ known_opcodes = 1 ∷ 2 ∷ 3 ∷ 4 ∷ 9 ∷ 11 ∷ 14 ∷ 15 ∷ 16 ∷ 17 ∷
 
 abbrev pub is_known : ℕ → Bool
 is_known opcode = list_any (λ known. opcode == known) known_opcodes
+
+-- a kernel awaits no reply to FORGET and BATCH_FORGET
+abbrev pub has_reply : ℕ → Bool
+has_reply opcode = not (opcode == 2 || opcode == 42)
 
 -- `Other` is of an opcode that no other operation has
 abbrev pub HasOwnOpcode : Operation → Type 0

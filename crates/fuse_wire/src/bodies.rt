@@ -8,6 +8,11 @@ ghost use Rattle.fuse_wire.specs.private.Answers.{Decodes, ReadsName};
 
 use crate::bytes::Bytes;
 use crate::number::{u32_at, u64_at};
+use crate::opcode::{
+    ACCESS, BATCH_FORGET, DESTROY, FLUSH, FORGET, FSYNC, GETATTR, GETXATTR, INIT, INTERRUPT,
+    LISTXATTR, LOOKUP, MKDIR, OPEN, OPENDIR, POLL, READ, READDIR, RELEASE, RELEASEDIR, RMDIR,
+    SETATTR, STATFS, WRITE,
+};
 use crate::request::Operation;
 
 /// Whether the bytes are a name.
@@ -32,7 +37,7 @@ fn name_in(bytes: &[u8]) -> Option<Bytes<'_>>
 }
 
 fn lookup(body: &[u8]) -> Option<Operation<'_>>
-    ensures { Decodes 1 body.now result }
+    ensures { Decodes LOOKUP body.now result }
 {
     match name_in(body) {
         Some(name) => Some(Operation::Lookup { name }),
@@ -41,7 +46,7 @@ fn lookup(body: &[u8]) -> Option<Operation<'_>>
 }
 
 fn forget(body: &[u8]) -> Option<Operation<'_>>
-    ensures { Decodes 2 body.now result }
+    ensures { Decodes FORGET body.now result }
 {
     if body.len() != 8 {
         return None;
@@ -50,7 +55,7 @@ fn forget(body: &[u8]) -> Option<Operation<'_>>
 }
 
 fn get_attr(body: &[u8]) -> Option<Operation<'_>>
-    ensures { Decodes 3 body.now result }
+    ensures { Decodes GETATTR body.now result }
 {
     if body.len() != 16 {
         return None;
@@ -59,7 +64,7 @@ fn get_attr(body: &[u8]) -> Option<Operation<'_>>
 }
 
 fn set_attr(body: &[u8]) -> Option<Operation<'_>>
-    ensures { Decodes 4 body.now result }
+    ensures { Decodes SETATTR body.now result }
 {
     if body.len() != 88 {
         return None;
@@ -71,7 +76,7 @@ fn set_attr(body: &[u8]) -> Option<Operation<'_>>
 }
 
 fn mk_dir(body: &[u8]) -> Option<Operation<'_>>
-    ensures { Decodes 9 body.now result }
+    ensures { Decodes MKDIR body.now result }
 {
     if body.len() < 8 {
         return None;
@@ -83,7 +88,7 @@ fn mk_dir(body: &[u8]) -> Option<Operation<'_>>
 }
 
 fn rm_dir(body: &[u8]) -> Option<Operation<'_>>
-    ensures { Decodes 11 body.now result }
+    ensures { Decodes RMDIR body.now result }
 {
     match name_in(body) {
         Some(name) => Some(Operation::RmDir { name }),
@@ -92,7 +97,7 @@ fn rm_dir(body: &[u8]) -> Option<Operation<'_>>
 }
 
 fn open(body: &[u8]) -> Option<Operation<'_>>
-    ensures { Decodes 14 body.now result }
+    ensures { Decodes OPEN body.now result }
 {
     if body.len() != 8 {
         return None;
@@ -104,7 +109,7 @@ fn open(body: &[u8]) -> Option<Operation<'_>>
 
 #[inline(always)]
 fn read(body: &[u8]) -> Option<Operation<'_>>
-    ensures { Decodes 15 body.now result }
+    ensures { Decodes READ body.now result }
 {
     if body.len() != 40 {
         return None;
@@ -119,7 +124,7 @@ fn read(body: &[u8]) -> Option<Operation<'_>>
 
 #[inline(always)]
 fn write(body: &[u8]) -> Option<Operation<'_>>
-    ensures { Decodes 16 body.now result }
+    ensures { Decodes WRITE body.now result }
 {
     if body.len() < 40 {
         return None;
@@ -136,7 +141,7 @@ fn write(body: &[u8]) -> Option<Operation<'_>>
 }
 
 fn stat_fs(body: &[u8]) -> Option<Operation<'_>>
-    ensures { Decodes 17 body.now result }
+    ensures { Decodes STATFS body.now result }
 {
     if !body.is_empty() {
         return None;
@@ -145,7 +150,7 @@ fn stat_fs(body: &[u8]) -> Option<Operation<'_>>
 }
 
 fn release(body: &[u8]) -> Option<Operation<'_>>
-    ensures { Decodes 18 body.now result }
+    ensures { Decodes RELEASE body.now result }
 {
     if body.len() != 24 {
         return None;
@@ -156,7 +161,7 @@ fn release(body: &[u8]) -> Option<Operation<'_>>
 }
 
 fn fsync(body: &[u8]) -> Option<Operation<'_>>
-    ensures { Decodes 20 body.now result }
+    ensures { Decodes FSYNC body.now result }
 {
     if body.len() != 16 {
         return None;
@@ -165,7 +170,7 @@ fn fsync(body: &[u8]) -> Option<Operation<'_>>
 }
 
 fn get_xattr(body: &[u8]) -> Option<Operation<'_>>
-    ensures { Decodes 22 body.now result }
+    ensures { Decodes GETXATTR body.now result }
 {
     if body.len() < 8 {
         return None;
@@ -177,7 +182,7 @@ fn get_xattr(body: &[u8]) -> Option<Operation<'_>>
 }
 
 fn list_xattr(body: &[u8]) -> Option<Operation<'_>>
-    ensures { Decodes 23 body.now result }
+    ensures { Decodes LISTXATTR body.now result }
 {
     if body.len() != 8 {
         return None;
@@ -186,7 +191,7 @@ fn list_xattr(body: &[u8]) -> Option<Operation<'_>>
 }
 
 fn flush(body: &[u8]) -> Option<Operation<'_>>
-    ensures { Decodes 25 body.now result }
+    ensures { Decodes FLUSH body.now result }
 {
     if body.len() != 24 {
         return None;
@@ -197,7 +202,7 @@ fn flush(body: &[u8]) -> Option<Operation<'_>>
 }
 
 fn init(body: &[u8]) -> Option<Operation<'_>>
-    ensures { Decodes 26 body.now result }
+    ensures { Decodes INIT body.now result }
 {
     if body.len() < 16 {
         return None;
@@ -211,7 +216,7 @@ fn init(body: &[u8]) -> Option<Operation<'_>>
 }
 
 fn open_dir(body: &[u8]) -> Option<Operation<'_>>
-    ensures { Decodes 27 body.now result }
+    ensures { Decodes OPENDIR body.now result }
 {
     if body.len() != 8 {
         return None;
@@ -220,7 +225,7 @@ fn open_dir(body: &[u8]) -> Option<Operation<'_>>
 }
 
 fn read_dir(body: &[u8]) -> Option<Operation<'_>>
-    ensures { Decodes 28 body.now result }
+    ensures { Decodes READDIR body.now result }
 {
     if body.len() != 40 {
         return None;
@@ -233,7 +238,7 @@ fn read_dir(body: &[u8]) -> Option<Operation<'_>>
 }
 
 fn release_dir(body: &[u8]) -> Option<Operation<'_>>
-    ensures { Decodes 29 body.now result }
+    ensures { Decodes RELEASEDIR body.now result }
 {
     if body.len() != 24 {
         return None;
@@ -244,7 +249,7 @@ fn release_dir(body: &[u8]) -> Option<Operation<'_>>
 }
 
 fn access(body: &[u8]) -> Option<Operation<'_>>
-    ensures { Decodes 34 body.now result }
+    ensures { Decodes ACCESS body.now result }
 {
     if body.len() != 8 {
         return None;
@@ -255,7 +260,7 @@ fn access(body: &[u8]) -> Option<Operation<'_>>
 }
 
 fn interrupt(body: &[u8]) -> Option<Operation<'_>>
-    ensures { Decodes 36 body.now result }
+    ensures { Decodes INTERRUPT body.now result }
 {
     if body.len() != 8 {
         return None;
@@ -266,7 +271,7 @@ fn interrupt(body: &[u8]) -> Option<Operation<'_>>
 }
 
 fn destroy(body: &[u8]) -> Option<Operation<'_>>
-    ensures { Decodes 38 body.now result }
+    ensures { Decodes DESTROY body.now result }
 {
     if !body.is_empty() {
         return None;
@@ -275,7 +280,7 @@ fn destroy(body: &[u8]) -> Option<Operation<'_>>
 }
 
 fn poll(body: &[u8]) -> Option<Operation<'_>>
-    ensures { Decodes 40 body.now result }
+    ensures { Decodes POLL body.now result }
 {
     if body.len() != 24 {
         return None;
@@ -289,7 +294,7 @@ fn poll(body: &[u8]) -> Option<Operation<'_>>
 }
 
 fn batch_forget(body: &[u8]) -> Option<Operation<'_>>
-    ensures { Decodes 42 body.now result }
+    ensures { Decodes BATCH_FORGET body.now result }
 {
     if body.len() < 8 {
         return None;
@@ -307,30 +312,30 @@ pub(crate) fn operation_of(opcode: u32, body: &[u8]) -> Option<Operation<'_>>
     ensures { Decodes opcode body.now result }
 {
     match opcode {
-        1 => lookup(body),
-        2 => forget(body),
-        3 => get_attr(body),
-        4 => set_attr(body),
-        9 => mk_dir(body),
-        11 => rm_dir(body),
-        14 => open(body),
-        15 => read(body),
-        16 => write(body),
-        17 => stat_fs(body),
-        18 => release(body),
-        20 => fsync(body),
-        22 => get_xattr(body),
-        23 => list_xattr(body),
-        25 => flush(body),
-        26 => init(body),
-        27 => open_dir(body),
-        28 => read_dir(body),
-        29 => release_dir(body),
-        34 => access(body),
-        36 => interrupt(body),
-        38 => destroy(body),
-        40 => poll(body),
-        42 => batch_forget(body),
+        LOOKUP => lookup(body),
+        FORGET => forget(body),
+        GETATTR => get_attr(body),
+        SETATTR => set_attr(body),
+        MKDIR => mk_dir(body),
+        RMDIR => rm_dir(body),
+        OPEN => open(body),
+        READ => read(body),
+        WRITE => write(body),
+        STATFS => stat_fs(body),
+        RELEASE => release(body),
+        FSYNC => fsync(body),
+        GETXATTR => get_xattr(body),
+        LISTXATTR => list_xattr(body),
+        FLUSH => flush(body),
+        INIT => init(body),
+        OPENDIR => open_dir(body),
+        READDIR => read_dir(body),
+        RELEASEDIR => release_dir(body),
+        ACCESS => access(body),
+        INTERRUPT => interrupt(body),
+        DESTROY => destroy(body),
+        POLL => poll(body),
+        BATCH_FORGET => batch_forget(body),
         _ => Some(Operation::Other { opcode }),
     }
 }

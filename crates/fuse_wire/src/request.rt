@@ -110,6 +110,6 @@ pub enum Operation<'a> {
 pub enum DecodeError {
     /// They have no whole header, or its `len` is not their number.
     Unframed,
-    /// What follows the header is no body for its opcode. The request can be answered by its number.
+    /// What follows the header is no body for its opcode. The request can be answered by its number, if its opcode has a reply at all.
     WrongBody { opcode: u32, unique: u64 },
 }

@@ -1,0 +1,59 @@
+//! Opcodes: what a request is for (linux/fuse.h, enum fuse_opcode).
+
+ghost use Rattle.std.specs.Prelude.{◌≡◌};
+ghost use Rattle.fuse_wire.specs.Requests.{has_reply as has_reply_to};
+
+pub(crate) const LOOKUP: u32 = 1;
+
+pub(crate) const FORGET: u32 = 2;
+
+pub(crate) const GETATTR: u32 = 3;
+
+pub(crate) const SETATTR: u32 = 4;
+
+pub(crate) const MKDIR: u32 = 9;
+
+pub(crate) const RMDIR: u32 = 11;
+
+pub(crate) const OPEN: u32 = 14;
+
+pub(crate) const READ: u32 = 15;
+
+pub(crate) const WRITE: u32 = 16;
+
+pub(crate) const STATFS: u32 = 17;
+
+pub(crate) const RELEASE: u32 = 18;
+
+pub(crate) const FSYNC: u32 = 20;
+
+pub(crate) const GETXATTR: u32 = 22;
+
+pub(crate) const LISTXATTR: u32 = 23;
+
+pub(crate) const FLUSH: u32 = 25;
+
+pub(crate) const INIT: u32 = 26;
+
+pub(crate) const OPENDIR: u32 = 27;
+
+pub(crate) const READDIR: u32 = 28;
+
+pub(crate) const RELEASEDIR: u32 = 29;
+
+pub(crate) const ACCESS: u32 = 34;
+
+pub(crate) const INTERRUPT: u32 = 36;
+
+pub(crate) const DESTROY: u32 = 38;
+
+pub(crate) const POLL: u32 = 40;
+
+pub(crate) const BATCH_FORGET: u32 = 42;
+
+/// Whether a kernel awaits a reply to a request of this opcode.
+pub fn has_reply(opcode: u32) -> bool
+    ensures { result ≡ has_reply_to opcode }
+{
+    opcode != FORGET && opcode != BATCH_FORGET
+}
