@@ -6,3 +6,4 @@ pub mod Framing
 pub mod RequestLaws
 pub mod ReplyLaws
 pub mod Examples
+pub mod ReplyKinds

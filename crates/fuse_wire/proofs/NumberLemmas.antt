@@ -3,12 +3,16 @@ use Rattle.std.proofs.Common.{◌≡◌, ℕ, ◌+◌, ◌<◌, ◌≤◌, ◌^�
 use Rattle.std.specs.Int.{Width, w16, w32, w64, byte_len, to_le_bytes, from_le_bytes}
 use Rattle.std.proofs.lemmas.Bool.{cases_lt}
 use Rattle.std.proofs.lemmas.List.{drop_more, get_or-take, get_or-drop, get_or_past}
-use Rattle.std.proofs.lemmas.Nat.{le_bytes_4, le_bytes_8, from_le_bytes-to_le_bytes_4, from_le_bytes-to_le_bytes_8}
-use Rattle.fuse_wire.specs.Parts.{U32, U64, IsPart, number_bytes}
+use Rattle.std.proofs.lemmas.Nat.{le_bytes_4, le_bytes_8, from_le_bytes-to_le_bytes_2, from_le_bytes-to_le_bytes_4, from_le_bytes-to_le_bytes_8}
+use Rattle.fuse_wire.specs.Parts.{U16, U32, U64, IsPart, number_bytes}
 
 -- the number whose bytes these are
 pub value : Width → List ℕ → ℕ
 value width bytes = from_le_bytes width bytes
+
+pub value_16 : (number : ℕ) (bytes : List ℕ) → IsPart (U16 number) bytes → value w16 bytes ≡ number
+unfolding value number_bytes
+value_16 number bytes (fits, is) = rw is (from_le_bytes-to_le_bytes_2 number fits)
 
 pub value_32 : (number : ℕ) (bytes : List ℕ) → IsPart (U32 number) bytes → value w32 bytes ≡ number
 unfolding value number_bytes

@@ -6,6 +6,7 @@ use Rattle.fuse_wire.specs.Requests.{opcode_of, HasOwnOpcode, body, in_header, I
 use Rattle.fuse_wire.specs.Replies.{reply_body, error_of, reply_bytes, IsSendable}
 use Rattle.fuse_wire.specs.declared.request.Request.{Request}
 use Rattle.fuse_wire.specs.declared.reply.Reply.{Reply}
+use Rattle.fuse_wire.specs.declared.reply.Reply.TheVariants as replies
 
 -- the numbers of the parts have room, and their names are names
 abbrev pub AreWritable : List Part → Type 0
@@ -44,3 +45,31 @@ pub record AreAlike (u v : ℕ) (a b : Reply) : Type 0 where
 
 abbrev pub RepliesDiffer : Type 0
 RepliesDiffer = (u v : ℕ) (a b : Reply) → u < 2 ^ 64 → v < 2 ^ 64 → reply_bytes u a ≡ reply_bytes v b → AreAlike u v a b
+
+-- which kind of reply
+abbrev pub kind_of : Reply → ℕ
+kind_of (replies.Error errno) = 0
+kind_of replies.Done = 1
+kind_of (replies.Init agreement) = 2
+kind_of (replies.Entry attributes) = 3
+kind_of (replies.Attributes attributes) = 4
+kind_of (replies.Opened handle flags) = 5
+kind_of (replies.Data bytes) = 6
+kind_of (replies.Written size) = 7
+kind_of (replies.StatFs block_size name_length) = 8
+kind_of (replies.Poll events) = 9
+
+abbrev pub HasTwelveBits : Reply → Type 0
+HasTwelveBits (replies.Entry attributes) = attributes.permissions < 4096
+HasTwelveBits (replies.Attributes attributes) = attributes.permissions < 4096
+HasTwelveBits _ = Unit {0}
+
+-- its bytes tell all of it: its numbers have room, and no permission bit is above the twelfth
+pub record IsTold (reply : Reply) : Type 0 where
+  pub numbers : AreWritable (reply_body reply)
+  pub permissions : HasTwelveBits reply
+
+-- replies of one kind with the same bytes are the same reply
+abbrev pub RepliesOfAKindDiffer : Type 0
+RepliesOfAKindDiffer =
+    (u v : ℕ) (a b : Reply) → u < 2 ^ 64 → v < 2 ^ 64 → kind_of a ≡ kind_of b → IsTold a → IsTold b → reply_bytes u a ≡ reply_bytes v b → a ≡ b

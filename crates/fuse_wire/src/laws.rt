@@ -1,7 +1,7 @@
 //! What the layouts of requests and replies say together, and bytes that were met. Each function does nothing: its contract is a theorem.
 
 ghost use Rattle.fuse_wire.specs.Examples.{AreRequests, AreReplies};
-ghost use Rattle.fuse_wire.specs.Laws.{RequestsHaveBytes, RequestsDiffer, RepliesTellTheirLength, RepliesDiffer};
+ghost use Rattle.fuse_wire.specs.Laws.{RequestsHaveBytes, RequestsDiffer, RepliesTellTheirLength, RepliesDiffer, RepliesOfAKindDiffer};
 
 /// Each request whose numbers have room has bytes. No bytes are two requests.
 pub fn requests_are_told_apart()
@@ -10,9 +10,11 @@ pub fn requests_are_told_apart()
 {}
 
 /// A reply begins with the number of its bytes. Replies with the same bytes are to the same request, and have the same error and the same body.
+/// If they are of one kind, and their bytes tell all of them, they are the same reply.
 pub fn replies_are_told_apart()
     ensures length { RepliesTellTheirLength }
     ensures differ { RepliesDiffer }
+    ensures of_a_kind { RepliesOfAKindDiffer }
 {}
 
 /// Bytes that a kernel sent are the requests that were made, and bytes that it took are the replies.
