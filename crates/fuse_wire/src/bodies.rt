@@ -2,11 +2,10 @@
 //!
 //! Most bodies have one length, so after it is tested their numbers are read where they lie.
 
-ghost use Rattle.std.specs.Prelude.{◌↔◌, IsTrue};
-ghost use Rattle.fuse_wire.specs.Parts.{IsName};
-ghost use Rattle.fuse_wire.specs.private.Answers.{Decodes, ReadsName};
+ghost use Rattle.fuse_wire.specs.private.Answers.{Decodes};
 
 use crate::bytes::Bytes;
+use crate::names::name_in;
 use crate::number::{u32_at, u64_at};
 use crate::opcode::{
     ACCESS, BATCH_FORGET, DESTROY, FLUSH, FORGET, FSYNC, GETATTR, GETXATTR, INIT, INTERRUPT,
@@ -14,27 +13,6 @@ use crate::opcode::{
     SETATTR, STATFS, WRITE,
 };
 use crate::request::Operation;
-
-/// Whether the bytes are a name.
-fn is_name(bytes: &[u8]) -> bool
-    ensures { IsTrue result ↔ IsName bytes.now }
-{
-    !bytes.is_empty() && !bytes.contains(&0)
-}
-
-/// A name and its zero byte.
-fn name_in(bytes: &[u8]) -> Option<Bytes<'_>>
-    ensures { ReadsName bytes.now result }
-{
-    let (last, name) = bytes.split_last()?;
-    if *last != 0 {
-        return None;
-    }
-    if !is_name(name) {
-        return None;
-    }
-    Some(Bytes::new(name))
-}
 
 fn lookup(body: &[u8]) -> Option<Operation<'_>>
     ensures { Decodes LOOKUP body.now result }

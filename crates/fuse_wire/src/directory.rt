@@ -68,8 +68,10 @@ impl<'a> DirectoryEntry<'a> {
 
     /// Appends it to data that is to have at most `size` bytes, if it fits, and answers whether it did. If memory is refused, `out` is as before.
     pub fn push(&self, size: u32, out: &mut Vec<u8>) -> Result<bool, AllocError>
-        ensures fits { IfOk result (λ pushed. IsTrue pushed ↔ (length out.old.items + length (entry_bytes self.now) ≤ size)) }
-        ensures ok { IfOk result (λ pushed. out.new.items ≡ (if pushed then out.old.items ++ entry_bytes self.now else out.old.items)) }
+        ensures fits { IfOk result (λ pushed. IsTrue pushed
+            ↔ (length out.old.items + length (entry_bytes self.now) ≤ size)) }
+        ensures ok { IfOk result (λ pushed. out.new.items
+            ≡ (if pushed then out.old.items ++ entry_bytes self.now else out.old.items)) }
         ensures err { OnErr result (out.new.items ≡ out.old.items) }
     {
         let before = out.len();

@@ -59,7 +59,8 @@ fn agreement_words(agreement: &Agreement) -> [Word; 8]
 #[inline(always)]
 fn push_header(out: &mut Vec<u8>, size: u32, error: u32, unique: u64) -> Result<(), AllocError>
     requires { 16 + size < 2 ^ 32 }
-    ensures { OnOk result (out.new.items ≡ out.old.items ++ bytes_of (out_header (16 + size) error unique)) }
+    ensures { OnOk result (out.new.items
+        ≡ out.old.items ++ bytes_of (out_header (16 + size) error unique)) }
 {
     let words = [pair(HEADER_SIZE + size, error), word(unique)];
     out.extend_from_slice(words.as_flattened())
@@ -79,7 +80,8 @@ fn push_message(out: &mut Vec<u8>, error: u32, unique: u64, body: &[u8]) -> Resu
 #[inline(always)]
 fn push_words(out: &mut Vec<u8>, unique: u64, words: &[Word]) -> Result<(), AllocError>
     requires { length words.now < 2 ^ 16 }
-    ensures { OnOk result (out.new.items ≡ out.old.items ++ message 0 unique (flat_map (λ word. word) words.now)) }
+    ensures { OnOk result (out.new.items
+        ≡ out.old.items ++ message 0 unique (flat_map (λ word. word) words.now)) }
 {
     push_message(out, 0, unique, words.as_flattened())
 }
@@ -112,7 +114,8 @@ fn push_node(
 }
 
 fn push_entry(out: &mut Vec<u8>, unique: u64, attributes: &Attributes) -> Result<(), AllocError>
-    ensures { OnOk result (out.new.items ≡ out.old.items ++ reply_bytes unique (Reply.Entry attributes.now)) }
+    ensures { OnOk result (out.new.items
+        ≡ out.old.items ++ reply_bytes unique (Reply.Entry attributes.now)) }
 {
     let words = [word(attributes.node), word(0), word(0), word(0), pair(0, 0)];
     push_node(out, unique, &words, attributes)
@@ -123,7 +126,8 @@ fn push_attributes(
     unique: u64,
     attributes: &Attributes,
 ) -> Result<(), AllocError>
-    ensures { OnOk result (out.new.items ≡ out.old.items ++ reply_bytes unique (Reply.Attributes attributes.now)) }
+    ensures { OnOk result (out.new.items
+        ≡ out.old.items ++ reply_bytes unique (Reply.Attributes attributes.now)) }
 {
     push_node(out, unique, &[word(0), pair(0, 0)], attributes)
 }
@@ -134,7 +138,8 @@ fn push_stat_fs(
     block_size: u32,
     name_length: u32,
 ) -> Result<(), AllocError>
-    ensures { OnOk result (out.new.items ≡ out.old.items ++ reply_bytes unique (Reply.StatFs block_size name_length)) }
+    ensures { OnOk result (out.new.items
+        ≡ out.old.items ++ reply_bytes unique (Reply.StatFs block_size name_length)) }
 {
     let words = [
         word(0),

@@ -9,6 +9,7 @@ mod directory;
 mod encoder;
 mod errno;
 pub mod laws;
+mod names;
 mod number;
 mod opcode;
 mod reply;

@@ -31,7 +31,8 @@ pub(crate) fn pair(first: u32, second: u32) -> Word
 /// Two numbers of two bytes, and one of four.
 #[inline(always)]
 pub(crate) fn triple(first: u16, second: u16, third: u32) -> Word
-    ensures { result ≡ number_bytes w16 first ++ number_bytes w16 second ++ number_bytes w32 third }
+    ensures { result
+        ≡ number_bytes w16 first ++ number_bytes w16 second ++ number_bytes w32 third }
 {
     let a = first.to_le_bytes();
     let b = second.to_le_bytes();

@@ -1,5 +1,5 @@
 use Rattle.fuse_wire.proofs.Decoding.{reads_name}
-use Rattle.fuse_wire.proofs.bodies.name_in.Goals as goal
+use Rattle.fuse_wire.proofs.names.name_in.Goals as goal
 
 pub returns : goal.returns
 returns c =
