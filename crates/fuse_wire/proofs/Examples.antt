@@ -113,4 +113,16 @@ are_requests = record { init = init; lookup = lookup; read = read; write = write
 
 pub are_replies : AreReplies
 unfolding number_bytes
-are_replies = record { not_found = refl; not_supported = refl; twelve_written = refl; opened_directly = refl; found_trace = refl; listed_trace = refl }
+are_replies = record {
+  not_found = refl;
+  not_supported = refl;
+  twelve_written = refl;
+  opened_directly = refl;
+  found_trace = refl;
+  listed_trace = refl;
+  agreed = refl;
+  root_shown = refl;
+  stat_fs_shown = refl;
+  readable = refl;
+  released = refl;
+}
