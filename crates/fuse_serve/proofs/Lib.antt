@@ -1,0 +1,5 @@
+pub mod FramingLemmas
+pub mod InboxLemmas
+pub mod Transfers
+pub mod Delivering
+pub mod Serving

@@ -1,0 +1,29 @@
+use Rattle.std.proofs.Common.{◌≡◌, ℕ, ◌-◌, List, ◌++◌, length, take, drop, sym, ap, ◌∙◌, arith}
+use Rattle.fuse_serve.proofs.InboxLemmas.{length_between, came_in, stayed}
+use Rattle.fuse_serve.proofs.inbox.Inbox.read_from.Goals as goal
+
+pub returns-in-Ok-clause-bytes : goal.returns-in-Ok-clause-bytes
+returns-in-Ok-clause-bytes g c =
+    let bound = c.in-Ok.ensures.bound in (
+      take c.in-Ok.count c.read-outcome.new.buf,
+      sym bound.1,
+      came_in c.copy_within.new.self c.self.inside.buffer.items c.deref_mut.result.now c.read-outcome.new.buf c.self.inside.start c.self.inside.end
+          (omega arith) (omega arith) (c.deref_mut.ensures.value ∙ c.copy_within.ensures.items) (omega arith) c.deref_mut.ensures.len c.in-Ok.count bound.0
+          ∙ ap (λ (waiting : List ℕ). waiting ++ take c.in-Ok.count c.read-outcome.new.buf) c.self.view_is,
+      c.in-Ok.ensures.bytes.0,
+    )
+
+pub returns-in-Ok-clause-end : goal.returns-in-Ok-clause-end
+returns-in-Ok-clause-end g c e =
+    let buffer = c.self.inside.buffer.items in
+    let known : length (take (c.self.inside.end - c.self.inside.start) (drop c.self.inside.start buffer)) ≡ c.self.inside.end - c.self.inside.start =
+    length_between buffer c.self.inside.start c.self.inside.end (omega arith) in
+    c.in-Ok.ensures.bytes.1 (cc) (omega (arith, known, ap length c.self.view_is))
+
+pub returns-in_default-clause-err : goal.returns-in_default-clause-err
+returns-in_default-clause-err g c = rw c.in_default.is (
+  stayed c.copy_within.new.self c.self.inside.buffer.items c.deref_mut.result.now c.read-outcome.new.buf c.self.inside.start c.self.inside.end
+      (omega arith) (omega arith) (c.deref_mut.ensures.value ∙ c.copy_within.ensures.items) (omega arith) c.deref_mut.ensures.len
+      ∙ c.self.view_is,
+  c.in_default.ensures.bytes,
+)

@@ -1,0 +1,61 @@
+-- Requests, their replies, and what was written of them.
+use Rattle.std.specs.Prelude.{◌≡◌, ◌≢◌, ℕ, nat_lt, Bool, true, false, List, [], ◌∷◌, ◌++◌, length, Option, count_by}
+use Rattle.std.specs.List.{flat_map}
+use Rattle.std.specs.Io.KnownBytes.{Appends, Consumes}
+use Rattle.fuse_serve.specs.Counts.{HasRisenBy}
+use Rattle.fuse_serve.specs.Framing.{IsRequest}
+use Rattle.fuse_serve.specs.declared.call_log.CallLog.{CallLog}
+use Rattle.fuse_serve.specs.declared.fate.Fate.{Fate}
+use Rattle.fuse_serve.specs.declared.fate.Fate.TheVariants.{Written, Dropped, Cut}
+
+-- a request, its reply, what became of that, and the bytes of it that were written
+pub record Exchange : Type 0 where
+  pub request : List ℕ
+  pub reply : List ℕ
+  pub fate : Fate
+  pub written : List ℕ
+
+-- with this fate these bytes of a reply were written: all, none, or some of its first ones
+abbrev pub IsWritten : Fate → List ℕ → List ℕ → Type 0
+IsWritten Written reply written = written ≡ reply
+IsWritten Dropped reply written = written ≡ []
+IsWritten Cut reply written = (rest : List ℕ) × (reply ≡ written ++ rest) × (rest ≢ [])
+
+-- the server answered these requests, one after another, each once, and none once it wanted to end
+abbrev pub AnswersAll : {S : Type 0} → (S → List ℕ → S → List ℕ → Type 0) → (S → Bool) → S → List Exchange → S → Type 0
+AnswersAll answers ends before [] after = after ≡ before
+AnswersAll {S} answers ends before (one ∷ more) after =
+    (ends before ≡ false) × IsRequest one.request × IsWritten one.fate one.reply one.written
+    × (next : S) × answers before one.request next one.reply × AnswersAll answers ends next more after
+
+-- the reply was dropped
+abbrev pub is_dropped : Fate → List ℕ → Bool
+is_dropped Written reply = false
+is_dropped Dropped reply = true
+is_dropped Cut reply = false
+
+-- the reply has bytes, and all were written
+abbrev pub is_sent : Fate → List ℕ → Bool
+is_sent Written reply = nat_lt 0 (length reply)
+is_sent Dropped reply = false
+is_sent Cut reply = false
+
+-- what is seen of both devices: the bytes that the reader will give and that the writer holds, if known, and what is known of their calls
+pub record Devices : Type 0 where
+  pub remaining : Option (List ℕ)
+  pub reads : CallLog
+  pub contents : Option (List ℕ)
+  pub writes : CallLog
+
+abbrev pub devices : Option (List ℕ) → CallLog → Option (List ℕ) → CallLog → Devices
+devices remaining reads contents writes = record { remaining = remaining; reads = reads; contents = contents; writes = writes }
+
+-- What was read are these requests, one after another, and then some bytes that are left; the server answered them, and what was written are the
+-- bytes of their replies that were written, one after another. Of a reply that was written whole, one write took all that was offered: the only
+-- one, if the device never takes less.
+pub record HasServed {S : Type 0} (answers : S → List ℕ → S → List ℕ → Type 0) (ends : S → Bool) (before after : S) (old new : Devices) (exchanges : List Exchange) (left : List ℕ) :
+    Type 0 where
+  pub read : Consumes old.remaining new.remaining (flat_map (λ (one : Exchange). one.request) exchanges ++ left)
+  pub answered : AnswersAll answers ends before exchanges after
+  pub written : Appends old.contents new.contents (flat_map (λ (one : Exchange). one.written) exchanges)
+  pub sent : HasRisenBy (count_by (λ (one : Exchange). is_sent one.fate one.reply) exchanges) old.writes.wholes new.writes.wholes

@@ -1,0 +1,58 @@
+//! What replies are written to.
+
+ghost use Rattle.std.specs.Prelude.{◌≡◌, ℕ, List, Option, length};
+ghost use Rattle.std.specs.Io.{WritesAtMost};
+ghost use Rattle.std.specs.Io.KnownBytes.{WriteAppends};
+ghost use Rattle.fuse_serve.specs.CallLogs.{logged, no_calls};
+ghost use Rattle.fuse_serve.specs.declared.call_log.CallLog.{CallLog};
+
+use crate::call_log::CallLog;
+use std::io;
+use std::io::Write;
+
+/// What takes the bytes of replies.
+pub trait Outgoing {
+    /// The bytes that it holds, if known.
+    ghost contents: { Self → Option (List ℕ) };
+
+    /// What is known of its calls so far.
+    ghost log: { Self → CallLog };
+
+    /// Takes some bytes from the beginning of `buf`, and returns how many.
+    fn write(&mut self, buf: &[u8]) -> io::Result<usize>
+        ensures bound { WritesAtMost result buf.now }
+        ensures bytes { WriteAppends (contents self.old) (contents self.new) result buf.now }
+        ensures log { log self.new ≡ logged (log self.old) (length buf.now) result };
+}
+
+/// A writer of std, and what is known of its calls.
+#[derive(Drop)]
+pub struct Writer<W> {
+    pub device: W,
+    pub log: CallLog,
+}
+
+impl<W: Write> Writer<W> {
+    /// The writer, before its first call.
+    pub fn new(device: W) -> Writer<W>
+        ensures device { result.device ≡ device }
+        ensures log { result.log ≡ no_calls }
+    {
+        Writer {
+            device,
+            log: CallLog::new(),
+        }
+    }
+}
+
+impl<W: Write> Outgoing for Writer<W> {
+    ghost contents = { λ writer. W.contents writer.device };
+
+    ghost log = { λ writer. writer.log };
+
+    fn write(&mut self, buf: &[u8]) -> io::Result<usize> {
+        let outcome = self.device.write(buf);
+        self.log.add(buf.len(), &outcome);
+        outcome
+    }
+}
