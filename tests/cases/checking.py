@@ -8,7 +8,7 @@ from cases.running import TOP, Case, Outcome, differences, run
 from cases.words import named
 
 CHECKED = "echo \"%s $* RT_JOBS=$RT_JOBS $TRACECTL_PROGRAM\"\necho '%d passed, %d failed'\nexit %d"
-CRATES = "tracectl trace_lex trace_hist trace_text trace_book trace_snapshot ticket_lock trace_explain trace_list trace_items trace_parts trace_words trace_log".split()
+CRATES = "tracectl trace_lex trace_hist trace_text trace_book trace_snapshot ticket_lock fuse_wire fuse_serve mount_tree trace_explain trace_list trace_items trace_parts trace_words trace_log".split()
 CHECK_USAGE = b"usage: ./check [--quick | --planted [CRATE..] | --help]\n"
 
 
@@ -57,7 +57,7 @@ def check_cases():
     compiled = dict(whole, **{"tools/unproved.py": "touch $2"})
     unproved = "(nothing of the program is proved)\n"
     telling = "echo \"rt: $(cut -d: -f1 crates.txt | tr '\\n' ' ')proved\"\necho '100 passed, 0 failed'"
-    ahead = [" min: %s proved\n" % crates for crates in ("trace_lex", "trace_snapshot ticket_lock", "trace_text", "tracectl", " ".join(CRATES))]
+    ahead = [" min: %s proved\n" % crates for crates in ("trace_lex", "trace_snapshot ticket_lock fuse_wire fuse_serve", "trace_text", "tracectl", " ".join(CRATES))]
     return [
         case("all of it", [], whole, each, 0, jobs, last=b"\n174 passed, 0 failed\n"),
         case("all of it, and rt shares the processors", [], whole, ["rt ci RT_JOBS= "], 0, last=b"\n174 passed, 0 failed\n"),
