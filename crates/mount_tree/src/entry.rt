@@ -1,172 +1,26 @@
 //! The entries of folders: look-ups and lists.
 //!
-//! Some entries a folder always has (`fixed_entry`); others are there for the CPUs, events and instances that there are (`Scene::made_entry`). A list
-//! and a look-up go through the same two, so that each name is written once.
+//! Some entries a folder always has (`fixed_entry`, `fixed_named`); others it has for the CPUs, events and instances that there are
+//! (`Scene::made_entry`, `made_named`), and these come last.
 
 ghost use Rattle.std.specs.Prelude.{◌≡◌, ◌≤◌, ◌-◌, ◌<◌, ◌++◌, bytes_eq, length, map, option_copied, slice_get};
 ghost use Rattle.std.specs.List.{find};
 ghost use Rattle.std.specs.Option.{option_map};
-ghost use Rattle.mount_tree.specs.Children.{children, cpu_children, cpu_name, event_child, file_child, fixed_children, folder_child, instance_child, made_children, node_named, own_children, root_children};
+ghost use Rattle.mount_tree.specs.Children.{children, cpu_children, cpu_name, event_child, fixed_children, instance_child, made_children, node_named};
 ghost use Rattle.mount_tree.specs.Entries.{child_of};
 ghost use Rattle.mount_tree.specs.declared.scene.Event.{Event as EventValue};
 ghost use Rattle.mount_tree.specs.declared.scene.Instance.{Instance as InstanceValue};
 
-use crate::file::File;
+use crate::fixed::{fixed_entry, fixed_named, folder_entry};
 use crate::folder::Folder;
 use crate::node::{Node, Owner};
 use crate::scene::{Event, Instance, Scene};
-use trace_command::{CpuFile, EventFile, TopFile};
-
-/// More than the entries that any folder always has.
-const MOST_FIXED: usize = 11;
 
 /// An entry of a folder: its name, and what it is.
 #[derive(Clone, Copy)]
 pub struct Entry<'a> {
     pub name: &'a [u8],
     pub node: Node,
-}
-
-fn file_entry(owner: Owner, file: File) -> Option<Entry<'static>>
-    ensures { option_map child_of result ≡ Some (file_child owner file) }
-{
-    Some(Entry {
-        name: file.name().as_bytes(),
-        node: Node::File(owner, file),
-    })
-}
-
-fn folder_entry(owner: Owner, name: &'static str, folder: Folder) -> Option<Entry<'static>>
-    ensures { option_map child_of result ≡ Some (folder_child owner name.entry.now folder) }
-{
-    Some(Entry {
-        name: name.as_bytes(),
-        node: Node::Folder(owner, folder),
-    })
-}
-
-// Of those that every instance has in its own folder.
-fn own_entry(owner: Owner, index: usize) -> Option<Entry<'static>>
-    ensures { option_map child_of result ≡ slice_get (own_children owner) index }
-{
-    match index {
-        0 => file_entry(owner, File::OfInstance(TopFile::Snapshot)),
-        1 => file_entry(owner, File::OfInstance(TopFile::TracingOn)),
-        2 => file_entry(owner, File::OfInstance(TopFile::Trace)),
-        3 => file_entry(owner, File::OfInstance(TopFile::TracePipe)),
-        4 => folder_entry(owner, "options", Folder::Options),
-        5 => file_entry(owner, File::OfInstance(TopFile::TraceOptions)),
-        6 => folder_entry(owner, "events", Folder::Events),
-        7 => folder_entry(owner, "per_cpu", Folder::PerCpu),
-        _ => None,
-    }
-}
-
-// Of those in an instance's own folder.
-fn root_entry(owner: Owner, index: usize) -> Option<Entry<'static>>
-    ensures { option_map child_of result ≡ slice_get (root_children owner) index }
-{
-    match owner {
-        Owner::Top => top_entry(index),
-        Owner::Made(_) => own_entry(owner, index),
-    }
-}
-
-fn top_entry(index: usize) -> Option<Entry<'static>>
-    ensures { option_map child_of result ≡ slice_get (root_children Owner.Top) index }
-{
-    match index {
-        0 => file_entry(Owner::Top, File::SyntheticEvents),
-        9 => folder_entry(Owner::Top, "instances", Folder::Instances),
-        _ => own_entry(Owner::Top, index - 1),
-    }
-}
-
-// Of those of a CPU.
-fn cpu_entry(owner: Owner, cpu: u8, index: usize) -> Option<Entry<'static>>
-    ensures { option_map child_of result ≡ slice_get (fixed_children owner (Folder.Cpu cpu)) index }
-{
-    match index {
-        0 => file_entry(owner, File::OfCpu(cpu, CpuFile::Stats)),
-        1 => file_entry(owner, File::OfCpu(cpu, CpuFile::Trace)),
-        2 => file_entry(owner, File::OfCpu(cpu, CpuFile::TracePipe)),
-        _ => None,
-    }
-}
-
-// Of those of an event.
-fn event_entry(owner: Owner, event: u8, index: usize) -> Option<Entry<'static>>
-    ensures { option_map child_of result ≡ slice_get (fixed_children owner (Folder.Event event)) index }
-{
-    match index {
-        0 => file_entry(owner, File::OfEvent(event, EventFile::Format)),
-        1 => file_entry(owner, File::OfEvent(event, EventFile::Enable)),
-        2 => file_entry(owner, File::OfEvent(event, EventFile::Filter)),
-        3 => file_entry(owner, File::OfEvent(event, EventFile::Trigger)),
-        4 => file_entry(owner, File::OfEvent(event, EventFile::Hist)),
-        5 => file_entry(owner, File::Inject(event)),
-        _ => None,
-    }
-}
-
-// Of those of all events, in `events` and in the folder of their one system.
-fn events_entry(owner: Owner, index: usize) -> Option<Entry<'static>>
-    ensures { option_map child_of result ≡ slice_get (fixed_children owner Folder.Events) index }
-{
-    match index {
-        0 => file_entry(owner, File::OfInstance(TopFile::EventsEnable)),
-        1 => folder_entry(owner, "synthetic", Folder::Synthetic),
-        _ => None,
-    }
-}
-
-fn system_entry(owner: Owner, index: usize) -> Option<Entry<'static>>
-    ensures { option_map child_of result ≡ slice_get (fixed_children owner Folder.Synthetic) index }
-{
-    match index {
-        0 => file_entry(owner, File::SystemEnable),
-        1 => file_entry(owner, File::OfInstance(TopFile::EventsFilter)),
-        _ => None,
-    }
-}
-
-fn option_entry(owner: Owner, index: usize) -> Option<Entry<'static>>
-    ensures { option_map child_of result ≡ slice_get (fixed_children owner Folder.Options) index }
-{
-    match index {
-        0 => file_entry(owner, File::OfInstance(TopFile::Overwrite)),
-        _ => None,
-    }
-}
-
-// Of those that a folder always has.
-fn fixed_entry(owner: Owner, folder: Folder, index: usize) -> Option<Entry<'static>>
-    ensures { option_map child_of result ≡ slice_get (fixed_children owner folder) index }
-{
-    match folder {
-        Folder::Root => root_entry(owner, index),
-        Folder::Options => option_entry(owner, index),
-        Folder::Cpu(cpu) => cpu_entry(owner, cpu, index),
-        Folder::Events => events_entry(owner, index),
-        Folder::Synthetic => system_entry(owner, index),
-        Folder::Event(event) => event_entry(owner, event, index),
-        Folder::Instances | Folder::PerCpu => None,
-    }
-}
-
-// The node of this name among those that a folder always has.
-fn fixed_named(owner: Owner, folder: Folder, name: &[u8]) -> Option<Node>
-    ensures { result ≡ node_named name.now (fixed_children owner folder) }
-{
-    for index in 0..MOST_FIXED {
-        let Some(entry) = fixed_entry(owner, folder, index) else {
-            return None;
-        };
-        if entry.name == name {
-            return Some(entry.node);
-        }
-    }
-    None
 }
 
 // `cpuN`.

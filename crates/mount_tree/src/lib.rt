@@ -3,6 +3,7 @@
 
 mod entry;
 mod file;
+mod fixed;
 mod folder;
 pub mod laws;
 mod node;

@@ -1,6 +1,6 @@
 //! What a look-up needs of a tracer.
 
-ghost use Rattle.std.specs.Prelude.{List, ℕ, ◌≡◌, ◌<◌, ◌≤◌, ◌↔◌, IsTrue, OnOk, OnErr, option_copied, is_some};
+ghost use Rattle.std.specs.Prelude.{List, ℕ, ◌≡◌, ◌<◌, ◌≤◌, ◌↔◌, IfNone, IfSome, IsTrue, OnOk, OnErr, option_copied, is_some};
 ghost use Rattle.std.specs.Option.{option_map};
 ghost use Rattle.trace_command.specs.FileNames.{bytes_now};
 ghost use Rattle.mount_tree.specs.Children.{folder_is_there, file_is_there, is_there, is_top, owner_is_there};
@@ -130,6 +130,18 @@ impl Scene {
         ensures { IsTrue result ↔ (self.now.made < most_made) }
     {
         self.made < u32::MAX
+    }
+
+    /// The number of the next instance, if another one can be added.
+    pub fn next_serial(&self) -> Option<u32>
+        ensures some { IfSome result (λ serial. (serial ≡ self.now.made) × (self.now.made < most_made)) }
+        ensures none { IfNone result (most_made ≤ self.now.made) }
+    {
+        if self.can_make() {
+            Some(self.made)
+        } else {
+            None
+        }
     }
 
     /// Whether another event can be added.

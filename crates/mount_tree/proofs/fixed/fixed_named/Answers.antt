@@ -2,7 +2,7 @@ use Rattle.std.proofs.Common.{sym, ◌∙◌}
 use Rattle.mount_tree.specs.Children.{fixed_children}
 use Rattle.mount_tree.specs.Entries.{child_of}
 use Rattle.mount_tree.proofs.EntryLemmas.{named_later}
-use Rattle.mount_tree.proofs.entry.fixed_named.Goals as goal
+use Rattle.mount_tree.proofs.fixed.fixed_named.Goals as goal
 
 pub loop-index-preserved : goal.loop-index-preserved
 loop-index-preserved c =

@@ -1,6 +1,6 @@
 use Rattle.std.proofs.Common.{◌≢◌, sym, ◌∙◌, arith}
 use Rattle.mount_tree.proofs.EntryLemmas.{top_at}
-use Rattle.mount_tree.proofs.entry.top_entry.Goals as goal
+use Rattle.mount_tree.proofs.fixed.top_entry.Goals as goal
 
 pub returns-in_default : goal.returns-in_default
 returns-in_default c =

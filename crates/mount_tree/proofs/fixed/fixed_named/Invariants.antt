@@ -1,6 +1,6 @@
 use Rattle.std.proofs.Common.{◌≡◌, drop}
 use Rattle.mount_tree.specs.Children.{fixed_children, node_named}
-use Rattle.mount_tree.proofs.entry.fixed_named.Given as goal
+use Rattle.mount_tree.proofs.fixed.fixed_named.Given as goal
 
 -- the first of this name among those that are left is that of all
 abbrev pub invariant-loop-index : goal.invariant-loop-index
