@@ -1,6 +1,6 @@
 -- The path of a file that is there names that file.
-use Rattle.std.proofs.Common.{◌≡◌, ℕ, zero, suc, ◌+◌, ◌<◌, ◌≤◌, eqb, ltb, Bool, true, false, not, ◌&&◌, cond, nat_lt, List, [], ◌∷◌, ◌++◌, map, length, take, All, Option, Some, None, option_map, unwrap_or, is_some, codes, refl, sym, ap, subst, ◌∙◌, arith, append_assoc}
-use Rattle.std.specs.List.{AllByRecursion, find, list_all}
+use Rattle.std.proofs.Common.{◌≡◌, ℕ, zero, suc, ◌<◌, eqb, Bool, true, false, cond, List, [], ◌∷◌, ◌++◌, length, Option, Some, None, option_map, is_some, codes, refl, ap, subst, ◌∙◌, arith, append_assoc}
+use Rattle.std.specs.List.{AllByRecursion, list_all}
 use Rattle.std.specs.Fmt.{digits}
 use Rattle.std.specs.Str.{bytes_eq}
 use Rattle.std.proofs.lemmas.Bool.{and_parts, eqb-true, false≢true, lt-ltb, ltb-true}
@@ -17,11 +17,11 @@ use Rattle.trace_command.specs.declared.file_name.TopFile.TheVariants as top
 use Rattle.trace_lex.specs.Names.{is_letter, is_name, is_name_byte}
 use Rattle.trace_list.specs.Files.{cpu_folder, event_folder}
 use Rattle.trace_list.specs.Listings.{instance_folder}
-use Rattle.mount_tree.specs.Children.{cpu_name, file_is_there, is_there, owner_is_there}
-use Rattle.mount_tree.specs.NodePaths.{address_meant, file_meant, folder_path, owner_name, path_of}
-use Rattle.mount_tree.specs.Scenes.{SceneSeen, event_at, event_name, instance_at, instance_name}
+use Rattle.mount_tree.specs.Children.{cpu_name, file_is_there, is_there}
+use Rattle.mount_tree.specs.NodePaths.{address_meant, file_meant, folder_path, path_of}
+use Rattle.mount_tree.specs.Scenes.{SceneSeen, event_at, event_name, instance_at}
 use Rattle.mount_tree.specs.TreeLaws.{IsSound}
-use Rattle.mount_tree.specs.TreeNames.{cpu_file_name, event_file_name, file_name, file_parent, top_file_name}
+use Rattle.mount_tree.specs.TreeNames.{cpu_file_name, event_file_name, file_name, file_parent}
 use Rattle.mount_tree.specs.declared.file.File.{File}
 use Rattle.mount_tree.specs.declared.file.File.TheVariants.{SyntheticEvents, OfInstance, SystemEnable, OfCpu, OfEvent, Inject}
 use Rattle.mount_tree.specs.declared.node.Node.TheVariants as nodes

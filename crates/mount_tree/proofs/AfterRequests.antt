@@ -1,16 +1,11 @@
 -- The scene after one request more.
-use Rattle.std.proofs.Common.{◌≡◌, ℕ, ◌+◌, ◌<◌, ◌==◌, eqb, Bool, true, false, not, cond, List, [], ◌∷◌, ◌++◌, length, map, Option, Some, None, refl, sym, ap, ◌∙◌, arith, append-nil, length-append, add-zero}
-use Rattle.std.specs.List.{AllByRecursion, filter, find}
+use Rattle.std.proofs.Common.{◌≡◌, ℕ, ◌+◌, List, [], ◌∷◌, ◌++◌, length, Option, Some, None, refl, ◌∙◌, append-nil, length-append, add-zero}
 use Rattle.std.specs.Option.{option_to_list}
-use Rattle.std.specs.Str.{bytes_eq}
-use Rattle.std.proofs.lemmas.Grind.{common_steps}
 use Rattle.trace_command.specs.Requests.{Request, Emission, MakeInstance, RemoveInstance, WriteFile, ReadFile}
 use Rattle.trace_format.specs.Definitions.{Definition}
-use Rattle.trace_history.specs.Settings.{declared_events, declares, instance_names, made, removed, without}
-use Rattle.mount_tree.specs.Scenes.{SceneSeen, has_folder, instance_at, shown_event, with_event, with_instance, without_instance, without_named}
+use Rattle.trace_history.specs.Settings.{declared_events, declares, made, removed}
+use Rattle.mount_tree.specs.Scenes.{with_event, with_instance, without_instance, without_named}
 use Rattle.mount_tree.specs.ScenesAfter.{declared_event, events_after, instances_after, left_instances, made_after, made_instance, scene_after}
-use Rattle.mount_tree.specs.declared.scene.Event.{Event}
-use Rattle.mount_tree.specs.declared.scene.Instance.{Instance}
 
 -- by what the request makes, removes and declares
 stepped : (cpus : ℕ) (past : List Request) (request : Request) (m r : Option (List ℕ)) (d : Option Definition) → made request ≡ m → removed request ≡ r

@@ -1,12 +1,12 @@
 -- A folder's list has each name once, and a look-up finds just what is listed.
-use Rattle.std.proofs.Common.{◌≡◌, ℕ, zero, suc, ◌≤◌, eqb, Bool, true, false, not, ◌&&◌, ◌||◌, cond, List, [], ◌∷◌, ◌++◌, map, Option, Some, None, option_map, codes, refl, sym, ap, subst, ◌∙◌, arith, append-nil}
+use Rattle.std.proofs.Common.{◌≡◌, ℕ, zero, suc, ◌≤◌, Bool, true, false, cond, List, [], ◌∷◌, ◌++◌, map, Option, Some, option_map, codes, refl, sym, ap, subst, ◌∙◌, arith}
 use Rattle.std.specs.List.{AllByRecursion, IsDistinct, find}
 use Rattle.std.specs.Fmt.{digits}
 use Rattle.std.specs.Str.{bytes_eq}
 use Rattle.std.proofs.lemmas.Bool.{not-true, or_parts}
 use Rattle.std.proofs.lemmas.Map.Keys.{IsDistinct-cons}
 use Rattle.std.proofs.lemmas.Slice.Eq.{bytes_eq-Decides}
-use Rattle.mount_tree.specs.Children.{Child, children, cpu_child, cpu_children, cpu_name, event_child, fixed_children, instance_child, is_there, made_children, node_named}
+use Rattle.mount_tree.specs.Children.{Child, children, cpu_children, cpu_name, event_child, fixed_children, instance_child, is_there, made_children, node_named}
 use Rattle.mount_tree.specs.Scenes.{SceneSeen, has_folder}
 use Rattle.mount_tree.specs.TreeLaws.{IsSound}
 use Rattle.mount_tree.specs.declared.folder.Folder.{Folder}

@@ -1,14 +1,12 @@
 -- Entries at an index, and by name.
-use Rattle.std.proofs.Common.{◌≡◌, ◌≢◌, ℕ, zero, suc, ◌+◌, ◌-◌, ◌<◌, ◌≤◌, ltb, Bool, true, false, cond, List, [], ◌∷◌, ◌++◌, length, map, drop, slice_get, Option, Some, None, option_map, refl, sym, ap, subst, ◌∙◌, arith, add-one, length-append}
+use Rattle.std.proofs.Common.{◌≡◌, ◌≢◌, ℕ, zero, suc, ◌+◌, ◌-◌, ◌<◌, ◌≤◌, ltb, Bool, true, false, cond, List, [], ◌∷◌, ◌++◌, length, map, drop, slice_get, Option, Some, None, option_map, refl, sym, ap, ◌∙◌, arith, add-one, length-append}
 use Rattle.std.specs.List.{find}
 use Rattle.std.specs.Option.{option_or}
 use Rattle.std.specs.Str.{bytes_eq}
 use Rattle.std.proofs.lemmas.List.Folds.{find-append}
 use Rattle.std.proofs.lemmas.Bool.{ltb-false, ltb-true}
 use Rattle.std.proofs.lemmas.Option.{slice_get_past}
-use Rattle.mount_tree.specs.Children.{Child, cpu_child, cpu_children, event_child, fixed_children, instance_child, made_children, node_named, own_children, root_children}
-use Rattle.mount_tree.specs.Scenes.{SceneSeen}
-use Rattle.mount_tree.specs.declared.folder.Folder.{Folder}
+use Rattle.mount_tree.specs.Children.{Child, cpu_child, cpu_children, event_child, instance_child, node_named, own_children, root_children}
 use Rattle.mount_tree.specs.declared.folder.Folder.TheVariants as folders
 use Rattle.mount_tree.specs.declared.node.Node.{Node}
 use Rattle.mount_tree.specs.declared.node.Node.TheVariants as nodes

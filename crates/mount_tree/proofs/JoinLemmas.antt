@@ -1,13 +1,12 @@
 -- Paths of entries.
-use Rattle.std.proofs.Common.{◌≡◌, ℕ, zero, suc, eqb, Bool, true, false, ◌&&◌, cond, List, [], ◌∷◌, ◌++◌, map, Option, Some, None, option_map, unwrap_or, codes, refl, sym, ap, subst, ◌∙◌, append_assoc, append-nil}
+use Rattle.std.proofs.Common.{◌≡◌, ℕ, zero, suc, eqb, Bool, true, false, ◌&&◌, cond, List, [], ◌∷◌, ◌++◌, map, Some, codes, refl, sym, ap, subst, ◌∙◌, append_assoc, append-nil}
 use Rattle.std.specs.List.{AllByRecursion, find}
-use Rattle.std.specs.Fmt.{decimal}
 use Rattle.std.proofs.lemmas.Bool.{eq-eqb, false≢true}
 use Rattle.trace_list.specs.Files.{cpu_folder, event_folder}
 use Rattle.trace_list.specs.Listings.{instance_folder}
 use Rattle.mount_tree.specs.Children.{Child, children, cpu_child, cpu_children, cpu_name, event_child, fixed_children, instance_child, is_there, made_children, node_named, owner_is_there}
-use Rattle.mount_tree.specs.NodePaths.{folder_path, owner_path, path_of}
-use Rattle.mount_tree.specs.Scenes.{SceneSeen, event_name, instance_name}
+use Rattle.mount_tree.specs.NodePaths.{owner_path, path_of}
+use Rattle.mount_tree.specs.Scenes.{SceneSeen}
 use Rattle.mount_tree.specs.TreeLaws.{IsSound, slash_of}
 use Rattle.mount_tree.specs.declared.folder.Folder.{Folder}
 use Rattle.mount_tree.specs.declared.folder.Folder.TheVariants as folders
@@ -18,7 +17,7 @@ use Rattle.mount_tree.specs.declared.node.Owner.TheVariants.{Top, Made}
 use Rattle.mount_tree.specs.declared.scene.Event.{Event}
 use Rattle.mount_tree.specs.declared.scene.Instance.{Instance}
 use Rattle.mount_tree.proofs.ListLemmas.{all-append, all-map, all-weaker, self_found}
-use Rattle.mount_tree.proofs.ThereLemmas.{IsNamed, named_one}
+use Rattle.mount_tree.proofs.ThereLemmas.{named_one}
 
 -- the path of an entry is that of its folder, its name, and a slash if it is a folder
 abbrev IsJoined : SceneSeen → List ℕ → Child → Type 0

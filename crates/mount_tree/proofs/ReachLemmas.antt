@@ -1,6 +1,6 @@
 -- What is there is found in the folder that it is in.
-use Rattle.std.proofs.Common.{◌≡◌, ℕ, zero, suc, ◌<◌, ◌≤◌, eqb, ltb, Bool, true, false, ◌&&◌, nat_lt, cond, List, [], ◌∷◌, ◌++◌, map, Option, Some, None, option_map, is_some, codes, refl, sym, ap, subst, ◌∙◌, arith}
-use Rattle.std.specs.List.{AllByRecursion, find}
+use Rattle.std.proofs.Common.{◌≡◌, ℕ, zero, suc, ◌<◌, ◌≤◌, eqb, ltb, Bool, true, false, ◌&&◌, nat_lt, List, [], ◌∷◌, ◌++◌, Option, Some, None, is_some, codes, refl, subst, arith}
+use Rattle.std.specs.List.{AllByRecursion}
 use Rattle.std.proofs.lemmas.Bool.{and_parts, and_from, eqb-true, false≢true, ltb-false, ltb-true}
 use Rattle.trace_command.specs.declared.file_name.CpuFile.TheVariants as per_cpu
 use Rattle.trace_command.specs.declared.file_name.EventFile.TheVariants as per_event
@@ -9,7 +9,7 @@ use Rattle.mount_tree.specs.Children.{Child, children, cpu_child, cpu_children, 
 use Rattle.mount_tree.specs.Nodes.{top}
 use Rattle.mount_tree.specs.Scenes.{SceneSeen, event_at, instance_at}
 use Rattle.mount_tree.specs.TreeLaws.{IsFoundIn, IsSound}
-use Rattle.mount_tree.specs.TreeNames.{file_name, file_parent, folder_parent, node_parent}
+use Rattle.mount_tree.specs.TreeNames.{file_name, file_parent, node_parent}
 use Rattle.mount_tree.specs.declared.file.File.{File}
 use Rattle.mount_tree.specs.declared.file.File.TheVariants.{SyntheticEvents, OfInstance, SystemEnable, OfCpu, OfEvent, Inject}
 use Rattle.mount_tree.specs.declared.folder.Folder.{Folder}

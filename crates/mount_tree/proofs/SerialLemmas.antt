@@ -1,24 +1,23 @@
 -- The numbers of instances, and their names.
-use Rattle.std.proofs.Common.{◌≡◌, ℕ, ◌+◌, ◌<◌, ◌≤◌, eqb, Bool, true, false, not, ◌&&◌, cond, List, [], ◌∷◌, ◌++◌, length, map, Option, Some, None, option_map, is_some, refl, sym, ap, subst, ◌∙◌, arith}
+use Rattle.std.proofs.Common.{◌≡◌, ℕ, ◌<◌, eqb, Bool, true, false, not, ◌&&◌, cond, List, [], ◌∷◌, ◌++◌, length, map, Option, Some, None, is_some, refl, sym, ap, ◌∙◌, arith}
 use Rattle.std.proofs.lemmas.List.{map-append}
-use Rattle.std.specs.List.{AllByRecursion, filter, find}
+use Rattle.std.specs.List.{filter}
 use Rattle.std.specs.Option.{option_or, option_to_list}
 use Rattle.std.specs.Str.{bytes_eq}
-use Rattle.std.proofs.lemmas.Bool.{ne_eqb, and_parts}
+use Rattle.std.proofs.lemmas.Bool.{ne_eqb}
 use Rattle.std.proofs.lemmas.List.Folds.{find-append}
 use Rattle.std.proofs.lemmas.List.Elements.{filter-append}
 use Rattle.trace_command.specs.Requests.{Request}
 use Rattle.trace_format.specs.Definitions.{Definition}
 use Rattle.trace_history.specs.Settings.{declared_events, declares, instance_names, made, removed, without}
-use Rattle.mount_tree.specs.Children.{file_is_there, folder_is_there, is_there, owner_is_there}
+use Rattle.mount_tree.specs.Children.{is_there}
 use Rattle.mount_tree.specs.Nodes.{owner_of}
 use Rattle.mount_tree.specs.Scenes.{SceneSeen, has_folder, instance_at, shown_event, without_named}
 use Rattle.mount_tree.specs.ScenesAfter.{declared_event, events_after, instances_after, left_instances, made_after, made_instance, scene_after}
 use Rattle.mount_tree.specs.declared.folder.Folder.TheVariants as folders
 use Rattle.mount_tree.specs.declared.node.Node.{Node}
 use Rattle.mount_tree.specs.declared.node.Node.TheVariants as nodes
-use Rattle.mount_tree.specs.declared.node.Owner.{Owner}
-use Rattle.mount_tree.specs.declared.node.Owner.TheVariants.{Top, Made}
+use Rattle.mount_tree.specs.declared.node.Owner.TheVariants.{Made}
 use Rattle.mount_tree.specs.declared.scene.Event.{Event}
 use Rattle.mount_tree.specs.declared.scene.Instance.{Instance}
 use Rattle.mount_tree.proofs.ListLemmas.{none-filter}

@@ -1,11 +1,11 @@
 -- The requests that were done leave a scene in which names and numbers are distinct.
-use Rattle.std.proofs.Common.{◌≡◌, ℕ, zero, suc, ◌+◌, ◌<◌, ◌≤◌, eqb, nat_lt, Bool, true, false, not, ◌||◌, cond, List, [], ◌∷◌, ◌++◌, length, map, get_or, Option, Some, None, IsOk, Result, Ok, Err, refl, sym, ap, subst, ◌∙◌, arith, append-nil, length-append, add-zero}
+use Rattle.std.proofs.Common.{◌≡◌, ℕ, ◌+◌, ◌<◌, ◌≤◌, eqb, nat_lt, Bool, true, false, not, cond, List, [], ◌∷◌, ◌++◌, length, map, get_or, Option, Some, None, IsOk, Result, Ok, Err, refl, sym, ap, subst, ◌∙◌, arith, append-nil, length-append, add-zero}
 use Rattle.std.specs.Cmp.{nat_eq_equiv}
 use Rattle.std.specs.Cmp.Lexicographic.{nat_list_eq_equiv}
 use Rattle.std.specs.List.{AllByRecursion, IsDistinct, filter, list_any}
 use Rattle.std.specs.Option.{option_to_list}
 use Rattle.std.specs.Str.{bytes_eq}
-use Rattle.std.proofs.lemmas.Bool.{false_from_ne_true, false≢true, ne_eqb, not-false}
+use Rattle.std.proofs.lemmas.Bool.{false_from_ne_true, false≢true, ne_eqb}
 use Rattle.std.proofs.lemmas.List.{get_or-map, length-map, map-append}
 use Rattle.std.proofs.lemmas.Map.Keys.{IsDistinct-cons, IsDistinct-from_apart, IsDistinct-head, IsDistinct-push, IsDistinct-tail}
 use Rattle.std.proofs.lemmas.Slice.Eq.{bytes_eq-Decides}
@@ -17,18 +17,18 @@ use Rattle.trace_command.specs.declared.refusal.Refusal.{Refusal}
 use Rattle.trace_command.specs.declared.refusal.Refusal.TheVariants as refusal
 use Rattle.trace_format.specs.Catalogs.{AreEvents}
 use Rattle.trace_format.specs.Definitions.{Definition}
-use Rattle.trace_history.specs.History.{answer_with_room, most_instances, named_answer}
+use Rattle.trace_history.specs.History.{most_instances, named_answer}
 use Rattle.trace_history.specs.Pasts.{AreDone}
-use Rattle.trace_history.specs.Settings.{declared_events, declares, instance_names, is_there, made, removed}
+use Rattle.trace_history.specs.Settings.{declared_events, declares, instance_names, is_there}
 use Rattle.trace_history.proofs.EventLists.{one_index}
 use Rattle.trace_lex.specs.Names.{is_name}
-use Rattle.mount_tree.specs.Scenes.{SceneSeen, has_folder, shown_event, without_named}
-use Rattle.mount_tree.specs.ScenesAfter.{declared_event, events_after, instances_after, left_instances, made_after, made_instance, scene_after}
+use Rattle.mount_tree.specs.Scenes.{has_folder, shown_event, without_named}
+use Rattle.mount_tree.specs.ScenesAfter.{declared_event, events_after, instances_after, made_after, scene_after}
 use Rattle.mount_tree.specs.TreeLaws.{IsSound}
 use Rattle.mount_tree.specs.declared.scene.Event.{Event}
 use Rattle.mount_tree.specs.declared.scene.Instance.{Instance}
-use Rattle.mount_tree.proofs.ListLemmas.{all-append, all-filter, all-map, all-unmapped, all-weaker}
-use Rattle.mount_tree.proofs.SerialLemmas.{definition_names, event_names_of, instance_names_of, names-events_after, names-instances_after}
+use Rattle.mount_tree.proofs.ListLemmas.{all-append, all-filter, all-unmapped, all-weaker}
+use Rattle.mount_tree.proofs.SerialLemmas.{definition_names, instance_names_of, names-events_after, names-instances_after}
 
 -- ---- lists of keys
 

@@ -1,26 +1,20 @@
 -- A walk through the folders gives the lines that a list of the files has.
-use Rattle.std.proofs.Common.{◌≡◌, ℕ, zero, suc, ◌≤◌, eqb, ltb, Bool, true, false, ◌&&◌, nat_lt, cond, List, [], ◌∷◌, ◌++◌, map, Option, Some, None, option_map, is_some, unwrap_or, codes, refl, sym, ap, subst, ◌∙◌, arith, append_assoc, append-nil}
+use Rattle.std.proofs.Common.{◌≡◌, ℕ, zero, suc, ◌≤◌, eqb, true, ◌&&◌, nat_lt, List, [], ◌∷◌, ◌++◌, map, Some, codes, refl, sym, ap, ◌∙◌, arith, append_assoc, append-nil}
 use Rattle.std.proofs.lemmas.Grind.{flat_map-append}
-use Rattle.std.specs.List.{AllByRecursion, find, flat_map}
+use Rattle.std.specs.List.{AllByRecursion, flat_map}
 use Rattle.std.proofs.lemmas.Bool.{and_from, eq-eqb, lt-ltb}
-use Rattle.trace_command.specs.declared.file_name.CpuFile.TheVariants as per_cpu
-use Rattle.trace_command.specs.declared.file_name.EventFile.TheVariants as per_event
-use Rattle.trace_command.specs.declared.file_name.TopFile.TheVariants as top
-use Rattle.trace_list.specs.Files.{Listed, cpu_folder, declarations_file, event_folder, files_of_all_events, files_of_cpu, files_of_cpus, files_of_event, files_of_instance, own_files}
+use Rattle.trace_list.specs.Files.{cpu_folder, declarations_file, event_folder, files_of_all_events, files_of_cpu, files_of_cpus, files_of_event, files_of_instance, own_files}
 use Rattle.trace_list.specs.declared.access.Access.{Access}
 use Rattle.trace_list.specs.declared.access.Access.TheVariants.{Read, Write, Both}
 use Rattle.trace_list.specs.Listings.{instance_folder, line_of, line_of_file, lines_in, listing}
-use Rattle.mount_tree.specs.Children.{Child, children, cpu_child, cpu_children, event_child, fixed_children, folder_child, instance_child, is_there, made_children, own_children, owner_is_there}
-use Rattle.mount_tree.specs.NodePaths.{folder_path, owner_path, path_of}
+use Rattle.mount_tree.specs.Children.{Child, cpu_child, cpu_children, event_child, fixed_children, folder_child, instance_child, is_there, made_children, own_children, owner_is_there}
+use Rattle.mount_tree.specs.NodePaths.{owner_path}
 use Rattle.mount_tree.specs.Nodes as numbers
-use Rattle.mount_tree.specs.Scenes.{SceneSeen, event_at, event_name, instance_at}
+use Rattle.mount_tree.specs.Scenes.{SceneSeen, event_at, instance_at}
 use Rattle.mount_tree.specs.TreeLaws.{IsSound}
-use Rattle.mount_tree.specs.Walks.{line_in, lines_below, scene_names}
-use Rattle.mount_tree.specs.declared.file.File.{File}
-use Rattle.mount_tree.specs.declared.file.File.TheVariants.{SyntheticEvents, OfInstance, SystemEnable, OfCpu, OfEvent, Inject}
+use Rattle.mount_tree.specs.Walks.{lines_below, scene_names}
 use Rattle.mount_tree.specs.declared.folder.Folder.{Folder}
 use Rattle.mount_tree.specs.declared.folder.Folder.TheVariants as folders
-use Rattle.mount_tree.specs.declared.node.Node.{Node}
 use Rattle.mount_tree.specs.declared.node.Node.TheVariants as nodes
 use Rattle.mount_tree.specs.declared.node.Owner.{Owner}
 use Rattle.mount_tree.specs.declared.node.Owner.TheVariants.{Top, Made}

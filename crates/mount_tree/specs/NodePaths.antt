@@ -15,8 +15,6 @@ use Rattle.mount_tree.specs.declared.node.Node.{Node}
 use Rattle.mount_tree.specs.declared.node.Node.TheVariants as nodes
 use Rattle.mount_tree.specs.declared.node.Owner.{Owner}
 use Rattle.mount_tree.specs.declared.node.Owner.TheVariants.{Top, Made}
-use Rattle.mount_tree.specs.declared.scene.Event.{Event}
-use Rattle.mount_tree.specs.declared.scene.Instance.{Instance}
 
 -- a folder of an instance, by its path there; it ends with a slash, if it is not the instance's own
 abbrev pub folder_path : SceneSeen → Folder → List ℕ

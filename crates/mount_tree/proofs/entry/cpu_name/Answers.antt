@@ -1,4 +1,4 @@
-use Rattle.std.proofs.Common.{◌≡◌, ℕ, refl, arith}
+use Rattle.std.proofs.Common.{◌≡◌, refl, arith}
 use Rattle.std.specs.Fmt.{digits}
 use Rattle.mount_tree.specs.Children.{cpu_name}
 use Rattle.mount_tree.proofs.entry.cpu_name.Goals as goal

@@ -1,4 +1,4 @@
-use Rattle.std.proofs.Common.{sym, ap, ◌∙◌}
+use Rattle.std.proofs.Common.{sym}
 use Rattle.mount_tree.specs.Children.{fixed_children, made_children}
 use Rattle.mount_tree.proofs.EntryLemmas.{named_first}
 use Rattle.mount_tree.proofs.scene.Scene.listed_named.Goals as goal
