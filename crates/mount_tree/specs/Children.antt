@@ -1,4 +1,4 @@
--- Which folders and files each folder has, in the order in which docs/FILES.md lists them, and which there are at all.
+-- Which folders and files there are in a mounted tracer (docs/FILES.md), and the entries of each folder, in the order of `tracectl --list`.
 use Rattle.std.specs.Prelude.{ℕ, zero, suc, Bool, true, false, ◌&&◌, nat_lt, is_some, if◌then◌else◌, List, [], ◌∷◌, ◌++◌, map, Option, codes}
 use Rattle.std.specs.Fmt.{decimal}
 use Rattle.std.specs.List.{find}

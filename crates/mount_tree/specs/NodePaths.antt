@@ -39,7 +39,7 @@ path_of scene (nodes.File owner file) = owner_path scene owner ++ folder_path sc
 
 -- ---- the file of a tracer that a node is
 
--- the name of an instance, which the top one has not
+-- the name of an instance; the top one has none
 abbrev pub owner_name : SceneSeen → Owner → Option (List ℕ)
 owner_name scene Top = None
 owner_name scene (Made serial) = instance_name serial scene.instances

@@ -15,11 +15,11 @@ pub record SceneSeen : Type 0 where
   pub instances : List Instance
   pub made : ℕ
 
--- of a tracer with so many CPUs to which nothing was done
+-- the scene of a tracer with so many CPUs of which nothing was asked yet
 abbrev pub new_scene : ℕ → SceneSeen
 new_scene cpus = record { cpus = cpus; events = []; declared = 0; instances = []; made = 0 }
 
--- The folder of all events has two files of its own. An event of such a name has no folder, since a folder has no two entries of one name.
+-- `events/synthetic` has two files of its own. An event named as one of them has no folder, since no two entries of a folder have one name.
 abbrev pub has_folder : List ℕ → Bool
 has_folder name = not (bytes_eq name (codes "enable") || bytes_eq name (codes "filter"))
 

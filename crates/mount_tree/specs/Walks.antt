@@ -37,7 +37,7 @@ scene_names scene = record {
   gone = [];
 }
 
--- The folders below the mounted one are six deep: `instances/NAME/events/synthetic/EVENT` and its files. A walk through them all finds the files that
--- `tracectl --list` lists, each once, in its order and to be used as it says.
+-- A walk through all folders finds the files that `tracectl --list` lists, each once, in its order and to be used as it says. The deepest are seven
+-- steps down, with the mounted folder: `instances`, NAME, `events`, `synthetic`, EVENT, the file.
 abbrev pub TreesAreListed : Type 0
 TreesAreListed = (scene : SceneSeen) → IsSound scene → lines_below scene 7 top ≡ listing scene.cpus (scene_names scene)

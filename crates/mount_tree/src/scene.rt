@@ -107,7 +107,7 @@ impl Scene {
         take_out(&mut self.instances, name);
     }
 
-    /// Takes back the event that was added last, of this name.
+    /// Takes back the event of this name that was added last, for a caller whose tracer then refused it.
     pub fn take_back_event(&mut self, name: &[u8])
         ensures { (before : SceneValue) → self.old ≡ with_event name.now before → self.new ≡ before }
     {
@@ -117,7 +117,7 @@ impl Scene {
         self.declared = self.declared.saturating_sub(1);
     }
 
-    /// Takes back the instance that was added last.
+    /// Takes back the instance that was added last, for a caller whose tracer then refused it.
     pub fn take_back_instance(&mut self)
         ensures { (before : SceneValue) (name : List ℕ) → self.old ≡ with_instance name before → self.new ≡ before }
     {
