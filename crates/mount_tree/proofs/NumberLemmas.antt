@@ -11,7 +11,7 @@ use Rattle.mount_tree.specs.declared.node.Node.{Node}
 use Rattle.mount_tree.specs.declared.node.Node.TheVariants as nodes
 use Rattle.mount_tree.specs.declared.node.Owner.{Owner}
 use Rattle.mount_tree.specs.declared.node.Owner.TheVariants.{Top, Made}
-use Rattle.mount_tree.specs.private.Places.{nodes_of}
+use Rattle.mount_tree.specs.private.KindPlaces.{nodes_of}
 
 -- the three numbers that are packed in one
 pub record AreIn (number owner index place : ℕ) : Type 0 where

@@ -7,7 +7,7 @@ ghost use Rattle.std.specs.Prelude.{◌≡◌, ◌≤◌, ◌-◌, ◌<◌, ◌+
 ghost use Rattle.std.specs.List.{find};
 ghost use Rattle.std.specs.Option.{option_map};
 ghost use Rattle.mount_tree.specs.Children.{children, cpu_children, cpu_name, event_child, fixed_children, instance_child, made_children, node_named};
-ghost use Rattle.mount_tree.specs.Entries.{child_of};
+ghost use Rattle.mount_tree.specs.FolderEntries.{child_of};
 ghost use Rattle.mount_tree.specs.declared.scene.Event.{Event as EventValue};
 ghost use Rattle.mount_tree.specs.declared.scene.Instance.{Instance as InstanceValue};
 

@@ -3,7 +3,7 @@
 ghost use Rattle.std.specs.Prelude.{◌≡◌, slice_get};
 ghost use Rattle.std.specs.Option.{option_map};
 ghost use Rattle.mount_tree.specs.Children.{file_child, fixed_children, folder_child, node_named, own_children, root_children};
-ghost use Rattle.mount_tree.specs.Entries.{child_of};
+ghost use Rattle.mount_tree.specs.FolderEntries.{child_of};
 
 use crate::entry::Entry;
 use crate::file::File;

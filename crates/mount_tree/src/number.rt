@@ -9,7 +9,7 @@
 ghost use Rattle.std.specs.Prelude.{◌≡◌, ◌≢◌, ◌≤◌, ◌^◌, IfSome, IfNone, slice_get};
 ghost use Rattle.mount_tree.specs.Nodes.{FitsItsTypes, index_of, number_of, owner_number, owner_of, place_of, top};
 ghost use Rattle.mount_tree.specs.TreeNames.{node_parent};
-ghost use Rattle.mount_tree.specs.private.Places.{nodes_of};
+ghost use Rattle.mount_tree.specs.private.KindPlaces.{nodes_of};
 
 use crate::file::File;
 use crate::folder::Folder;

@@ -1,6 +1,6 @@
 use Rattle.std.proofs.Common.{sym, ◌∙◌}
 use Rattle.mount_tree.specs.Children.{fixed_children}
-use Rattle.mount_tree.specs.Entries.{child_of}
+use Rattle.mount_tree.specs.FolderEntries.{child_of}
 use Rattle.mount_tree.proofs.EntryLemmas.{named_later}
 use Rattle.mount_tree.proofs.fixed.fixed_named.Goals as goal
 

@@ -1,6 +1,6 @@
 use Rattle.std.proofs.Common.{◌≤◌, sym, arith}
 use Rattle.std.proofs.lemmas.Option.{slice_get_past}
-use Rattle.mount_tree.specs.private.Places.{nodes_of}
+use Rattle.mount_tree.specs.private.KindPlaces.{nodes_of}
 use Rattle.mount_tree.proofs.number.node_from.Goals as goal
 
 pub returns-in_default : goal.returns-in_default
