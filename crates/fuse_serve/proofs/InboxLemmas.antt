@@ -57,26 +57,26 @@ pub kept : (front bytes : List ℕ) (size room : ℕ) → size ≤ length front 
 kept front bytes size room within = take_at (take size front) (bytes ++ post_of size room front) size (length-take size front ∙ omega (arith, within))
 
 -- a read into the room of a vector, after the bytes that wait were moved
-module _ {Z : Type 0} (v : Vec ℕ Z) (buffer front bytes : List ℕ) (start end : ℕ) (within : end ≤ length buffer) (same : end - start ≤ length front)
-    (copied : front ≡ copy_within buffer start end 0) (room : length bytes ≡ length front - (end - start)) (size : length front ≡ v.len) where
+module _ {Z : Type 0} (v : Vec ℕ Z) (buffer middle front bytes : List ℕ) (start end : ℕ) (within : end ≤ length buffer) (same : end - start ≤ length front)
+    (lent : front ≡ middle) (copied : middle ≡ copy_within buffer start end 0) (room : length bytes ≡ length front - (end - start)) (size : length front ≡ v.len) where
   abbrev after : List ℕ
   after = put_mid (end - start) (length front - (end - start)) front bytes
 
   items : (with_items v after).items ≡ after
   items = with_items_is v after (length_put front bytes (end - start) (length front - (end - start)) same refl room ∙ size)
 
-  pub came_in : (count : ℕ) → count ≤ length bytes
-      → take (end - start + count - 0) (drop 0 (with_items v after).items) ≡ take (end - start) (drop start buffer) ++ take count bytes
-  came_in count fits =
+  pub came_in : (waited : List ℕ) (count : ℕ) → take (end - start) (drop start buffer) ≡ waited → count ≤ length bytes
+      → take (end - start + count - 0) (drop 0 (with_items v after).items) ≡ waited ++ take count bytes
+  came_in waited count is fits =
       let none : end - start + count - 0 ≡ end - start + count = omega arith in
       ap (λ (xs : List ℕ). take (end - start + count - 0) (drop 0 xs)) items
       ∙ (ap (λ (n : ℕ). take n after) none
       ∙ (added front bytes (end - start) (length front - (end - start)) count same fits
-      ∙ ap (λ (xs : List ℕ). xs ++ take count bytes) (moved buffer front start end within copied)))
+      ∙ ap (λ (xs : List ℕ). xs ++ take count bytes) (moved buffer front start end within (lent ∙ copied) ∙ is)))
 
   pub stayed : take (end - start - 0) (drop 0 (with_items v after).items) ≡ take (end - start) (drop start buffer)
   stayed =
       let none : end - start - 0 ≡ end - start = omega arith in
       ap (λ (xs : List ℕ). take (end - start - 0) (drop 0 xs)) items
       ∙ (ap (λ (n : ℕ). take n after) none
-      ∙ (kept front bytes (end - start) (length front - (end - start)) same ∙ moved buffer front start end within copied))
+      ∙ (kept front bytes (end - start) (length front - (end - start)) same ∙ moved buffer front start end within (lent ∙ copied)))

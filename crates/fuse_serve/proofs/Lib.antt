@@ -3,3 +3,5 @@ pub mod InboxLemmas
 pub mod Transfers
 pub mod Delivering
 pub mod Serving
+pub mod CutLemmas
+pub mod ReplyLemmas

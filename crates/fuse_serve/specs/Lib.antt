@@ -5,4 +5,5 @@ pub mod CallLogs
 pub mod Framing
 pub mod Exchanges
 pub mod Endings
+pub mod ServiceLaws
 pub mod private

@@ -42,7 +42,7 @@ impl CallLog {
     }
 
     /// Adds a call that was offered so many bytes and returned this.
-    pub(crate) fn add(&mut self, offered: usize, outcome: &io::Result<usize>)
+    pub fn add(&mut self, offered: usize, outcome: &io::Result<usize>)
         ensures { self.new ≡ logged self.old offered outcome.now }
     {
         self.calls = raised(self.calls, true);

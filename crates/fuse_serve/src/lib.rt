@@ -10,6 +10,7 @@ mod fault;
 mod framing;
 mod inbox;
 mod incoming;
+pub mod laws;
 mod outgoing;
 mod server;
 mod service;

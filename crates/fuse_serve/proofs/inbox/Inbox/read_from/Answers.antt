@@ -1,4 +1,4 @@
-use Rattle.std.proofs.Common.{◌≡◌, ℕ, ◌-◌, List, ◌++◌, length, take, drop, sym, ap, ◌∙◌, arith}
+use Rattle.std.proofs.Common.{◌≡◌, ◌-◌, length, take, drop, sym, ap, ◌∙◌, arith}
 use Rattle.fuse_serve.proofs.InboxLemmas.{length_between, came_in, stayed}
 use Rattle.fuse_serve.proofs.inbox.Inbox.read_from.Goals as goal
 
@@ -7,9 +7,9 @@ returns-in-Ok-clause-bytes g c =
     let bound = c.in-Ok.ensures.bound in (
       take c.in-Ok.count c.read-outcome.new.buf,
       sym bound.1,
-      came_in c.copy_within.new.self c.self.inside.buffer.items c.deref_mut.result.now c.read-outcome.new.buf c.self.inside.start c.self.inside.end
-          (omega arith) (omega arith) (c.deref_mut.ensures.value ∙ c.copy_within.ensures.items) (omega arith) c.deref_mut.ensures.len c.in-Ok.count bound.0
-          ∙ ap (λ (waiting : List ℕ). waiting ++ take c.in-Ok.count c.read-outcome.new.buf) c.self.view_is,
+      came_in c.copy_within.new.self c.self.inside.buffer.items c.copy_within.new.self.items c.deref_mut.result.now c.read-outcome.new.buf c.self.inside.start c.self.inside.end
+          (omega arith) (omega arith) c.deref_mut.ensures.value c.copy_within.ensures.items (omega arith) c.deref_mut.ensures.len
+          c.args.self.now c.in-Ok.count c.self.view_is bound.0,
       c.in-Ok.ensures.bytes.0,
     )
 
@@ -22,8 +22,8 @@ returns-in-Ok-clause-end g c e =
 
 pub returns-in_default-clause-err : goal.returns-in_default-clause-err
 returns-in_default-clause-err g c = rw c.in_default.is (
-  stayed c.copy_within.new.self c.self.inside.buffer.items c.deref_mut.result.now c.read-outcome.new.buf c.self.inside.start c.self.inside.end
-      (omega arith) (omega arith) (c.deref_mut.ensures.value ∙ c.copy_within.ensures.items) (omega arith) c.deref_mut.ensures.len
+  stayed c.copy_within.new.self c.self.inside.buffer.items c.copy_within.new.self.items c.deref_mut.result.now c.read-outcome.new.buf c.self.inside.start c.self.inside.end
+      (omega arith) (omega arith) c.deref_mut.ensures.value c.copy_within.ensures.items (omega arith) c.deref_mut.ensures.len
       ∙ c.self.view_is,
   c.in_default.ensures.bytes,
 )

@@ -1,0 +1,24 @@
+-- What the definitions of a service mean.
+use Rattle.std.specs.Prelude.{◌≡◌, ◌≢◌, ℕ, List, [], ◌++◌, map, Option, Some, count_by}
+use Rattle.std.specs.List.{All, concat, flat_map}
+use Rattle.std.specs.Io.KnownBytes.{Consumes, IsAtEnd}
+use Rattle.fuse_serve.specs.Exchanges.{Exchange, IsWritten, is_dropped}
+use Rattle.fuse_serve.specs.declared.fate.Fate.TheVariants.{Cut}
+use Rattle.fuse_serve.specs.Framing.{IsRequest, BeginsNoRequest}
+
+-- bytes are whole requests, one after another, and a rest that begins with none, in one way at most
+abbrev pub CutOneWay : Type 0
+CutOneWay = (first second : List (List ℕ)) (left rest : List ℕ) → All IsRequest first → All IsRequest second → BeginsNoRequest left → BeginsNoRequest rest
+    → concat first ++ left ≡ concat second ++ rest → (first ≡ second) × (left ≡ rest)
+
+-- if a reader has whole requests to give, and is at its end after the requests of these exchanges, then they are these requests
+abbrev pub AllAreServed : Type 0
+AllAreServed = (requests : List (List ℕ)) (exchanges : List Exchange) (new : Option (List ℕ)) → All IsRequest requests → All (λ (one : Exchange). IsRequest one.request) exchanges
+    → Consumes (Some (concat requests)) new (flat_map (λ (one : Exchange). one.request) exchanges ++ []) → IsAtEnd new
+    → map (λ (one : Exchange). one.request) exchanges ≡ requests
+
+-- if no reply was dropped or cut, what was written are the replies, one after another
+abbrev pub AllAreWritten : Type 0
+AllAreWritten = (exchanges : List Exchange) → All (λ (one : Exchange). IsWritten one.fate one.reply one.written) exchanges → All (λ (one : Exchange). one.fate ≢ Cut) exchanges
+    → count_by (λ (one : Exchange). is_dropped one.fate one.reply) exchanges ≡ 0
+    → flat_map (λ (one : Exchange). one.written) exchanges ≡ flat_map (λ (one : Exchange). one.reply) exchanges

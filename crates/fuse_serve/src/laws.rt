@@ -1,0 +1,18 @@
+//! What the definitions of a service mean. Each function does nothing: its contract is a theorem.
+
+ghost use Rattle.fuse_serve.specs.ServiceLaws.{CutOneWay, AllAreServed, AllAreWritten};
+
+/// Bytes are whole requests, one after another, and a rest that begins with none, in one way at most.
+pub fn bytes_are_cut_one_way()
+    ensures { CutOneWay }
+{}
+
+/// If a reader has whole requests to give, a service that found its end served exactly these.
+pub fn whole_requests_are_served()
+    ensures { AllAreServed }
+{}
+
+/// If no reply was dropped or cut, what was written are the replies, one after another.
+pub fn uninterrupted_replies_are_written()
+    ensures { AllAreWritten }
+{}
