@@ -47,7 +47,7 @@ cut_one_way (a ∷ as') (b ∷ bs) left rest h k none none' e =
 
 -- ---- the requests of exchanges
 
-none_in_none : BeginsNoRequest []
+pub none_in_none : BeginsNoRequest []
 none_in_none size request = let few : length (take {A = ℕ} size []) ≡ 0 = length-take {A = ℕ} size [] ∙ omega arith in omega (arith, request.header, few)
 
 joined : (exchanges : List Exchange) → flat_map (λ (one : Exchange). one.request) exchanges ≡ concat (map (λ (one : Exchange). one.request) exchanges)

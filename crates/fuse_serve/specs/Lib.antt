@@ -3,6 +3,7 @@ pub mod Causes
 pub mod Outcomes
 pub mod CallLogs
 pub mod Framing
+pub mod FramingExamples
 pub mod Exchanges
 pub mod Endings
 pub mod ServiceLaws

@@ -1,5 +1,6 @@
 //! What the definitions of a service mean. Each function does nothing: its contract is a theorem.
 
+ghost use Rattle.fuse_serve.specs.FramingExamples.{Examples};
 ghost use Rattle.fuse_serve.specs.ServiceLaws.{CutOneWay, AllAreServed, AllAreWritten};
 
 /// Bytes are whole requests, one after another, and a rest that begins with none, in one way at most.
@@ -15,4 +16,9 @@ pub fn whole_requests_are_served()
 /// If no reply was dropped or cut, what was written are the replies, one after another.
 pub fn uninterrupted_replies_are_written()
     ensures { AllAreWritten }
+{}
+
+/// The examples are what they are said to be.
+pub fn examples_are_framed()
+    ensures { Examples }
 {}
