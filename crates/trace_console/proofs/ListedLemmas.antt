@@ -1,5 +1,5 @@
 -- Names listed one after another.
-use Rattle.std.proofs.Common.{◌≡◌, ◌≤◌, ℕ, ◌+◌, zero, suc, List, [], ◌∷◌, ◌++◌, length, drop, map, Option, Some, None, refl, ap, sym, ◌∙◌, subst, arith}
+use Rattle.std.proofs.Common.{◌≡◌, ◌≤◌, ℕ, ◌+◌, zero, suc, List, [], ◌∷◌, ◌++◌, length, drop, Some, None, refl, ap, sym, ◌∙◌, arith}
 use Rattle.std.proofs.lemmas.List.{append-nil, append_assoc, drop_all, length-map}
 use Rattle.std.proofs.lemmas.Option.{slice_get-map}
 use Rattle.std.specs.List.{slice_get}
@@ -8,7 +8,7 @@ use Rattle.trace_command.specs.Requests.{Request}
 use Rattle.trace_format.specs.Definitions.{Definition}
 use Rattle.trace_console.specs.ListedFiles.{event_names}
 use Rattle.trace_list.specs.Names.{NamesSeen}
-use Rattle.trace_history.specs.Settings.{declared_events, instance_names}
+use Rattle.trace_history.specs.Settings.{declared_events}
 
 -- ---- a list taken one by one
 

@@ -25,7 +25,7 @@ use Rattle.trace_console.specs.ListedFiles.{files_after}
 
 -- ---- what was asked
 
--- what a console was made with, how many commands it does, which requests were done, the newest first, and what the last call came to
+-- what a console was made with, how many commands it does at most, which requests were done, the newest first, and what the last call came to
 pub record Asked : Type 0 where
   pub config : Config
   pub limit : ℕ
@@ -36,7 +36,7 @@ pub record Asked : Type 0 where
 abbrev pub opened : Config → ℕ → Asked
 opened config limit = record { config = config; limit = limit; past = []; last = Replied Done }
 
--- the console is what it was asked: its requests led to the tracer
+-- this was asked of the console: its requests led to the tracer
 pub record StandsFor (console : ConsoleSeen) (asked : Asked) : Type 0 where
   pub config : console.live.config ≡ asked.config
   pub limit : console.limit ≡ asked.limit

@@ -1,5 +1,5 @@
 -- What a call leaves of a handle, and its status.
-use Rattle.std.specs.Prelude.{◌≡◌, ◌≢◌, ◌^◌, ◌-◌, ◌==◌, if◌then◌else◌, max, ℕ, ℤ, pos, neg_ℤ, Bool, true, false, List, [], length, Option, Some, None, Result, Ok, Err}
+use Rattle.std.specs.Prelude.{◌≡◌, ◌^◌, ◌-◌, ◌==◌, if◌then◌else◌, max, ℕ, ℤ, pos, neg_ℤ, Bool, true, false, List, [], length, Option, Some, None, Result, Ok, Err}
 use Rattle.trace_command.specs.Paths.{address_of}
 use Rattle.trace_command.specs.Refusals.{number_of}
 use Rattle.trace_command.specs.declared.command.Config.{Config}
@@ -13,17 +13,17 @@ use Rattle.tracectl_c.specs.declared.Settings.{Settings}
 
 -- ---- settings
 
--- how many commands are done: a limit of 0 is none but the greatest
+-- how many commands are done at most: 2^60 where the limit is 0
 abbrev pub limit_of : Settings → ℕ
 limit_of s = if s.history_limit == 0 then most_done else s.history_limit
 
--- what the tracer is made with. Its limit says nothing, but has to be in its range, where 0 is not.
+-- what the tracer is made with. It heeds no limit of its own, but a configuration has one, from 1 on.
 abbrev pub config_of : Settings → Config
 config_of s = record { cpus = s.cpus; pages = s.pages; page_bytes = s.page_bytes; history_limit = max 1 s.history_limit }
 
 -- ---- calls
 
--- there is a console, and it was asked this
+-- there is a console, of which this was asked
 abbrev pub WasAsked : Asked → Option ConsoleSeen → Type 0
 WasAsked asked None = ⊥
 WasAsked asked (Some console) = StandsFor console asked

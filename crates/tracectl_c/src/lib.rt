@@ -39,7 +39,7 @@ pub struct Settings {
     pub history_limit: u64,
 }
 
-/// What the tracer is made with, which heeds no limit, so that any in range may stand for none.
+/// What the tracer is made with. It heeds no limit of its own, so 1 may stand for none.
 fn config_of(settings: &Settings) -> Config
     ensures { result ≡ config_of settings.now }
 {
@@ -51,7 +51,7 @@ fn config_of(settings: &Settings) -> Config
     }
 }
 
-/// How many commands are done.
+/// How many commands are done at most.
 fn limit_of(settings: &Settings) -> u64
     ensures { result ≡ limit_of settings.now }
 {
