@@ -99,3 +99,16 @@ wakeup_bytes wakeup = message 1 0 (bytes_of (U64 wakeup ∷ []))
 abbrev pub IsSendable : Reply → Type 0
 IsSendable (replies.Data bytes) = 16 + length bytes < 2 ^ 32
 IsSendable _ = Unit {0}
+
+-- how many bytes the reply has: 16, and those of its body
+abbrev pub reply_size : Reply → ℕ
+reply_size (replies.Error errno) = 16
+reply_size replies.Done = 16
+reply_size (replies.Init init) = 80
+reply_size (replies.Entry attributes) = 144
+reply_size (replies.Attributes attributes) = 120
+reply_size (replies.Opened handle flags) = 32
+reply_size (replies.Data bytes) = 16 + length bytes
+reply_size (replies.Written size) = 24
+reply_size (replies.StatFs block_size name_length) = 96
+reply_size (replies.Poll events) = 24

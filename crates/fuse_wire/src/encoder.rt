@@ -1,9 +1,9 @@
 //! Replies as bytes.
 
-ghost use Rattle.std.specs.Prelude.{◌≡◌, ◌+◌, ◌<◌, ◌^◌, [], ◌++◌, length, OnOk, OnErr};
+ghost use Rattle.std.specs.Prelude.{vec_len, vec_capacity, ◌≡◌, ◌+◌, ◌*◌, ◌<◌, ◌≤◌, ◌^◌, [], ◌++◌, length, OnOk, OnErr};
 ghost use Rattle.std.specs.List.{flat_map};
 ghost use Rattle.fuse_wire.specs.Parts.{bytes_of};
-ghost use Rattle.fuse_wire.specs.Replies.{attr, init_out, out_header, message, reply_bytes, wakeup_bytes, IsSendable};
+ghost use Rattle.fuse_wire.specs.Replies.{attr, init_out, out_header, message, reply_bytes, reply_size, wakeup_bytes, IsSendable};
 
 use crate::attributes::Attributes;
 use crate::reply::{Agreement, Reply};
@@ -59,8 +59,10 @@ fn agreement_words(agreement: &Agreement) -> [Word; 8]
 #[inline(always)]
 fn push_header(out: &mut Vec<u8>, size: u32, error: u32, unique: u64) -> Result<(), AllocError>
     requires { 16 + size < 2 ^ 32 }
-    ensures { OnOk result (out.new.items
-        ≡ out.old.items ++ bytes_of (out_header (16 + size) error unique)) }
+    ensures ok { OnOk result (out.new.items ≡ out.old.items ++ bytes_of (out_header (16 + size) error unique)) }
+    ensures len { OnOk result (vec_len out.new ≡ vec_len out.old + 16) }
+    ensures full { OnErr result (vec_capacity out.old < vec_len out.old + 16) }
+    ensures capacity { vec_capacity out.old ≤ vec_capacity out.new }
 {
     let words = [pair(HEADER_SIZE + size, error), word(unique)];
     out.extend_from_slice(words.as_flattened())
@@ -70,7 +72,10 @@ fn push_header(out: &mut Vec<u8>, size: u32, error: u32, unique: u64) -> Result<
 #[inline(always)]
 fn push_message(out: &mut Vec<u8>, error: u32, unique: u64, body: &[u8]) -> Result<(), AllocError>
     requires { 16 + length body.now < 2 ^ 32 }
-    ensures { OnOk result (out.new.items ≡ out.old.items ++ message error unique body.now) }
+    ensures ok { OnOk result (out.new.items ≡ out.old.items ++ message error unique body.now) }
+    ensures len { OnOk result (vec_len out.new ≡ vec_len out.old + (16 + length body.now)) }
+    ensures full { OnErr result (vec_capacity out.old < vec_len out.old + (16 + length body.now)) }
+    ensures capacity { vec_capacity out.old ≤ vec_capacity out.new }
 {
     push_header(out, body.len() as u32, error, unique)?;
     out.extend_from_slice(body)
@@ -80,8 +85,10 @@ fn push_message(out: &mut Vec<u8>, error: u32, unique: u64, body: &[u8]) -> Resu
 #[inline(always)]
 fn push_words(out: &mut Vec<u8>, unique: u64, words: &[Word]) -> Result<(), AllocError>
     requires { length words.now < 2 ^ 16 }
-    ensures { OnOk result (out.new.items
-        ≡ out.old.items ++ message 0 unique (flat_map (λ word. word) words.now)) }
+    ensures ok { OnOk result (out.new.items ≡ out.old.items ++ message 0 unique (flat_map (λ word. word) words.now)) }
+    ensures len { OnOk result (vec_len out.new ≡ vec_len out.old + (16 + 8 * length words.now)) }
+    ensures full { OnErr result (vec_capacity out.old < vec_len out.old + (16 + 8 * length words.now)) }
+    ensures capacity { vec_capacity out.old ≤ vec_capacity out.new }
 {
     push_message(out, 0, unique, words.as_flattened())
 }
@@ -103,8 +110,11 @@ fn push_node(
     attributes: &Attributes,
 ) -> Result<(), AllocError>
     requires { length words.now < 2 ^ 16 }
-    ensures { OnOk result (out.new.items
+    ensures ok { OnOk result (out.new.items
         ≡ out.old.items ++ message 0 unique (flat_map (λ word. word) words.now ++ bytes_of (attr attributes.now))) }
+    ensures len { OnOk result (vec_len out.new ≡ vec_len out.old + (104 + 8 * length words.now)) }
+    ensures full { OnErr result (vec_capacity out.old < vec_len out.old + (104 + 8 * length words.now)) }
+    ensures capacity { vec_capacity out.old ≤ vec_capacity out.new }
 {
     let first = words.as_flattened();
     let last = attribute_words(attributes);
@@ -114,8 +124,10 @@ fn push_node(
 }
 
 fn push_entry(out: &mut Vec<u8>, unique: u64, attributes: &Attributes) -> Result<(), AllocError>
-    ensures { OnOk result (out.new.items
-        ≡ out.old.items ++ reply_bytes unique (Reply.Entry attributes.now)) }
+    ensures ok { OnOk result (out.new.items ≡ out.old.items ++ reply_bytes unique (Reply.Entry attributes.now)) }
+    ensures len { OnOk result (vec_len out.new ≡ vec_len out.old + 144) }
+    ensures full { OnErr result (vec_capacity out.old < vec_len out.old + 144) }
+    ensures capacity { vec_capacity out.old ≤ vec_capacity out.new }
 {
     let words = [word(attributes.node), word(0), word(0), word(0), pair(0, 0)];
     push_node(out, unique, &words, attributes)
@@ -126,8 +138,10 @@ fn push_attributes(
     unique: u64,
     attributes: &Attributes,
 ) -> Result<(), AllocError>
-    ensures { OnOk result (out.new.items
-        ≡ out.old.items ++ reply_bytes unique (Reply.Attributes attributes.now)) }
+    ensures ok { OnOk result (out.new.items ≡ out.old.items ++ reply_bytes unique (Reply.Attributes attributes.now)) }
+    ensures len { OnOk result (vec_len out.new ≡ vec_len out.old + 120) }
+    ensures full { OnErr result (vec_capacity out.old < vec_len out.old + 120) }
+    ensures capacity { vec_capacity out.old ≤ vec_capacity out.new }
 {
     push_node(out, unique, &[word(0), pair(0, 0)], attributes)
 }
@@ -138,8 +152,10 @@ fn push_stat_fs(
     block_size: u32,
     name_length: u32,
 ) -> Result<(), AllocError>
-    ensures { OnOk result (out.new.items
-        ≡ out.old.items ++ reply_bytes unique (Reply.StatFs block_size name_length)) }
+    ensures ok { OnOk result (out.new.items ≡ out.old.items ++ reply_bytes unique (Reply.StatFs block_size name_length)) }
+    ensures len { OnOk result (vec_len out.new ≡ vec_len out.old + 96) }
+    ensures full { OnErr result (vec_capacity out.old < vec_len out.old + 96) }
+    ensures capacity { vec_capacity out.old ≤ vec_capacity out.new }
 {
     let words = [
         word(0),
@@ -160,7 +176,10 @@ fn push_stat_fs(
 #[inline(always)]
 fn push_reply(unique: u64, reply: &Reply<'_>, out: &mut Vec<u8>) -> Result<(), AllocError>
     requires { IsSendable reply.now }
-    ensures { OnOk result (out.new.items ≡ out.old.items ++ reply_bytes unique reply.now) }
+    ensures ok { OnOk result (out.new.items ≡ out.old.items ++ reply_bytes unique reply.now) }
+    ensures len { OnOk result (vec_len out.new ≡ vec_len out.old + reply_size reply.now) }
+    ensures full { OnErr result (vec_capacity out.old < vec_len out.old + reply_size reply.now) }
+    ensures capacity { vec_capacity out.old ≤ vec_capacity out.new }
 {
     match reply {
         Reply::Error(errno) => push_message(out, errno.negated(), unique, &[]),
@@ -186,6 +205,9 @@ pub fn encode(unique: u64, reply: &Reply<'_>, out: &mut Vec<u8>) -> Result<(), A
     requires { IsSendable reply.now }
     ensures ok { OnOk result (out.new.items ≡ reply_bytes unique reply.now) }
     ensures err { OnErr result (out.new.items ≡ []) }
+    // It fails only where room was missing, and no room is given up.
+    ensures full { OnErr result (vec_capacity out.old < reply_size reply.now) }
+    ensures capacity { vec_capacity out.old ≤ vec_capacity out.new }
 {
     out.clear();
     let pushed = push_reply(unique, reply, out);
