@@ -96,7 +96,10 @@ fn push_words(out: &mut Vec<u8>, unique: u64, words: &[Word]) -> Result<(), Allo
 /// Appends a header and a body of one word, by one move.
 #[inline(always)]
 fn push_word(out: &mut Vec<u8>, unique: u64, body: Word) -> Result<(), AllocError>
-    ensures { OnOk result (out.new.items ≡ out.old.items ++ message 0 unique body) }
+    ensures ok { OnOk result (out.new.items ≡ out.old.items ++ message 0 unique body) }
+    ensures len { OnOk result (vec_len out.new ≡ vec_len out.old + 24) }
+    ensures full { OnErr result (vec_capacity out.old < vec_len out.old + 24) }
+    ensures capacity { vec_capacity out.old ≤ vec_capacity out.new }
 {
     let words = [pair(HEADER_SIZE + 8, 0), word(unique), body];
     out.extend_from_slice(words.as_flattened())
