@@ -1,0 +1,128 @@
+-- What reads come to.
+use Rattle.std.proofs.Common.{◌≡◌, ℕ, ◌==◌, Bool, true, false, ◌||◌, List, [], drop, min, Option, Some, None, Result, Ok, Err, refl, sym, ap, ◌∙◌}
+use Rattle.std.specs.Option.{option_and_then, option_map}
+use Rattle.fuse_wire.specs.Replies.{reply_bytes}
+use Rattle.fuse_wire.specs.declared.errno.Errno.{Errno}
+use Rattle.fuse_wire.specs.declared.errno.Errno.TheVariants.{EBADF}
+use Rattle.fuse_wire.specs.declared.reply.Reply.{Reply}
+use Rattle.fuse_wire.specs.declared.reply.Reply.TheVariants as replies
+use Rattle.trace_command.specs.Requests.{Request}
+use Rattle.trace_command.specs.declared.command.Reply.{Reply as Answer}
+use Rattle.trace_command.specs.declared.refusal.Refusal.{Refusal}
+use Rattle.mount_tree.specs.FileKinds.{kind_of_file}
+use Rattle.mount_tree.specs.Scenes.{SceneSeen}
+use Rattle.mount_tree.specs.declared.file.File.{File}
+use Rattle.mount_tree.specs.declared.file.FileKind.{FileKind}
+use Rattle.mount_tree.specs.declared.node.Node.{Node}
+use Rattle.mount_tree.specs.declared.node.Node.TheVariants as nodes
+use Rattle.mount_tree.specs.declared.node.Owner.{Owner}
+use Rattle.trace_mount.specs.Errnos.{errno_of}
+use Rattle.trace_mount.specs.Mounted.{IsAsked, IsMounted, IsStep, IsTold, MountSeen}
+use Rattle.trace_mount.specs.Served.{Asks, Outcome, Plain, given_records, given_text, makes_text, part_of, plain, read_anew, read_file, read_kind, read_of, read_records, read_text, records_for, taken_records, text_in, told}
+use Rattle.trace_mount.specs.Services.{OpenSeen, file_at, node_of, text_at, with_change, with_text}
+use Rattle.trace_mount.specs.Told.{most_data}
+use Rattle.trace_mount.proofs.FileLemmas.{given-text}
+use Rattle.trace_mount.proofs.Steps.{asked-step, plain-step, told-step}
+
+-- a text was made
+pub made-told : (past : List Request) (old mid : MountSeen) (scene : SceneSeen) (handle offset size : ℕ) (node : Node) (answer : Answer) (text : List ℕ)
+    (now : List (Option OpenSeen)) (unique : ℕ) (bytes : List ℕ) → IsAsked past old mid (read_of scene node None) (Ok answer) → text ≡ text_in answer
+    → now ≡ with_text (drop 0 text) handle mid.files → bytes ≡ reply_bytes unique (replies.Data (part_of offset size text))
+    → IsTold past old (record mid { files = now }) (read_anew scene handle offset size node old.files) unique bytes
+made-told past old mid scene handle offset size node answer text now unique bytes asked is kept said =
+    let files_are : now ≡ with_text (text_in answer) handle old.files =
+    kept ∙ ap (λ (t : List ℕ). with_text (drop 0 t) handle mid.files) is ∙ ap (λ (f : List (Option OpenSeen)). with_text (text_in answer) handle f) asked.files in
+    told-step past old (record mid { files = now }) (read_anew scene handle offset size node old.files) unique bytes
+    (replies.Data (part_of offset size (text_in answer)))
+    (asked-step past old mid (read_of scene node None) (given_text handle offset size old.files) (Ok answer) now asked files_are)
+    (said ∙ ap (λ (t : List ℕ). reply_bytes unique (replies.Data (part_of offset size t))) is)
+
+-- records were taken
+pub taken-told : (past : List Request) (old mid : MountSeen) (scene : SceneSeen) (handle size : ℕ) (node : Node) (answer : Answer) (text : List ℕ)
+    (count : ℕ) (now : List (Option OpenSeen)) (unique : ℕ) (bytes : List ℕ) → IsAsked past old mid (read_of scene node (Some (records_for size))) (Ok answer)
+    → text ≡ text_in answer → count ≡ min size most_data → now ≡ with_text (drop count text) handle mid.files
+    → bytes ≡ reply_bytes unique (replies.Data (part_of 0 size text))
+    → IsTold past old (record mid { files = now }) (read_records scene handle size node old.files) unique bytes
+taken-told past old mid scene handle size node answer text count now unique bytes asked is many kept said =
+    let files_are : now ≡ with_text (drop (min size most_data) (text_in answer)) handle old.files =
+    kept ∙ ap (λ (n : ℕ). with_text (drop n text) handle mid.files) many
+    ∙ ap (λ (t : List ℕ). with_text (drop (min size most_data) t) handle mid.files) is
+    ∙ ap (λ (f : List (Option OpenSeen)). with_text (drop (min size most_data) (text_in answer)) handle f) asked.files in
+    told-step past old (record mid { files = now }) (read_records scene handle size node old.files) unique bytes
+    (replies.Data (part_of 0 size (text_in answer)))
+    (asked-step past old mid (read_of scene node (Some (records_for size))) (taken_records handle size old.files) (Ok answer) now asked files_are)
+    (said ∙ ap (λ (t : List ℕ). reply_bytes unique (replies.Data (part_of 0 size t))) is)
+
+-- a command was refused
+pub refused-told : (past : List Request) (old mid : MountSeen) (request : Request) (outcome : Result Answer Refusal → Outcome) (refusal : Refusal)
+    (errno : Errno) (unique : ℕ) (bytes : List ℕ) → IsAsked past old mid request (Err refusal)
+    → outcome (Err refusal) ≡ told (replies.Error (errno_of refusal)) old.files → errno ≡ errno_of refusal
+    → bytes ≡ reply_bytes unique (replies.Error errno) → IsTold past old mid (Asks request outcome) unique bytes
+refused-told past old mid request outcome refusal errno unique bytes asked comes is said =
+    let step : IsStep past old mid (Asks request outcome) (outcome (Err refusal)).reply =
+    asked-step past old mid request outcome (Err refusal) mid.files asked (asked.files ∙ sym (ap (λ (o : Outcome). o.files) comes)) in
+    told-step past old mid (Asks request outcome) unique bytes (replies.Error (errno_of refusal))
+    (rw (ap (λ (o : Outcome). o.reply) comes) at step)
+    (said ∙ ap (λ (e : Errno). reply_bytes unique (replies.Error e)) is)
+
+-- nothing was asked, and nothing changed
+pub plain-told : (past : List Request) (old : MountSeen) (reply : Reply) (unique : ℕ) (bytes : List ℕ) → IsMounted past old
+    → bytes ≡ reply_bytes unique reply → IsTold past old old (plain reply old.files) unique bytes
+plain-told past old reply unique bytes mounted said =
+    told-step past old old (plain reply old.files) unique bytes reply (plain-step past old reply old.files old.files mounted refl) said
+
+-- what was kept of a pipe is given
+pub rest-told : (past : List Request) (old : MountSeen) (handle size count : ℕ) (text part : List ℕ) (now : List (Option OpenSeen)) (unique : ℕ) (bytes : List ℕ)
+    → IsMounted past old → text_at handle old.files ≡ Some text → part ≡ text → count ≡ min size most_data
+    → now ≡ with_change (λ (file : OpenSeen). record file { text = option_map (drop count) file.text }) handle old.files
+    → bytes ≡ reply_bytes unique (replies.Data (part_of 0 size part))
+    → IsTold past old (record old { files = now }) (Plain (given_records handle size text old.files)) unique bytes
+rest-told past old handle size count text part now unique bytes mounted has is many gave said =
+    let files_are : now ≡ with_text (drop (min size most_data) text) handle old.files =
+    gave ∙ given-text old.files handle count text has ∙ ap (λ (n : ℕ). with_text (drop n text) handle old.files) many in
+    told-step past old (record old { files = now }) (Plain (given_records handle size text old.files)) unique bytes
+    (replies.Data (part_of 0 size text))
+    (plain-step past old (replies.Data (part_of 0 size text)) (with_text (drop (min size most_data) text) handle old.files) now mounted files_are)
+    (said ∙ ap (λ (t : List ℕ). reply_bytes unique (replies.Data (part_of 0 size t))) is)
+
+-- a read goes on in the text of a file
+pub on-told : (past : List Request) (old : MountSeen) (scene : SceneSeen) (handle offset size : ℕ) (own : OpenSeen) (text : List ℕ) (unique : ℕ) (bytes : List ℕ)
+    → IsMounted past old → file_at handle old.files ≡ Some own → Some text ≡ text_at handle old.files → (offset == 0) ≡ false
+    → bytes ≡ reply_bytes unique (replies.Data (part_of offset size text))
+    → IsTold past old old (read_text scene handle offset size own old.files) unique bytes
+on-told past old scene handle offset size own text unique bytes mounted found has later said =
+    let there : own.text ≡ Some text =
+    sym (has ∙ ap (λ (o : Option OpenSeen). option_and_then (λ (file : OpenSeen). file.text) o) found) in
+    rw (later, there) (plain-told past old (replies.Data (part_of offset size text)) unique bytes mounted said)
+
+-- the text of a file is made
+pub anew-told : (past : List Request) (old new : MountSeen) (scene : SceneSeen) (handle offset size : ℕ) (own : OpenSeen) (owner : Owner) (file : File)
+    (files : List (Option OpenSeen)) (unique : ℕ) (bytes : List ℕ) → makes_text offset own ≡ true → own.owner ≡ owner → own.file ≡ file
+    → IsTold past old new (read_anew scene handle offset size (nodes.File owner file) files) unique bytes
+    → IsTold past old new (read_text scene handle offset size own files) unique bytes
+anew-told past old new scene handle offset size own owner file files unique bytes makes is_owner is_file told =
+    rw (makes, is_owner, is_file) told
+
+-- no text was made before
+pub makes-first : (offset : ℕ) (handle : ℕ) (own : OpenSeen) (files : List (Option OpenSeen)) → file_at handle files ≡ Some own
+    → None ≡ text_at handle files → (offset == 0) ≡ false → makes_text offset own ≡ true
+makes-first offset handle own files found has later =
+    let none : own.text ≡ None =
+    sym (has ∙ ap (λ (o : Option OpenSeen). option_and_then (λ (file : OpenSeen). file.text) o) found) in
+    rw (later, none) refl
+
+-- ---- READ of any file
+
+-- the handle is not in use
+pub closed-told : (past : List Request) (old : MountSeen) (scene : SceneSeen) (handle offset size : ℕ) (unique : ℕ) (bytes : List ℕ) → IsMounted past old
+    → None ≡ file_at handle old.files → bytes ≡ reply_bytes unique (replies.Error EBADF)
+    → IsTold past old old (read_file scene handle offset size old.files (file_at handle old.files)) unique bytes
+closed-told past old scene handle offset size unique bytes mounted none said =
+    rw (sym none) (plain-told past old (replies.Error EBADF) unique bytes mounted said)
+
+-- by the kind of the file
+pub kind-told : (past : List Request) (old new : MountSeen) (scene : SceneSeen) (handle offset size : ℕ) (own : OpenSeen) (kind : FileKind)
+    (files : List (Option OpenSeen)) (unique : ℕ) (bytes : List ℕ) → Some own ≡ file_at handle files → kind ≡ kind_of_file own.file
+    → IsTold past old new (read_kind scene handle offset size own files kind) unique bytes
+    → IsTold past old new (read_file scene handle offset size files (file_at handle files)) unique bytes
+kind-told past old new scene handle offset size own kind files unique bytes has is told = rw (sym has, sym is) told

@@ -1,0 +1,11 @@
+use Rattle.std.proofs.Common.{Option, List, ℕ, [], unwrap_or, ap, ◌∙◌}
+use Rattle.trace_mount.specs.contracts.mount.Mount.{the_view}
+use Rattle.trace_mount.proofs.ReadLemmas.{rest-told}
+use Rattle.trace_mount.proofs.mount.Mount.read_rest.Goals as goal
+
+pub returns-clause-told : goal.returns-clause-told
+returns-clause-told c =
+    rw (← c.self.view_is) (λ past text mounted has.
+    rest-told past (the_view c.self.inside) c.args.handle c.args.size c.min.result text c.rest-text.result.now c.give.new.self c.args.unique
+    c.tell_part.new.out.items mounted has (c.rest-text.ensures ∙ ap (λ (o : Option (List ℕ)). unwrap_or o []) has) c.min.ensures c.give.ensures
+    c.tell_part.ensures.bytes)

@@ -1,0 +1,7 @@
+pub mod Services
+pub mod Errnos
+pub mod Told
+pub mod Injections
+pub mod Served
+pub mod Mounted
+pub mod private

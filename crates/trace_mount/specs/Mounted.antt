@@ -1,0 +1,150 @@
+-- What a call of a mounted tracer comes to: the step that is defined, or refused memory; and what a list of requests comes to.
+use Rattle.std.specs.Prelude.{◌≡◌, ◌≢◌, ◌⊎◌, ℕ, ◌+◌, List, [], ◌∷◌, Option, Some, None, Result, Ok, Err}
+use Rattle.fuse_wire.specs.Replies.{reply_bytes}
+use Rattle.fuse_wire.specs.Requests.{IsRequest, IsFramed}
+use Rattle.fuse_wire.specs.declared.errno.Errno.TheVariants.{EINVAL, ENOMEM}
+use Rattle.fuse_wire.specs.declared.reply.Reply.{Reply}
+use Rattle.fuse_wire.specs.declared.reply.Reply.TheVariants as replies
+use Rattle.fuse_wire.specs.declared.request.Request.{Request as Asked}
+use Rattle.trace_command.specs.Refusals.{OrMemory}
+use Rattle.trace_command.specs.Requests.{Request}
+use Rattle.trace_command.specs.declared.command.Config.{Config}
+use Rattle.trace_command.specs.declared.command.Reply.{Reply as Answer}
+use Rattle.trace_command.specs.declared.refusal.Refusal.{Refusal}
+use Rattle.trace_history.specs.Settings.{declares, made, removed}
+use Rattle.trace_live.specs.LiveSeen.{LiveSeen}
+use Rattle.trace_live.specs.Lives.{IsLive, live_answer}
+use Rattle.mount_tree.specs.Nodes.{FitsItsTypes, number_of}
+use Rattle.mount_tree.specs.Scenes.{SceneSeen}
+use Rattle.mount_tree.specs.ScenesAfter.{scene_after}
+use Rattle.mount_tree.specs.declared.node.Node.{Node}
+use Rattle.trace_mount.specs.Served.{Outcome, Step, Plain, Asks, step_of}
+use Rattle.trace_mount.specs.Services.{OpenSeen, Service, Terms}
+use Rattle.trace_mount.specs.Told.{most_data}
+
+-- ---- a mounted tracer
+
+-- a mounted tracer, as contracts see it
+pub record MountSeen : Type 0 where
+  pub live : LiveSeen
+  pub scene : SceneSeen
+  pub files : List (Option OpenSeen)
+  pub uid : ℕ
+  pub gid : ℕ
+
+abbrev pub terms_of : MountSeen → Terms
+terms_of mount = record { config = mount.live.config; uid = mount.uid; gid = mount.gid }
+
+-- what it is after these requests
+abbrev pub service_of : List Request → MountSeen → Service
+service_of past mount = record { past = past; files = mount.files }
+
+-- these requests led to the tracer, and its folders and files are those that they say
+pub record IsMounted (past : List Request) (mount : MountSeen) : Type 0 where
+  pub lives : IsLive mount.live.config past mount.live
+  pub scene : mount.scene ≡ scene_after mount.live.config.cpus past
+
+-- ---- what a step comes to
+
+-- a request that is done is one more
+abbrev pub past_after : Result Answer Refusal → Request → List Request → List Request
+past_after (Ok answer) request past = request ∷ past
+past_after (Err refusal) request past = past
+
+-- a command got this answer: the one that the commands done so far give it, or that memory was refused
+abbrev pub IsAnswered : Terms → List Request → Request → Result Answer Refusal → Type 0
+IsAnswered g past request answer = OrMemory answer (live_answer g.config past request)
+
+abbrev pub after_outcome : List Request → Outcome → Service
+after_outcome past outcome = record { past = past; files = outcome.files }
+
+-- with this reply, a step led from a service to another. Where memory is refused, ENOMEM is replied, and nothing has changed.
+abbrev pub Does : Terms → Service → Step → Option Reply → Service → Type 0
+Does g before (Plain outcome) reply after =
+    ((reply ≡ outcome.reply) × (after ≡ after_outcome before.past outcome)) ⊎ ((reply ≡ Some (replies.Error ENOMEM)) × (after ≡ before))
+Does g before (Asks request outcome) reply after =
+    (answer : Result Answer Refusal) × IsAnswered g before.past request answer × (reply ≡ (outcome answer).reply)
+    × (after ≡ after_outcome (past_after answer request before.past) (outcome answer))
+
+-- the node of a number, if it is one's
+abbrev pub IsNamed : ℕ → Option Node → Type 0
+IsNamed number None = (node : Node) → FitsItsTypes node → number_of node ≢ number
+IsNamed number (Some node) = FitsItsTypes node × (number_of node ≡ number)
+
+-- the bytes of a reply, none where there is none
+abbrev pub bytes_of_reply : ℕ → Option Reply → List ℕ
+bytes_of_reply unique None = []
+bytes_of_reply unique (Some reply) = reply_bytes unique reply
+
+-- a request was served so
+pub record IsServed (g : Terms) (before : Service) (request : Asked) (bytes : List ℕ) (after : Service) : Type 0 where
+  pub node : Option Node
+  pub named : IsNamed request.node node
+  pub reply : Option Reply
+  pub does : Does g before (step_of g before request.pid node request.operation) reply after
+  pub told : bytes ≡ bytes_of_reply request.unique reply
+
+-- bytes that are a request are served; framed ones with a wrong body are answered EINVAL; others are not answered
+pub data AreServed (g : Terms) (before : Service) (asked bytes : List ℕ) (after : Service) : Type 0 where
+  Right : (request : Asked) → IsRequest asked request → IsServed g before request bytes after
+      → AreServed g before asked bytes after
+  Wrong : (opcode unique : ℕ) → IsFramed asked opcode unique → ((request : Asked) → IsRequest asked request → ⊥)
+      → bytes ≡ reply_bytes unique (replies.Error EINVAL) → after ≡ before
+      → AreServed g before asked bytes after
+  Unframed : ((opcode unique : ℕ) → IsFramed asked opcode unique → ⊥) → bytes ≡ [] → after ≡ before
+      → AreServed g before asked bytes after
+
+-- requests one after another, each with the bytes of its reply
+abbrev pub Serves : Terms → Service → List (List ℕ) → List (List ℕ) → Service → Type 0
+Serves g before [] [] after = after ≡ before
+Serves g before (asked ∷ requests) (bytes ∷ replies) after =
+    (next : Service) × AreServed g before asked bytes next × Serves g next requests replies after
+Serves g before _ _ after = ⊥
+
+-- ---- calls
+
+-- what a call comes to, if these requests led to the mounted tracer before it
+pub record IsStep (past : List Request) (old new : MountSeen) (step : Step) (reply : Option Reply) : Type 0 where
+  pub after : List Request
+  pub mounted : IsMounted after new
+  pub terms : terms_of new ≡ terms_of old
+  pub does : Does (terms_of old) (service_of past old) step reply (service_of after new)
+
+-- a step and the bytes of its reply
+pub record IsTold (past : List Request) (old new : MountSeen) (step : Step) (unique : ℕ) (bytes : List ℕ) : Type 0 where
+  pub reply : Option Reply
+  pub is : IsStep past old new step reply
+  pub bytes_are : bytes ≡ bytes_of_reply unique reply
+
+-- a request is served in this step
+pub record IsSteppedBy (past : List Request) (old new : MountSeen) (request : Asked) (bytes : List ℕ) : Type 0 where
+  pub after : List Request
+  pub mounted : IsMounted after new
+  pub terms : terms_of new ≡ terms_of old
+  pub served : IsServed (terms_of old) (service_of past old) request bytes (service_of after new)
+
+-- and one that asks a command and leaves the open files as they are
+pub record IsAsked (past : List Request) (old new : MountSeen) (request : Request) (answer : Result Answer Refusal) : Type 0 where
+  pub answered : IsAnswered (terms_of old) past request answer
+  pub mounted : IsMounted (past_after answer request past) new
+  pub terms : terms_of new ≡ terms_of old
+  pub files : new.files ≡ old.files
+
+-- this request neither declares an event nor makes or removes an instance
+pub record IsQuiet (request : Request) : Type 0 where
+  pub makes_none : made request ≡ None
+  pub removes_none : removed request ≡ None
+  pub declares_none : declares request ≡ None
+
+-- ---- calls
+
+-- the most bytes that a reply has
+abbrev pub most_reply : ℕ
+most_reply = 16 + most_data
+
+-- what serving these bytes comes to, if these requests led to the mounted tracer before it
+pub record IsCalled (past : List Request) (old new : MountSeen) (asked bytes : List ℕ) : Type 0 where
+  pub after : List Request
+  pub mounted : IsMounted after new
+  pub terms : terms_of new ≡ terms_of old
+  pub served : AreServed (terms_of old) (service_of past old) asked bytes (service_of after new)

@@ -1,0 +1,259 @@
+-- What a mounted tracer does at each request of a kernel: it asks the tracer one command, or none, and replies. After a command that was refused all
+-- is as before, but what `outcome` says of the open files.
+use Rattle.std.specs.Prelude.{ℕ, ◌+◌, ◌-◌, ◌/◌, ◌%◌, ◌^◌, ◌==◌, Bool, true, false, not, ◌||◌, nat_lt, is_none, List, [], ◌∷◌, ◌++◌, length, slice_index, take, drop, min, max, Option, Some, None, unwrap_or, Result, Ok, Err, codes, if◌then◌else◌}
+use Rattle.std.specs.List.{slice_get}
+use Rattle.std.specs.Option.{option_map}
+use Rattle.fuse_wire.specs.declared.errno.Errno.{Errno}
+use Rattle.fuse_wire.specs.declared.errno.Errno.TheVariants.{EPERM, ENOENT, EBADF, EACCES, EISDIR, EINVAL, ENOSPC, ENOSYS}
+use Rattle.fuse_wire.specs.declared.reply.Reply.{Reply}
+use Rattle.fuse_wire.specs.declared.reply.Reply.TheVariants as replies
+use Rattle.fuse_wire.specs.declared.request.Operation.{Operation}
+use Rattle.fuse_wire.specs.declared.request.Operation.TheVariants as operations
+use Rattle.trace_command.specs.Requests.{Request, request_of}
+use Rattle.trace_command.specs.declared.command.Command.TheVariants as commands
+use Rattle.trace_command.specs.declared.command.Reply.{Reply as Answer}
+use Rattle.trace_command.specs.declared.command.Reply.TheVariants as answers
+use Rattle.trace_command.specs.declared.refusal.Refusal.{Refusal}
+use Rattle.trace_format.specs.Definitions.{Definition}
+use Rattle.trace_history.specs.Settings.{declared_events}
+use Rattle.mount_tree.specs.Children.{is_there}
+use Rattle.mount_tree.specs.FileKinds.{access_of_file, kind_of_file}
+use Rattle.mount_tree.specs.NodePaths.{path_of}
+use Rattle.mount_tree.specs.Scenes.{SceneSeen, most_made}
+use Rattle.mount_tree.specs.declared.file.File.{File}
+use Rattle.mount_tree.specs.declared.file.File.TheVariants as files
+use Rattle.mount_tree.specs.declared.file.FileKind.{FileKind}
+use Rattle.mount_tree.specs.declared.file.FileKind.TheVariants as kinds
+use Rattle.mount_tree.specs.declared.folder.Folder.TheVariants as folders
+use Rattle.mount_tree.specs.declared.node.Node.{Node}
+use Rattle.mount_tree.specs.declared.node.Node.TheVariants as nodes
+use Rattle.mount_tree.specs.declared.node.Owner.TheVariants.{Top, Made}
+use Rattle.trace_mount.specs.Errnos.{errno_of, errno_of_other}
+use Rattle.trace_mount.specs.Injections.{first_line, injection, line_size, pairs_of_line}
+use Rattle.trace_mount.specs.Services.{OpenSeen, Service, Terms, file_at, free_handle, node_of, scene_of, with_file, with_text, with_write, without_file}
+use Rattle.trace_mount.specs.Told.{agree, attributes_of, check_access, empties, get_attributes, known, look_up, may, most_data, open_folder, read_folder, set_attributes, wants_read, wants_write}
+
+-- ---- steps
+
+-- what is replied, if anything, and the open files from then on
+pub record Outcome : Type 0 where
+  pub reply : Option Reply
+  pub files : List (Option OpenSeen)
+
+pub data Step : Type 0 where
+  -- nothing is asked
+  Plain : (outcome : Outcome) → Step
+  -- the tracer is asked this, and its answer gives the outcome
+  Asks : (request : Request) (outcome : Result Answer Refusal → Outcome) → Step
+
+abbrev pub told : Reply → List (Option OpenSeen) → Outcome
+told reply files = record { reply = Some reply; files = files }
+
+abbrev pub plain : Reply → List (Option OpenSeen) → Step
+plain reply files = Plain (told reply files)
+
+abbrev pub failed : Errno → List (Option OpenSeen) → Step
+failed errno files = plain (replies.Error errno) files
+
+-- `cat PATH` and `take N PATH`, `echo TEXT > PATH` and `echo TEXT >> PATH`
+abbrev pub read_of : SceneSeen → Node → Option ℕ → Request
+read_of scene node limit = request_of (commands.Read (path_of scene node) limit)
+
+abbrev pub write_of : SceneSeen → Node → Bool → List ℕ → Request
+write_of scene node append text = request_of (commands.Write (path_of scene node) append text)
+
+-- ---- OPEN
+
+-- FOPEN_DIRECT_IO is 1: a kernel asks for each read, whatever the size; FOPEN_NONSEEKABLE is 4
+abbrev pub open_flags : FileKind → ℕ
+open_flags kinds.Pipe = 5
+open_flags _ = 1
+
+abbrev pub opened : ℕ → Option Node → List (Option OpenSeen) → Step
+opened flags None files = failed ENOENT files
+opened flags (Some (nodes.Folder owner folder)) files = failed EISDIR files
+opened flags (Some (nodes.File owner file)) files =
+    if may (access_of_file file) (wants_read flags) (wants_write flags)
+    then plain (replies.Opened (free_handle files) (open_flags (kind_of_file file)))
+    (with_file (free_handle files) (record { owner = owner; file = file; starts_over = empties flags; text = None }) files)
+    else failed EACCES files
+
+-- ---- READ
+
+abbrev pub part_of : ℕ → ℕ → List ℕ → List ℕ
+part_of offset size text = take (min size most_data) (drop offset text)
+
+abbrev pub text_in : Answer → List ℕ
+text_in answers.Done = []
+text_in (answers.Text text) = text
+
+-- a text that was just read is what this read and later ones go on in
+abbrev pub given_text : ℕ → ℕ → ℕ → List (Option OpenSeen) → Result Answer Refusal → Outcome
+given_text handle offset size files (Ok answer) =
+    told (replies.Data (part_of offset size (text_in answer))) (with_text (text_in answer) handle files)
+given_text handle offset size files (Err refusal) = told (replies.Error (errno_of refusal)) files
+
+-- the text is made by the first read of an open file, and anew by each at its beginning
+abbrev pub makes_text : ℕ → OpenSeen → Bool
+makes_text offset file = offset == 0 || is_none file.text
+
+abbrev pub read_anew : SceneSeen → ℕ → ℕ → ℕ → Node → List (Option OpenSeen) → Step
+read_anew scene handle offset size node files = Asks (read_of scene node None) (given_text handle offset size files)
+
+abbrev pub read_text : SceneSeen → ℕ → ℕ → ℕ → OpenSeen → List (Option OpenSeen) → Step
+read_text scene handle offset size file files =
+    if makes_text offset file then read_anew scene handle offset size (node_of file) files
+    else plain (replies.Data (part_of offset size (unwrap_or file.text []))) files
+
+-- how many records are taken for a read: no line of a record, with one of lost records before it, has more than 2,048 bytes
+abbrev pub records_for : ℕ → ℕ
+records_for size = max 1 (min size most_data / 2048)
+
+-- what was taken: as much as there is room for is given, and the rest is kept
+abbrev pub given_records : ℕ → ℕ → List ℕ → List (Option OpenSeen) → Outcome
+given_records handle size text files =
+    told (replies.Data (part_of 0 size text)) (with_text (drop (min size most_data) text) handle files)
+
+abbrev pub taken_records : ℕ → ℕ → List (Option OpenSeen) → Result Answer Refusal → Outcome
+taken_records handle size files (Ok answer) = given_records handle size (text_in answer) files
+taken_records handle size files (Err refusal) = told (replies.Error (errno_of refusal)) files
+
+abbrev pub read_records : SceneSeen → ℕ → ℕ → Node → List (Option OpenSeen) → Step
+read_records scene handle size node files = Asks (read_of scene node (Some (records_for size))) (taken_records handle size files)
+
+-- what was kept comes first
+abbrev pub read_pipe : SceneSeen → ℕ → ℕ → OpenSeen → List (Option OpenSeen) → Step
+read_pipe scene handle size file files =
+    if length (unwrap_or file.text []) == 0
+    then read_records scene handle size (node_of file) files
+    else Plain (given_records handle size (unwrap_or file.text []) files)
+
+abbrev pub read_kind : SceneSeen → ℕ → ℕ → ℕ → OpenSeen → List (Option OpenSeen) → FileKind → Step
+read_kind scene handle offset size file files kinds.Pipe = read_pipe scene handle size file files
+read_kind scene handle offset size file files kinds.Inject = failed EACCES files
+read_kind scene handle offset size file files _ = read_text scene handle offset size file files
+
+abbrev pub read_file : SceneSeen → ℕ → ℕ → ℕ → List (Option OpenSeen) → Option OpenSeen → Step
+read_file scene handle offset size files None = failed EBADF files
+read_file scene handle offset size files (Some file) =
+    read_kind scene handle offset size file files (kind_of_file file.file)
+
+-- ---- WRITE
+
+-- a last newline is not written
+abbrev pub without_newline : List ℕ → List ℕ
+without_newline bytes = if slice_index bytes (length bytes - 1) == 10 then take (length bytes - 1) bytes else bytes
+
+abbrev pub written : ℕ → ℕ → List (Option OpenSeen) → Result Answer Refusal → Outcome
+written handle size files (Ok answer) = told (replies.Written size) (with_write handle files)
+written handle size files (Err refusal) = told (replies.Error (errno_of refusal)) files
+
+-- the first write of a file that was opened to be emptied is by `>`, all others by `>>`
+abbrev pub write_text : SceneSeen → ℕ → Node → Bool → List ℕ → List (Option OpenSeen) → Step
+write_text scene handle node append bytes files =
+    Asks (write_of scene node append (without_newline bytes)) (written handle (length bytes) files)
+
+-- A write to `inject` is by the process that writes, on the CPU that is its number modulo the number of CPUs. It does the first line and says how many bytes that has, so the caller writes the others anew
+abbrev pub inject_asked : ℕ → ℕ → List (Option OpenSeen) → Option Request → Step
+inject_asked handle size files None = failed EINVAL files
+inject_asked handle size files (Some request) = Asks request (written handle size files)
+
+abbrev pub inject : ℕ → ℕ → ℕ → List ℕ → List (Option OpenSeen) → Option Definition → Step
+inject cpus handle pid bytes files None = failed ENOENT files
+inject cpus handle pid bytes files (Some event) =
+    if nat_lt pid (2 ^ 31)
+    then inject_asked handle (line_size bytes) files (option_map (injection (pid % cpus) event pid) (pairs_of_line (first_line bytes)))
+    else failed EINVAL files
+
+abbrev pub write_kind : Terms → Service → ℕ → ℕ → List ℕ → OpenSeen → File → Step
+write_kind g s handle pid bytes file (files.Inject event) =
+    inject g.config.cpus handle pid bytes s.files (slice_get (declared_events s.past) event)
+write_kind g s handle pid bytes file _ = write_text (scene_of g s) handle (node_of file) (not file.starts_over) bytes s.files
+
+abbrev pub write_file : Terms → Service → ℕ → ℕ → List ℕ → Option OpenSeen → Step
+write_file g s handle pid bytes None = failed EBADF s.files
+write_file g s handle pid bytes (Some file) = write_kind g s handle pid bytes file file.file
+
+-- ---- RELEASE
+
+-- A trace that was opened to be emptied, and that nothing was written to, is emptied when its open file ends. It is not at FLUSH, which comes with
+-- each descriptor that is closed: a shell closes one before it writes.
+abbrev pub empties_at_end : OpenSeen → FileKind → Bool
+empties_at_end file kinds.Trace = file.starts_over
+empties_at_end file _ = false
+
+abbrev pub emptied : SceneSeen → ℕ → Node → List (Option OpenSeen) → Step
+emptied scene handle node files = Asks (write_of scene node false []) (λ answer. told replies.Done (without_file handle files))
+
+abbrev pub release : SceneSeen → ℕ → List (Option OpenSeen) → Option OpenSeen → Step
+release scene handle files None = failed EBADF files
+release scene handle files (Some file) =
+    if empties_at_end file (kind_of_file file.file)
+    then emptied scene handle (node_of file) files
+    else plain replies.Done (without_file handle files)
+
+-- ---- MKDIR, RMDIR
+
+-- an instance's folder
+abbrev pub instance_path : List ℕ → List ℕ
+instance_path name = codes "instances/" ++ name
+
+abbrev pub made_folder : Terms → ℕ → List (Option OpenSeen) → Result Answer Refusal → Outcome
+made_folder g serial files (Ok answer) = told (replies.Entry (attributes_of g (nodes.Folder (Made serial) folders.Root))) files
+made_folder g serial files (Err refusal) = told (replies.Error (errno_of refusal)) files
+
+-- where a scene takes one more
+abbrev pub make_instance : Terms → SceneSeen → List ℕ → List (Option OpenSeen) → Step
+make_instance g scene name files =
+    if nat_lt scene.made most_made then Asks (request_of (commands.Mkdir (instance_path name))) (made_folder g scene.made files)
+    else failed ENOSPC files
+
+-- in `instances` alone
+abbrev pub make_folder : Terms → SceneSeen → List ℕ → List (Option OpenSeen) → Option Node → Step
+make_folder g scene name files None = failed ENOENT files
+make_folder g scene name files (Some (nodes.Folder Top folders.Instances)) = make_instance g scene name files
+make_folder g scene name files _ = failed EPERM files
+
+abbrev pub removed_folder : List (Option OpenSeen) → Result Answer Refusal → Outcome
+removed_folder files (Ok answer) = told replies.Done files
+removed_folder files (Err refusal) = told (replies.Error (errno_of refusal)) files
+
+abbrev pub remove_instance : List ℕ → List (Option OpenSeen) → Step
+remove_instance name files = Asks (request_of (commands.Rmdir (instance_path name))) (removed_folder files)
+
+abbrev pub remove_folder : List ℕ → List (Option OpenSeen) → Option Node → Step
+remove_folder name files None = failed ENOENT files
+remove_folder name files (Some (nodes.Folder Top folders.Instances)) = remove_instance name files
+remove_folder name files _ = failed EPERM files
+
+-- ---- all requests
+
+-- what a request by this process, about this node, if its number is one's, comes to
+abbrev pub step_of : Terms → Service → ℕ → Option Node → Operation → Step
+step_of g s pid target (operations.Lookup name) = plain (look_up g (scene_of g s) target name) s.files
+step_of g s pid target operations.GetAttr = plain (get_attributes g (scene_of g s) target) s.files
+step_of g s pid target (operations.SetAttr valid size) = plain (set_attributes g (scene_of g s) target valid size) s.files
+step_of g s pid target (operations.MkDir name) = make_folder g (scene_of g s) name s.files (known (scene_of g s) target)
+step_of g s pid target (operations.RmDir name) = remove_folder name s.files (known (scene_of g s) target)
+step_of g s pid target (operations.Open flags) = opened flags (known (scene_of g s) target) s.files
+step_of g s pid target (operations.Read handle offset size flags) = read_file (scene_of g s) handle offset size s.files (file_at handle s.files)
+step_of g s pid target (operations.Write handle offset bytes) = write_file g s handle pid bytes (file_at handle s.files)
+step_of g s pid target (operations.Release handle) = release (scene_of g s) handle s.files (file_at handle s.files)
+step_of g s pid target operations.OpenDir = plain (open_folder (scene_of g s) target) s.files
+step_of g s pid target (operations.ReadDir handle offset size) = plain (read_folder (scene_of g s) target offset size) s.files
+step_of g s pid target (operations.Access mask) = plain (check_access (scene_of g s) target mask) s.files
+step_of g s pid target (operations.Init major minor max_readahead flags) = plain (agree major max_readahead flags) s.files
+step_of g s pid target operations.StatFs = plain (replies.StatFs 4096 255) s.files
+step_of g s pid target (operations.Flush handle) = plain replies.Done s.files
+step_of g s pid target operations.Fsync = plain replies.Done s.files
+step_of g s pid target (operations.ReleaseDir handle) = plain replies.Done s.files
+step_of g s pid target operations.Destroy = plain replies.Done s.files
+-- not asked again: a file is always ready, and has no attributes beside those of stat(2)
+step_of g s pid target (operations.Poll handle wakeup flags events) = failed ENOSYS s.files
+step_of g s pid target (operations.GetXAttr name) = failed ENOSYS s.files
+step_of g s pid target operations.ListXAttr = failed ENOSYS s.files
+step_of g s pid target (operations.Other opcode) = failed (errno_of_other opcode) s.files
+-- these have no reply: no number of a node is kept, and no request waits that could be interrupted
+step_of g s pid target operations.Forget = Plain (record { reply = None; files = s.files })
+step_of g s pid target (operations.BatchForget count) = Plain (record { reply = None; files = s.files })
+step_of g s pid target (operations.Interrupt unique) = Plain (record { reply = None; files = s.files })

@@ -1,0 +1,4 @@
+-- Words of private functions and of proofs: no public clause cites them.
+pub mod StillReplies
+pub mod Pushed
+pub mod ShortReplies

@@ -1,0 +1,16 @@
+//! A mounted tracer: what a FUSE server replies to each request of a kernel.
+#![tactic(auto)]
+
+mod asking;
+mod errno;
+mod files;
+mod injection;
+mod listing;
+mod mount;
+mod opening;
+mod reading;
+mod telling;
+mod told;
+mod writing;
+
+pub use mount::Mount;

@@ -1,0 +1,90 @@
+//! Open files: their beginning and their end.
+
+ghost use Rattle.std.specs.Prelude.{◌≡◌, List, Some};
+ghost use Rattle.trace_command.specs.Requests.{Request};
+ghost use Rattle.mount_tree.specs.declared.node.Node.TheVariants as nodes;
+ghost use Rattle.trace_mount.specs.Mounted.{IsMounted, IsStep};
+ghost use Rattle.trace_mount.specs.Served.{emptied, open_flags as flags_of, opened, release as released};
+ghost use Rattle.trace_mount.specs.Services.{OpenSeen, file_at};
+ghost use Rattle.trace_mount.specs.Told.{known};
+ghost use Rattle.trace_mount.specs.private.ShortReplies.{IsShort};
+
+use crate::files::OpenFile;
+use crate::mount::Mount;
+use crate::told::{empties, may_open};
+use fuse_wire::{Errno, Reply};
+use mount_tree::{File, FileKind, Node, Owner};
+
+/// The flags that a file is opened with: a kernel asks for each read, whatever the size, and a pipe has no places.
+fn open_flags(kind: FileKind) -> u32
+    ensures { result ≡ flags_of kind }
+{
+    match kind {
+        FileKind::Pipe => 5,
+        FileKind::Text | FileKind::Trace | FileKind::Inject => 1,
+    }
+}
+
+impl Mount {
+    /// OPEN.
+    pub(crate) fn open(&mut self, node: Option<Node>, flags: u32) -> Reply<'static>
+        ensures step { (past : List Request) → IsMounted past self.old
+            → IsStep past self.old self.new (opened flags (known self.old.scene node) self.old.files) (Some result) }
+        ensures short { IsShort result }
+    {
+        match self.known(node) {
+            Some(Node::File(owner, file)) => self.open_file(owner, file, flags),
+            Some(Node::Folder(_, _)) => Reply::Error(Errno::EISDIR),
+            None => Reply::Error(Errno::ENOENT),
+        }
+    }
+
+    // OPEN of a file that is there.
+    fn open_file(&mut self, owner: Owner, file: File, flags: u32) -> Reply<'static>
+        ensures step { (past : List Request) → IsMounted past self.old
+            → IsStep past self.old self.new (opened flags (Some (nodes.File owner file)) self.old.files) (Some result) }
+        ensures short { IsShort result }
+    {
+        if !may_open(file, flags) {
+            return Reply::Error(Errno::EACCES);
+        }
+        let open_file = OpenFile::new(owner, file, empties(flags));
+        match self.files.open(open_file) {
+            Ok(handle) => Reply::Opened {
+                handle,
+                flags: open_flags(file.kind()),
+            },
+            Err(_) => Reply::Error(Errno::ENOMEM),
+        }
+    }
+
+    /// RELEASE: a trace that was opened to be emptied, and that nothing was written to, is emptied.
+    pub(crate) fn release(&mut self, handle: u64) -> Reply<'static>
+        ensures step { (past : List Request) → IsMounted past self.old
+            → IsStep past self.old self.new (released self.old.scene handle self.old.files (file_at handle self.old.files)) (Some result) }
+        ensures short { IsShort result }
+    {
+        let Some(open_file) = self.files.get(handle) else {
+            return Reply::Error(Errno::EBADF);
+        };
+        let owner = open_file.owner();
+        let file = open_file.file();
+        if open_file.starts_over() && file.kind() == FileKind::Trace {
+            return self.empty_at_end(handle, owner, file);
+        }
+        self.files.close(handle);
+        Reply::Done
+    }
+
+    // Empties a trace, and ends its open file.
+    fn empty_at_end(&mut self, handle: u64, owner: Owner, file: File) -> Reply<'static>
+        ensures step { (past : List Request) → IsMounted past self.old
+            → IsStep past self.old self.new (emptied self.old.scene handle (nodes.File owner file) self.old.files) (Some result) }
+        ensures done { result ≡ Reply.Done }
+        ensures short { IsShort result }
+    {
+        let _answer = self.ask_write(owner, file, false, &[]);
+        self.files.close(handle);
+        Reply::Done
+    }
+}

@@ -1,0 +1,68 @@
+//! Replies, lists and parts of texts as bytes.
+
+ghost use Rattle.std.specs.Prelude.{◌≡◌, ◌+◌, ◌≤◌, [], ◌++◌, length, min, drop, vec_capacity, OnOk};
+ghost use Rattle.fuse_wire.specs.Replies.{reply_bytes, reply_size, IsSendable};
+ghost use Rattle.mount_tree.specs.Children.{children};
+ghost use Rattle.trace_mount.specs.Mounted.{most_reply};
+ghost use Rattle.trace_mount.specs.private.ShortReplies.{IsShort};
+ghost use Rattle.trace_mount.specs.Served.{part_of as part_of_text};
+ghost use Rattle.trace_mount.specs.Told.{listed_from, most_data};
+
+use fuse_wire::{Bytes, DirectoryEntry, Errno, Reply, encode};
+use mount_tree::Node;
+use std::alloc::AllocError;
+
+/// The most bytes that are told of a file or a folder at once.
+pub const MOST_DATA: u32 = 131_072;
+
+/// Makes the bytes of a reply. There is room for them.
+pub fn tell(unique: u64, reply: &Reply<'_>, out: &mut Vec<u8>)
+    requires sendable { IsSendable reply.now }
+    requires room { reply_size reply.now ≤ vec_capacity out.old }
+    ensures bytes { out.new.items ≡ reply_bytes unique reply.now }
+    ensures capacity { vec_capacity out.old ≤ vec_capacity out.new }
+{
+    match encode(unique, reply, out) {
+        Ok(()) => {}
+        Err(_) => unreachable!(),
+    }
+}
+
+/// The part of a text that a read gives.
+pub fn part_of(text: &[u8], offset: u64, size: u32) -> &[u8]
+    ensures part { result.now ≡ part_of_text offset size text.now }
+    ensures few { length result.now ≤ most_data }
+{
+    let from = text.len().min(offset as usize);
+    let rest = &text[from..];
+    &rest[..rest.len().min(size.min(MOST_DATA) as usize)]
+}
+
+/// Tells the part of a text that a read gives.
+pub fn tell_part(unique: u64, text: &[u8], offset: u64, size: u32, out: &mut Vec<u8>)
+    requires room { most_reply ≤ vec_capacity out.old }
+    ensures bytes { out.new.items ≡ reply_bytes unique (Reply.Data (part_of_text offset size text.now)) }
+    ensures capacity { vec_capacity out.old ≤ vec_capacity out.new }
+{
+    let part = part_of(text, offset, size);
+    tell(unique, &Reply::Data(Bytes::new(part)), out);
+}
+
+/// Tells an error.
+pub fn tell_error(unique: u64, errno: Errno, out: &mut Vec<u8>)
+    requires room { most_reply ≤ vec_capacity out.old }
+    ensures bytes { out.new.items ≡ reply_bytes unique (Reply.Error errno) }
+    ensures capacity { vec_capacity out.old ≤ vec_capacity out.new }
+{
+    tell(unique, &Reply::Error(errno), out);
+}
+
+/// Tells a reply that gives no part of a file or a folder.
+pub fn tell_short(unique: u64, reply: &Reply<'_>, out: &mut Vec<u8>)
+    requires room { most_reply ≤ vec_capacity out.old }
+    requires short { IsShort reply.now }
+    ensures bytes { out.new.items ≡ reply_bytes unique reply.now }
+    ensures capacity { vec_capacity out.old ≤ vec_capacity out.new }
+{
+    tell(unique, reply, out);
+}

@@ -1,0 +1,128 @@
+//! Writes to open files, and folders that are made and removed.
+
+ghost use Rattle.std.specs.Prelude.{◌≡◌, ◌<◌, ◌^◌, List, Some, length};
+ghost use Rattle.trace_command.specs.Requests.{Request};
+ghost use Rattle.mount_tree.specs.declared.node.Node.TheVariants as nodes;
+ghost use Rattle.trace_mount.specs.Mounted.{IsMounted, IsStep, service_of, terms_of};
+ghost use Rattle.trace_mount.specs.Served.{make_folder as making, make_instance as making_instance, remove_folder as removing, remove_instance, without_newline, write_file, write_text as text_step};
+ghost use Rattle.trace_mount.specs.Services.{file_at};
+ghost use Rattle.trace_mount.specs.Told.{known};
+ghost use Rattle.trace_mount.specs.private.ShortReplies.{IsShort};
+
+use crate::errno::errno_of;
+use crate::mount::Mount;
+use fuse_wire::{Errno, Reply};
+use mount_tree::{File, Folder, Node, Owner};
+
+/// What is written, without a last newline.
+fn without_newline(bytes: &[u8]) -> &[u8]
+    ensures { result.now ≡ without_newline bytes.now }
+{
+    let Some(last) = bytes.len().checked_sub(1) else {
+        return bytes;
+    };
+    if bytes[last] == b'\n' {
+        &bytes[..last]
+    } else {
+        bytes
+    }
+}
+
+impl Mount {
+    /// WRITE.
+    pub(crate) fn write(&mut self, handle: u64, pid: u32, bytes: &[u8]) -> Reply<'static>
+        requires { length bytes.now < 2 ^ 32 }
+        ensures step { (past : List Request) → IsMounted past self.old
+            → IsStep past self.old self.new (write_file (terms_of self.old) (service_of past self.old) handle pid bytes.now (file_at handle self.old.files)) (Some result) }
+        ensures short { IsShort result }
+    {
+        let Some(open_file) = self.files.get(handle) else {
+            return Reply::Error(Errno::EBADF);
+        };
+        let owner = open_file.owner();
+        let file = open_file.file();
+        let append = !open_file.starts_over();
+        match file {
+            File::Inject(event) => self.inject(handle, event, pid, bytes),
+            _ => self.write_text(handle, owner, file, append, bytes),
+        }
+    }
+
+    fn write_text(
+        &mut self,
+        handle: u64,
+        owner: Owner,
+        file: File,
+        append: bool,
+        bytes: &[u8],
+    ) -> Reply<'static>
+        requires { length bytes.now < 2 ^ 32 }
+        ensures step { (past : List Request) → IsMounted past self.old
+            → IsStep past self.old self.new (text_step self.old.scene handle (nodes.File owner file) append bytes.now self.old.files) (Some result) }
+        ensures short { IsShort result }
+    {
+        match self.ask_write(owner, file, append, without_newline(bytes)) {
+            Ok(_) => {
+                self.files.note_write(handle);
+                Reply::Written {
+                    size: bytes.len() as u32,
+                }
+            }
+            Err(refusal) => Reply::Error(errno_of(&refusal)),
+        }
+    }
+
+    /// MKDIR: in `instances` alone.
+    pub(crate) fn make_folder(&mut self, folder: Option<Node>, name: &[u8]) -> Reply<'static>
+        ensures step { (past : List Request) → IsMounted past self.old
+            → IsStep past self.old self.new (making (terms_of self.old) self.old.scene name.now self.old.files (known self.old.scene folder)) (Some result) }
+        ensures short { IsShort result }
+    {
+        match self.known(folder) {
+            Some(Node::Folder(Owner::Top, Folder::Instances)) => self.make_instance(name),
+            Some(_) => Reply::Error(Errno::EPERM),
+            None => Reply::Error(Errno::ENOENT),
+        }
+    }
+
+    fn make_instance(&mut self, name: &[u8]) -> Reply<'static>
+        ensures step { (past : List Request) → IsMounted past self.old
+            → IsStep past self.old self.new (making_instance (terms_of self.old) self.old.scene name.now self.old.files) (Some result) }
+        ensures short { IsShort result }
+    {
+        let Some(serial) = self.scene.next_serial() else {
+            return Reply::Error(Errno::ENOSPC);
+        };
+        match self.ask_mkdir(name) {
+            Ok(_) => {
+                let node = Node::Folder(Owner::Made(serial), Folder::Root);
+                Reply::Entry(self.attributes_of(node))
+            }
+            Err(refusal) => Reply::Error(errno_of(&refusal)),
+        }
+    }
+
+    /// RMDIR: in `instances` alone.
+    pub(crate) fn remove_folder(&mut self, folder: Option<Node>, name: &[u8]) -> Reply<'static>
+        ensures step { (past : List Request) → IsMounted past self.old
+            → IsStep past self.old self.new (removing name.now self.old.files (known self.old.scene folder)) (Some result) }
+        ensures short { IsShort result }
+    {
+        match self.known(folder) {
+            Some(Node::Folder(Owner::Top, Folder::Instances)) => self.remove_instance(name),
+            Some(_) => Reply::Error(Errno::EPERM),
+            None => Reply::Error(Errno::ENOENT),
+        }
+    }
+
+    fn remove_instance(&mut self, name: &[u8]) -> Reply<'static>
+        ensures step { (past : List Request) → IsMounted past self.old
+            → IsStep past self.old self.new (remove_instance name.now self.old.files) (Some result) }
+        ensures short { IsShort result }
+    {
+        match self.ask_rmdir(name) {
+            Ok(_) => Reply::Done,
+            Err(refusal) => Reply::Error(errno_of(&refusal)),
+        }
+    }
+}
