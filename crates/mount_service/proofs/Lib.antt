@@ -1,0 +1,2 @@
+pub mod ServiceLemmas
+pub mod KnownBytes

@@ -1,0 +1,3 @@
+pub mod TracerServices
+pub mod TracerLaws
+pub mod private

@@ -1,0 +1,43 @@
+//! The service: a tracer is mounted, and its requests are served until they end.
+
+ghost use Rattle.std.specs.Prelude.{◌≡◌, Err};
+ghost use Rattle.fuse_serve.specs.Exchanges.{devices};
+ghost use Rattle.mount_service.specs.TracerServices.{HasBeenServed};
+ghost use Rattle.trace_command.specs.Configs.{IsInRange};
+
+use crate::failure::{Failure, failure_of};
+use crate::mount_server::MountServer;
+use fuse_serve::{Ended, Fault, Incoming, Outgoing, serve};
+use std::alloc::Global;
+use trace_command::Config;
+use trace_mount::Mount;
+
+/// Mounts a tracer and serves it: reads requests, does each and writes its reply, until the input ends, the device is gone, a DESTROY was answered,
+/// or a fault stops it. The files are this user's and this group's.
+pub fn serve_tracer<R: Incoming, W: Outgoing>(
+    alloc: Global,
+    config: Config,
+    uid: u32,
+    gid: u32,
+    reader: &mut R,
+    writer: &mut W,
+) -> Result<Ended, Failure>
+    ensures service { HasBeenServed (record { config = config; uid = uid; gid = gid }) result
+        (devices (R.remaining reader.old) (R.log reader.old) (W.contents writer.old) (W.log writer.old))
+        (devices (R.remaining reader.new) (R.log reader.new) (W.contents writer.new) (W.log writer.new)) }
+    ensures out_of_range { ¬ IsInRange config → result ≡ Err Failure.BadValue }
+    ensures bad_value { result ≡ Err Failure.BadValue
+        → ¬ IsInRange config × (reader.new ≡ reader.old) × (writer.new ≡ writer.old) }
+    ensures memory { result ≡ Err (Failure.Stopped Fault.Memory)
+        → (reader.new ≡ reader.old) × (writer.new ≡ writer.old) }
+{
+    let mount = match Mount::new(alloc, config, uid, gid) {
+        Ok(mount) => mount,
+        Err(refusal) => return Err(failure_of(&refusal)),
+    };
+    let mut server = MountServer::new(mount);
+    match serve(alloc, &mut server, reader, writer) {
+        Ok(ended) => Ok(ended),
+        Err(fault) => Err(Failure::Stopped(fault)),
+    }
+}
