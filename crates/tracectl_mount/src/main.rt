@@ -1,0 +1,31 @@
+//! Serves a mounted tracer: reads a kernel's requests from standard input and writes the replies to standard output.
+#![tactic(auto)]
+
+mod help;
+mod stop;
+mod words;
+
+use fuse_serve::{Reader, Writer};
+use mount_service::serve_tracer;
+use std::process::ExitCode;
+use stop::{Stop, tell};
+use words::{Words, words_of};
+
+/// Serves the tracer that the command line asks for.
+fn run(rt: &HostRuntime) -> Result<(), Stop> {
+    let words = words_of(rt)?;
+    let Words { config, uid, gid } = Words::read(rt, &words)?;
+    let mut reader = Reader::new(rt.stdin());
+    let mut writer = Writer::new(rt.stdout());
+    match serve_tracer(rt.alloc(), config, uid, gid, &mut reader, &mut writer) {
+        Ok(_) => Ok(()),
+        Err(failure) => Err(Stop::Failed(failure)),
+    }
+}
+
+fn main(rt: HostRuntime) -> ExitCode {
+    match run(&rt) {
+        Ok(()) => ExitCode::from(0),
+        Err(stop) => tell(&rt, stop),
+    }
+}
