@@ -1,5 +1,5 @@
-# What ./tracectl, ./check --quick and examples/c/build share: which programs there are and whether they are current, how one is compiled without a
-# proof, and how the program is proved. Sourced, with `top` set to the repository's folder and `tool` to the name that messages begin with.
+# What ./tracectl, ./tracectl-mount, ./check --quick and examples/c/build share: which programs there are and whether they are current, how one is
+# compiled without a proof, and how the program is proved. Sourced, with `top` set to the repository's folder and `tool` to the name that messages begin with.
 
 readonly NOT_BUILT=5 OTHER_KIT=3
 readonly TIME_OF_PROOF="30 minutes to an hour"

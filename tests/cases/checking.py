@@ -8,14 +8,14 @@ from cases.running import TOP, Case, Outcome, differences, run
 from cases.words import named
 
 CHECKED = "echo \"%s $* RT_JOBS=$RT_JOBS $TRACECTL_PROGRAM\"\necho '%d passed, %d failed'\nexit %d"
-CRATES = "tracectl trace_lex trace_hist trace_text trace_book trace_snapshot ticket_lock fuse_wire fuse_serve mount_tree trace_explain trace_list trace_items trace_parts trace_words trace_log".split()
+CRATES = "tracectl tracectl_mount trace_lex trace_hist trace_text trace_book trace_snapshot ticket_lock fuse_wire fuse_serve mount_tree trace_explain trace_list trace_items trace_parts trace_words trace_log".split()
 CHECK_USAGE = b"usage: ./check [--quick | --planted [CRATE..] | --help]\n"
 
 
 def checked(words, commands, settings=(), by=None):
     """What ./check does with these words where each of these commands, by its name, is a shell script of these lines. `rt` is found by PATH."""
     with tempfile.TemporaryDirectory() as top:
-        for folder in ("tests", "commands", "tools", "crates/tracectl/out"):
+        for folder in ("tests", "commands", "tools", "crates/tracectl/out", "crates/tracectl_mount/out"):
             (Path(top) / folder).mkdir(parents=True)
         shutil.copy(str(TOP / "check"), top)
         shutil.copy(str(TOP / "tools" / "building.bash"), str(Path(top) / "tools"))
@@ -34,7 +34,7 @@ def checked(words, commands, settings=(), by=None):
 
 
 def check_cases():
-    counts = {"tests/program": 20, "tests/threads": 3, "tests/allocations": 10, "tests/tried": 29, "tests/planted": 5, "tests/archive": 1, "tests/unproved": 7, "tests/library": 4}
+    counts = {"tests/program": 20, "tests/threads": 3, "tests/allocations": 10, "tests/tried": 29, "tests/planted": 5, "tests/archive": 1, "tests/unproved": 7, "tests/library": 4, "tests/mount": 2, "tests/mounted": 6}
     tests = {name: CHECKED % (name, count, 0, 0) for name, count in counts.items()}
     whole = dict(tests, rt=CHECKED % ("rt", 100, 0, 0))
 
@@ -53,23 +53,25 @@ def check_cases():
     no_rt = b"check: rt, the command of the Rattle kit, is needed and was not found\n"
     little = b"check: 1953 MiB of memory are free, which may be too little: up to 4096 are needed\n"
     elsewhere = ["CDPATH=.:/", "TMPDIR=/no/such/folder"] + jobs
-    proved = dict(tests, **{"crates/tracectl/out/tracectl": ""})
+    proved = dict(tests, **{"crates/%s/out/%s" % (crate, crate): "" for crate in ("tracectl", "tracectl_mount")})
     compiled = dict(whole, **{"tools/unproved.py": "touch $2"})
-    unproved = "(nothing of the program is proved)\n"
+    half = dict(compiled, **{"crates/tracectl/out/tracectl": ""})
+    unproved = "(nothing of the programs is proved)\n"
     telling = "echo \"rt: $(cut -d: -f1 crates.txt | tr '\\n' ' ')proved\"\necho '100 passed, 0 failed'"
     ahead = [" min: %s proved\n" % crates for crates in ("trace_lex", "trace_snapshot ticket_lock fuse_wire fuse_serve", "trace_text", "tracectl", " ".join(CRATES))]
     return [
-        case("all of it", [], whole, each, 0, jobs, last=b"\n174 passed, 0 failed\n"),
-        case("all of it, and rt shares the processors", [], whole, ["rt ci RT_JOBS= "], 0, last=b"\n174 passed, 0 failed\n"),
-        case("all of it, and the chain is proved ahead", [], dict(tests, rt=telling, awk="echo 20000000"), ahead, 0, last=b"\n174 passed, 0 failed\n"),
-        case("all of it, and little of its memory is free", [], dict(tests, rt=telling, awk="echo 9000000"), ahead[-1:], 0, last=b"\n174 passed, 0 failed\n"),
-        case("by a link, with a CDPATH and a TMPDIR that isn't there", [], whole, each, 0, elsewhere, "link", last=b"\n174 passed, 0 failed\n"),
-        case("by a relative path, likewise", [], whole, each, 0, elsewhere, "relative", last=b"\n174 passed, 0 failed\n"),
-        case("a test that fails", [], dict(whole, **{"tests/threads": CHECKED % ("", 2, 1, 1)}), [], 1, jobs, last=b"\n173 passed, 1 failed\n"),
-        case("a gate that fails by its status alone", [], dict(whole, rt=CHECKED % ("rt", 100, 0, 1)), [], 1, jobs, last=b"\n174 passed, 1 failed\n"),
-        case("a test that prints no counts", [], dict(whole, **{"tests/program": "echo nothing"}), [], 1, jobs, last=b"\n154 passed, 1 failed\n"),
-        case("quickly, with a proved program", ["--quick"], proved, ["/crates/tracectl/out/tracectl\n"], 0, last=b"\n37 passed, 0 failed (the program is proved)\n"),
-        case("quickly, with an unproved program", ["--quick"], compiled, ["/tracectl-unproved\n"], 0, stderr=None, last=b"\n37 passed, 0 failed " + unproved.encode()),
+        case("all of it", [], whole, each, 0, jobs, last=b"\n182 passed, 0 failed\n"),
+        case("all of it, and rt shares the processors", [], whole, ["rt ci RT_JOBS= "], 0, last=b"\n182 passed, 0 failed\n"),
+        case("all of it, and the chain is proved ahead", [], dict(tests, rt=telling, awk="echo 20000000"), ahead, 0, last=b"\n182 passed, 0 failed\n"),
+        case("all of it, and little of its memory is free", [], dict(tests, rt=telling, awk="echo 9000000"), ahead[-1:], 0, last=b"\n182 passed, 0 failed\n"),
+        case("by a link, with a CDPATH and a TMPDIR that isn't there", [], whole, each, 0, elsewhere, "link", last=b"\n182 passed, 0 failed\n"),
+        case("by a relative path, likewise", [], whole, each, 0, elsewhere, "relative", last=b"\n182 passed, 0 failed\n"),
+        case("a test that fails", [], dict(whole, **{"tests/threads": CHECKED % ("", 2, 1, 1)}), [], 1, jobs, last=b"\n181 passed, 1 failed\n"),
+        case("a gate that fails by its status alone", [], dict(whole, rt=CHECKED % ("rt", 100, 0, 1)), [], 1, jobs, last=b"\n182 passed, 1 failed\n"),
+        case("a test that prints no counts", [], dict(whole, **{"tests/program": "echo nothing"}), [], 1, jobs, last=b"\n162 passed, 1 failed\n"),
+        case("quickly, with a proved program", ["--quick"], proved, ["/crates/tracectl/out/tracectl\n"], 0, last=b"\n45 passed, 0 failed (the programs are proved)\n"),
+        case("quickly, with an unproved program", ["--quick"], compiled, ["/tracectl-unproved\n"], 0, stderr=None, last=b"\n45 passed, 0 failed " + unproved.encode()),
+        case("quickly, with one proved program", ["--quick"], half, ["/out/tracectl\n"], 0, stderr=None, last=b"\n45 passed, 0 failed (one of the two programs is not proved)\n"),
         case("quickly, and it can't be compiled", ["--quick"], dict(whole, **{"tools/unproved.py": "exit 1"}), [], 1, stderr=None, last=b"0 passed, 1 failed\n"),
         case("quickly, with nothing to compile by", ["--quick"], tests, [], 2, stderr=no_rt, last=b""),
         case("planted bugs of two crates", ["--planted", "page_ring", "trace_hist"], whole, ["tests/planted page_ring trace_hist RT_JOBS=1"], 0),

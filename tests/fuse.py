@@ -1,0 +1,172 @@
+"""A client of a FUSE server that reads requests from its standard input: what a kernel sends by linux/fuse.h (7.31), and what it makes of the replies."""
+import errno
+import os
+import select
+import struct
+import subprocess
+
+LOOKUP, FORGET, GETATTR, SETATTR = 1, 2, 3, 4
+MKDIR, UNLINK, RMDIR, RENAME, LINK, OPEN, READ, WRITE, STATFS, RELEASE, FSYNC = 9, 10, 11, 12, 13, 14, 15, 16, 17, 18, 20
+SETXATTR, GETXATTR, LISTXATTR, REMOVEXATTR, FLUSH, INIT, OPENDIR, READDIR, RELEASEDIR = 21, 22, 23, 24, 25, 26, 27, 28, 29
+ACCESS, CREATE, INTERRUPT, DESTROY, IOCTL, POLL, BATCH_FORGET, READDIRPLUS = 34, 35, 36, 38, 39, 40, 42, 44
+
+IN_HEADER = struct.Struct("<IIQQIIII")  # fuse_in_header: len, opcode, unique, nodeid, uid, gid, pid, padding
+OUT_HEADER = struct.Struct("<IiQ")  # fuse_out_header: len, error, unique
+ATTR = struct.Struct("<QQQQQQIIIIIIIIII")  # fuse_attr
+ENTRY = struct.Struct("<QQQQII")  # fuse_entry_out but for its fuse_attr
+DIRENT = struct.Struct("<QQII")  # fuse_dirent but for its name
+ROOT = 1
+SECONDS = 20
+
+
+def request(opcode, unique, node, body=b"", pid=7, uid=0, gid=0):
+    """The bytes of a request."""
+    return IN_HEADER.pack(IN_HEADER.size + len(body), opcode, unique, node, uid, gid, pid, 0) + body
+
+
+def replies(data):
+    """The replies in what a server wrote, each as its number, its error and its body."""
+    found = []
+    while data:
+        length, error, unique = OUT_HEADER.unpack_from(data)
+        found.append((unique, error, data[OUT_HEADER.size : length]))
+        data = data[length:]
+    return found
+
+
+class Refused(Exception):
+    """A reply with an errno."""
+
+    def __init__(self, number):
+        super().__init__(errno.errorcode.get(number, number))
+        self.number = number
+
+
+class Server:
+    """A server that was started, and the next request's `unique`."""
+
+    def __init__(self, command):
+        self.process = subprocess.Popen(command, stdin=subprocess.PIPE, stdout=subprocess.PIPE)
+        self.requests = []
+        self.unique = 2
+        self.pid = 7
+        self.init()
+
+    def send(self, data):
+        self.requests.append(data)
+        self.process.stdin.write(data)
+        self.process.stdin.flush()
+
+    def take(self, count):
+        """So many bytes of its output."""
+        data = b""
+        while len(data) < count:
+            if not select.select([self.process.stdout], [], [], SECONDS)[0]:
+                raise TimeoutError("no reply in %d seconds" % SECONDS)
+            more = os.read(self.process.stdout.fileno(), count - len(data))
+            if not more:
+                raise EOFError("the server ended")
+            data += more
+        return data
+
+    def reply(self):
+        """`unique`, the error and the body of the next reply."""
+        length, error, unique = OUT_HEADER.unpack(self.take(OUT_HEADER.size))
+        return unique, error, self.take(length - OUT_HEADER.size)
+
+    def ask(self, opcode, node, body=b"", pid=None):
+        """The body of the reply to a request."""
+        self.unique += 2
+        self.send(request(opcode, self.unique, node, body, self.pid if pid is None else pid))
+        unique, error, got = self.reply()
+        assert unique == self.unique, "the reply has another request's unique"
+        if error:
+            assert not got, "an error has a body"
+            raise Refused(-error)
+        return got
+
+    def init(self):
+        got = self.ask(INIT, 0, struct.pack("<IIII", 7, 31, 65536, 0xFFFFFFFF))
+        self.max_write = struct.unpack_from("<I", got, 20)[0]
+        return got
+
+    def end(self):
+        """Its exit status, once its input has ended."""
+        self.process.stdin.close()
+        rest = self.process.stdout.read()
+        assert not rest, "it wrote more than replies"
+        return self.process.wait(SECONDS)
+
+    # ---- what a kernel asks for a call
+
+    def lookup(self, path):
+        """The node of a path."""
+        node = ROOT
+        for name in filter(None, path.split("/")):
+            got = self.ask(LOOKUP, node, name.encode() + b"\0")
+            node = ENTRY.unpack_from(got)[0]
+        return node
+
+    def attributes(self, node):
+        got = self.ask(GETATTR, node, bytes(16))
+        return ATTR.unpack_from(got, 16)
+
+    def open(self, node, flags):
+        return struct.unpack_from("<Q", self.ask(OPEN, node, struct.pack("<II", flags, 0)))[0]
+
+    def read_at(self, node, handle, offset, size, flags=0):
+        return self.ask(READ, node, struct.pack("<QQIIQII", handle, offset, size, 0, 0, flags, 0))
+
+    def write_at(self, node, handle, offset, data, pid=None):
+        body = struct.pack("<QQIIQII", handle, offset, len(data), 0, 0, 0, 0) + data
+        return struct.unpack_from("<I", self.ask(WRITE, node, body, pid))[0]
+
+    def close(self, node, handle):
+        self.ask(FLUSH, node, struct.pack("<QIIQ", handle, 0, 0, 0))
+        self.ask(RELEASE, node, struct.pack("<QIIQ", handle, 0, 0, 0))
+
+    def cat(self, path, size=65536):
+        """The text of a file, read in pieces of this size to its end."""
+        node = self.lookup(path)
+        handle = self.open(node, os.O_RDONLY)
+        text = b""
+        try:
+            while True:
+                more = self.read_at(node, handle, len(text), size)
+                text += more
+                if not more:
+                    return text
+        finally:
+            self.close(node, handle)
+
+    def echo(self, text, path, append=False, pid=None):
+        """`echo TEXT > PATH`, or with `>>`."""
+        node = self.lookup(path)
+        handle = self.open(node, os.O_WRONLY | (os.O_APPEND if append else os.O_TRUNC))
+        try:
+            assert self.write_at(node, handle, 0, text + b"\n", pid) == len(text) + 1
+        finally:
+            self.close(node, handle)
+
+    def mkdir(self, folder, name):
+        return self.ask(MKDIR, self.lookup(folder), struct.pack("<II", 0o755, 0o22) + name.encode() + b"\0")
+
+    def rmdir(self, folder, name):
+        self.ask(RMDIR, self.lookup(folder), name.encode() + b"\0")
+
+    def names(self, node, size=4096):
+        """The names in a folder, with their nodes and types, read in pieces of this size."""
+        handle = struct.unpack_from("<Q", self.ask(OPENDIR, node, struct.pack("<II", 0, 0)))[0]
+        found, offset = [], 0
+        while True:
+            data = self.ask(READDIR, node, struct.pack("<QQIIQII", handle, offset, size, 0, 0, 0, 0))
+            if not data:
+                break
+            at = 0
+            while at < len(data):
+                number, offset, length, kind = DIRENT.unpack_from(data, at)
+                name = data[at + DIRENT.size : at + DIRENT.size + length]
+                found.append((name.decode(), number, kind))
+                at += (DIRENT.size + length + 7) // 8 * 8
+        self.ask(RELEASEDIR, node, struct.pack("<QIIQ", handle, 0, 0, 0))
+        return found
