@@ -6,3 +6,4 @@ pub mod ListingLemmas
 pub mod ShortLemmas
 pub mod WriteLemmas
 pub mod ServeLemmas
+pub mod PartLaws

@@ -4,4 +4,5 @@ pub mod Told
 pub mod Injections
 pub mod Served
 pub mod Mounted
+pub mod MountLaws
 pub mod private

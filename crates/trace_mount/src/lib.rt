@@ -5,6 +5,7 @@ mod asking;
 mod errno;
 mod files;
 mod injection;
+pub mod laws;
 mod listing;
 mod mount;
 mod opening;

@@ -16,7 +16,7 @@ use std::alloc::AllocError;
 pub const MOST_DATA: u32 = 131_072;
 
 /// Makes the bytes of a reply. There is room for them.
-pub fn tell(unique: u64, reply: &Reply<'_>, out: &mut Vec<u8>)
+pub(crate) fn tell(unique: u64, reply: &Reply<'_>, out: &mut Vec<u8>)
     requires sendable { IsSendable reply.now }
     requires room { reply_size reply.now ≤ vec_capacity out.old }
     ensures bytes { out.new.items ≡ reply_bytes unique reply.now }
@@ -29,7 +29,7 @@ pub fn tell(unique: u64, reply: &Reply<'_>, out: &mut Vec<u8>)
 }
 
 /// The part of a text that a read gives.
-pub fn part_of(text: &[u8], offset: u64, size: u32) -> &[u8]
+pub(crate) fn part_of(text: &[u8], offset: u64, size: u32) -> &[u8]
     ensures part { result.now ≡ part_of_text offset size text.now }
     ensures few { length result.now ≤ most_data }
 {
@@ -39,7 +39,7 @@ pub fn part_of(text: &[u8], offset: u64, size: u32) -> &[u8]
 }
 
 /// Tells the part of a text that a read gives.
-pub fn tell_part(unique: u64, text: &[u8], offset: u64, size: u32, out: &mut Vec<u8>)
+pub(crate) fn tell_part(unique: u64, text: &[u8], offset: u64, size: u32, out: &mut Vec<u8>)
     requires room { most_reply ≤ vec_capacity out.old }
     ensures bytes { out.new.items ≡ reply_bytes unique (Reply.Data (part_of_text offset size text.now)) }
     ensures capacity { vec_capacity out.old ≤ vec_capacity out.new }
@@ -49,7 +49,7 @@ pub fn tell_part(unique: u64, text: &[u8], offset: u64, size: u32, out: &mut Vec
 }
 
 /// Tells an error.
-pub fn tell_error(unique: u64, errno: Errno, out: &mut Vec<u8>)
+pub(crate) fn tell_error(unique: u64, errno: Errno, out: &mut Vec<u8>)
     requires room { most_reply ≤ vec_capacity out.old }
     ensures bytes { out.new.items ≡ reply_bytes unique (Reply.Error errno) }
     ensures capacity { vec_capacity out.old ≤ vec_capacity out.new }
@@ -58,7 +58,7 @@ pub fn tell_error(unique: u64, errno: Errno, out: &mut Vec<u8>)
 }
 
 /// Tells a reply that gives no part of a file or a folder.
-pub fn tell_short(unique: u64, reply: &Reply<'_>, out: &mut Vec<u8>)
+pub(crate) fn tell_short(unique: u64, reply: &Reply<'_>, out: &mut Vec<u8>)
     requires room { most_reply ≤ vec_capacity out.old }
     requires short { IsShort reply.now }
     ensures bytes { out.new.items ≡ reply_bytes unique reply.now }

@@ -12,7 +12,7 @@ use mount_tree::{File, Node};
 use trace_list::Access;
 
 /// What kind of node.
-pub fn kind_of_node(node: Node) -> FileKind
+pub(crate) fn kind_of_node(node: Node) -> FileKind
     ensures { result ≡ told.kind_of_node node }
 {
     match node {
@@ -67,14 +67,14 @@ fn may(access: Access, reads: bool, writes: bool) -> bool
 }
 
 /// Whether the flags of open(2) want a file emptied.
-pub fn empties(flags: u32) -> bool
+pub(crate) fn empties(flags: u32) -> bool
     ensures { result ≡ told.empties flags }
 {
     flags / 512 % 2 == 1
 }
 
 /// Whether a file may be opened with these flags.
-pub fn may_open(file: File, flags: u32) -> bool
+pub(crate) fn may_open(file: File, flags: u32) -> bool
     ensures { result ≡ told.may (access_of_file file) (told.wants_read flags) (told.wants_write flags) }
 {
     may(
@@ -97,7 +97,7 @@ fn may_use(node: Node, mask: u32) -> bool
 }
 
 /// INIT: what is agreed.
-pub fn agree(major: u32, max_readahead: u32, flags: u32) -> Reply<'static>
+pub(crate) fn agree(major: u32, max_readahead: u32, flags: u32) -> Reply<'static>
     ensures reply { result ≡ told.agree major max_readahead flags }
     ensures short { IsShort result }
 {
