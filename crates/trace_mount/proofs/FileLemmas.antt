@@ -1,5 +1,5 @@
 -- Open files that change.
-use Rattle.std.proofs.Common.{◌≡◌, ℕ, List, drop, Option, Some, None, set, refl, sym, ap, ◌∙◌}
+use Rattle.std.proofs.Common.{◌≡◌, ℕ, List, drop, Option, Some, None, set, refl, ap, ◌∙◌}
 use Rattle.std.proofs.lemmas.List.{set-set}
 use Rattle.std.specs.Option.{option_and_then, option_map}
 use Rattle.trace_mount.specs.Services.{OpenSeen, file_at, text_at, with_change, with_text, without_file}

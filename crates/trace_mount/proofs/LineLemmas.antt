@@ -1,5 +1,5 @@
 -- Lines of `inject`, and fields that are left out.
-use Rattle.std.proofs.Common.{◌≡◌, ℕ, ◌<◌, ◌≤◌, ◌+◌, ◌==◌, suc, Bool, true, false, cond, ltb, nat_lt, List, [], ◌∷◌, ◌++◌, length, take, drop, get_or, Option, Some, None, Result, Ok, Err, codes, refl, sym, ap, ◌∙◌, arith, add-one, append-nil, append_assoc, drop-cons, length-append}
+use Rattle.std.proofs.Common.{◌≡◌, ℕ, ◌<◌, ◌≤◌, ◌+◌, suc, Bool, true, false, cond, nat_lt, List, [], ◌∷◌, ◌++◌, length, take, drop, get_or, Some, None, Ok, Err, codes, refl, sym, ap, ◌∙◌, arith, add-one, append-nil, append_assoc, drop-cons, length-append}
 use Rattle.std.proofs.lemmas.Bool.Decides.{nat_tests}
 use Rattle.std.proofs.lemmas.List.{drop_all, take-append-le, take_all}
 use Rattle.std.specs.List.{before_first, list_all, list_any, position, position_or_len}

@@ -1,5 +1,5 @@
 -- Entries of a folder, one after another.
-use Rattle.std.proofs.Common.{◌≡◌, ◌↔◌, ℕ, ◌<◌, ◌≤◌, ◌+◌, ◌-◌, zero, suc, Bool, true, false, nat_le, if◌then◌else◌, IsTrue, IfOk, Result, Ok, Err, inl, inr, append-nil, append_assoc, List, [], ◌∷◌, ◌++◌, length, drop, min, Option, Some, None, refl, sym, ap, ◌∙◌, subst, arith, length-append}
+use Rattle.std.proofs.Common.{◌≡◌, ◌↔◌, ℕ, ◌<◌, ◌≤◌, ◌+◌, ◌-◌, zero, suc, Bool, true, false, nat_le, if◌then◌else◌, IsTrue, IfOk, Result, Ok, Err, append-nil, append_assoc, List, [], ◌∷◌, ◌++◌, length, drop, Some, None, refl, sym, ap, ◌∙◌, arith, length-append}
 use Rattle.std.proofs.lemmas.Bool.Decides.{nat_tests}
 use Rattle.std.specs.List.{slice_get}
 use Rattle.std.specs.declared.alloc.AllocError.{AllocError}
@@ -7,7 +7,7 @@ use Rattle.fuse_wire.specs.Directories.{entry_bytes}
 use Rattle.fuse_wire.specs.Parts.{number_bytes}
 use Rattle.fuse_wire.specs.declared.directory.DirectoryEntry.{DirectoryEntry}
 use Rattle.mount_tree.specs.Children.{Child}
-use Rattle.trace_mount.specs.Told.{dirent_of, listed, listed_from}
+use Rattle.trace_mount.specs.Told.{dirent_of, listed_from}
 use Rattle.trace_mount.specs.private.Pushed.{HasPushed}
 
 drop_next : (xs : List Child) (i : ℕ) (x : Child) → slice_get xs i ≡ Some x → drop i xs ≡ x ∷ drop (i + 1) xs

@@ -1,5 +1,5 @@
 -- Parts of a text, one after another.
-use Rattle.std.proofs.Common.{◌≡◌, ℕ, ◌+◌, zero, suc, ◌==◌, false, List, [], ◌∷◌, ◌++◌, length, take, drop, min, Option, Some, refl, sym, ap, ◌∙◌, arith, length-append}
+use Rattle.std.proofs.Common.{◌≡◌, ℕ, ◌+◌, zero, suc, List, [], ◌∷◌, ◌++◌, length, take, drop, min, refl, sym, ap, ◌∙◌, arith, length-append}
 use Rattle.std.proofs.Math.Seq.{take-add}
 use Rattle.trace_mount.specs.MountLaws.{ReadsGiveParts, ReadsGoOn, given_together}
 use Rattle.trace_mount.specs.Served.{part_of}

@@ -1,5 +1,5 @@
 -- What reads come to.
-use Rattle.std.proofs.Common.{◌≡◌, ℕ, ◌==◌, Bool, true, false, ◌||◌, List, [], drop, min, Option, Some, None, Result, Ok, Err, refl, sym, ap, ◌∙◌}
+use Rattle.std.proofs.Common.{◌≡◌, ℕ, ◌==◌, true, false, List, drop, min, Option, Some, None, Result, Ok, Err, refl, sym, ap, ◌∙◌}
 use Rattle.std.specs.Option.{option_and_then, option_map}
 use Rattle.fuse_wire.specs.Replies.{reply_bytes}
 use Rattle.fuse_wire.specs.declared.errno.Errno.{Errno}
@@ -19,7 +19,7 @@ use Rattle.mount_tree.specs.declared.node.Owner.{Owner}
 use Rattle.trace_mount.specs.Errnos.{errno_of}
 use Rattle.trace_mount.specs.Mounted.{IsAsked, IsMounted, IsStep, IsTold, MountSeen}
 use Rattle.trace_mount.specs.Served.{Asks, Outcome, Plain, given_records, given_text, makes_text, part_of, plain, read_anew, read_file, read_kind, read_of, read_records, read_text, records_for, taken_records, text_in, told}
-use Rattle.trace_mount.specs.Services.{OpenSeen, file_at, node_of, text_at, with_change, with_text}
+use Rattle.trace_mount.specs.Services.{OpenSeen, file_at, text_at, with_change, with_text}
 use Rattle.trace_mount.specs.Told.{most_data}
 use Rattle.trace_mount.proofs.FileLemmas.{given-text}
 use Rattle.trace_mount.proofs.Steps.{asked-step, plain-step, told-step}

@@ -1,5 +1,5 @@
 -- What requests come to.
-use Rattle.std.proofs.Common.{◌≡◌, ◌≢◌, ◌⊎◌, ℕ, ◌+◌, Bool, true, false, List, [], ◌∷◌, ◌++◌, length, Option, Some, None, IfSome, IfNone, Result, Ok, Err, refl, sym, ap, ◌∙◌, inl, inr, subst}
+use Rattle.std.proofs.Common.{◌≡◌, ◌≢◌, ◌⊎◌, ℕ, true, List, ◌++◌, length, Option, Some, None, IfSome, IfNone, Ok, Err, refl, ap, ◌∙◌, inl, inr}
 use Rattle.fuse_wire.specs.Parts.{Are}
 use Rattle.fuse_wire.proofs.PartLemmas.{first_part}
 use Rattle.fuse_wire.specs.Replies.{reply_bytes}
@@ -15,7 +15,7 @@ use Rattle.trace_command.specs.Requests.{Request}
 use Rattle.mount_tree.specs.Nodes.{FitsItsTypes, number_of}
 use Rattle.mount_tree.specs.Scenes.{SceneSeen}
 use Rattle.mount_tree.specs.declared.node.Node.{Node}
-use Rattle.trace_mount.specs.Mounted.{AreServed, IsCalled, IsMounted, IsNamed, IsStep, IsSteppedBy, MountSeen, Right, Wrong, service_of, terms_of}
+use Rattle.trace_mount.specs.Mounted.{IsCalled, IsMounted, IsNamed, IsStep, IsSteppedBy, MountSeen, Right, Wrong, service_of, terms_of}
 use Rattle.trace_mount.specs.Served.{plain, step_of}
 use Rattle.trace_mount.specs.Services.{Service, Terms, scene_of}
 use Rattle.trace_mount.specs.Told.{read_folder}

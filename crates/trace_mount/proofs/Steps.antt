@@ -1,5 +1,5 @@
 -- What steps come to.
-use Rattle.std.proofs.Common.{◌≡◌, ◌⊎◌, ℕ, List, ◌∷◌, Option, Some, None, Result, Ok, Err, refl, sym, ap, ◌∙◌, subst, inl, inr}
+use Rattle.std.proofs.Common.{◌≡◌, ℕ, List, Option, Some, Result, refl, ap, inr}
 use Rattle.fuse_wire.specs.Replies.{reply_bytes}
 use Rattle.fuse_wire.specs.declared.errno.Errno.TheVariants.{ENOMEM}
 use Rattle.fuse_wire.specs.declared.reply.Reply.{Reply}
@@ -8,7 +8,7 @@ use Rattle.trace_command.specs.Requests.{Request}
 use Rattle.trace_command.specs.declared.command.Reply.{Reply as Answer}
 use Rattle.trace_command.specs.declared.refusal.Refusal.{Refusal}
 use Rattle.trace_mount.specs.Mounted.{IsAsked, IsMounted, IsStep, IsTold, MountSeen, past_after}
-use Rattle.trace_mount.specs.Served.{Asks, Outcome, Plain, Step, plain}
+use Rattle.trace_mount.specs.Served.{Asks, Outcome, Step, Takes, plain}
 use Rattle.trace_mount.specs.Services.{OpenSeen}
 
 -- nothing is asked
@@ -18,12 +18,12 @@ plain-step past old reply files now mounted is = record {
   after = past;
   mounted = record { lives = mounted.lives; scene = mounted.scene };
   terms = refl;
-  does = inl (refl, ap (λ (f : List (Option OpenSeen)). record { past = past; files = f }) is);
+  does = (refl, ap (λ (f : List (Option OpenSeen)). record { past = past; files = f }) is);
 }
 
 -- memory is refused
 pub memory-step : (past : List Request) (old : MountSeen) (outcome : Outcome) → IsMounted past old
-    → IsStep past old old (Plain outcome) (Some (replies.Error ENOMEM))
+    → IsStep past old old (Takes outcome) (Some (replies.Error ENOMEM))
 memory-step past old outcome mounted = record { after = past; mounted = mounted; terms = refl; does = inr (refl, refl) }
 
 -- a command is asked

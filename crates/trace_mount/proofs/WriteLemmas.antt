@@ -1,9 +1,8 @@
 -- What writes come to.
-use Rattle.std.proofs.Common.{◌≡◌, ◌≢◌, ℕ, ◌<◌, ◌^◌, ◌%◌, Bool, not, List, Option, Some, None, Result, Ok, Err, refl, sym, ap, ◌∙◌}
+use Rattle.std.proofs.Common.{◌≡◌, ◌≢◌, ℕ, ◌<◌, ◌^◌, ◌%◌, not, List, Option, Some, None, Err, refl}
 use Rattle.std.proofs.lemmas.Bool.{lt-ltb}
 use Rattle.std.specs.Option.{option_map}
 use Rattle.fuse_wire.specs.declared.errno.Errno.TheVariants.{ENOMEM}
-use Rattle.fuse_wire.specs.declared.reply.Reply.{Reply}
 use Rattle.fuse_wire.specs.declared.reply.Reply.TheVariants as replies
 use Rattle.trace_command.specs.Requests.{Request}
 use Rattle.trace_command.specs.declared.refusal.Refusal.TheVariants.{Memory}
@@ -12,7 +11,7 @@ use Rattle.mount_tree.specs.declared.file.File.{File}
 use Rattle.mount_tree.specs.declared.file.File.TheVariants as files
 use Rattle.trace_mount.specs.Injections.{first_line, injection, line_size, pairs_of_line}
 use Rattle.trace_mount.specs.Mounted.{IsAsked, IsMounted, IsStep, MountSeen}
-use Rattle.trace_mount.specs.Served.{Plain, failed, inject, inject_asked, told, write_kind, write_text, written}
+use Rattle.trace_mount.specs.Served.{inject, inject_asked, write_kind, write_text, written}
 use Rattle.trace_mount.specs.Services.{OpenSeen, Service, Terms, node_of, scene_of}
 use Rattle.trace_mount.proofs.Steps.{asked-step, memory-step}
 

@@ -1,5 +1,5 @@
 -- What is written to `inject`: a line an event, each with the pairs of an emission's line in a script; a field that is left out is 0 or empty.
-use Rattle.std.specs.Prelude.{ℕ, pos, ◌+◌, ◌==◌, Bool, min, List, [], ◌∷◌, ◌++◌, length, Option, Some, None, Result, Ok, codes, if◌then◌else◌}
+use Rattle.std.specs.Prelude.{ℕ, pos, ◌+◌, ◌==◌, min, List, [], ◌∷◌, ◌++◌, length, Option, Some, None, Result, Ok, codes, if◌then◌else◌}
 use Rattle.std.specs.List.{before_first, list_all, list_any}
 use Rattle.std.specs.Str.{bytes_eq}
 use Rattle.trace_lex.specs.Blanks.{is_blank}

@@ -8,7 +8,6 @@ use Rattle.fuse_wire.specs.declared.reply.Reply.TheVariants as replies
 use Rattle.fuse_wire.specs.declared.request.Request.{Request as Asked}
 use Rattle.trace_command.specs.Refusals.{OrMemory}
 use Rattle.trace_command.specs.Requests.{Request}
-use Rattle.trace_command.specs.declared.command.Config.{Config}
 use Rattle.trace_command.specs.declared.command.Reply.{Reply as Answer}
 use Rattle.trace_command.specs.declared.refusal.Refusal.{Refusal}
 use Rattle.trace_history.specs.Settings.{declares, made, removed}
@@ -18,7 +17,7 @@ use Rattle.mount_tree.specs.Nodes.{FitsItsTypes, number_of}
 use Rattle.mount_tree.specs.Scenes.{SceneSeen}
 use Rattle.mount_tree.specs.ScenesAfter.{scene_after}
 use Rattle.mount_tree.specs.declared.node.Node.{Node}
-use Rattle.trace_mount.specs.Served.{Outcome, Step, Plain, Asks, step_of}
+use Rattle.trace_mount.specs.Served.{Outcome, Step, Plain, Takes, Asks, step_of}
 use Rattle.trace_mount.specs.Services.{OpenSeen, Service, Terms}
 use Rattle.trace_mount.specs.Told.{most_data}
 
@@ -61,7 +60,10 @@ after_outcome past outcome = record { past = past; files = outcome.files }
 -- with this reply, a step led from a service to another. Where memory is refused, ENOMEM is replied, and nothing has changed.
 abbrev pub Does : Terms → Service → Step → Option Reply → Service → Type 0
 Does g before (Plain outcome) reply after =
-    ((reply ≡ outcome.reply) × (after ≡ after_outcome before.past outcome)) ⊎ ((reply ≡ Some (replies.Error ENOMEM)) × (after ≡ before))
+    (reply ≡ outcome.reply) × (after ≡ after_outcome before.past outcome)
+Does g before (Takes outcome) reply after =
+    ((reply ≡ outcome.reply) × (after ≡ after_outcome before.past outcome))
+    ⊎ ((reply ≡ Some (replies.Error ENOMEM)) × (after ≡ before))
 Does g before (Asks request outcome) reply after =
     (answer : Result Answer Refusal) × IsAnswered g before.past request answer × (reply ≡ (outcome answer).reply)
     × (after ≡ after_outcome (past_after answer request before.past) (outcome answer))
@@ -129,6 +131,16 @@ pub record IsAsked (past : List Request) (old new : MountSeen) (request : Reques
   pub mounted : IsMounted (past_after answer request past) new
   pub terms : terms_of new ≡ terms_of old
   pub files : new.files ≡ old.files
+
+-- the same for all requests that can have led to it
+abbrev pub StepsBy : MountSeen → MountSeen → Step → Reply → Type 0
+StepsBy old new step reply = (past : List Request) → IsMounted past old → IsStep past old new step (Some reply)
+
+abbrev pub TellsBy : MountSeen → MountSeen → Step → ℕ → List ℕ → Type 0
+TellsBy old new step unique bytes = (past : List Request) → IsMounted past old → IsTold past old new step unique bytes
+
+abbrev pub AsksBy : MountSeen → MountSeen → Request → Result Answer Refusal → Type 0
+AsksBy old new request answer = (past : List Request) → IsMounted past old → IsAsked past old new request answer
 
 -- this request neither declares an event nor makes or removes an instance
 pub record IsQuiet (request : Request) : Type 0 where

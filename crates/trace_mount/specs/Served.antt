@@ -1,6 +1,6 @@
 -- What a mounted tracer does at each request of a kernel: it asks the tracer one command, or none, and replies. After a command that was refused all
 -- is as before, but what `outcome` says of the open files.
-use Rattle.std.specs.Prelude.{ℕ, ◌+◌, ◌-◌, ◌/◌, ◌%◌, ◌^◌, ◌==◌, Bool, true, false, not, ◌||◌, nat_lt, is_none, List, [], ◌∷◌, ◌++◌, length, slice_index, take, drop, min, max, Option, Some, None, unwrap_or, Result, Ok, Err, codes, if◌then◌else◌}
+use Rattle.std.specs.Prelude.{ℕ, ◌-◌, ◌/◌, ◌%◌, ◌^◌, ◌==◌, Bool, false, not, ◌||◌, nat_lt, is_none, List, [], ◌++◌, length, slice_index, take, drop, min, max, Option, Some, None, unwrap_or, Result, Ok, Err, codes, if◌then◌else◌}
 use Rattle.std.specs.List.{slice_get}
 use Rattle.std.specs.Option.{option_map}
 use Rattle.fuse_wire.specs.declared.errno.Errno.{Errno}
@@ -16,7 +16,6 @@ use Rattle.trace_command.specs.declared.command.Reply.TheVariants as answers
 use Rattle.trace_command.specs.declared.refusal.Refusal.{Refusal}
 use Rattle.trace_format.specs.Definitions.{Definition}
 use Rattle.trace_history.specs.Settings.{declared_events}
-use Rattle.mount_tree.specs.Children.{is_there}
 use Rattle.mount_tree.specs.FileKinds.{access_of_file, kind_of_file}
 use Rattle.mount_tree.specs.NodePaths.{path_of}
 use Rattle.mount_tree.specs.Scenes.{SceneSeen, most_made}
@@ -41,8 +40,10 @@ pub record Outcome : Type 0 where
   pub files : List (Option OpenSeen)
 
 pub data Step : Type 0 where
-  -- nothing is asked
+  -- nothing is asked, and no memory taken
   Plain : (outcome : Outcome) → Step
+  -- nothing is asked, but memory is taken
+  Takes : (outcome : Outcome) → Step
   -- the tracer is asked this, and its answer gives the outcome
   Asks : (request : Request) (outcome : Result Answer Refusal → Outcome) → Step
 
@@ -51,6 +52,9 @@ told reply files = record { reply = Some reply; files = files }
 
 abbrev pub plain : Reply → List (Option OpenSeen) → Step
 plain reply files = Plain (told reply files)
+
+abbrev pub taking : Reply → List (Option OpenSeen) → Step
+taking reply files = Takes (told reply files)
 
 abbrev pub failed : Errno → List (Option OpenSeen) → Step
 failed errno files = plain (replies.Error errno) files
@@ -74,7 +78,7 @@ opened flags None files = failed ENOENT files
 opened flags (Some (nodes.Folder owner folder)) files = failed EISDIR files
 opened flags (Some (nodes.File owner file)) files =
     if may (access_of_file file) (wants_read flags) (wants_write flags)
-    then plain (replies.Opened (free_handle files) (open_flags (kind_of_file file)))
+    then taking (replies.Opened (free_handle files) (open_flags (kind_of_file file)))
     (with_file (free_handle files) (record { owner = owner; file = file; starts_over = empties flags; text = None }) files)
     else failed EACCES files
 
@@ -155,7 +159,7 @@ write_text scene handle node append bytes files =
 
 -- A write to `inject` is by the process that writes, on the CPU that is its number modulo the number of CPUs. It does the first line and says how many bytes that has, so the caller writes the others anew
 abbrev pub inject_asked : ℕ → ℕ → List (Option OpenSeen) → Option Request → Step
-inject_asked handle size files None = failed EINVAL files
+inject_asked handle size files None = taking (replies.Error EINVAL) files
 inject_asked handle size files (Some request) = Asks request (written handle size files)
 
 abbrev pub inject : ℕ → ℕ → ℕ → List ℕ → List (Option OpenSeen) → Option Definition → Step
@@ -240,7 +244,7 @@ step_of g s pid target (operations.Read handle offset size flags) = read_file (s
 step_of g s pid target (operations.Write handle offset bytes) = write_file g s handle pid bytes (file_at handle s.files)
 step_of g s pid target (operations.Release handle) = release (scene_of g s) handle s.files (file_at handle s.files)
 step_of g s pid target operations.OpenDir = plain (open_folder (scene_of g s) target) s.files
-step_of g s pid target (operations.ReadDir handle offset size) = plain (read_folder (scene_of g s) target offset size) s.files
+step_of g s pid target (operations.ReadDir handle offset size) = taking (read_folder (scene_of g s) target offset size) s.files
 step_of g s pid target (operations.Access mask) = plain (check_access (scene_of g s) target mask) s.files
 step_of g s pid target (operations.Init major minor max_readahead flags) = plain (agree major max_readahead flags) s.files
 step_of g s pid target operations.StatFs = plain (replies.StatFs 4096 255) s.files

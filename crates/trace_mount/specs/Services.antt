@@ -1,5 +1,5 @@
 -- A mounted tracer: what it was mounted with, the commands that were done, and the files that are open.
-use Rattle.std.specs.Prelude.{ℕ, Bool, false, nat_lt, is_none, List, [], ◌∷◌, ◌++◌, length, set, drop, position, Option, Some, None, unwrap_or, if◌then◌else◌}
+use Rattle.std.specs.Prelude.{ℕ, Bool, false, nat_lt, is_none, List, [], ◌∷◌, ◌++◌, length, set, position, Option, Some, None, unwrap_or, if◌then◌else◌}
 use Rattle.std.specs.List.{slice_get}
 use Rattle.std.specs.Option.{option_and_then, option_map}
 use Rattle.trace_command.specs.Requests.{Request}

@@ -5,7 +5,7 @@ use Rattle.fuse_wire.specs.declared.attributes.Attributes.{Attributes}
 use Rattle.fuse_wire.specs.declared.attributes.FileKind.{FileKind as Kind}
 use Rattle.fuse_wire.specs.declared.attributes.FileKind.TheVariants as kinds
 use Rattle.fuse_wire.specs.declared.directory.DirectoryEntry.{DirectoryEntry}
-use Rattle.fuse_wire.specs.declared.errno.Errno.TheVariants.{ENOENT, EACCES, EINVAL, EISDIR, ENOTDIR, EPROTO}
+use Rattle.fuse_wire.specs.declared.errno.Errno.TheVariants.{ENOENT, EACCES, EINVAL, ENOTDIR, EPROTO}
 use Rattle.fuse_wire.specs.declared.reply.Reply.{Reply}
 use Rattle.fuse_wire.specs.declared.reply.Reply.TheVariants as replies
 use Rattle.trace_list.specs.declared.access.Access.{Access}

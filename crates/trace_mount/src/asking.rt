@@ -9,7 +9,7 @@ ghost use Rattle.trace_command.specs.declared.command.Command.TheVariants as com
 ghost use Rattle.trace_history.specs.Settings.{declares, made, removed};
 ghost use Rattle.mount_tree.specs.NodePaths.{path_of};
 ghost use Rattle.mount_tree.specs.declared.node.Node.TheVariants as nodes;
-ghost use Rattle.trace_mount.specs.Mounted.{IsAsked, IsMounted, IsQuiet};
+ghost use Rattle.trace_mount.specs.Mounted.{AsksBy, IsQuiet};
 ghost use Rattle.trace_mount.specs.Served.{instance_path, read_of, write_of};
 
 use crate::mount::Mount;
@@ -55,7 +55,7 @@ impl Mount {
     /// Asks a command that leaves the folders and files as they are.
     pub(crate) fn ask(&mut self, command: Command) -> Result<Reply, Refusal>
         requires { IsQuiet (request_of command) }
-        ensures { (past : List Request) → IsMounted past self.old → IsAsked past self.old self.new (request_of command) result }
+        ensures { AsksBy self.old self.new (request_of command) result }
     {
         self.live.ask(command)
     }
@@ -67,8 +67,7 @@ impl Mount {
         file: File,
         limit: Option<u64>,
     ) -> Result<Reply, Refusal>
-        ensures { (past : List Request) → IsMounted past self.old
-            → IsAsked past self.old self.new (read_of self.old.scene (nodes.File owner file) limit) result }
+        ensures { AsksBy self.old self.new (read_of self.old.scene (nodes.File owner file) limit) result }
     {
         let Ok(path) = self.path_of(owner, file) else {
             return Err(Refusal::Memory);
@@ -84,8 +83,7 @@ impl Mount {
         append: bool,
         text: &[u8],
     ) -> Result<Reply, Refusal>
-        ensures { (past : List Request) → IsMounted past self.old
-            → IsAsked past self.old self.new (write_of self.old.scene (nodes.File owner file) append text.now) result }
+        ensures { AsksBy self.old self.new (write_of self.old.scene (nodes.File owner file) append text.now) result }
     {
         let Ok(path) = self.path_of(owner, file) else {
             return Err(Refusal::Memory);
@@ -106,7 +104,7 @@ impl Mount {
     // Asks a command that declares this event.
     fn ask_declaration(&mut self, command: Command, event: &EventDef) -> Result<Reply, Refusal>
         requires { declares (request_of command) ≡ Some event.now }
-        ensures { (past : List Request) → IsMounted past self.old → IsAsked past self.old self.new (request_of command) result }
+        ensures { AsksBy self.old self.new (request_of command) result }
     {
         if !self.scene.can_declare() {
             return Err(Refusal::Memory);
@@ -126,8 +124,7 @@ impl Mount {
 
     /// Makes the instance of this name.
     pub(crate) fn ask_mkdir(&mut self, name: &[u8]) -> Result<Reply, Refusal>
-        ensures { (past : List Request) → IsMounted past self.old
-            → IsAsked past self.old self.new (request_of (commands.Mkdir (instance_path name.now))) result }
+        ensures { AsksBy self.old self.new (request_of (commands.Mkdir (instance_path name.now))) result }
     {
         let Ok(path) = instance_path(self.alloc, name) else {
             return Err(Refusal::Memory);
@@ -152,8 +149,7 @@ impl Mount {
 
     /// Removes the instance of this name.
     pub(crate) fn ask_rmdir(&mut self, name: &[u8]) -> Result<Reply, Refusal>
-        ensures { (past : List Request) → IsMounted past self.old
-            → IsAsked past self.old self.new (request_of (commands.Rmdir (instance_path name.now))) result }
+        ensures { AsksBy self.old self.new (request_of (commands.Rmdir (instance_path name.now))) result }
     {
         let Ok(path) = instance_path(self.alloc, name) else {
             return Err(Refusal::Memory);

@@ -9,7 +9,7 @@ ghost use Rattle.trace_format.specs.declared.pair.Pair.{Pair as PairSeen};
 ghost use Rattle.trace_command.specs.Requests.{Request, request_of};
 ghost use Rattle.trace_history.specs.Settings.{declared_events};
 ghost use Rattle.trace_mount.specs.Injections.{default_pair, first_line as line_of, injection, left_out, pairs_asked as asked_pairs, pairs_of_line as pairs_of};
-ghost use Rattle.trace_mount.specs.Mounted.{IsMounted, IsQuiet, IsStep, terms_of, service_of};
+ghost use Rattle.trace_mount.specs.Mounted.{IsMounted, IsQuiet, IsStep, StepsBy};
 ghost use Rattle.trace_mount.specs.Served.{Asks, inject as injected, written};
 ghost use Rattle.trace_mount.specs.private.ShortReplies.{IsShort};
 
@@ -181,8 +181,8 @@ impl Mount {
 
     fn ask_injection(&mut self, handle: u64, command: Command, size: u32) -> Reply<'static>
         requires { IsQuiet (request_of command) }
-        ensures step { (past : List Request) → IsMounted past self.old
-            → IsStep past self.old self.new (Asks (request_of command) (written handle size self.old.files)) (Some result) }
+        ensures step { StepsBy self.old self.new
+            (Asks (request_of command) (written handle size self.old.files)) result }
         ensures short { IsShort result }
     {
         match self.ask(command) {

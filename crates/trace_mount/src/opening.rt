@@ -3,7 +3,7 @@
 ghost use Rattle.std.specs.Prelude.{◌≡◌, List, Some};
 ghost use Rattle.trace_command.specs.Requests.{Request};
 ghost use Rattle.mount_tree.specs.declared.node.Node.TheVariants as nodes;
-ghost use Rattle.trace_mount.specs.Mounted.{IsMounted, IsStep};
+ghost use Rattle.trace_mount.specs.Mounted.{StepsBy};
 ghost use Rattle.trace_mount.specs.Served.{emptied, open_flags as flags_of, opened, release as released};
 ghost use Rattle.trace_mount.specs.Services.{OpenSeen, file_at};
 ghost use Rattle.trace_mount.specs.Told.{known};
@@ -28,8 +28,7 @@ fn open_flags(kind: FileKind) -> u32
 impl Mount {
     /// OPEN.
     pub(crate) fn open(&mut self, node: Option<Node>, flags: u32) -> Reply<'static>
-        ensures step { (past : List Request) → IsMounted past self.old
-            → IsStep past self.old self.new (opened flags (known self.old.scene node) self.old.files) (Some result) }
+        ensures step { StepsBy self.old self.new (opened flags (known self.old.scene node) self.old.files) result }
         ensures short { IsShort result }
     {
         match self.known(node) {
@@ -41,8 +40,7 @@ impl Mount {
 
     // OPEN of a file that is there.
     fn open_file(&mut self, owner: Owner, file: File, flags: u32) -> Reply<'static>
-        ensures step { (past : List Request) → IsMounted past self.old
-            → IsStep past self.old self.new (opened flags (Some (nodes.File owner file)) self.old.files) (Some result) }
+        ensures step { StepsBy self.old self.new (opened flags (Some (nodes.File owner file)) self.old.files) result }
         ensures short { IsShort result }
     {
         if !may_open(file, flags) {
@@ -60,8 +58,8 @@ impl Mount {
 
     /// RELEASE: a trace that was opened to be emptied, and that nothing was written to, is emptied.
     pub(crate) fn release(&mut self, handle: u64) -> Reply<'static>
-        ensures step { (past : List Request) → IsMounted past self.old
-            → IsStep past self.old self.new (released self.old.scene handle self.old.files (file_at handle self.old.files)) (Some result) }
+        ensures step { StepsBy self.old self.new
+            (released self.old.scene handle self.old.files (file_at handle self.old.files)) result }
         ensures short { IsShort result }
     {
         let Some(open_file) = self.files.get(handle) else {
@@ -78,8 +76,8 @@ impl Mount {
 
     // Empties a trace, and ends its open file.
     fn empty_at_end(&mut self, handle: u64, owner: Owner, file: File) -> Reply<'static>
-        ensures step { (past : List Request) → IsMounted past self.old
-            → IsStep past self.old self.new (emptied self.old.scene handle (nodes.File owner file) self.old.files) (Some result) }
+        ensures step { StepsBy self.old self.new
+            (emptied self.old.scene handle (nodes.File owner file) self.old.files) result }
         ensures done { result ≡ Reply.Done }
         ensures short { IsShort result }
     {

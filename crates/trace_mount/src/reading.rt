@@ -5,7 +5,7 @@ ghost use Rattle.fuse_wire.specs.Replies.{reply_bytes};
 ghost use Rattle.fuse_wire.specs.declared.reply.Reply.TheVariants as replies;
 ghost use Rattle.trace_command.specs.Requests.{Request};
 ghost use Rattle.mount_tree.specs.declared.node.Node.TheVariants as nodes;
-ghost use Rattle.trace_mount.specs.Mounted.{IsMounted, IsTold, most_reply};
+ghost use Rattle.trace_mount.specs.Mounted.{IsMounted, IsTold, TellsBy, most_reply};
 ghost use Rattle.trace_mount.specs.Served.{Plain, given_records, part_of, read_anew as anew, read_file, read_pipe as pipe_step, read_records as taking, read_text as text_step, records_for as records, text_in as text_of};
 ghost use Rattle.trace_mount.specs.Services.{OpenSeen, file_at, text_at};
 
@@ -49,8 +49,8 @@ impl Mount {
         out: &mut Vec<u8>,
     )
         requires room { most_reply ≤ vec_capacity out.old }
-        ensures told { (past : List Request) → IsMounted past self.old
-            → IsTold past self.old self.new (read_file self.old.scene handle offset size self.old.files (file_at handle self.old.files)) unique out.new.items }
+        ensures told { TellsBy self.old self.new
+            (read_file self.old.scene handle offset size self.old.files (file_at handle self.old.files)) unique out.new.items }
         ensures capacity { vec_capacity out.old ≤ vec_capacity out.new }
     {
         let Some(open_file) = self.files.get(handle) else {
@@ -127,8 +127,8 @@ impl Mount {
         out: &mut Vec<u8>,
     )
         requires room { most_reply ≤ vec_capacity out.old }
-        ensures told { (past : List Request) → IsMounted past self.old
-            → IsTold past self.old self.new (anew self.old.scene handle offset size (nodes.File owner file) self.old.files) unique out.new.items }
+        ensures told { TellsBy self.old self.new
+            (anew self.old.scene handle offset size (nodes.File owner file) self.old.files) unique out.new.items }
         ensures capacity { vec_capacity out.old ≤ vec_capacity out.new }
     {
         match self.ask_read(owner, file, None) {
@@ -164,8 +164,8 @@ impl Mount {
         out: &mut Vec<u8>,
     )
         requires room { most_reply ≤ vec_capacity out.old }
-        ensures told { (past : List Request) → IsMounted past self.old
-            → IsTold past self.old self.new (taking self.old.scene handle size (nodes.File owner file) self.old.files) unique out.new.items }
+        ensures told { TellsBy self.old self.new
+            (taking self.old.scene handle size (nodes.File owner file) self.old.files) unique out.new.items }
         ensures capacity { vec_capacity out.old ≤ vec_capacity out.new }
     {
         match self.ask_read(owner, file, Some(records_for(size))) {

@@ -3,7 +3,7 @@
 ghost use Rattle.std.specs.Prelude.{◌≡◌, ◌<◌, ◌^◌, List, Some, length};
 ghost use Rattle.trace_command.specs.Requests.{Request};
 ghost use Rattle.mount_tree.specs.declared.node.Node.TheVariants as nodes;
-ghost use Rattle.trace_mount.specs.Mounted.{IsMounted, IsStep, service_of, terms_of};
+ghost use Rattle.trace_mount.specs.Mounted.{IsMounted, IsStep, StepsBy, service_of, terms_of};
 ghost use Rattle.trace_mount.specs.Served.{make_folder as making, make_instance as making_instance, remove_folder as removing, remove_instance, without_newline, write_file, write_text as text_step};
 ghost use Rattle.trace_mount.specs.Services.{file_at};
 ghost use Rattle.trace_mount.specs.Told.{known};
@@ -57,8 +57,8 @@ impl Mount {
         bytes: &[u8],
     ) -> Reply<'static>
         requires { length bytes.now < 2 ^ 32 }
-        ensures step { (past : List Request) → IsMounted past self.old
-            → IsStep past self.old self.new (text_step self.old.scene handle (nodes.File owner file) append bytes.now self.old.files) (Some result) }
+        ensures step { StepsBy self.old self.new
+            (text_step self.old.scene handle (nodes.File owner file) append bytes.now self.old.files) result }
         ensures short { IsShort result }
     {
         match self.ask_write(owner, file, append, without_newline(bytes)) {
@@ -74,8 +74,8 @@ impl Mount {
 
     /// MKDIR: in `instances` alone.
     pub(crate) fn make_folder(&mut self, folder: Option<Node>, name: &[u8]) -> Reply<'static>
-        ensures step { (past : List Request) → IsMounted past self.old
-            → IsStep past self.old self.new (making (terms_of self.old) self.old.scene name.now self.old.files (known self.old.scene folder)) (Some result) }
+        ensures step { StepsBy self.old self.new
+            (making (terms_of self.old) self.old.scene name.now self.old.files (known self.old.scene folder)) result }
         ensures short { IsShort result }
     {
         match self.known(folder) {
@@ -86,8 +86,8 @@ impl Mount {
     }
 
     fn make_instance(&mut self, name: &[u8]) -> Reply<'static>
-        ensures step { (past : List Request) → IsMounted past self.old
-            → IsStep past self.old self.new (making_instance (terms_of self.old) self.old.scene name.now self.old.files) (Some result) }
+        ensures step { StepsBy self.old self.new
+            (making_instance (terms_of self.old) self.old.scene name.now self.old.files) result }
         ensures short { IsShort result }
     {
         let Some(serial) = self.scene.next_serial() else {
@@ -104,8 +104,8 @@ impl Mount {
 
     /// RMDIR: in `instances` alone.
     pub(crate) fn remove_folder(&mut self, folder: Option<Node>, name: &[u8]) -> Reply<'static>
-        ensures step { (past : List Request) → IsMounted past self.old
-            → IsStep past self.old self.new (removing name.now self.old.files (known self.old.scene folder)) (Some result) }
+        ensures step { StepsBy self.old self.new
+            (removing name.now self.old.files (known self.old.scene folder)) result }
         ensures short { IsShort result }
     {
         match self.known(folder) {
@@ -116,8 +116,7 @@ impl Mount {
     }
 
     fn remove_instance(&mut self, name: &[u8]) -> Reply<'static>
-        ensures step { (past : List Request) → IsMounted past self.old
-            → IsStep past self.old self.new (remove_instance name.now self.old.files) (Some result) }
+        ensures step { StepsBy self.old self.new (remove_instance name.now self.old.files) result }
         ensures short { IsShort result }
     {
         match self.ask_rmdir(name) {

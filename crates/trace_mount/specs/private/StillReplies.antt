@@ -1,5 +1,5 @@
 -- The replies to operations that change nothing and ask nothing, for the function that gives them.
-use Rattle.std.specs.Prelude.{ℕ, ◌<◌, ◌^◌, Bool, true, false, length, Option}
+use Rattle.std.specs.Prelude.{◌<◌, ◌^◌, Bool, true, false, length, Option}
 use Rattle.fuse_wire.specs.declared.errno.Errno.TheVariants.{ENOSYS}
 use Rattle.fuse_wire.specs.declared.reply.Reply.{Reply}
 use Rattle.fuse_wire.specs.declared.reply.Reply.TheVariants as replies

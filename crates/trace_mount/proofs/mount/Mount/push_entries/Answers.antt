@@ -1,6 +1,5 @@
-use Rattle.std.proofs.Common.{arith, ap, length}
 use Rattle.mount_tree.specs.Children.{children}
-use Rattle.trace_mount.proofs.ListingLemmas.{all-listed, longer, more-listed}
+use Rattle.trace_mount.proofs.ListingLemmas.{all-listed}
 use Rattle.trace_mount.proofs.mount.Mount.push_entries.Goals as goal
 
 pub returns-then-not-pushed-clause-entries : goal.returns-then-not-pushed-clause-entries
