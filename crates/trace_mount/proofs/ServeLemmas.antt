@@ -15,7 +15,7 @@ use Rattle.trace_command.specs.Requests.{Request}
 use Rattle.mount_tree.specs.Nodes.{FitsItsTypes, number_of}
 use Rattle.mount_tree.specs.Scenes.{SceneSeen}
 use Rattle.mount_tree.specs.declared.node.Node.{Node}
-use Rattle.trace_mount.specs.Mounted.{IsCalled, IsMounted, IsNamed, IsStep, IsSteppedBy, MountSeen, Right, Wrong, service_of, terms_of}
+use Rattle.trace_mount.specs.Mounted.{IsCalled, IsMounted, IsNamed, IsStep, IsSteppedBy, MountSeen, Right, Wrong, service_of, terms_of, wrong_reply}
 use Rattle.trace_mount.specs.Served.{plain, step_of}
 use Rattle.trace_mount.specs.Services.{Service, Terms, scene_of}
 use Rattle.trace_mount.specs.Told.{read_folder}
@@ -175,7 +175,7 @@ right-called past old new asked bytes request is step =
 -- a wrong body
 pub wrong-called : (past : List Request) (old : MountSeen) (asked bytes : List ℕ) (error : DecodeError) (opcode unique : ℕ) → IsMounted past old
     → IsFramed asked opcode unique → ((request : Asked) → IsRequest asked request → Err error ≡ Ok request)
-    → bytes ≡ reply_bytes unique (replies.Error EINVAL) → IsCalled past old old asked bytes
+    → bytes ≡ wrong_reply opcode unique → IsCalled past old old asked bytes
 wrong-called past old asked bytes error opcode unique mounted framed only told = record {
   after = past;
   mounted = mounted;

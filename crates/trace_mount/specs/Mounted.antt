@@ -1,7 +1,7 @@
 -- What a call of a mounted tracer comes to: the step that is defined, or refused memory; and what a list of requests comes to.
-use Rattle.std.specs.Prelude.{◌≡◌, ◌≢◌, ◌⊎◌, ℕ, ◌+◌, List, [], ◌∷◌, Option, Some, None, Result, Ok, Err}
+use Rattle.std.specs.Prelude.{◌≡◌, ◌≢◌, ◌⊎◌, ℕ, ◌+◌, if◌then◌else◌, List, [], ◌∷◌, Option, Some, None, Result, Ok, Err}
 use Rattle.fuse_wire.specs.Replies.{reply_bytes}
-use Rattle.fuse_wire.specs.Requests.{IsRequest, IsFramed}
+use Rattle.fuse_wire.specs.Requests.{IsRequest, IsFramed, has_reply}
 use Rattle.fuse_wire.specs.declared.errno.Errno.TheVariants.{EINVAL, ENOMEM}
 use Rattle.fuse_wire.specs.declared.reply.Reply.{Reply}
 use Rattle.fuse_wire.specs.declared.reply.Reply.TheVariants as replies
@@ -86,12 +86,16 @@ pub record IsServed (g : Terms) (before : Service) (request : Asked) (bytes : Li
   pub does : Does g before (step_of g before request.pid node request.operation) reply after
   pub told : bytes ≡ bytes_of_reply request.unique reply
 
--- bytes that are a request are served; framed ones with a wrong body are answered EINVAL; others are not answered
+-- a wrong body is answered EINVAL, where the opcode has a reply
+abbrev pub wrong_reply : ℕ → ℕ → List ℕ
+wrong_reply opcode unique = if has_reply opcode then reply_bytes unique (replies.Error EINVAL) else []
+
+-- bytes that are a request are served; framed ones with a wrong body are told so; others are not answered
 pub data AreServed (g : Terms) (before : Service) (asked bytes : List ℕ) (after : Service) : Type 0 where
   Right : (request : Asked) → IsRequest asked request → IsServed g before request bytes after
       → AreServed g before asked bytes after
   Wrong : (opcode unique : ℕ) → IsFramed asked opcode unique → ((request : Asked) → IsRequest asked request → ⊥)
-      → bytes ≡ reply_bytes unique (replies.Error EINVAL) → after ≡ before
+      → bytes ≡ wrong_reply opcode unique → after ≡ before
       → AreServed g before asked bytes after
   Unframed : ((opcode unique : ℕ) → IsFramed asked opcode unique → ⊥) → bytes ≡ [] → after ≡ before
       → AreServed g before asked bytes after

@@ -186,8 +186,13 @@ abbrev pub empties_at_end : OpenSeen → FileKind → Bool
 empties_at_end file kinds.Trace = file.starts_over
 empties_at_end file _ = false
 
-abbrev pub emptied : SceneSeen → ℕ → Node → List (Option OpenSeen) → Step
-emptied scene handle node files = Asks (write_of scene node false []) (λ answer. told replies.Done (without_file handle files))
+-- the file is closed, also where the command is refused
+abbrev pub closed : ℕ → List (Option OpenSeen) → Result Answer Refusal → Outcome
+closed handle files (Ok answer) = told replies.Done (without_file handle files)
+closed handle files (Err refusal) = told (replies.Error (errno_of refusal)) (without_file handle files)
+
+unfoldable pub emptied : SceneSeen → ℕ → Node → List (Option OpenSeen) → Step
+emptied scene handle node files = Asks (write_of scene node false []) (closed handle files)
 
 abbrev pub release : SceneSeen → ℕ → List (Option OpenSeen) → Option OpenSeen → Step
 release scene handle files None = failed EBADF files

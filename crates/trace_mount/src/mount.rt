@@ -11,7 +11,7 @@ ghost use Rattle.trace_mount.specs.private.ShortReplies.{IsShort};
 
 use crate::errno::errno_of_other;
 use crate::files::OpenFiles;
-use crate::telling::{tell_error, tell_short};
+use crate::telling::{tell_short, tell_wrong};
 use crate::told::agree;
 use fuse_wire::{DecodeError, Errno, Operation, Reply, Request, decode};
 use mount_tree::{Node, Scene};
@@ -84,9 +84,7 @@ impl Mount {
     {
         match decode(asked) {
             Ok(request) => self.serve(&request, reply),
-            Err(DecodeError::WrongBody { unique, .. }) => {
-                tell_error(unique, Errno::EINVAL, reply);
-            }
+            Err(DecodeError::WrongBody { opcode, unique }) => tell_wrong(opcode, unique, reply),
             Err(DecodeError::Unframed) => {}
         }
     }

@@ -9,6 +9,7 @@ ghost use Rattle.trace_mount.specs.Services.{OpenSeen, file_at};
 ghost use Rattle.trace_mount.specs.Told.{known};
 ghost use Rattle.trace_mount.specs.private.ShortReplies.{IsShort};
 
+use crate::errno::errno_of;
 use crate::files::OpenFile;
 use crate::mount::Mount;
 use crate::told::{empties, may_open};
@@ -75,14 +76,17 @@ impl Mount {
     }
 
     // Empties a trace, and ends its open file.
+    #[tactic(auto, unfolding(crate::specs::Served::emptied))]
     fn empty_at_end(&mut self, handle: u64, owner: Owner, file: File) -> Reply<'static>
         ensures step { StepsBy self.old self.new
             (emptied self.old.scene handle (nodes.File owner file) self.old.files) result }
-        ensures done { result ≡ Reply.Done }
         ensures short { IsShort result }
     {
-        let _answer = self.ask_write(owner, file, false, &[]);
+        let answer = self.ask_write(owner, file, false, &[]);
         self.files.close(handle);
-        Reply::Done
+        match answer {
+            Ok(_) => Reply::Done,
+            Err(refusal) => Reply::Error(errno_of(&refusal)),
+        }
     }
 }

@@ -3,12 +3,12 @@
 ghost use Rattle.std.specs.Prelude.{◌≡◌, ◌+◌, ◌≤◌, [], ◌++◌, length, min, drop, vec_capacity, OnOk};
 ghost use Rattle.fuse_wire.specs.Replies.{reply_bytes, reply_size, IsSendable};
 ghost use Rattle.mount_tree.specs.Children.{children};
-ghost use Rattle.trace_mount.specs.Mounted.{most_reply};
+ghost use Rattle.trace_mount.specs.Mounted.{most_reply, wrong_reply};
 ghost use Rattle.trace_mount.specs.private.ShortReplies.{IsShort};
 ghost use Rattle.trace_mount.specs.Served.{part_of as part_of_text};
 ghost use Rattle.trace_mount.specs.Told.{listed_from, most_data};
 
-use fuse_wire::{Bytes, DirectoryEntry, Errno, Reply, encode};
+use fuse_wire::{Bytes, DirectoryEntry, Errno, Reply, encode, has_reply};
 use mount_tree::Node;
 use std::alloc::AllocError;
 
@@ -55,6 +55,18 @@ pub(crate) fn tell_error(unique: u64, errno: Errno, out: &mut Vec<u8>)
     ensures capacity { vec_capacity out.old ≤ vec_capacity out.new }
 {
     tell(unique, &Reply::Error(errno), out);
+}
+
+/// Tells that a request's body is wrong, where its opcode has a reply.
+pub(crate) fn tell_wrong(opcode: u32, unique: u64, out: &mut Vec<u8>)
+    requires room { most_reply ≤ vec_capacity out.old }
+    requires empty { out.old.items ≡ [] }
+    ensures bytes { out.new.items ≡ wrong_reply opcode unique }
+    ensures capacity { vec_capacity out.old ≤ vec_capacity out.new }
+{
+    if has_reply(opcode) {
+        tell_error(unique, Errno::EINVAL, out);
+    }
 }
 
 /// Tells a reply that gives no part of a file or a folder.

@@ -12,8 +12,8 @@ returns-in-Ok-clause-served c = λ past mounted.
 
 pub returns-in-Err-WrongBody-clause-served : goal.returns-in-Err-WrongBody-clause-served
 returns-in-Err-WrongBody-clause-served c =
-    let framed : IsFramed c.args.asked.now c.in-Err-WrongBody.field-0-0 c.in-Err-WrongBody.unique =
+    let framed : IsFramed c.args.asked.now c.in-Err-WrongBody.opcode c.in-Err-WrongBody.unique =
     rw c.in-Err-WrongBody.field-0-is at c.in-Err-WrongBody.ensures.wrong in
     λ past mounted.
-    wrong-called past c.args.self.now c.args.asked.now c.tell_error.new.out.items c.in-Err-WrongBody.field-0 c.in-Err-WrongBody.field-0-0
-    c.in-Err-WrongBody.unique mounted framed c.in-Err-WrongBody.ensures.only c.tell_error.ensures.bytes
+    wrong-called past c.args.self.now c.args.asked.now c.tell_wrong.new.out.items c.in-Err-WrongBody.field-0 c.in-Err-WrongBody.opcode
+    c.in-Err-WrongBody.unique mounted framed c.in-Err-WrongBody.ensures.only c.tell_wrong.ensures.bytes
