@@ -1,8 +1,11 @@
 -- Parts of a text, one after another.
-use Rattle.std.proofs.Common.{◌≡◌, ℕ, ◌+◌, zero, suc, List, [], ◌∷◌, ◌++◌, length, take, drop, min, refl, sym, ap, ◌∙◌, arith, length-append}
+use Rattle.std.proofs.Common.{◌≡◌, ℕ, ◌+◌, ◌<◌, zero, suc, List, [], ◌∷◌, ◌++◌, length, take, drop, min, refl, sym, ap, ◌∙◌, arith, length-append, append-nil}
 use Rattle.std.proofs.Math.Seq.{take-add}
-use Rattle.trace_mount.specs.MountLaws.{ReadsGiveParts, ReadsGoOn, given_together}
-use Rattle.trace_mount.specs.Served.{part_of}
+use Rattle.std.proofs.lemmas.List.{take-append-drop}
+use Rattle.std.proofs.Common.{◌⊎◌, inl, inr, Option, Some, None, Ok, Err}
+use Rattle.trace_mount.specs.MountLaws.{FirstTextIsKept, NothingLeftIsAll, ReadsGiveParts, ReadsGoOn, StepsDoOneCommandAtMost, given_together}
+use Rattle.trace_mount.specs.Served.{Asks, Plain, Takes, part_of, text_in}
+use Rattle.trace_mount.specs.Services.{OpenSeen, Service, file_at, text_at, with_text}
 use Rattle.trace_mount.specs.Told.{most_data}
 
 -- a part is as long as it is
@@ -38,3 +41,36 @@ reads_go_on (size ∷ sizes) offset text =
 
 pub reads_give_parts : ReadsGiveParts
 reads_give_parts scene handle offset size file files text made later = rw (later, made) refl
+
+none-left : (k : ℕ) (l : List ℕ) → 0 < k → take k l ≡ [] → l ≡ []
+none-left k [] some nothing = refl
+none-left zero (x ∷ l) some nothing = absurd (omega (arith, some))
+none-left (suc k) (x ∷ l) some nothing = absurd (let no : x ∷ take k l ≡ [] = nothing in cc)
+
+all-given : (given l : List ℕ) → given ≡ take (length given) l → drop (length given) l ≡ [] → given ≡ l
+all-given given l front none =
+    front ∙ sym (append-nil (take (length given) l)) ∙ ap (λ (r : List ℕ). take (length given) l ++ r) (sym none) ∙ take-append-drop (length given) l
+
+pub nothing_left_is_all : NothingLeftIsAll
+nothing_left_is_all sizes size offset text some nothing =
+    let given = given_together sizes offset text in
+    let many : 0 < min size most_data = omega (arith, some) in
+    all-given given (drop offset text) (reads_go_on sizes offset text)
+    (sym (drop-plus offset (length given) text) ∙ none-left (min size most_data) (drop (offset + length given) text) many nothing)
+
+text-kept : (files : List (Option OpenSeen)) (handle : ℕ) (text : List ℕ) (file : OpenSeen) → file_at handle files ≡ Some file
+    → text_at handle (with_text text handle files) ≡ Some text
+text-kept [] zero text file there = absurd (let no : None ≡ Some file = there in cc)
+text-kept [] (suc handle) text file there = absurd (let no : None ≡ Some file = there in cc)
+text-kept (first ∷ files) zero text file there = rw there refl
+text-kept (first ∷ files) (suc handle) text file there = text-kept files handle text file there
+
+pub first_text_is_kept : FirstTextIsKept
+first_text_is_kept handle offset size file files answer there = text-kept files handle (text_in answer) file there
+
+pub steps_do_one : StepsDoOneCommandAtMost
+steps_do_one g before after (Plain outcome) reply does = inl (ap (λ (s : Service). s.past) does.1)
+steps_do_one g before after (Takes outcome) reply (inl does) = inl (ap (λ (s : Service). s.past) does.1)
+steps_do_one g before after (Takes outcome) reply (inr does) = inl (ap (λ (s : Service). s.past) does.1)
+steps_do_one g before after (Asks request outcome) reply (Ok answer, answered, told, is) = inr (request, ap (λ (s : Service). s.past) is)
+steps_do_one g before after (Asks request outcome) reply (Err refusal, answered, told, is) = inl (ap (λ (s : Service). s.past) is)

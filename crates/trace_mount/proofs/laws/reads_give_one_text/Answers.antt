@@ -1,4 +1,4 @@
-use Rattle.trace_mount.proofs.PartLaws.{reads_give_parts, reads_go_on}
+use Rattle.trace_mount.proofs.PartLaws.{first_text_is_kept, nothing_left_is_all, reads_give_parts, reads_go_on}
 use Rattle.trace_mount.proofs.laws.reads_give_one_text.Goals as goal
 
 pub returns-clause-parts : goal.returns-clause-parts
@@ -6,3 +6,9 @@ returns-clause-parts c = reads_give_parts
 
 pub returns-clause-together : goal.returns-clause-together
 returns-clause-together c = reads_go_on
+
+pub returns-clause-first : goal.returns-clause-first
+returns-clause-first c = first_text_is_kept
+
+pub returns-clause-all : goal.returns-clause-all
+returns-clause-all c = nothing_left_is_all
