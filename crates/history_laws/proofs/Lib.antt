@@ -1,0 +1,2 @@
+pub mod RingCounts
+pub mod AccountedEmissions

@@ -1,0 +1,62 @@
+-- Emissions are accounted for: as long as nothing empties them, the two sides of an instance's rings count each emission that it recorded
+-- (ftrace.rst, "The File System", `per_cpu/cpu0/stats`; "Snapshot"). The newest request comes first.
+use Rattle.std.specs.Prelude.{◌≡◌, ℕ, ◌+◌, ◌<◌, ◌==◌, Bool, false, not, ◌&&◌, ◌||◌, if◌then◌else◌, List, [], ◌∷◌, Option, Some, None}
+use Rattle.page_ring.specs.declared.rings.RingStats.{RingStats}
+use Rattle.trace_buffer.specs.Families.{cpu_stats}
+use Rattle.trace_command.specs.Paths.{OfInstance, OfCpu}
+use Rattle.trace_command.specs.Requests.{Request, WriteFile}
+use Rattle.trace_command.specs.declared.command.Config.{Config}
+use Rattle.trace_command.specs.declared.file_name.CpuFile.TheVariants as per_cpu
+use Rattle.trace_command.specs.declared.file_name.TopFile.TheVariants as top
+use Rattle.trace_history.specs.Emissions.{Emitted, emitted, is_recorded}
+use Rattle.trace_history.specs.Rings.{rings, other_rings}
+use Rattle.trace_history.specs.Settings.{is_same, makes}
+use Rattle.trace_history.specs.Snapshots.{clears_spare, exchange_count, written_snapshot}
+
+-- whether an emission that follows this past is one on a CPU that the instance records
+abbrev pub is_recorded_on : Option (List ℕ) → ℕ → List Request → Option Emitted → Bool
+is_recorded_on instance cpu past None = false
+is_recorded_on instance cpu past (Some e) = e.cpu == cpu && is_recorded instance past e
+
+-- how many emissions on a CPU the instance recorded since it was last made
+abbrev pub recorded_count : Option (List ℕ) → ℕ → List Request → ℕ
+recorded_count instance cpu [] = 0
+recorded_count instance cpu (request ∷ past) =
+    if makes instance request then 0
+    else recorded_count instance cpu past + (if is_recorded_on instance cpu past (emitted past request) then 1 else 0)
+
+-- whether a request empties a CPU's ring of the live side: `>` to the instance's `trace` or to the CPU's
+abbrev pub empties_live : Option (List ℕ) → ℕ → Request → Bool
+empties_live instance cpu (WriteFile other (Some (OfInstance top.Trace)) append text) = is_same instance other && not append
+empties_live instance cpu (WriteFile other (Some (OfCpu of_cpu per_cpu.Trace)) append text) = is_same instance other && (not append && of_cpu == cpu)
+empties_live instance cpu request = false
+
+-- and whether one empties the rings of the other side: a number but 1 that is written to `snapshot`
+abbrev pub empties_spare : Option (List ℕ) → Request → Bool
+empties_spare instance (WriteFile other (Some (OfInstance top.Snapshot)) append text) = is_same instance other && clears_spare (written_snapshot text)
+empties_spare instance request = false
+
+-- whether some request did either since the instance was last made
+abbrev pub was_emptied : Option (List ℕ) → ℕ → List Request → Bool
+was_emptied instance cpu [] = false
+was_emptied instance cpu (request ∷ past) =
+    if makes instance request then false
+    else empties_live instance cpu request || (empties_spare instance request || was_emptied instance cpu past)
+
+-- how many records the counts of a ring tell of: those kept, overwritten, consumed and refused
+abbrev pub counted : RingStats → ℕ
+counted stats = stats.entries + stats.overrun + stats.read + stats.dropped
+
+-- Over both sides, the counts of a CPU are together the emissions on it that the instance recorded, if none of the CPU's rings was emptied.
+abbrev pub EmissionsAreAccountedFor : Type 0
+EmissionsAreAccountedFor =
+    (g : Config) (past : List Request) (instance : Option (List ℕ)) (cpu : ℕ) → cpu < g.cpus → was_emptied instance cpu past ≡ false
+    → counted (cpu_stats g.pages g.page_bytes (rings g instance past) cpu) + counted (cpu_stats g.pages g.page_bytes (other_rings g instance past) cpu)
+    ≡ recorded_count instance cpu past
+
+-- Until a snapshot is taken, the counts that the CPU's `stats` shows are all of them.
+abbrev pub ShownCountsAccountForEmissions : Type 0
+ShownCountsAccountForEmissions =
+    (g : Config) (past : List Request) (instance : Option (List ℕ)) (cpu : ℕ) → cpu < g.cpus → was_emptied instance cpu past ≡ false
+    → exchange_count instance past ≡ 0
+    → counted (cpu_stats g.pages g.page_bytes (rings g instance past) cpu) ≡ recorded_count instance cpu past
