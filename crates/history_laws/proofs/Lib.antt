@@ -1,2 +1,4 @@
 pub mod RingCounts
 pub mod AccountedEmissions
+pub mod JoinedTakes
+pub mod PartedReads

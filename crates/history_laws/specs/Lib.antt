@@ -1,1 +1,2 @@
 pub mod AccountedFor
+pub mod ReadsInParts

@@ -1,6 +1,7 @@
 //! Theorems about histories of requests, newest first. Each function does nothing: its contract is a theorem.
 
 ghost use Rattle.history_laws.specs.AccountedFor.{EmissionsAreAccountedFor, ShownCountsAccountForEmissions};
+ghost use Rattle.history_laws.specs.ReadsInParts.{ReadsShowInTurn, ReadsLeaveTheSame};
 
 /// Emissions are accounted for. As long as nothing empties a ring of a CPU (`>` to a trace file, a number but 1 written to `snapshot`), `entries`,
 /// `overrun`, `read` and `dropped` of the CPU, over the instance's live side and the other one, are together the emissions on the CPU that the
@@ -11,4 +12,13 @@ pub fn emissions_are_accounted_for()
 {
     page_ring::laws::offered_is_puts();
     page_ring::laws::counts_are_of_records();
+}
+
+/// Reads of a pipe add up: a read of so many records, and then one of so many others or of all the rest, show in turn what one read of all of them
+/// shows, and leave the same rings, those of every instance.
+pub fn reads_add_up()
+    ensures shown { ReadsShowInTurn }
+    ensures left { ReadsLeaveTheSame }
+{
+    page_ring::laws::least_is_read();
 }

@@ -1,0 +1,8 @@
+use Rattle.history_laws.proofs.PartedReads.{reads_show_in_turn, reads_leave_the_same}
+use Rattle.history_laws.proofs.laws.reads_add_up.Goals as goal
+
+pub returns-clause-shown : goal.returns-clause-shown
+returns-clause-shown c = reads_show_in_turn c.least_is_read.ensures.ahead c.least_is_read.ensures.rest
+
+pub returns-clause-left : goal.returns-clause-left
+returns-clause-left c = reads_leave_the_same c.least_is_read.ensures.ahead c.least_is_read.ensures.rest
