@@ -2,3 +2,8 @@ pub mod RingCounts
 pub mod AccountedEmissions
 pub mod JoinedTakes
 pub mod PartedReads
+pub mod KeptAfter
+pub mod RingLosses
+pub mod RingSteps
+pub mod RisingTimes
+pub mod ReadOrder

@@ -1,2 +1,3 @@
 pub mod AccountedFor
 pub mod ReadsInParts
+pub mod ReadOnce

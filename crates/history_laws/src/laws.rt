@@ -1,6 +1,7 @@
 //! Theorems about histories of requests, newest first. Each function does nothing: its contract is a theorem.
 
 ghost use Rattle.history_laws.specs.AccountedFor.{EmissionsAreAccountedFor, ShownCountsAccountForEmissions};
+ghost use Rattle.history_laws.specs.ReadOnce.{NothingIsReadTwice, ReadTimesRise};
 ghost use Rattle.history_laws.specs.ReadsInParts.{ReadsShowInTurn, ReadsLeaveTheSame};
 
 /// Emissions are accounted for. As long as nothing empties a ring of a CPU (`>` to a trace file, a number but 1 written to `snapshot`), `entries`,
@@ -12,6 +13,16 @@ pub fn emissions_are_accounted_for()
 {
     page_ring::laws::offered_is_puts();
     page_ring::laws::counts_are_of_records();
+}
+
+/// Nothing is read twice: in a legal history each timestamp is that of at most one record of a CPU that an instance's pipes showed, whatever was
+/// emptied, exchanged or made again between, and the timestamps of those of one ring rise strictly.
+pub fn nothing_is_read_twice()
+    ensures once { NothingIsReadTwice }
+    ensures rise { ReadTimesRise }
+{
+    page_ring::laws::least_is_read();
+    trace_history::laws::pipe_reads_consume_what_they_show();
 }
 
 /// Reads of a pipe add up: a read of so many records, and then one of so many others or of all the rest, show in turn what one read of all of them

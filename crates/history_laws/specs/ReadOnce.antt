@@ -1,0 +1,49 @@
+-- Nothing is read twice: what pipes show of a CPU's ring goes on in time (ftrace.rst, "The File System", `trace_pipe`). The newest request comes
+-- first.
+use Rattle.std.specs.Prelude.{ℕ, ◌<◌, ◌≤◌, ◌==◌, if◌then◌else◌, List, [], ◌∷◌, ◌++◌, Option, Some}
+use Rattle.std.specs.List.{AllPairs, count_by}
+use Rattle.trace_record.specs.Record.{timestamp}
+use Rattle.trace_buffer.specs.Families.{CpuReading}
+use Rattle.trace_command.specs.Configs.{IsInRange}
+use Rattle.trace_command.specs.Paths.{OfInstance, OfCpu}
+use Rattle.trace_command.specs.Requests.{Request, ReadFile}
+use Rattle.trace_command.specs.declared.command.Config.{Config}
+use Rattle.trace_command.specs.declared.command.Entry.{Entry}
+use Rattle.trace_command.specs.declared.file_name.CpuFile.TheVariants as per_cpu
+use Rattle.trace_command.specs.declared.file_name.TopFile.TheVariants as top
+use Rattle.trace_history.specs.History.{requests_of, IsLegalNewestFirst}
+use Rattle.trace_history.specs.Laws.{those_of}
+use Rattle.trace_history.specs.Rings.{pipe_read, cpu_pipe_read, rings}
+use Rattle.trace_history.specs.Settings.{is_same}
+use Rattle.trace_history.specs.Snapshots.{live_side}
+
+-- the records of a CPU that a read of one of the instance's pipes shows and consumes; of another request none
+abbrev pub taken_by : Config → Option (List ℕ) → ℕ → List Request → Request → List CpuReading
+taken_by g instance cpu past (ReadFile other (Some (OfInstance top.TracePipe)) limit) =
+    if is_same instance other then those_of cpu (pipe_read g limit (rings g instance past)).taken else []
+taken_by g instance cpu past (ReadFile other (Some (OfCpu of_cpu per_cpu.TracePipe)) limit) =
+    if is_same instance other then those_of cpu (cpu_pipe_read g of_cpu limit (rings g instance past)).taken else []
+taken_by g instance cpu past request = []
+
+-- all that the requests so far showed, in the order in which they did
+abbrev pub read_records : Config → Option (List ℕ) → ℕ → List Request → List CpuReading
+read_records g instance cpu [] = []
+read_records g instance cpu (request ∷ past) = read_records g instance cpu past ++ taken_by g instance cpu past request
+
+-- and of one side, 0 or 1: while it was live
+abbrev pub read_from_side : Config → Option (List ℕ) → ℕ → ℕ → List Request → List CpuReading
+read_from_side g instance side cpu [] = []
+read_from_side g instance side cpu (request ∷ past) =
+    read_from_side g instance side cpu past ++ (if side == live_side instance past then taken_by g instance cpu past request else [])
+
+-- in a legal history at most one of the records of a CPU that pipes showed has a timestamp, whatever was emptied, exchanged or made again between
+abbrev pub NothingIsReadTwice : Type 0
+NothingIsReadTwice =
+    (g : Config) (entries : List Entry) (instance : Option (List ℕ)) (cpu time : ℕ) → IsInRange g → IsLegalNewestFirst g entries
+    → count_by (λ r. timestamp r.rec == time) (read_records g instance cpu (requests_of entries)) ≤ 1
+
+-- and the timestamps of those of one ring rise strictly
+abbrev pub ReadTimesRise : Type 0
+ReadTimesRise =
+    (g : Config) (entries : List Entry) (instance : Option (List ℕ)) (side cpu : ℕ) → IsInRange g → IsLegalNewestFirst g entries
+    → AllPairs (λ earlier later. timestamp earlier.rec < timestamp later.rec) (read_from_side g instance side cpu (requests_of entries))
