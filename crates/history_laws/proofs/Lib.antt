@@ -7,3 +7,4 @@ pub mod RingLosses
 pub mod RingSteps
 pub mod RisingTimes
 pub mod ReadOrder
+pub mod LossesTold

@@ -3,6 +3,7 @@
 ghost use Rattle.history_laws.specs.AccountedFor.{EmissionsAreAccountedFor, ShownCountsAccountForEmissions};
 ghost use Rattle.history_laws.specs.ReadOnce.{NothingIsReadTwice, ReadTimesRise};
 ghost use Rattle.history_laws.specs.ReadsInParts.{ReadsShowInTurn, ReadsLeaveTheSame};
+ghost use Rattle.history_laws.specs.ToldLosses.{LossesAreTold, LostAddsUp};
 
 /// Emissions are accounted for. As long as nothing empties a ring of a CPU (`>` to a trace file, a number but 1 written to `snapshot`), `entries`,
 /// `overrun`, `read` and `dropped` of the CPU, over the instance's live side and the other one, are together the emissions on the CPU that the
@@ -32,4 +33,15 @@ pub fn reads_add_up()
     ensures left { ReadsLeaveTheSame }
 {
     page_ring::laws::least_is_read();
+}
+
+/// Losses add up: the lost counts that pipes told of a ring since it was new or emptied, and those that its kept records are going to tell, are
+/// together its `overrun`. So where nothing is kept, pipes told of all of it.
+pub fn losses_add_up()
+    ensures told { LossesAreTold }
+    ensures all { LostAddsUp }
+{
+    page_ring::laws::least_is_read();
+    page_ring::laws::counts_are_of_records();
+    trace_history::laws::pipe_reads_consume_what_they_show();
 }
