@@ -3,9 +3,9 @@ use Rattle.std.proofs.Common.{◌≡◌, ◌⊎◌, inl, inr, ℕ, ◌+◌, Bool
 use Rattle.std.proofs.lemmas.Bool.{cases_Bool, false≢true}
 use Rattle.std.proofs.lemmas.List.Elements.{filter-append}
 use Rattle.std.proofs.lemmas.List.Sums.{fold_push}
-use Rattle.page_ring.specs.Account.{Account, Reading, account, accepts, after, is_taken, is_overrun, kept, nothing, reader_page, readings_from, readings_of, next_number, with_accepted}
+use Rattle.page_ring.specs.Account.{Account, Reading, account, accepts, after, is_taken, is_overrun, kept, nothing, reader_page, readings_from, readings_of, next_number, with_accepted, with_first_taken}
 use Rattle.page_ring.specs.Cut.{Accepted, cut, next_page, with_record}
-use Rattle.page_ring.specs.Events.{Event, Put}
+use Rattle.page_ring.specs.Events.{Event, Put, Take}
 use Rattle.page_ring.specs.Laws.{is_kept}
 
 pub account-push : (pages page_bytes : ℕ) (events : List Event) (e : Event)
@@ -90,3 +90,19 @@ unfolding readings_of
 readings-map f pages page_bytes events =
     let a = account pages page_bytes events in
     readings_from-map f (next_number a) (kept page_bytes a)
+
+-- ---- what was taken
+
+pub taken-put : (pages page_bytes : ℕ) (events : List Event) (bytes : List ℕ) (overwrite : Bool)
+    → (account pages page_bytes (events ++ Put bytes overwrite ∷ [])).taken ≡ (account pages page_bytes events).taken
+taken-put pages page_bytes events bytes overwrite =
+    ap (λ (b : Account). b.taken) (account-push pages page_bytes events (Put bytes overwrite))
+    ∙ elim (cases_Bool (accepts pages page_bytes (account pages page_bytes events) bytes overwrite)) [
+      | inl t ↦ rw t refl
+      | inr f ↦ rw f refl
+    ]
+
+-- the account after a read of the first record that is kept
+pub read-is : (pages page_bytes : ℕ) (events : List Event) (rs : List Accepted) → kept page_bytes (account pages page_bytes events) ≡ rs
+    → account pages page_bytes (events ++ Take ∷ []) ≡ with_first_taken (account pages page_bytes events) rs
+read-is pages page_bytes events rs e = account-push pages page_bytes events Take ∙ ap (with_first_taken (account pages page_bytes events)) e

@@ -1,17 +1,18 @@
 -- What the records that a ring keeps tell of losses.
-use Rattle.std.proofs.Common.{◌≡◌, inl, inr, ℕ, zero, suc, ◌+◌, ◌-◌, ◌<◌, ◌≤◌, ◌==◌, nat_le, Bool, true, false, not, ◌&&◌, if◌then◌else◌, List, [], ◌∷◌, ◌++◌, length, fold, filter, replicate, refl, sym, ap, ◌∙◌, subst, arith, length-append}
+use Rattle.std.proofs.Common.{◌≡◌, inl, inr, ℕ, ◌+◌, ◌-◌, ◌<◌, ◌≤◌, ◌==◌, nat_le, Bool, true, false, not, ◌&&◌, if◌then◌else◌, List, [], ◌∷◌, ◌++◌, length, fold, filter, refl, sym, ap, ◌∙◌, subst, arith, length-append}
 use Rattle.std.specs.List.{AllByRecursion, list_any, sum_by}
 use Rattle.std.proofs.lemmas.Bool.{cases_Bool, and_parts, false≢true, false_from_ne_true, leb-true, ne_eqb, or_cases, or_from}
 use Rattle.std.proofs.lemmas.List.{append-nil, append_assoc}
 use Rattle.std.proofs.lemmas.List.Elements.{filter-append}
 use Rattle.std.proofs.lemmas.List.Sums.{fold_push, sum_by-cons}
-use Rattle.page_ring.specs.Account.{Account, Reading, account, accepts, is_overrun, is_taken, kept, next_number, reader_page, readings_from, readings_of, stats_of, with_accepted, with_first_taken}
+use Rattle.page_ring.specs.Account.{Account, Reading, account, accepts, is_overrun, is_taken, kept, next_number, reader_page, readings_from, readings_of, stats_of, with_accepted}
 use Rattle.page_ring.specs.Cut.{Accepted, cut, filled, last_page, next_page}
 use Rattle.page_ring.specs.Events.{Event, Put, Take}
 use Rattle.page_ring.specs.Laws.{is_kept, CountsAreOfRecords, LeastIsRead}
 use Rattle.page_ring.specs.Sound.{IsRising}
-use Rattle.history_laws.proofs.KeptAfter.{account-push, cut-push, kept-accepted, next_record}
+use Rattle.history_laws.proofs.KeptAfter.{account-push, cut-push, kept-accepted, next_record, read-is, taken-put}
 use Rattle.history_laws.proofs.RingCounts.{kept-few, length-cut}
+use Rattle.history_laws.proofs.RingReads.{overrun-is}
 
 -- how many lost records some readings tell of
 abbrev pub lost_in : List Reading → ℕ
@@ -164,11 +165,6 @@ in_order-put pages page_bytes events bytes overwrite some h =
       | inr f ↦ rw f (record { before = h.before; behind = h.behind; rising = h.rising; last = h.last })
     ])
 
--- the account after a read of the first record that is kept
-read-is : (pages page_bytes : ℕ) (events : List Event) (rs : List Accepted) → kept page_bytes (account pages page_bytes events) ≡ rs
-    → account pages page_bytes (events ++ Take ∷ []) ≡ with_first_taken (account pages page_bytes events) rs
-read-is pages page_bytes events rs e = account-push pages page_bytes events Take ∙ ap (with_first_taken (account pages page_bytes events)) e
-
 in_order-read : LeastIsRead → (pages page_bytes : ℕ) (events : List Event) → IsReadInOrder pages page_bytes (account pages page_bytes events)
     → IsReadInOrder pages page_bytes (account pages page_bytes (events ++ Take ∷ []))
 in_order-read least pages page_bytes events h = by (kept page_bytes a) refl
@@ -224,21 +220,6 @@ lost_in-kept least pages page_bytes events some =
     let h = in_order least pages page_bytes events some in
     lost_between (next_number a) (length a.accepted) (kept page_bytes a) h.rising ∙ h.last
 
-overrun-is : (pages page_bytes : ℕ) (events : List Event)
-    → let a = account pages page_bytes events in
-    (stats_of pages page_bytes events).overrun ≡ length a.accepted - length (kept page_bytes a) - length a.taken
-unfolding stats_of
-overrun-is pages page_bytes events = refl
-
-taken-put : (pages page_bytes : ℕ) (events : List Event) (bytes : List ℕ) (overwrite : Bool)
-    → (account pages page_bytes (events ++ Put bytes overwrite ∷ [])).taken ≡ (account pages page_bytes events).taken
-taken-put pages page_bytes events bytes overwrite =
-    ap (λ (b : Account). b.taken) (account-push pages page_bytes events (Put bytes overwrite))
-    ∙ elim (cases_Bool (accepts pages page_bytes (account pages page_bytes events) bytes overwrite)) [
-      | inl t ↦ rw t refl
-      | inr f ↦ rw f refl
-    ]
-
 -- a put tells of those that it overwrites
 pub lost_in-put : LeastIsRead → CountsAreOfRecords → (pages page_bytes : ℕ) (events : List Event) (bytes : List ℕ) (overwrite : Bool) → 0 < pages
     → let then_events = events ++ Put bytes overwrite ∷ [] in
@@ -260,37 +241,7 @@ lost_in-put least counts pages page_bytes events bytes overwrite some =
       ap (fold (λ (_ : ℕ) (t : Accepted). t.number + 1) 0) same,
     )
 
--- a read overwrites none
-overrun-read : LeastIsRead → (pages page_bytes : ℕ) (events : List Event)
-    → (stats_of pages page_bytes (events ++ Take ∷ [])).overrun ≡ (stats_of pages page_bytes events).overrun
-overrun-read least pages page_bytes events = overrun-is pages page_bytes (events ++ Take ∷ []) ∙ by (kept page_bytes a) refl ∙ sym (overrun-is pages page_bytes events)
-  where
-    a : Account
-    a = account pages page_bytes events
-
-    overrun_by : Account → ℕ
-    overrun_by b = length b.accepted - length (kept page_bytes b) - length b.taken
-
-    by : (rs : List Accepted) → kept page_bytes a ≡ rs → overrun_by (account pages page_bytes (events ++ Take ∷ [])) ≡ overrun_by a
-    by [] e = ap overrun_by (read-is pages page_bytes events [] e)
-    by (r ∷ rest) e =
-        let b : Account = record a { taken = a.taken ++ r ∷ [] } in
-        let is : account pages page_bytes (events ++ Take ∷ []) ≡ b = read-is pages page_bytes events (r ∷ rest) e in
-        let left : length (kept page_bytes b) ≡ length rest = ap length (ap (kept page_bytes) (sym is) ∙ (least pages page_bytes events r rest e).kept_after) in
-        let was : length (kept page_bytes a) ≡ length (r ∷ rest) = ap length e in
-        let one : length (a.taken ++ r ∷ []) ≡ length a.taken + 1 = rw length-append (omega arith) in
-        let same : length a.accepted - length (kept page_bytes b) - length (a.taken ++ r ∷ [])
-        ≡ length a.accepted - length (kept page_bytes a) - length a.taken = omega (arith, left, was, one) in
-        ap overrun_by is ∙ same
-
-pub overrun-reads : LeastIsRead → (pages page_bytes : ℕ) (events : List Event) (reads : ℕ)
-    → (stats_of pages page_bytes (events ++ replicate reads Take)).overrun ≡ (stats_of pages page_bytes events).overrun
-overrun-reads least pages page_bytes events zero = ap (λ (es : List Event). (stats_of pages page_bytes es).overrun) (append-nil events)
-overrun-reads least pages page_bytes events (suc reads) =
-    ap (λ (es : List Event). (stats_of pages page_bytes es).overrun) (sym (append_assoc events (Take ∷ []) (replicate reads Take)))
-    ∙ overrun-reads least pages page_bytes (events ++ Take ∷ []) reads ∙ overrun-read least pages page_bytes events
-
 -- a ring that was never used
-pub lost_in-new : (pages page_bytes : ℕ) → (lost_in (readings_of pages page_bytes []) ≡ 0) × ((stats_of pages page_bytes []).overrun ≡ 0)
+pub lost_in-new : (pages page_bytes : ℕ) → lost_in (readings_of pages page_bytes []) ≡ (stats_of pages page_bytes []).overrun
 unfolding readings_of stats_of account cut
-lost_in-new pages page_bytes = (refl, refl)
+lost_in-new pages page_bytes = refl

@@ -1,4 +1,4 @@
 pub mod AccountedFor
 pub mod ReadsInParts
 pub mod ReadOnce
-pub mod ToldLosses
+pub mod RingTotals

@@ -3,7 +3,7 @@
 ghost use Rattle.history_laws.specs.AccountedFor.{EmissionsAreAccountedFor, ShownCountsAccountForEmissions};
 ghost use Rattle.history_laws.specs.ReadOnce.{NothingIsReadTwice, ReadTimesRise};
 ghost use Rattle.history_laws.specs.ReadsInParts.{ReadsShowInTurn, ReadsLeaveTheSame};
-ghost use Rattle.history_laws.specs.ToldLosses.{LossesAreTold, LostAddsUp};
+ghost use Rattle.history_laws.specs.RingTotals.{RingsCountEmissions, ReadIsWhatPipesShowed, LossesAreTold, LostAddsUp};
 
 /// Emissions are accounted for. As long as nothing empties a ring of a CPU (`>` to a trace file, a number but 1 written to `snapshot`), `entries`,
 /// `overrun`, `read` and `dropped` of the CPU, over the instance's live side and the other one, are together the emissions on the CPU that the
@@ -12,8 +12,19 @@ pub fn emissions_are_accounted_for()
     ensures both { EmissionsAreAccountedFor }
     ensures shown { ShownCountsAccountForEmissions }
 {
+    rings_count_what_was_done();
+}
+
+/// What one ring counts, a CPU's of one side, is what was done since it was new or emptied: its counts are together the emissions recorded in it, and
+/// its `read` is the records that pipes showed of it.
+pub fn rings_count_what_was_done()
+    ensures recorded { RingsCountEmissions }
+    ensures read { ReadIsWhatPipesShowed }
+{
     page_ring::laws::offered_is_puts();
     page_ring::laws::counts_are_of_records();
+    page_ring::laws::least_is_read();
+    trace_history::laws::pipe_reads_consume_what_they_show();
 }
 
 /// Nothing is read twice: in a legal history each timestamp is that of at most one record of a CPU that an instance's pipes showed, whatever was
@@ -35,8 +46,8 @@ pub fn reads_add_up()
     page_ring::laws::least_is_read();
 }
 
-/// Losses add up: the lost counts that pipes told of a ring since it was new or emptied, and those that its kept records are going to tell, are
-/// together its `overrun`. So where nothing is kept, pipes told of all of it.
+/// Losses add up: the `overrun` of a ring is the lost records of which pipes told since it was new or emptied, and those of which its kept records are
+/// going to tell. So where nothing is kept, pipes told of all of them.
 pub fn losses_add_up()
     ensures told { LossesAreTold }
     ensures all { LostAddsUp }

@@ -2,7 +2,7 @@ use Rattle.history_laws.proofs.AccountedEmissions.{emissions_are_accounted_for, 
 use Rattle.history_laws.proofs.laws.emissions_are_accounted_for.Goals as goal
 
 pub returns-clause-both : goal.returns-clause-both
-returns-clause-both c = emissions_are_accounted_for c.offered_is_puts.ensures c.counts_are_of_records.ensures.records
+returns-clause-both c = emissions_are_accounted_for c.rings_count_what_was_done.ensures.recorded
 
 pub returns-clause-shown : goal.returns-clause-shown
-returns-clause-shown c = shown_counts_account_for_emissions c.offered_is_puts.ensures c.counts_are_of_records.ensures.records
+returns-clause-shown c = shown_counts_account_for_emissions c.rings_count_what_was_done.ensures.recorded

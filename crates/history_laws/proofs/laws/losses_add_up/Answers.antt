@@ -1,4 +1,4 @@
-use Rattle.history_laws.proofs.LossesTold.{losses_are_told, lost_adds_up}
+use Rattle.history_laws.proofs.RingTotals.{losses_are_told, lost_adds_up}
 use Rattle.history_laws.proofs.laws.losses_add_up.Goals as goal
 
 pub returns-clause-told : goal.returns-clause-told

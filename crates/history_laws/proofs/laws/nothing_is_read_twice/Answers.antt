@@ -1,4 +1,5 @@
-use Rattle.history_laws.proofs.ReadOrder.{nothing_is_read_twice, read_times_rise}
+use Rattle.history_laws.proofs.RisingReads.{read_times_rise}
+use Rattle.history_laws.proofs.SingleReads.{nothing_is_read_twice}
 use Rattle.history_laws.proofs.laws.nothing_is_read_twice.Goals as goal
 
 pub returns-clause-once : goal.returns-clause-once

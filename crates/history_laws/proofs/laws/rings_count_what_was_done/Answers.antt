@@ -1,0 +1,18 @@
+use Rattle.history_laws.proofs.RingTotals.{rings_count_emissions, read_is_what_pipes_showed}
+use Rattle.history_laws.proofs.laws.rings_count_what_was_done.Goals as goal
+
+pub returns-clause-recorded : goal.returns-clause-recorded
+returns-clause-recorded c =
+    rings_count_emissions (record {
+      all = c.pipe_reads_consume_what_they_show.ensures.all;
+      one = c.pipe_reads_consume_what_they_show.ensures.cpu;
+      least = c.least_is_read.ensures.least;
+    }) c.offered_is_puts.ensures c.counts_are_of_records.ensures.records
+
+pub returns-clause-read : goal.returns-clause-read
+returns-clause-read c =
+    read_is_what_pipes_showed (record {
+      all = c.pipe_reads_consume_what_they_show.ensures.all;
+      one = c.pipe_reads_consume_what_they_show.ensures.cpu;
+      least = c.least_is_read.ensures.least;
+    })
