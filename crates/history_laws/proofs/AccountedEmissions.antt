@@ -1,15 +1,11 @@
 -- Over both sides of an instance, the emissions that were recorded since a ring was emptied are all of them, if none was.
-use Rattle.std.proofs.Common.{◌≡◌, ℕ, zero, suc, ◌+◌, ◌-◌, ◌%◌, ◌≤◌, ◌==◌, Bool, true, false, ◌||◌, if◌then◌else◌, List, [], ◌∷◌, Option, refl, ap, arith, true≢false}
+use Rattle.std.proofs.Common.{◌≡◌, ℕ, zero, suc, ◌+◌, ◌-◌, ◌%◌, ◌≤◌, ◌==◌, Bool, true, false, ◌||◌, if◌then◌else◌, List, [], ◌∷◌, Option, refl, ◌∙◌, ap, arith, true≢false}
 use Rattle.trace_command.specs.Requests.{Request}
 use Rattle.trace_history.specs.Settings.{makes}
 use Rattle.trace_history.specs.Snapshots.{exchanges, exchange_count, live_side}
 use Rattle.trace_history.proofs.Sides.{live-small}
-use Rattle.history_laws.specs.AccountedFor.{recorded_count, empties_live, empties_spare, was_emptied, EmissionsAreAccountedFor, ShownCountsAccountForEmissions}
-use Rattle.history_laws.specs.RingTotals.{since_new, emissions_of, RingsCountEmissions}
-
--- the emissions that were recorded in a ring of a side since it was emptied
-abbrev recorded_in : Option (List ℕ) → ℕ → ℕ → List Request → ℕ
-recorded_in instance cpu side past = since_new (emissions_of instance cpu) instance side cpu past
+use Rattle.history_laws.specs.AccountedFor.{emissions_of, empties_live, empties_spare, shown_of, since_made, was_emptied, EmissionsAreAccountedFor, EmissionsAreShownOrCounted, ShownCountsAccountForEmissions}
+use Rattle.history_laws.specs.RingTotals.{since_new, ReadIsWhatPipesShowed, RingsCountEmissions}
 
 -- ---- one request later
 
@@ -18,25 +14,25 @@ neither true y h = absurd (true≢false h)
 neither false y h = (refl, h)
 
 -- a request that empties neither ring of the CPU adds to the one that is live
-recorded-after : (instance : Option (List ℕ)) (cpu side : ℕ) (past : List Request) (request : Request) → makes instance request ≡ false
+added-after : (adds : List Request → Request → ℕ) (instance : Option (List ℕ)) (cpu side : ℕ) (past : List Request) (request : Request) → makes instance request ≡ false
     → empties_live instance cpu request ≡ false → empties_spare instance request ≡ false
-    → recorded_in instance cpu side (request ∷ past)
-    ≡ recorded_in instance cpu side past + (if side == live_side instance past then emissions_of instance cpu past request else 0)
-recorded-after instance cpu side past request alive live spare = rw alive (by (side == live_side instance past))
+    → since_new adds instance side cpu (request ∷ past)
+    ≡ since_new adds instance side cpu past + (if side == live_side instance past then adds past request else 0)
+added-after adds instance cpu side past request alive live spare = rw alive (by (side == live_side instance past))
   where
     n : ℕ
-    n = recorded_in instance cpu side past
+    n = since_new adds instance side cpu past
 
     added : Bool → ℕ
-    added here = n + (if here then emissions_of instance cpu past request else 0)
+    added here = n + (if here then adds past request else 0)
 
     by : (here : Bool) → (if (if here then empties_live instance cpu request else empties_spare instance request) then 0 else added here) ≡ added here
     by true = rw live refl
     by false = rw spare refl
 
-recorded-made : (instance : Option (List ℕ)) (cpu side : ℕ) (past : List Request) (request : Request) → makes instance request ≡ true
-    → recorded_in instance cpu side (request ∷ past) ≡ 0
-recorded-made instance cpu side past request new = rw new refl
+added-made : (adds : List Request → Request → ℕ) (instance : Option (List ℕ)) (cpu side : ℕ) (past : List Request) (request : Request) → makes instance request ≡ true
+    → since_new adds instance side cpu (request ∷ past) ≡ 0
+added-made adds instance cpu side past request new = rw new refl
 
 -- ---- over both sides
 
@@ -46,26 +42,26 @@ one-live zero added few = omega arith
 one-live (suc zero) added few = omega arith
 one-live (suc (suc side)) added few = absurd (omega (arith, few))
 
-both-recorded : (past : List Request) (instance : Option (List ℕ)) (cpu : ℕ) → was_emptied instance cpu past ≡ false
-    → recorded_in instance cpu 0 past + recorded_in instance cpu 1 past ≡ recorded_count instance cpu past
-both-recorded [] instance cpu keeps = refl
-both-recorded (request ∷ past) instance cpu keeps = by (makes instance request) refl keeps (both-recorded past instance cpu)
+both-added : (adds : List Request → Request → ℕ) (past : List Request) (instance : Option (List ℕ)) (cpu : ℕ) → was_emptied instance cpu past ≡ false
+    → since_new adds instance 0 cpu past + since_new adds instance 1 cpu past ≡ since_made adds instance past
+both-added adds [] instance cpu keeps = refl
+both-added adds (request ∷ past) instance cpu keeps = by (makes instance request) refl keeps (both-added adds past instance cpu)
   where
     by : (new : Bool) → makes instance request ≡ new
         → (if new then false else empties_live instance cpu request || (empties_spare instance request || was_emptied instance cpu past)) ≡ false
-        → (was_emptied instance cpu past ≡ false → recorded_in instance cpu 0 past + recorded_in instance cpu 1 past ≡ recorded_count instance cpu past)
-        → recorded_in instance cpu 0 (request ∷ past) + recorded_in instance cpu 1 (request ∷ past)
-        ≡ (if new then 0 else recorded_count instance cpu past + emissions_of instance cpu past request)
+        → (was_emptied instance cpu past ≡ false → since_new adds instance 0 cpu past + since_new adds instance 1 cpu past ≡ since_made adds instance past)
+        → since_new adds instance 0 cpu (request ∷ past) + since_new adds instance 1 cpu (request ∷ past)
+        ≡ (if new then 0 else since_made adds instance past + adds past request)
     by true new keeps before =
-        omega (arith, recorded-made instance cpu 0 past request new, recorded-made instance cpu 1 past request new)
+        omega (arith, added-made adds instance cpu 0 past request new, added-made adds instance cpu 1 past request new)
     by false alive keeps before =
         let first = neither (empties_live instance cpu request) (empties_spare instance request || was_emptied instance cpu past) keeps in
         let others = neither (empties_spare instance request) (was_emptied instance cpu past) first.1 in
         omega (
           arith,
-          recorded-after instance cpu 0 past request alive first.0 others.0,
-          recorded-after instance cpu 1 past request alive first.0 others.0,
-          one-live (live_side instance past) (emissions_of instance cpu past request) (live-small instance past),
+          added-after adds instance cpu 0 past request alive first.0 others.0,
+          added-after adds instance cpu 1 past request alive first.0 others.0,
+          one-live (live_side instance past) (adds past request) (live-small instance past),
           before others.1,
         )
 
@@ -75,6 +71,14 @@ both-sides f zero few = refl
 both-sides f (suc zero) few = omega arith
 both-sides f (suc (suc side)) few = absurd (omega (arith, few))
 
+-- what requests add to the live side and to the other
+sides-added : (adds : List Request → Request → ℕ) (past : List Request) (instance : Option (List ℕ)) (cpu : ℕ) → was_emptied instance cpu past ≡ false
+    → let side = live_side instance past in
+    since_new adds instance side cpu past + since_new adds instance (1 - side) cpu past ≡ since_made adds instance past
+sides-added adds past instance cpu keeps =
+    both-sides (λ side. since_new adds instance side cpu past) (live_side instance past) (live-small instance past)
+    ∙ both-added adds past instance cpu keeps
+
 pub emissions_are_accounted_for : RingsCountEmissions → EmissionsAreAccountedFor
 emissions_are_accounted_for counts g past instance cpu inside keeps =
     let side = live_side instance past in
@@ -82,26 +86,37 @@ emissions_are_accounted_for counts g past instance cpu inside keeps =
       arith,
       counts g past instance side cpu inside,
       counts g past instance (1 - side) cpu inside,
-      both-sides (λ s. recorded_in instance cpu s past) side (live-small instance past),
-      both-recorded past instance cpu keeps,
+      sides-added (emissions_of instance cpu) past instance cpu keeps,
+    )
+
+pub emissions_are_shown_or_counted : RingsCountEmissions → ReadIsWhatPipesShowed → EmissionsAreShownOrCounted
+emissions_are_shown_or_counted counts read g past instance cpu inside keeps =
+    let side = live_side instance past in
+    omega (
+      arith,
+      emissions_are_accounted_for counts g past instance cpu inside keeps,
+      read g past instance side cpu,
+      read g past instance (1 - side) cpu,
+      sides-added (shown_of g instance cpu) past instance cpu keeps,
     )
 
 -- ---- without a snapshot
 
--- side 0 is live, and nothing was recorded in the other
-record IsFirstLive (instance : Option (List ℕ)) (cpu : ℕ) (past : List Request) : Type 0 where
+-- side 0 is live, and nothing was added to the other
+record IsFirstLive (adds : List Request → Request → ℕ) (instance : Option (List ℕ)) (cpu : ℕ) (past : List Request) : Type 0 where
   live : live_side instance past ≡ 0
-  other : recorded_in instance cpu 1 past ≡ 0
+  other : since_new adds instance 1 cpu past ≡ 0
 
-first-live : (past : List Request) (instance : Option (List ℕ)) (cpu : ℕ) → exchange_count instance past ≡ 0 → IsFirstLive instance cpu past
-first-live past instance cpu none = record { live = ap (λ (n : ℕ). n % 2) none; other = other past none }
+first-live : (adds : List Request → Request → ℕ) (past : List Request) (instance : Option (List ℕ)) (cpu : ℕ) → exchange_count instance past ≡ 0
+    → IsFirstLive adds instance cpu past
+first-live adds past instance cpu none = record { live = ap (λ (n : ℕ). n % 2) none; other = other past none }
   where
-    other : (past : List Request) → exchange_count instance past ≡ 0 → recorded_in instance cpu 1 past ≡ 0
+    other : (past : List Request) → exchange_count instance past ≡ 0 → since_new adds instance 1 cpu past ≡ 0
     other [] none = refl
     other (request ∷ past) none = by (makes instance request) refl none (other past)
       where
         added : ℕ
-        added = recorded_in instance cpu 1 past + (if 1 == live_side instance past then emissions_of instance cpu past request else 0)
+        added = since_new adds instance 1 cpu past + (if 1 == live_side instance past then adds past request else 0)
 
         by_emptied : (empties : Bool) → added ≡ 0 → (if empties then 0 else added) ≡ 0
         by_emptied true is = refl
@@ -109,8 +124,8 @@ first-live past instance cpu none = record { live = ap (λ (n : ℕ). n % 2) non
 
         by : (new : Bool) → makes instance request ≡ new
             → (if new then 0 else exchange_count instance past + (if exchanges instance past request then 1 else 0)) ≡ 0
-            → (exchange_count instance past ≡ 0 → recorded_in instance cpu 1 past ≡ 0) → recorded_in instance cpu 1 (request ∷ past) ≡ 0
-        by true new none before = recorded-made instance cpu 1 past request new
+            → (exchange_count instance past ≡ 0 → since_new adds instance 1 cpu past ≡ 0) → since_new adds instance 1 cpu (request ∷ past) ≡ 0
+        by true new none before = added-made adds instance cpu 1 past request new
         by false alive none before =
             let still : exchange_count instance past ≡ 0 = omega (arith, none) in
             let live : live_side instance past ≡ 0 = ap (λ (n : ℕ). n % 2) still in
@@ -119,11 +134,12 @@ first-live past instance cpu none = record { live = ap (λ (n : ℕ). n % 2) non
 
 pub shown_counts_account_for_emissions : RingsCountEmissions → ShownCountsAccountForEmissions
 shown_counts_account_for_emissions counts g past instance cpu inside keeps none =
-    let first = first-live past instance cpu none in
+    let adds = emissions_of instance cpu in
+    let first = first-live adds past instance cpu none in
     omega (
       arith,
       counts g past instance (live_side instance past) cpu inside,
-      ap (λ (s : ℕ). recorded_in instance cpu s past) first.live,
+      ap (λ (side : ℕ). since_new adds instance side cpu past) first.live,
       first.other,
-      both-recorded past instance cpu keeps,
+      both-added adds past instance cpu keeps,
     )

@@ -15,9 +15,9 @@ use Rattle.trace_history.specs.Settings.{makes}
 use Rattle.trace_history.specs.Snapshots.{live_side}
 use Rattle.trace_history.proofs.Families.{at-replicate}
 use Rattle.trace_history.proofs.Sides.{side-made}
-use Rattle.history_laws.specs.AccountedFor.{empties_live, empties_spare}
+use Rattle.history_laws.specs.AccountedFor.{emissions_of, empties_live, empties_spare, shown_of}
 use Rattle.history_laws.specs.ReadOnce.{taken_by}
-use Rattle.history_laws.specs.RingTotals.{since_new, emissions_of, shown_of, lost_of, RingsCountEmissions, ReadIsWhatPipesShowed, LossesAreTold, LostAddsUp}
+use Rattle.history_laws.specs.RingTotals.{since_new, lost_of, RingsCountEmissions, ReadIsWhatPipesShowed, LossesAreTold, LostAddsUp}
 use Rattle.history_laws.proofs.RingCounts.{counted-puts, puts-append}
 use Rattle.history_laws.proofs.RingLosses.{lost_in, lost_in-new, lost_in-put}
 use Rattle.history_laws.proofs.RingReads.{read-put}

@@ -1,6 +1,6 @@
 -- Emissions are accounted for: as long as nothing empties them, the two sides of an instance's rings count each emission that it recorded
 -- (ftrace.rst, "The File System", `per_cpu/cpu0/stats`; "Snapshot"). The newest request comes first.
-use Rattle.std.specs.Prelude.{◌≡◌, ℕ, ◌+◌, ◌<◌, ◌==◌, Bool, false, not, ◌&&◌, ◌||◌, if◌then◌else◌, List, [], ◌∷◌, Option, Some, None}
+use Rattle.std.specs.Prelude.{◌≡◌, ℕ, ◌+◌, ◌<◌, ◌==◌, Bool, false, not, ◌&&◌, ◌||◌, if◌then◌else◌, List, [], ◌∷◌, length, Option, Some, None}
 use Rattle.page_ring.specs.declared.rings.RingStats.{RingStats}
 use Rattle.trace_buffer.specs.Families.{cpu_stats}
 use Rattle.trace_command.specs.Paths.{OfInstance, OfCpu}
@@ -12,18 +12,31 @@ use Rattle.trace_history.specs.Emissions.{Emitted, emitted, is_recorded}
 use Rattle.trace_history.specs.Rings.{rings, other_rings}
 use Rattle.trace_history.specs.Settings.{is_same, makes}
 use Rattle.trace_history.specs.Snapshots.{clears_spare, exchange_count, written_snapshot}
+use Rattle.history_laws.specs.ReadOnce.{taken_by}
 
 -- whether an emission that follows this past is one on a CPU that the instance records
 abbrev pub is_recorded_on : Option (List ℕ) → ℕ → List Request → Option Emitted → Bool
 is_recorded_on instance cpu past None = false
 is_recorded_on instance cpu past (Some e) = e.cpu == cpu && is_recorded instance past e
 
--- how many emissions on a CPU the instance recorded since it was last made
+-- the sum of what requests add since the instance was last made
+abbrev pub since_made : (List Request → Request → ℕ) → Option (List ℕ) → List Request → ℕ
+since_made adds instance [] = 0
+since_made adds instance (request ∷ past) = if makes instance request then 0 else since_made adds instance past + adds past request
+
+-- how many emissions on a CPU the instance recorded since then
+abbrev pub emissions_of : Option (List ℕ) → ℕ → List Request → Request → ℕ
+emissions_of instance cpu past request = if is_recorded_on instance cpu past (emitted past request) then 1 else 0
+
 abbrev pub recorded_count : Option (List ℕ) → ℕ → List Request → ℕ
-recorded_count instance cpu [] = 0
-recorded_count instance cpu (request ∷ past) =
-    if makes instance request then 0
-    else recorded_count instance cpu past + (if is_recorded_on instance cpu past (emitted past request) then 1 else 0)
+recorded_count instance cpu past = since_made (emissions_of instance cpu) instance past
+
+-- how many records of a CPU its pipes showed since then
+abbrev pub shown_of : Config → Option (List ℕ) → ℕ → List Request → Request → ℕ
+shown_of g instance cpu past request = length (taken_by g instance cpu past request)
+
+abbrev pub shown_count : Config → Option (List ℕ) → ℕ → List Request → ℕ
+shown_count g instance cpu past = since_made (shown_of g instance cpu) instance past
 
 -- whether a request empties a CPU's ring of the live side: `>` to the instance's `trace` or to the CPU's
 abbrev pub empties_live : Option (List ℕ) → ℕ → Request → Bool
@@ -43,15 +56,26 @@ was_emptied instance cpu (request ∷ past) =
     if makes instance request then false
     else empties_live instance cpu request || (empties_spare instance request || was_emptied instance cpu past)
 
--- how many records the counts of a ring tell of: those kept, overwritten, consumed and refused
+-- how many records the counts of a ring tell of: those kept, overwritten and refused, and those consumed
+abbrev pub not_read : RingStats → ℕ
+not_read stats = stats.entries + stats.overrun + stats.dropped
+
 abbrev pub counted : RingStats → ℕ
-counted stats = stats.entries + stats.overrun + stats.read + stats.dropped
+counted stats = not_read stats + stats.read
 
 -- Over both sides, the counts of a CPU are together the emissions on it that the instance recorded, if none of the CPU's rings was emptied.
 abbrev pub EmissionsAreAccountedFor : Type 0
 EmissionsAreAccountedFor =
     (g : Config) (past : List Request) (instance : Option (List ℕ)) (cpu : ℕ) → cpu < g.cpus → was_emptied instance cpu past ≡ false
     → counted (cpu_stats g.pages g.page_bytes (rings g instance past) cpu) + counted (cpu_stats g.pages g.page_bytes (other_rings g instance past) cpu)
+    ≡ recorded_count instance cpu past
+
+-- Those consumed are the records that pipes showed.
+abbrev pub EmissionsAreShownOrCounted : Type 0
+EmissionsAreShownOrCounted =
+    (g : Config) (past : List Request) (instance : Option (List ℕ)) (cpu : ℕ) → cpu < g.cpus → was_emptied instance cpu past ≡ false
+    → shown_count g instance cpu past + (not_read (cpu_stats g.pages g.page_bytes (rings g instance past) cpu)
+    + not_read (cpu_stats g.pages g.page_bytes (other_rings g instance past) cpu))
     ≡ recorded_count instance cpu past
 
 -- Until a snapshot is taken, the counts that the CPU's `stats` shows are all of them.

@@ -36,7 +36,8 @@ read_from_side g instance side cpu [] = []
 read_from_side g instance side cpu (request ∷ past) =
     read_from_side g instance side cpu past ++ (if side == live_side instance past then taken_by g instance cpu past request else [])
 
--- in a legal history at most one of the records of a CPU that pipes showed has a timestamp, whatever was emptied, exchanged or made again between
+-- in a legal history at most one of the records of a CPU that pipes showed has a given timestamp, whatever was emptied, exchanged or made again in
+-- between (each emission has its own)
 abbrev pub NothingIsReadTwice : Type 0
 NothingIsReadTwice =
     (g : Config) (entries : List Entry) (instance : Option (List ℕ)) (cpu time : ℕ) → IsInRange g → IsLegalNewestFirst g entries

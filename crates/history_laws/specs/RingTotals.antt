@@ -1,14 +1,13 @@
 -- What requests come to for one ring, a CPU's of one side of an instance, since it was new or emptied: its counts, and what pipes showed of it
 -- (ftrace.rst, "The File System", `per_cpu/cpu0/stats`, `trace_pipe`). The newest request comes first.
-use Rattle.std.specs.Prelude.{◌≡◌, ℕ, ◌+◌, ◌<◌, ◌==◌, Bool, ◌||◌, if◌then◌else◌, List, [], ◌∷◌, length, sum_by, Option}
+use Rattle.std.specs.Prelude.{◌≡◌, ℕ, ◌+◌, ◌<◌, ◌==◌, Bool, ◌||◌, if◌then◌else◌, List, [], ◌∷◌, sum_by, Option}
 use Rattle.trace_buffer.specs.Families.{cpu_readings, cpu_stats}
 use Rattle.trace_command.specs.Requests.{Request}
 use Rattle.trace_command.specs.declared.command.Config.{Config}
-use Rattle.trace_history.specs.Emissions.{emitted}
 use Rattle.trace_history.specs.Rings.{rings_of_side}
 use Rattle.trace_history.specs.Settings.{makes}
 use Rattle.trace_history.specs.Snapshots.{live_side}
-use Rattle.history_laws.specs.AccountedFor.{counted, empties_live, empties_spare, is_recorded_on}
+use Rattle.history_laws.specs.AccountedFor.{counted, emissions_of, empties_live, empties_spare, shown_of}
 use Rattle.history_laws.specs.ReadOnce.{taken_by}
 
 -- whether a request that follows this past empties a CPU's ring of a side, 0 or 1, or makes it anew
@@ -23,16 +22,7 @@ since_new adds instance side cpu (request ∷ past) =
     if empties_ring instance side cpu past request then 0
     else since_new adds instance side cpu past + (if side == live_side instance past then adds past request else 0)
 
--- ---- what a request adds
-
--- an emission on the CPU that the instance records
-abbrev pub emissions_of : Option (List ℕ) → ℕ → List Request → Request → ℕ
-emissions_of instance cpu past request = if is_recorded_on instance cpu past (emitted past request) then 1 else 0
-
--- the records of the CPU that a read of a pipe shows, and the lost ones of which it tells
-abbrev pub shown_of : Config → Option (List ℕ) → ℕ → List Request → Request → ℕ
-shown_of g instance cpu past request = length (taken_by g instance cpu past request)
-
+-- the lost records of a CPU of which a read of a pipe tells
 abbrev pub lost_of : Config → Option (List ℕ) → ℕ → List Request → Request → ℕ
 lost_of g instance cpu past request = sum_by (λ r. r.lost) (taken_by g instance cpu past request)
 

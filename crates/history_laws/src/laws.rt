@@ -1,15 +1,17 @@
 //! Theorems about histories of requests, newest first. Each function does nothing: its contract is a theorem.
 
-ghost use Rattle.history_laws.specs.AccountedFor.{EmissionsAreAccountedFor, ShownCountsAccountForEmissions};
+ghost use Rattle.history_laws.specs.AccountedFor.{EmissionsAreAccountedFor, EmissionsAreShownOrCounted, ShownCountsAccountForEmissions};
 ghost use Rattle.history_laws.specs.ReadOnce.{NothingIsReadTwice, ReadTimesRise};
 ghost use Rattle.history_laws.specs.ReadsInParts.{ReadsShowInTurn, ReadsLeaveTheSame};
 ghost use Rattle.history_laws.specs.RingTotals.{RingsCountEmissions, ReadIsWhatPipesShowed, LossesAreTold, LostAddsUp};
 
 /// Emissions are accounted for. As long as nothing empties a ring of a CPU (`>` to a trace file, a number but 1 written to `snapshot`), `entries`,
 /// `overrun`, `read` and `dropped` of the CPU, over the instance's live side and the other one, are together the emissions on the CPU that the
-/// instance recorded since it was last made. Those of the live side, which `stats` shows, are so alone until a snapshot is taken.
+/// instance recorded since it was last made; and `read` is the records that its pipes showed. Those of the live side, which `stats` shows, are so
+/// alone until a snapshot is taken.
 pub fn emissions_are_accounted_for()
     ensures both { EmissionsAreAccountedFor }
+    ensures handed_out { EmissionsAreShownOrCounted }
     ensures shown { ShownCountsAccountForEmissions }
 {
     rings_count_what_was_done();
