@@ -24,17 +24,19 @@ abbrev pub since_made : (List Request → Request → ℕ) → Option (List ℕ)
 since_made adds instance [] = 0
 since_made adds instance (request ∷ past) = if makes instance request then 0 else since_made adds instance past + adds past request
 
--- how many emissions on a CPU the instance recorded since then
+-- 1 for an emission on a CPU that the instance records
 abbrev pub emissions_of : Option (List ℕ) → ℕ → List Request → Request → ℕ
 emissions_of instance cpu past request = if is_recorded_on instance cpu past (emitted past request) then 1 else 0
 
+-- how many emissions on a CPU it recorded since it was last made
 abbrev pub recorded_count : Option (List ℕ) → ℕ → List Request → ℕ
 recorded_count instance cpu past = since_made (emissions_of instance cpu) instance past
 
--- how many records of a CPU its pipes showed since then
+-- how many records of a CPU a read of one of its pipes shows
 abbrev pub shown_of : Config → Option (List ℕ) → ℕ → List Request → Request → ℕ
 shown_of g instance cpu past request = length (taken_by g instance cpu past request)
 
+-- how many of them its pipes showed since it was last made
 abbrev pub shown_count : Config → Option (List ℕ) → ℕ → List Request → ℕ
 shown_count g instance cpu past = since_made (shown_of g instance cpu) instance past
 
@@ -56,10 +58,11 @@ was_emptied instance cpu (request ∷ past) =
     if makes instance request then false
     else empties_live instance cpu request || (empties_spare instance request || was_emptied instance cpu past)
 
--- how many records the counts of a ring tell of: those kept, overwritten and refused, and those consumed
+-- how many records a ring's counts tell of that no read consumed: those kept, overwritten and refused
 abbrev pub not_read : RingStats → ℕ
 not_read stats = stats.entries + stats.overrun + stats.dropped
 
+-- and with those that reads consumed
 abbrev pub counted : RingStats → ℕ
 counted stats = not_read stats + stats.read
 
