@@ -1,4 +1,5 @@
-//! A tracer used as a library: a book, two writes, five emissions and two reads, whose replies are printed; and threads that share a book.
+//! A tracer used as a library: a book, two writes, five emissions and two reads, whose replies are printed, and the history of these; and threads that
+//! share a book.
 #![tactic(auto)]
 
 ghost use Rattle.std.specs.Prelude.{◌≡◌, IfOk, vec_len};
@@ -7,7 +8,7 @@ use std::alloc::{AllocError, Global};
 use std::process::ExitCode;
 use std::sync::Wait;
 use std::thread::Threads;
-use trace_book::{Command, Config, Pairs, Refusal, Reply, Tracer};
+use trace_book::{Book, Command, CommandRef, Config, EntryRef, Pairs, Refusal, Reply, Tracer};
 use trace_workers::{BlockFault, OpenGate, Part, history_of};
 
 const CONFIG: Config = Config {
@@ -43,11 +44,33 @@ fn emit_five(alloc: Global, tracer: &mut Tracer) -> Result<(), Refusal> {
     Ok(())
 }
 
+/// What is printed for bytes.
+fn printed(bytes: &[u8]) -> &str {
+    str::from_utf8(bytes).unwrap_or("no text")
+}
+
 /// Prints a text, and nothing for a command that has none.
 fn show(rt: &impl Print, reply: Reply) {
     if let Reply::Text(text) = reply {
-        let shown = str::from_utf8(text.as_bytes()).unwrap_or("no text");
-        let _ = print!(rt; "{shown}");
+        let _ = print!(rt; "{}", printed(text.as_bytes()));
+    }
+}
+
+/// Prints a line for each emission of a book's history: its ticket, event and pairs, which are read where the history keeps them.
+fn show_emissions(rt: &impl Print, book: &Book) {
+    for entry in book.entries() {
+        let EntryRef {
+            ticket,
+            command,
+            ..
+        } = entry;
+        if let CommandRef::Emit { event, pairs, .. } = command {
+            let _ = print!(rt; "{ticket}: {}", printed(event));
+            for pair in pairs {
+                let _ = print!(rt; " {}={}", printed(pair.name()), printed(pair.value()));
+            }
+            let _ = println!(rt; "");
+        }
     }
 }
 
@@ -64,7 +87,9 @@ fn trace(rt: &(impl Print + AllocGlobal), tracer: &mut Tracer) -> Result<(), Ref
 
 fn run(rt: &(impl Print + AllocGlobal)) -> Result<(), Refusal> {
     let mut tracer = Tracer::new(rt.alloc(), CONFIG)?;
-    trace(rt, &mut tracer)
+    trace(rt, &mut tracer)?;
+    show_emissions(rt, tracer.book());
+    Ok(())
 }
 
 /// A part that makes an instance.

@@ -14,5 +14,5 @@ pub use trace_format::{BorrowedPair, Pair};
 pub use trace_history::laws;
 pub use trace_instance::Instance;
 pub use trace_lex::Text;
-pub use trace_log::Entries;
+pub use trace_log::{CommandRef, Entries, EntryRef, PairRefs};
 pub use tracer::Tracer;

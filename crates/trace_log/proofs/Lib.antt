@@ -6,4 +6,3 @@ pub mod PairReads
 pub mod HistoryFacts
 pub mod ShortEntries
 pub mod PairWrites
-pub mod EntrySteps

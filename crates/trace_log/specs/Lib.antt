@@ -6,3 +6,4 @@ pub mod ChunkSeen
 pub mod ChunkBytes
 pub mod HistoryBytes
 pub mod EntriesLeft
+pub mod EntryRefs

@@ -1,14 +1,14 @@
 //! How entries are read from bytes: `specs/EntryDecoding.antt` says it part by part.
 
-ghost use Rattle.std.specs.Prelude.{◌≡◌, slice_index, drop, IfOk, OnOk};
+ghost use Rattle.std.specs.Prelude.{◌≡◌, slice_index, drop};
 ghost use Rattle.std.specs.Int.{w32, w64, from_le_bytes, cast_signed};
 ghost use Rattle.trace_log.specs.EntryDecoding.{length_in, after_length, text_in, after_text, pairs_in, after_pairs, emission_in, after_emission, other_of, other_in, after_other, command_in, after_command, entry_in, after_entry};
+ghost use Rattle.trace_log.specs.EntryRefs.{command_shown, entry_shown};
 
-use std::alloc::{AllocError, Global};
+use crate::entry_ref::{CommandRef, EntryRef};
+use crate::pair_refs::PairRefs;
 use std::marker::Model;
-use trace_command::{Command, Entry, Pairs};
-use trace_format::Pair;
-use trace_lex::Text;
+use trace_format::BorrowedPair;
 
 /// Bytes that are read from the first one on, seen as those that are left.
 #[derive(Drop)]
@@ -117,121 +117,118 @@ impl<'a> Reader<'a> {
 
     // A string.
     #[tactic(auto, unfolding(crate::specs::EntryDecoding::text_in, crate::specs::EntryDecoding::after_text))]
-    fn text(&mut self, alloc: Global) -> Result<Text, AllocError>
-        ensures value { IfOk result (λ text. text ≡ text_in self.old) }
-        ensures left { OnOk result (self.new ≡ after_text self.old) }
+    fn text(&mut self) -> &'a [u8]
+        ensures value { result.now ≡ text_in self.old }
+        ensures left { self.new ≡ after_text self.old }
     {
         let length = self.length();
         let text = self.bytes.get(..length).unwrap_or(self.bytes);
         self.skip(length);
-        Text::from_slice(alloc, text)
+        text
     }
 
-    // A pair.
-    fn pair(&mut self, alloc: Global) -> Result<Pair, AllocError>
-        ensures value { IfOk result (λ pair. pair ≡ record { name = text_in self.old; value = text_in (after_text self.old) }) }
-        ensures left { OnOk result (self.new ≡ after_text (after_text self.old)) }
+    /// Reads a pair.
+    pub(crate) fn pair(&mut self) -> BorrowedPair<'a>
+        ensures value { result ≡ record { name = text_in self.old; value = text_in (after_text self.old) } }
+        ensures left { self.new ≡ after_text (after_text self.old) }
     {
-        let name = self.text(alloc)?;
-        let value = self.text(alloc)?;
-        Ok(Pair { name, value })
+        let name = self.text();
+        let value = self.text();
+        BorrowedPair::new(name, value)
     }
 
-    // So many pairs.
-    fn pairs(&mut self, alloc: Global, count: usize) -> Result<Pairs, AllocError>
-        ensures value { IfOk result (λ pairs. pairs ≡ pairs_in count self.old) }
-        ensures left { OnOk result (self.new ≡ after_pairs count self.old) }
+    // So many pairs, which are passed over and can be read later.
+    fn pairs(&mut self, count: usize) -> PairRefs<'a>
+        ensures value { result ≡ pairs_in count self.old }
+        ensures left { self.new ≡ after_pairs count self.old }
     {
-        if count == 1 {
-            return Ok(Pairs::from(self.pair(alloc)?));
-        }
-        let mut pairs = Vec::new(alloc);
+        let pairs = PairRefs::new(self.bytes, count);
         for _index in 0..count {
-            pairs.push(self.pair(alloc)?)?;
+            let _pair = self.pair();
         }
-        Ok(Pairs::from(pairs))
+        pairs
     }
 
     // An emission, after its kind.
     #[tactic(auto, unfolding(crate::specs::EntryDecoding::emission_in, crate::specs::EntryDecoding::after_emission))]
-    fn emission(&mut self, alloc: Global) -> Result<Command, AllocError>
-        ensures value { IfOk result (λ command. command ≡ emission_in self.old) }
-        ensures left { OnOk result (self.new ≡ after_emission self.old) }
+    fn emission(&mut self) -> CommandRef<'a>
+        ensures value { command_shown result ≡ emission_in self.old }
+        ensures left { self.new ≡ after_emission self.old }
     {
         let cpu = self.number_of_four();
         let pid = self.signed_number();
-        let event = self.text(alloc)?;
+        let event = self.text();
         let count = self.length();
-        let pairs = self.pairs(alloc, count)?;
-        Ok(Command::Emit {
+        let pairs = self.pairs(count);
+        CommandRef::Emit {
             event,
             cpu,
             pid,
             pairs,
-        })
+        }
     }
 
     // Any other command, after its kind.
     #[tactic(auto, unfolding(crate::specs::EntryDecoding::other_in, crate::specs::EntryDecoding::after_other))]
-    fn other(&mut self, alloc: Global, kind: u8) -> Result<Command, AllocError>
-        ensures value { IfOk result (λ command. command ≡ other_in kind self.old) }
-        ensures left { OnOk result (self.new ≡ after_other self.old) }
+    fn other(&mut self, kind: u8) -> CommandRef<'a>
+        ensures value { command_shown result ≡ other_in kind self.old }
+        ensures left { self.new ≡ after_other self.old }
     {
         let limit = self.number_of_eight();
-        let path = self.text(alloc)?;
-        let text = self.text(alloc)?;
-        Ok(command_of(kind, limit, path, text))
+        let path = self.text();
+        let text = self.text();
+        command_of(kind, limit, path, text)
     }
 
     // A command.
     #[tactic(auto, unfolding(crate::specs::EntryDecoding::command_in, crate::specs::EntryDecoding::after_command))]
-    fn command(&mut self, alloc: Global) -> Result<Command, AllocError>
-        ensures value { IfOk result (λ command. command ≡ command_in self.old) }
-        ensures left { OnOk result (self.new ≡ after_command self.old) }
+    fn command(&mut self) -> CommandRef<'a>
+        ensures value { command_shown result ≡ command_in self.old }
+        ensures left { self.new ≡ after_command self.old }
     {
         let kind = self.byte();
         if kind == 0 {
-            return self.emission(alloc);
+            return self.emission();
         }
-        self.other(alloc, kind)
+        self.other(kind)
     }
 
     /// Reads an entry.
     #[tactic(auto, unfolding(crate::specs::EntryDecoding::entry_in, crate::specs::EntryDecoding::after_entry))]
-    pub(crate) fn entry(&mut self, alloc: Global) -> Result<Entry, AllocError>
-        ensures value { IfOk result (λ entry. entry ≡ entry_in self.old) }
-        ensures left { OnOk result (self.new ≡ after_entry self.old) }
+    pub(crate) fn entry(&mut self) -> EntryRef<'a>
+        ensures value { entry_shown result ≡ entry_in self.old }
+        ensures left { self.new ≡ after_entry self.old }
     {
         let ticket = self.number_of_eight();
         let by = self.number_of_four();
-        let command = self.command(alloc)?;
-        Ok(Entry {
+        let command = self.command();
+        EntryRef {
             ticket,
             by,
             command,
-        })
+        }
     }
 }
 
 // The command of a kind with these parts.
-fn command_of(kind: u8, limit: u64, path: Text, text: Text) -> Command
-    ensures { result ≡ other_of kind limit path text }
+fn command_of<'a>(kind: u8, limit: u64, path: &'a [u8], text: &'a [u8]) -> CommandRef<'a>
+    ensures { command_shown result ≡ other_of kind limit path.now text.now }
 {
     match kind {
-        1 => Command::Mkdir(path),
-        2 => Command::Rmdir(path),
-        3 => Command::Write {
+        1 => CommandRef::Mkdir(path),
+        2 => CommandRef::Rmdir(path),
+        3 => CommandRef::Write {
             path,
             append: false,
             text,
         },
-        4 => Command::Write {
+        4 => CommandRef::Write {
             path,
             append: true,
             text,
         },
-        5 => Command::Read { path, limit: None },
-        _ => Command::Read {
+        5 => CommandRef::Read { path, limit: None },
+        _ => CommandRef::Read {
             path,
             limit: Some(limit),
         },

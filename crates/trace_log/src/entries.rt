@@ -1,11 +1,14 @@
 //! The entries of a history, read from its bytes one by one.
 
-ghost use Rattle.std.specs.Prelude.{◌≡◌, ◌==◌, [], ◌∷◌, ◌++◌, length, MatchOption, IfOk, OnErr};
+ghost use Rattle.std.specs.Prelude.{◌≡◌, ◌==◌, [], ◌∷◌, ◌++◌, length, MatchOption, IfOk};
+ghost use Rattle.std.specs.Iterator.{YieldsFirstBy, item_count};
 ghost use Rattle.trace_log.specs.ChunkSeen.{entries_of};
+ghost use Rattle.trace_log.specs.EntryRefs.{entry_shown};
 ghost use Rattle.trace_log.specs.PackedEntries.{entries_in};
 
 use crate::chunk::Chunk;
 use crate::decode::Reader;
+use crate::entry_ref::EntryRef;
 use std::alloc::{AllocError, Global};
 use std::marker::Model;
 use std::slice;
@@ -37,23 +40,22 @@ impl<'a> ChunkEntries<'a> {
     }
 
     /// The next entry.
-    fn next_entry(&mut self, alloc: Global) -> Result<Option<Entry>, AllocError>
-        ensures next { IfOk result (λ next. MatchOption next ((self.old ≡ []) × (self.new ≡ [])) (λ entry. self.old ≡ entry ∷ self.new)) }
-        ensures refused { OnErr result (self.new ≡ self.old) }
+    fn next_entry(&mut self) -> Option<EntryRef<'a>>
+        ensures { MatchOption result ((self.old ≡ []) × (self.new ≡ [])) (λ entry. self.old ≡ entry_shown entry ∷ self.new) }
     {
         if self.count == 0 {
-            return Ok(None);
+            return None;
         }
         let mut reader = Reader::new(self.bytes);
-        let entry = reader.entry(alloc)?;
+        let entry = reader.entry();
         self.bytes = reader.left();
         self.count -= 1;
-        Ok(Some(entry))
+        Some(entry)
     }
 }
 
-/// An iterator over the entries of a history, oldest first, seen as the list of those that are left. It makes each entry anew from the bytes that the
-/// history keeps of it, so it may be refused memory.
+/// An iterator over the entries of a history, oldest first, seen as the list of those that are left. An entry is read where the history keeps it, so no
+/// memory is taken.
 #[derive(Drop)]
 pub struct Entries<'a> {
     alloc: Global,
@@ -112,37 +114,47 @@ impl<'a> Entries<'a> {
         self.left == 0
     }
 
-    /// The next entry, or `None` if none is left. Where memory is refused, the same entry is next.
-    pub fn next_entry(&mut self) -> Result<Option<Entry>, AllocError>
-        ensures next { IfOk result (λ next. MatchOption next ((self.old ≡ []) × (self.new ≡ [])) (λ entry. self.old ≡ entry ∷ self.new)) }
-        ensures refused { OnErr result (self.new ≡ self.old) }
+    /// The next entry, or `None` if none is left.
+    pub fn next_entry(&mut self) -> Option<EntryRef<'a>>
+        ensures { MatchOption result ((self.old ≡ []) × (self.new ≡ [])) (λ entry. self.old ≡ entry_shown entry ∷ self.new) }
     {
         'step: loop {
-            if let Some(entry) = self.chunk.next_entry(self.alloc)? {
+            if let Some(entry) = self.chunk.next_entry() {
                 self.left -= 1;
-                return Ok(Some(entry));
+                return Some(entry);
             }
             match self.full.next() {
                 Some(chunk) => self.chunk = chunk.entries(),
                 None => {
-                    let Some(entry) = self.last.next_entry(self.alloc)? else {
-                        return Ok(None);
-                    };
+                    let entry = self.last.next_entry()?;
                     self.left -= 1;
-                    return Ok(Some(entry));
+                    return Some(entry);
                 }
             }
         }
     }
 
-    /// All that are left, as a vector.
-    pub fn into_vec(mut self) -> Result<Vec<Entry>, AllocError>
+    /// All that are left, as a vector. It fails only if memory is refused.
+    pub fn into_vec(self) -> Result<Vec<Entry>, AllocError>
         ensures { IfOk result (λ entries. entries.items ≡ self.entry) }
     {
-        let mut entries = Vec::with_capacity(self.alloc, self.left)?;
-        while let Some(entry) = self.next_entry()? {
-            entries.push(entry)?;
+        let alloc = self.alloc;
+        let mut entries = Vec::with_capacity(alloc, self.left)?;
+        for entry in self {
+            entries.push(entry.to_entry(alloc)?)?;
         }
         Ok(entries)
+    }
+}
+
+impl<'a> Iterator for Entries<'a> {
+    type Item = EntryRef<'a>;
+
+    ghost next_gives = { YieldsFirstBy entry_shown (λ entries. entries) };
+
+    ghost remaining = { item_count (λ entries. entries) };
+
+    fn next(&mut self) -> Option<EntryRef<'a>> {
+        self.next_entry()
     }
 }
