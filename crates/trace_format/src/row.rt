@@ -94,8 +94,8 @@ impl Row {
         Row::build_in(alloc, &mut RowMemory::new(alloc), def, &pairs)
     }
 
-    /// The row that `build` makes, in the memory of an earlier one, which is left without room. Pairs that name the fields in order take one
-    /// pass and no search. A refusal leaves the memory for the next row.
+    /// The row that `build` makes, in the memory of an earlier one. Pairs that name the fields in order take one pass and no search. The row takes
+    /// the memory's room with it; after a refusal the memory keeps what room it has. It means nothing, so contracts see no change of it.
     pub fn build_in(
         alloc: Global,
         memory: &mut RowMemory,
@@ -108,6 +108,7 @@ impl Row {
         ensures refused { IfErr result (IsRefusedRow def.now pairs.now) }
         ensures names { IfOk result (λ row. StandByName def.now.fields row.values) }
         ensures exact { IsBuilt result (row_of def.now pairs.now) }
+        ensures memory { memory.new ≡ memory.old }
     {
         Row::read_in(alloc, memory, def, pairs)
     }
@@ -173,7 +174,8 @@ impl Row {
         Row::decode_in(alloc, &mut RowMemory::new(alloc), def, bytes)
     }
 
-    /// The row that `decode` finds, in the memory of an earlier one, which is left without room.
+    /// The row that `decode` finds, in the memory of an earlier one. The row takes the memory's room with it; without a row the memory keeps what
+    /// room it has. It means nothing, so contracts see no change of it.
     pub fn decode_in(
         alloc: Global,
         memory: &mut RowMemory,
@@ -183,6 +185,7 @@ impl Row {
         ensures row { IfOk result (λ found. (row : Cells) → (found ≡ Some row) ↔ (IsRowOf def.now row × (bytes.now ≡ payload_of row))) }
         ensures names { IfOk result (λ found. IfSome found (λ row. StandByName def.now.fields row.values)) }
         ensures exact { IfOk result (λ found. found ≡ row_from def.now bytes.now) }
+        ensures memory { memory.new ≡ memory.old }
     {
         let fields = def.fields();
         if !decode_values(alloc, fields, bytes, &mut memory.values)? {

@@ -4,7 +4,7 @@
 //! of such a line are slices of it: each ends at the first byte that is not above a space. Another line is left to be read by its tokens,
 //! which would give the same for these.
 
-ghost use Rattle.std.specs.Prelude.{◌≡◌, ◌≢◌, ◌≤◌, ◌<◌, ◌∷◌, ◌++◌, ◌==◌, ◌&&◌, not, ℕ, List, [], length, drop, nat_lt, true, false, Some, None, Ok, IsErr, IsSome, IfOk, IfSome, OnSome, IfNone, MatchOption, codes};
+ghost use Rattle.std.specs.Prelude.{◌≡◌, ◌≢◌, ◌≤◌, ◌<◌, ◌∷◌, ◌++◌, ◌==◌, ◌&&◌, not, ℕ, List, [], length, drop, nat_lt, true, false, Some, None, Ok, IsErr, IsSome, IfOk, IfSome, OnSome, OnErr, IfNone, MatchOption, codes};
 ghost use Rattle.std.specs.List.{prefix_len};
 ghost use Rattle.std.specs.Option.{option_map};
 ghost use Rattle.trace_script.specs.Lines.{says_nothing, line_of};
@@ -191,11 +191,35 @@ fn bare_after_emit(line: &[u8]) -> Option<&[u8]>
 }
 
 /// The emission that a line is, if it has no quotes and no `>` and one blank between each two words. Its pairs are left in a list, which keeps
-/// its room from line to line. Every other line, and one that has a fault, is left to [`crate::prepare`]. It is inlined, so that the words that it
-/// finds are not moved.
+/// its room from line to line, and is empty if there is no such emission or memory is refused. Every other line, and one that has a fault, is left
+/// to [`crate::prepare`]. It is inlined, so that the words that it finds are not moved.
+#[inline(always)]
+pub fn plain_emission<'a>(
+    line: &'a [u8],
+    pairs: &mut Vec<BorrowedPair<'a>>,
+) -> Result<Option<EmissionHead<'a>>, AllocError>
+    ensures read { IfOk result (λ found. IfSome found (λ head. line_of line.now ≡ emission_said head pairs.new.items)) }
+    ensures found { IfOk result (λ found. IsPlainEmission line.now → IsSome found) }
+    ensures none { IfOk result (λ found. IfNone found (pairs.new.items ≡ [])) }
+    ensures refused { OnErr result (pairs.new.items ≡ []) }
+{
+    match cut_emission(line, pairs) {
+        Ok(Some(head)) => Ok(Some(head)),
+        Ok(None) => {
+            pairs.clear();
+            Ok(None)
+        }
+        Err(error) => {
+            pairs.clear();
+            Err(error)
+        }
+    }
+}
+
+/// As `plain_emission`, but pairs may be left where there is no such emission.
 #[inline(always)]
 #[tactic(auto, using(crate::proofs::BareEmissions::plain_read, crate::proofs::BareEmissions::wrong_pairs, crate::proofs::BareEmissions::no_cpu, crate::proofs::BareEmissions::no_pid, crate::proofs::BareEmissions::not_found))]
-pub fn plain_emission<'a>(
+fn cut_emission<'a>(
     line: &'a [u8],
     pairs: &mut Vec<BorrowedPair<'a>>,
 ) -> Result<Option<EmissionHead<'a>>, AllocError>

@@ -1,7 +1,7 @@
 use Rattle.std.proofs.Common.{rules, sym, w32}
 use Rattle.std.proofs.lemmas.Int.{to_z-of_z}
 use Rattle.trace_script.proofs.BareEmissions.{plain_read}
-use Rattle.trace_script.proofs.emission.plain_emission.Goals as goal
+use Rattle.trace_script.proofs.emission.cut_emission.Goals as goal
 
 pub returns-clause-read : goal.returns-clause-read
 returns-clause-read c =
