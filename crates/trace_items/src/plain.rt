@@ -1,6 +1,6 @@
 //! Emissions by themselves, read where they lie: most items of most scripts.
 
-ghost use Rattle.std.specs.Prelude.{◌≡◌, ℕ, List, ◌+◌, ◌≤◌, ◌∷◌, length, IfOk, IfSome, IsSome};
+ghost use Rattle.std.specs.Prelude.{◌≡◌, ℕ, List, [], ◌+◌, ◌≤◌, ◌∷◌, length, IfOk, IfSome, IfNone, IsSome, OnErr};
 ghost use Rattle.std.specs.Option.{option_copied};
 ghost use Rattle.trace_script.specs.Lines.{line_of};
 ghost use Rattle.trace_script.specs.PlainEmissions.{emission_said, IsPlainEmission};
@@ -22,7 +22,8 @@ pub struct PlainItem<'a> {
 }
 
 /// The item that a string begins with, if its first line is an emission that [`plain_emission`] reads. The pairs are left in a list, which keeps
-/// its room from item to item. Every other item is left to [`crate::item::next_item`]. It fails only if memory is refused.
+/// its room from item to item, and is empty if there is no such item or memory is refused. Every other item is left to [`crate::item::next_item`]. It
+/// fails only if memory is refused.
 #[inline(always)]
 #[tactic(auto, using(crate::proofs::ItemReading::emission_next, crate::proofs::ItemReading::first_is_plain))]
 pub fn plain_item<'a>(
@@ -35,6 +36,8 @@ pub fn plain_item<'a>(
     ensures shorter { IfOk result (λ found. IfSome found (λ plain. bytes_left (option_copied plain.rest) ≤ length text.now)) }
     ensures found { IfOk result (λ found. (line : List ℕ) (lines : List (List ℕ)) → lines_of text.now ≡ line ∷ lines
         → IsPlainEmission line → IsSome found) }
+    ensures none { IfOk result (λ found. IfNone found (pairs.new.items ≡ [])) }
+    ensures refused { OnErr result (pairs.new.items ≡ []) }
 {
     let (line, rest) = first_line(text);
     match plain_emission(line, pairs)? {
