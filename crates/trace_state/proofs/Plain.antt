@@ -1,5 +1,5 @@
 -- Emissions of the plain kind: what is prepared and delivered for them is what the general way prepares and delivers.
-use Rattle.std.proofs.Common.{◌≡◌, ◌≢◌, ℕ, ℤ, ◌+◌, ◌<◌, ◌≤◌, ◌==◌, Bool, true, false, not, ◌&&◌, List, [], ◌∷◌, length, get_or, set, is_some, All, Option, Some, None, Ok, refl, sym, ap, ◌∙◌, subst, arith, length-set}
+use Rattle.std.proofs.Common.{◌≡◌, ◌≢◌, ℕ, ℤ, ◌+◌, ◌<◌, ◌≤◌, ◌==◌, Bool, true, false, not, ◌&&◌, List, [], ◌∷◌, length, get_or, is_some, All, Option, Some, None, Ok, refl, sym, ap, ◌∙◌, subst, arith}
 use Rattle.std.proofs.lemmas.Bool.{false≢true, ne_eqb}
 use Rattle.std.proofs.lemmas.List.{get_or_default}
 use Rattle.trace_record.specs.Record.{IsRecord}
@@ -17,7 +17,7 @@ use Rattle.trace_instance.specs.Instances.{InstanceSeen, passed_in}
 use Rattle.trace_instance.specs.KeptHists.{AreHit}
 use Rattle.trace_instance.specs.Deliveries as deliveries
 use Rattle.trace_instance.specs.Deliveries.{CanCountRow, IsDelivered, IsOffered, IsWritten}
-use Rattle.trace_state.specs.States.{ArePassed, EachDelivered, IsPreparedEmission, StandsFor, reach_at, IsStateAlike}
+use Rattle.trace_state.specs.States.{ArePassed, IsPreparedEmission, StandsFor, reach_at, IsStateAlike}
 use Rattle.trace_state.specs.private.Emissions.{AreReached, IsAhead}
 use Rattle.trace_state.specs.private.Found.{numbered}
 use Rattle.trace_state.specs.Plain.{IsPlainAt, IsPlainIn, plain_delivery, plain_passed, plain_reach, plain_reaches}
@@ -31,7 +31,6 @@ use Rattle.trace_state.specs.declared.state.State.{State}
 use Rattle.trace_instance.specs.declared.tables.Table.{Table}
 use Rattle.trace_instance.specs.declared.trigger.Trigger.{Trigger}
 use Rattle.trace_instance.proofs.EachHist.{all-reached, none-reached}
-use Rattle.trace_state.proofs.EachInstance.{came_more, names_more}
 use Rattle.trace_state.proofs.Emitting.{answers-emission, is-ahead, is-emission, named-found, ready-emission}
 use Rattle.trace_instance.proofs.LiveSide.{accepted_some, delivered_still, taken_in}
 
@@ -180,17 +179,3 @@ plain-delivered event row cpu pid p old new plain written =
 
     offered : IsOffered d new new
     offered = record { rest = refl; tables = none-counted (deliveries.row_of d) (get_or new.hists event []) new.tables none }
-
--- and so it is to the only instance
-pub first-delivered : (event : ℕ) (row : Cells) (cpu : ℕ) (pid : ℤ) (p : Pending) (instances : List Named) (read new : Named) → IsPlainIn event instances
-    → new.name ≡ (get_or instances 0 read).name → IsWritten p plain_reach (get_or instances 0 read).instance new.instance
-    → EachDelivered (plain_delivery event row cpu pid p) instances (set instances 0 new)
-first-delivered event row cpu pid p instances read new plain same written =
-    let d : Delivery = plain_delivery event row cpu pid p in
-    let some : 0 < length instances = omega (arith, plain.one) in record {
-      many = length-set _ _ _;
-      names = λ k n inside. names_more instances instances 0 read new some same (λ j m. refl) k n;
-      came = λ k n inside. came_more (λ (j : ℕ). IsDelivered d (reach_at plain_reaches j)) instances instances 0 read new some
-          (plain-delivered event row cpu pid p (get_or instances 0 read).instance new.instance (plain.first read) written)
-          (λ j m below. absurd (omega (arith, below))) (λ j m above. refl) k n (omega (arith, inside, plain.one));
-    }

@@ -1,10 +1,11 @@
 -- Emissions of the plain kind: the only instance is the top one, it records the event whatever its row, and nothing else comes of it.
-use Rattle.std.specs.Prelude.{◌≡◌, ℕ, ℤ, true, false, Bool, List, [], ◌∷◌, length, slice_index_or, Some, None, Ok}
+use Rattle.std.specs.Prelude.{◌≡◌, ℕ, ◌+◌, ℤ, true, false, Bool, List, [], ◌∷◌, length, slice_index_or, Some, None, Ok}
 use Rattle.trace_command.specs.declared.command.Config.{Config}
 use Rattle.trace_command.specs.Requests.{Request, FitsItsTypes}
 use Rattle.trace_format.specs.Cells.{Cells}
+use Rattle.trace_instance.specs.Deliveries.{IsWritten}
 use Rattle.trace_instance.specs.Instances.{InstanceSeen}
-use Rattle.trace_state.specs.States.{IsPreparedEmission, StandsFor, no_reach}
+use Rattle.trace_state.specs.States.{IsPreparedEmission, OneCame, StandsFor, no_reach}
 use Rattle.trace_instance.specs.declared.change.Delivery.{Delivery}
 use Rattle.trace_instance.specs.declared.change.Pending.{Pending}
 use Rattle.trace_instance.specs.declared.change.Reach.{Reach}
@@ -39,6 +40,12 @@ plain_reaches = record {
   each = plain_reach ∷ no_reach ∷ no_reach ∷ no_reach ∷ no_reach ∷ no_reach ∷ no_reach ∷ no_reach ∷ [];
   recorded = true;
 }
+
+-- its record was written into the one instance that there is, and the clock ticked
+pub record IsWrittenPlain (old new : State) (pending : Pending) : Type 0 where
+  pub catalog : new.catalog ≡ old.catalog
+  pub clock : new.clock ≡ old.clock + 1
+  pub instance : OneCame (IsWritten pending plain_reach) 0 old.instances.items new.instances.items
 
 -- it passes no hist trigger's filter
 abbrev pub none_passed : List Bool

@@ -1,16 +1,16 @@
 //! Emissions of the plain kind, which most are: the only instance is the top one, and it records the event, which has no filter and no triggers
 //! there. Their record is made from the pairs at once, in memory that is kept, with no row and no delivery to each instance.
 
-ghost use Rattle.std.specs.Prelude.{◌≡◌, ℕ, ℤ, ◌+◌, ◌<◌, ◌≤◌, true, List, length, All, Some, IfSome, IfOk, OnOk, OnErr};
+ghost use Rattle.std.specs.Prelude.{◌≡◌, ◌+◌, ◌<◌, ◌≤◌, true, List, length, All, Some, IfSome, IfOk, OnOk, OnErr};
 ghost use Rattle.trace_command.specs.Configs.{IsInRange};
 ghost use Rattle.trace_command.specs.Refusals.{IsFoundEarly};
 ghost use Rattle.trace_command.specs.Requests.{Request, Emission};
-ghost use Rattle.trace_format.specs.Cells.{Cells, payload_size_of, record_size_of};
+ghost use Rattle.trace_format.specs.Cells.{payload_size_of, record_size_of};
 ghost use Rattle.trace_format.specs.Rows.{row_of};
 ghost use Rattle.trace_history.specs.History.{emission_answer};
 ghost use Rattle.trace_record.specs.Record.{IsRecord};
 ghost use Rattle.trace_state.specs.States as states;
-ghost use Rattle.trace_instance.specs.Deliveries.{HasFew, IsWritable, most_requests};
+ghost use Rattle.trace_instance.specs.Deliveries.{HasFew, IsWritable, IsWritten, most_requests};
 ghost use Rattle.trace_state.specs.States.{StandsFor, IsUsable};
 ghost use Rattle.trace_state.specs.Plain as plain;
 ghost use Rattle.trace_state.specs.private.PlainBytes.{IsRecordOf};
@@ -72,8 +72,7 @@ impl State {
         requires ready { states.CanBeWritten config.now self.old.instances.items (Some pending.now) }
         requires early { self.old.clock < most_requests }
         requires few { All (λ n. HasFew n.instance) self.old.instances.items }
-        ensures { (event : ℕ) (row : Cells) (cpu : ℕ) (pid : ℤ) → plain.IsPlainIn event self.old.instances.items
-            → states.IsEmitted self.old self.new (plain.plain_delivery event row cpu pid pending.now) }
+        ensures { plain.IsWrittenPlain self.old self.new pending.now }
     {
         self.clock += 1;
         write_first(&mut self.instances, pending);
@@ -154,8 +153,7 @@ fn write_first(instances: &mut [Named], pending: &Pending)
     requires one { length instances.old ≡ 1 }
     requires record { All (λ n. IsWritable (Some pending.now) n.instance) instances.old }
     requires few { All (λ n. HasFew n.instance) instances.old }
-    ensures { (event : ℕ) (row : Cells) (cpu : ℕ) (pid : ℤ) → plain.IsPlainIn event instances.old
-        → states.EachDelivered (plain.plain_delivery event row cpu pid pending.now) instances.old instances.new }
+    ensures { states.OneCame (IsWritten pending.now plain.plain_reach) 0 instances.old instances.new }
 {
     let recorded = Reach {
         records: true,
