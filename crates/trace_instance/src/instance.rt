@@ -192,7 +192,7 @@ impl Instance {
     }
 
     /// Whether emissions are recorded.
-    pub(crate) fn is_tracing(&self) -> bool
+    pub fn is_tracing(&self) -> bool
         ensures { result ≡ self.now.tracing }
     {
         self.tracing
