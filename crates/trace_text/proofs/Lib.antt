@@ -5,3 +5,4 @@ pub mod BufferLemmas
 pub mod SnapshotLemmas
 pub mod ZipLemmas
 pub mod LoopLemmas
+pub mod HistTextExamples

@@ -11,3 +11,4 @@ pub mod TriggerText
 pub mod EntryText
 pub mod HistText
 pub mod ShownTriggers
+pub mod HistTextExamples
