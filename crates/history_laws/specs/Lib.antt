@@ -2,3 +2,5 @@ pub mod AccountedFor
 pub mod ReadsInParts
 pub mod ReadOnce
 pub mod RingTotals
+pub mod ToldLosses
+pub mod GroupedRows
