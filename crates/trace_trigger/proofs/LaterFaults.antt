@@ -1,5 +1,5 @@
 -- What is told of a hist trigger's text once its syntax is right.
-use Rattle.std.proofs.Common.{◌≡◌, ℕ, ◌-◌, Bool, true, false, not, ◌&&◌, if◌then◌else◌, bytes_eq, List, [], ◌∷◌, length, Option, Some, None, Result, Ok, Err, subst}
+use Rattle.std.proofs.Common.{◌≡◌, ◌≢◌, ℕ, ◌-◌, Bool, true, false, not, ◌&&◌, if◌then◌else◌, bytes_eq, List, [], ◌∷◌, length, Option, Some, None, Result, Ok, Err, ap, subst}
 use Rattle.trace_format.specs.Definitions.{Definition}
 use Rattle.trace_format.specs.declared.operand.Operand.{Operand}
 use Rattle.trace_format.specs.Operands.{operand_named, is_text}
@@ -10,7 +10,7 @@ use Rattle.trace_trigger.specs.declared.piece.ListItem.{ListItem}
 use Rattle.trace_trigger.specs.declared.fault.TriggerFault.{TriggerFault}
 use Rattle.trace_trigger.specs.declared.fault.TriggerFault.TheVariants.{BadText, TooMany, FilterSyntax, NoSuchField, WrongOperator, HistSyntax, BadSize, Memory}
 use Rattle.trace_trigger.specs.Frames.{moved, filter_read, filter_of}
-use Rattle.trace_trigger.specs.TriggerAnswers.{◌>>=◌}
+use Rattle.trace_trigger.specs.TriggerAnswers.{◌>>=◌, IsAnswered}
 use Rattle.trace_trigger.specs.HistParts.{attributes_of, tail_of, condition_of}
 use Rattle.trace_trigger.specs.HistLists.{Lists, lists_of, summed_items, item_name, item_suffix}
 use Rattle.trace_trigger.specs.HistOffsets.{wrong_offsets, least}
@@ -107,3 +107,17 @@ never_bad definition text e = by (least (wrong_offsets text)) e
     by : (offset : Option ℕ) → (unless_wrong offset (lists_of (attributes_of text)) >>= λ lists. few lists >>= λ lists. spec_from definition text lists) ≡ Err BadText → ⊥
     by None f = let P : Result SpecSeen TriggerFault → Type 0 = λ answer. IsAnyLater answer in subst P f (read_is_later definition text (lists_of (attributes_of text)))
     by (Some at) f = cc
+
+-- so no call that answers it, or a step of it, tells of that
+pub known_read : (definition : Definition) (text : List ℕ) (result : Result Lists TriggerFault) → IsAnswered result (read_of text) → result ≢ Err BadText
+unfolding spec_of
+known_read definition text result is bad =
+    let told : read_of text ≡ Err BadText = subst (λ r. IsAnswered r (read_of text)) bad is in
+    never_bad definition text (ap (λ r. r >>= λ lists. few lists >>= λ lists. spec_from definition text lists) told)
+
+pub known_told : (definition : Definition) (text : List ℕ) (lists : Lists) (result : Result SpecSeen TriggerFault)
+    → IsAnswered result (spec_from definition text lists) → result ≢ Err BadText
+known_told definition text lists result is bad =
+    let told : spec_from definition text lists ≡ Err BadText = subst (λ r. IsAnswered r (spec_from definition text lists)) bad is in
+    let P : Result SpecSeen TriggerFault → Type 0 = λ answer. IsAnyLater answer in
+    subst P told (from_later definition text lists)

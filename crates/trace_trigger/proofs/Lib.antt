@@ -47,3 +47,4 @@ pub mod WrongLaws
 pub mod WrongLemmas
 pub mod WrongNames
 pub mod WrongOffsets
+pub mod SameLaws

@@ -1,8 +1,8 @@
 -- What `HistTexts` says of trigger strings, as theorems that speak of no program.
-use Rattle.std.specs.Prelude.{◌≡◌, ◌↔◌, ℕ, List, Option, Ok, Err}
+use Rattle.std.specs.Prelude.{◌≡◌, ◌≢◌, ◌↔◌, ℕ, List, Option, Ok, Err}
 use Rattle.trace_format.specs.Definitions.{Definition}
 use Rattle.trace_trigger.specs.declared.fault.TriggerFault.{TriggerFault}
-use Rattle.trace_trigger.specs.declared.fault.TriggerFault.TheVariants.{HistSyntax}
+use Rattle.trace_trigger.specs.declared.fault.TriggerFault.TheVariants.{HistSyntax, BadText}
 use Rattle.trace_trigger.specs.HistSpecs.{SpecSeen}
 use Rattle.trace_trigger.specs.HistTexts.{IsHistText, spec_of}
 use Rattle.trace_trigger.specs.HistGrammar.{Setting, IsWritten, Says}
@@ -30,3 +30,7 @@ SyntaxIsUnwritten = (definition : Definition) → (text : List ℕ) → IsHistTe
 -- is written so, the first that there is cause for
 abbrev pub RefusalIsAsWritten : Type 0
 RefusalIsAsWritten = (definition : Definition) → (text : List ℕ) → (fault : TriggerFault) → IsHistText text → (spec_of definition text ≡ Err fault) ↔ IsRefusedAs definition text fault
+
+-- it is never refused as a string that is no trigger's at all
+abbrev pub RefusalIsNoBadText : Type 0
+RefusalIsNoBadText = (definition : Definition) → (text : List ℕ) → IsHistText text → spec_of definition text ≢ Err BadText

@@ -21,5 +21,6 @@ pub mod HistSpecs
 pub mod HistTexts
 pub mod Modifiers
 pub mod SameSpecs
+pub mod SameLaws
 pub mod TriggerFaultTexts
 pub mod private

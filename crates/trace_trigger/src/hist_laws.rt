@@ -1,6 +1,7 @@
 //! What the definitions of hist triggers' texts mean. Each function does nothing: its contract is a theorem.
 
-ghost use Rattle.trace_trigger.specs.HistLaws.{OkIsWritten, SyntaxIsLeftmost, SyntaxIsUnwritten, RefusalIsAsWritten};
+ghost use Rattle.trace_trigger.specs.HistLaws.{OkIsWritten, SyntaxIsLeftmost, SyntaxIsUnwritten, RefusalIsAsWritten, RefusalIsNoBadText};
+ghost use Rattle.trace_trigger.specs.SameLaws.{SameIsDecided};
 ghost use Rattle.trace_trigger.specs.FittingLaws.{FittingSpecsCountAlike, FittingSpecsOfOneEventReadAlike, FittingIsDecided, FittingIsReflexive, FittingIsSymmetric, FittingIsTransitive};
 ghost use Rattle.trace_trigger.specs.HistExamples.{tick, move, AreRead, accepted as accepted_of_tick, accepted_of_move, wrong_attributes, wrong_table_names, wrong_items, wrong_modifiers, too_many, wrong_names, wrong_keys_of_move, wrong_values_of_move};
 
@@ -9,12 +10,19 @@ ghost use Rattle.trace_trigger.specs.HistExamples.{tick, move, AreRead, accepted
 /// exactly if it cannot be written so, whatever the event, at the leftmost offset where it is wrong: an attribute, a table's name, an item of a
 /// list, the first word's end without keys, or what follows the word. If it can be written so, it is refused exactly for the first cause that
 /// there is: too many names, the first key that is none or a string with a modifier, the first value that is none or a string, the size, the
-/// filter.
+/// filter. It is never refused as a string that is no trigger's.
 pub fn hist_triggers_are_as_written()
     ensures ok { OkIsWritten }
     ensures leftmost { SyntaxIsLeftmost }
     ensures unwritten { SyntaxIsUnwritten }
     ensures refused { RefusalIsAsWritten }
+    ensures known { RefusalIsNoBadText }
+{}
+
+/// The function by which answers are defined says of two hist triggers that they are the same exactly if their names, keys, values, sort keys and
+/// filters are.
+pub fn sameness_is_decided()
+    ensures { SameIsDecided }
 {}
 
 /// Of hist triggers that fit one another, perhaps of two events, the keys have the same modifiers, there are as many values, the sort keys mean the

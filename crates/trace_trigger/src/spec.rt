@@ -107,8 +107,8 @@ impl HistSpec {
         requires { IsHistText text.now }
         // It is what the definition gives, unless memory is refused.
         ensures exact { IsAnswered result (spec_of event.now text.now) }
-        // A hist trigger's text is never refused as `BadText`.
-        ensures known { spec_of event.now text.now ≢ Err TriggerFault.BadText }
+        // It is never refused as a string that is no trigger's.
+        ensures known { result ≢ Err TriggerFault.BadText }
     {
         let (word, tail) = cut(text);
         let written = read_written(alloc, text, word, tail)?;

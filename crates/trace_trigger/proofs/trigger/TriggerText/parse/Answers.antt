@@ -1,4 +1,5 @@
 use Rattle.std.proofs.Common.{inr, sym}
+use Rattle.trace_trigger.proofs.LaterFaults.{never_bad}
 use Rattle.trace_trigger.proofs.SaidLemmas.{attached, removed, is_attached, is_removed, said_attached, said_removed, hist_ok, hist_told, hist_never_bad}
 use Rattle.trace_trigger.proofs.trigger.TriggerText.parse.Goals as goal
 
@@ -12,11 +13,11 @@ returns-in-Err-clause-exact c =
 
 pub returns-in-Ok-clause-early : goal.returns-in-Ok-clause-early
 returns-in-Ok-clause-early c = λ bad.
-    absurd (hist_never_bad c.args.event.now c.args.text.now attached (said_attached c.args.event.now c.args.text.now (sym c.if-is_blank_text.ensures) (sym c.if-begins.ensures)) c.parse.ensures.known bad)
+    absurd (hist_never_bad c.args.event.now c.args.text.now attached (said_attached c.args.event.now c.args.text.now (sym c.if-is_blank_text.ensures) (sym c.if-begins.ensures)) (never_bad c.args.event.now c.args.text.now) bad)
 
 pub returns-in-Err-clause-early : goal.returns-in-Err-clause-early
 returns-in-Err-clause-early c = λ bad.
-    absurd (hist_never_bad c.args.event.now c.args.text.now attached (said_attached c.args.event.now c.args.text.now (sym c.if-is_blank_text.ensures) (sym c.if-begins.ensures)) c.parse.ensures.known bad)
+    absurd (hist_never_bad c.args.event.now c.args.text.now attached (said_attached c.args.event.now c.args.text.now (sym c.if-is_blank_text.ensures) (sym c.if-begins.ensures)) (never_bad c.args.event.now c.args.text.now) bad)
 
 pub returns-in-Err-clause-memory : goal.returns-in-Err-clause-memory
 returns-in-Err-clause-memory c = λ memory. inr (is_attached c.args.event.now c.args.text.now (sym c.if-begins.ensures))
@@ -31,11 +32,11 @@ returns-in-Err-parse-clause-exact c =
 
 pub returns-in-Ok-parse-clause-early : goal.returns-in-Ok-parse-clause-early
 returns-in-Ok-parse-clause-early c = λ bad.
-    absurd (hist_never_bad c.args.event.now c.args.text.now removed (said_removed c.args.event.now c.args.text.now (sym c.if-is_blank_text.ensures) (sym c.if-begins.ensures) (sym c.if-begins-2.ensures)) c.parse-then-begins-2.ensures.known bad)
+    absurd (hist_never_bad c.args.event.now c.args.text.now removed (said_removed c.args.event.now c.args.text.now (sym c.if-is_blank_text.ensures) (sym c.if-begins.ensures) (sym c.if-begins-2.ensures)) (never_bad c.args.event.now c.args.text.now) bad)
 
 pub returns-in-Err-parse-clause-early : goal.returns-in-Err-parse-clause-early
 returns-in-Err-parse-clause-early c = λ bad.
-    absurd (hist_never_bad c.args.event.now c.args.text.now removed (said_removed c.args.event.now c.args.text.now (sym c.if-is_blank_text.ensures) (sym c.if-begins.ensures) (sym c.if-begins-2.ensures)) c.parse-then-begins-2.ensures.known bad)
+    absurd (hist_never_bad c.args.event.now c.args.text.now removed (said_removed c.args.event.now c.args.text.now (sym c.if-is_blank_text.ensures) (sym c.if-begins.ensures) (sym c.if-begins-2.ensures)) (never_bad c.args.event.now c.args.text.now) bad)
 
 pub returns-in-Err-parse-clause-memory : goal.returns-in-Err-parse-clause-memory
 returns-in-Err-parse-clause-memory c = λ memory. inr (is_removed c.args.event.now c.args.text.now (sym c.if-begins.ensures) (sym c.if-begins-2.ensures))
