@@ -159,6 +159,12 @@ counted-more rows numbers (p ∷ pairs) (suc i) tally at more h =
 
 -- ---- distinct keys
 
+-- a row more changes no key
+pub keys-counted : (numbers : List ℤ) (i : ℕ) (entries : List Entry) → entry_keys (counted_at numbers i entries) ≡ entry_keys entries
+keys-counted numbers i [] = refl
+keys-counted numbers zero (e ∷ entries) = refl
+keys-counted numbers (suc i) (e ∷ entries) = ap (λ (keys : List (List Datum)). e.key ∷ keys) (keys-counted numbers i entries)
+
 apart-is : (key : Vec KeyCell) (pairs : List (Vec KeyCell × Tally))
     → AllByRecursion (λ (other : Vec KeyCell). pointwise key_cell_eq.it key.items other.items ≡ false) (keys_of pairs)
     → AllByRecursion (λ other. same_key (cells_in key) other ≡ false) (entry_keys (entries_in pairs))

@@ -235,9 +235,8 @@ pub fn count_row(entries: &mut Entries, index: usize, operands: &[Operand], emis
     requires counted { AreCounted most_rows (entries_in entries.old.entries) }
     ensures entries { entries_in entries.new.entries
         ≡ counted_at (map (number_at emission.now) operands.now) index (entries_in entries.old.entries) }
-    ensures counted { (rows : ℕ) → AreCounted rows (entries_in entries.old.entries)
-        → AreCounted (rows + 1) (counted_at (map (number_at emission.now) operands.now) index (entries_in entries.old.entries)) }
-    ensures distinct { IsDistinct same_key (entry_keys (entries_in entries.old.entries)) }
+    ensures counted { (rows : ℕ) → AreCounted rows (entries_in entries.old.entries) → AreCounted (rows + 1) (entries_in entries.new.entries) }
+    ensures distinct { IsDistinct same_key (entry_keys (entries_in entries.new.entries)) }
 {
     let Some(tally) = entries.get_index_mut(index) else {
         unreachable!()

@@ -37,8 +37,7 @@ impl Tally {
         requires sums { AreWithin most_rows self.old.sums.items }
         ensures hitcount { self.new.hitcount ≡ self.old.hitcount + 1 }
         ensures sums { self.new.sums.items ≡ added self.old.sums.items (map (number_at emission.now) operands.now) }
-        ensures within { (rows : ℕ) → AreWithin rows self.old.sums.items
-            → AreWithin (rows + 1) (added self.old.sums.items (map (number_at emission.now) operands.now)) }
+        ensures within { (rows : ℕ) → AreWithin rows self.old.sums.items → AreWithin (rows + 1) self.new.sums.items }
     {
         self.hitcount += 1;
         add_numbers(&mut self.sums, operands, emission);
@@ -49,8 +48,7 @@ impl Tally {
 fn add_numbers(sums: &mut [i128], operands: &[Operand], emission: &Emission)
     requires { AreWithin most_rows sums.old }
     ensures sums { sums.new ≡ added sums.old (map (number_at emission.now) operands.now) }
-    ensures within { (rows : ℕ) → AreWithin rows sums.old
-        → AreWithin (rows + 1) (added sums.old (map (number_at emission.now) operands.now)) }
+    ensures within { (rows : ℕ) → AreWithin rows sums.old → AreWithin (rows + 1) sums.new }
 {
     for index in 0..sums.len().min(operands.len()) {
         sums[index] += number_of(operands[index], emission).value();

@@ -45,7 +45,6 @@ returns-clause-sums c =
 
 pub returns-clause-within : goal.returns-clause-within
 returns-clause-within c = λ rows h.
-    let end : c.loop-index.index ≡ min (length c.args.sums.now) (length c.args.operands.now) = search rules in
-    subst (AreWithin (rows + 1)) (added-take (number_at c.args.emission.now) c.args.sums.now c.args.operands.now c.loop-index.index end)
+    subst (AreWithin (rows + 1)) (sym c.loop-index.invariant.sums)
     (within-added rows c.args.sums.now (map (number_at c.args.emission.now) (take c.loop-index.index c.args.operands.now)) h
     c.loop-index.invariant.numbers)
