@@ -1,9 +1,11 @@
-use Rattle.std.proofs.Common.{◌≤◌, ◌+◌, map, sym, ap, ◌∙◌, subst, arith}
+use Rattle.std.proofs.Common.{◌≤◌, map, ap, ◌∙◌, subst, arith}
+use Rattle.std.specs.List.{IsDistinct}
 use Rattle.trace_entries.specs.Hits.{hit_of, number_at}
-use Rattle.trace_entries.specs.RowPlaces.{most_rows}
-use Rattle.trace_entries.specs.KeptEntries.{entries_in, AreCounted, counted_at}
+use Rattle.trace_entries.specs.HistEntries.{same_key}
+use Rattle.trace_entries.specs.RowPlaces.{entry_keys, most_rows}
+use Rattle.trace_entries.specs.KeptEntries.{entries_in, counted_at}
 use Rattle.trace_hist.specs.Stored.{Kept}
-use Rattle.trace_entries.proofs.TableLemmas.{counted-le}
+use Rattle.trace_entries.proofs.TableLemmas.{counted-le, keys-counted}
 use Rattle.trace_hist.proofs.Counting.{reserved-at, seen-at, seen-dropped, not-unknown, left-shown, left-size, left-end}
 use Rattle.trace_hist.proofs.counts.Counts.count.Goals as goal
 
@@ -20,27 +22,33 @@ count_row-requires-clause-counted c =
 pub invariant_of-self : goal.invariant_of-self
 invariant_of-self c =
     let h = c.self.inside in
+    let distinct = subst (IsDistinct same_key)
+    (ap entry_keys c.count_row.ensures.entries ∙ keys-counted (map (number_at c.args.emission.now) c.value_sources.result.now) c.in-At.index (entries_in h.entries.entries))
+    c.count_row.ensures.distinct in
     let hit = hit_of c.args.by.now c.args.emission.now in
     let e = c.count_row.ensures.entries
     ∙ ap (λ ops. counted_at (map (number_at c.args.emission.now) ops) c.in-At.index (entries_in h.entries.entries)) c.value_sources.ensures in
     record {
       shown = left-shown h c.args.self.now hit c.self.view_is c.requires.place c.self.invariant c.in-At.index
-          c.shown_with-self-inside.result c.in-At.is c.count_row.ensures.distinct c.shown_with-self-inside.ensures.below c.shown_with-self-inside.ensures.above c.count_row.new.entries.entries e;
+          c.shown_with-self-inside.result c.in-At.is distinct c.shown_with-self-inside.ensures.below c.shown_with-self-inside.ensures.above c.count_row.new.entries.entries e;
       size = left-size h c.args.self.now hit c.self.view_is c.requires.place c.self.invariant c.in-At.index
-          c.shown_with-self-inside.result c.in-At.is c.count_row.ensures.distinct c.shown_with-self-inside.ensures.below c.shown_with-self-inside.ensures.above c.count_row.new.entries.entries e;
+          c.shown_with-self-inside.result c.in-At.is distinct c.shown_with-self-inside.ensures.below c.shown_with-self-inside.ensures.above c.count_row.new.entries.entries e;
       end = left-end h c.args.self.now hit c.self.view_is c.requires.place c.self.invariant c.in-At.index
-          c.shown_with-self-inside.result c.in-At.is c.count_row.ensures.distinct c.shown_with-self-inside.ensures.below c.shown_with-self-inside.ensures.above c.count_row.new.entries.entries e;
-      rows = subst (AreCounted (h.hits + 1)) (sym c.count_row.ensures.entries) (c.count_row.ensures.counted h.hits c.self.invariant.rows);
+          c.shown_with-self-inside.result c.in-At.is distinct c.shown_with-self-inside.ensures.below c.shown_with-self-inside.ensures.above c.count_row.new.entries.entries e;
+      rows = c.count_row.ensures.counted h.hits c.self.invariant.rows;
     }
 
 pub returns-in-At : goal.returns-in-At
 returns-in-At c =
     let h = c.self.inside in
+    let distinct = subst (IsDistinct same_key)
+    (ap entry_keys c.count_row.ensures.entries ∙ keys-counted (map (number_at c.args.emission.now) c.value_sources.result.now) c.in-At.index (entries_in h.entries.entries))
+    c.count_row.ensures.distinct in
     let hit = hit_of c.args.by.now c.args.emission.now in
     let e = c.count_row.ensures.entries
     ∙ ap (λ ops. counted_at (map (number_at c.args.emission.now) ops) c.in-At.index (entries_in h.entries.entries)) c.value_sources.ensures in
     seen-at h c.args.self.now hit c.self.view_is c.requires.place c.self.invariant c.in-At.index c.shown_with-self-inside.result
-    c.in-At.is c.count_row.ensures.distinct c.shown_with-self-inside.ensures.below c.shown_with-self-inside.ensures.above c.count_row.new.entries.entries e
+    c.in-At.is distinct c.shown_with-self-inside.ensures.below c.shown_with-self-inside.ensures.above c.count_row.new.entries.entries e
 
 pub returns-in-Dropped : goal.returns-in-Dropped
 returns-in-Dropped c =
