@@ -11,8 +11,6 @@ pub mod RisingReads
 pub mod SingleReads
 pub mod JoinedTakes
 pub mod PartedReads
-pub mod ReadOrder
-pub mod LossesTold
 pub mod DistinctRows
 pub mod GroupedSums
 pub mod TiedRows

@@ -2,5 +2,4 @@ pub mod AccountedFor
 pub mod ReadsInParts
 pub mod ReadOnce
 pub mod RingTotals
-pub mod ToldLosses
 pub mod GroupedRows
