@@ -1,17 +1,19 @@
 -- Hist triggers that an emission reaches one after the other: what a loop over those of its event keeps of their tables.
-use Rattle.std.proofs.Common.{◌≡◌, ℕ, zero, suc, ◌+◌, ◌<◌, ◌≤◌, ◌==◌, Bool, true, false, ◌&&◌, if◌then◌else◌, List, [], ◌∷◌, ◌++◌, length, map, take, get_or, IfSome, Option, None, Some, option_map, ⊎_elim, refl, sym, ap, ◌∙◌, subst, arith, below_more, append-nil}
-use Rattle.std.specs.List.{flat_map}
+use Rattle.std.proofs.Common.{◌≡◌, ◌≢◌, ℕ, zero, suc, ◌+◌, ◌<◌, ◌≤◌, ◌==◌, Bool, true, false, ◌&&◌, if◌then◌else◌, List, [], ◌∷◌, ◌++◌, length, map, take, get_or, IfSome, Option, None, Some, option_map, ⊎_elim, refl, sym, ap, ◌∙◌, subst, arith, below_more, append-nil}
+use Rattle.std.specs.List.{flat_map, Any}
 use Rattle.std.proofs.lemmas.Bool.{cases_eq, false≢true}
 use Rattle.std.proofs.lemmas.List.{append_assoc, get_or_default}
+use Rattle.trace_format.specs.Cells.{Datum}
 use Rattle.trace_format.specs.Operands.{Emission}
 use Rattle.trace_hist.specs.Groups.{grouped}
 use Rattle.trace_trigger.specs.HistSpecs.{SpecSeen}
 use Rattle.trace_trigger.specs.declared.key.Key.{Key}
 use Rattle.trace_entries.specs.Hits.{Hit, hit_of, key_cell}
-use Rattle.trace_entries.specs.RowPlaces.{IsPlaceOf, most_rows}
+use Rattle.trace_entries.specs.HistEntries.{Entry}
+use Rattle.trace_entries.specs.RowPlaces.{Place, Unknown, In, Nowhere, IsPlaceOf, most_rows}
 use Rattle.trace_hist.specs.Hists.{IsReservedAs, IsReservedForKey, Seen, StandsFor, counted}
 use Rattle.trace_trigger.specs.SameSpecs.{is_passed}
-use Rattle.trace_instance.specs.KeptHists.{AreHit, CanCount, HasRoomToCount, IsHit, IsHitIf, KeptTable, KeysAgree, is_passed_at, kept_at, kept_table, passed, row_counted, rows_counted, table_numbered}
+use Rattle.trace_instance.specs.KeptHists.{AreHit, CanCount, HasRoomToCount, IsHit, IsHitIf, KeptTable, KeysAgree, NeedsMemory, NeedsMemoryIn, is_passed_at, kept_at, kept_table, passed, row_counted, rows_counted, table_numbered}
 use Rattle.trace_instance.specs.private.Tables.{IsCounted, IsCountedIn}
 use Rattle.trace_instance.specs.declared.hists.AttachedHist.{AttachedHist}
 use Rattle.trace_instance.specs.declared.tables.Table.{Table}
@@ -96,6 +98,54 @@ unreserved-more emission hists i a tables inside is off before = λ k d h. below
     let same : get_or hists i e ≡ a = get_or_default hists i e a inside ∙ sym is in
     absurd (false≢true (sym off ∙ ap (λ (b : AttachedHist). is_passed b.spec.filter emission) (sym same) ∙ passes)))
     k h d
+
+-- ---- memory that is refused
+
+reserved-there : (place : Place) (size : ℕ) (entries : List Entry) (key : List Datum) → IsPlaceOf place size entries key → length entries < size
+    → place ≢ In key → ⊥
+reserved-there Unknown size entries key is room new = is
+reserved-there (In other) size entries key is room new = new (ap In is)
+reserved-there Nowhere size entries key is room new = omega (arith, is.1, room)
+
+-- a row that is reserved in a table needs no memory there
+reserved-enough : (emission : Emission) (found : Option Seen) (by : SpecSeen) → IfSome found (λ (hist : Seen). IsReservedAs hist by emission)
+    → NeedsMemoryIn by emission found → ⊥
+unfolding IsReservedAs
+reserved-enough emission None by ready needs = needs
+reserved-enough emission (Some hist) by ready needs =
+    reserved-there hist.next hist.spec.size hist.table.entries (hit_of by emission).key (ready needs.active) needs.room needs.unreserved
+
+-- an emission passes the filter of none of the first so many that count in the table of a number
+abbrev pub IsUntouched : Emission → List AttachedHist → ℕ → ℕ → Type 0
+IsUntouched emission hists i number =
+    (k : ℕ) (d : AttachedHist) → k < i → is_passed (get_or hists k d).spec.filter emission ≡ true → (get_or hists k d).table ≡ number → ⊥
+
+-- such a table stays, with one more of them
+pub untouched-more : (emission : Emission) (hists : List AttachedHist) (i : ℕ) (a : AttachedHist) (old now new : List Table) → i < length hists
+    → a ≡ get_or hists i a → is_passed a.spec.filter emission ≡ true
+    → ((number : ℕ) → (number ≡ a.table → ⊥) → table_numbered number new ≡ table_numbered number now)
+    → ((number : ℕ) → IsUntouched emission hists i number → table_numbered number now ≡ table_numbered number old)
+    → (number : ℕ) → IsUntouched emission hists (i + 1) number → table_numbered number new ≡ table_numbered number old
+untouched-more emission hists i a old now new inside is on others was number none =
+    let apart : number ≡ a.table → ⊥ = λ same. none i a (omega arith)
+    (ap (λ (b : AttachedHist). is_passed b.spec.filter emission) (sym is) ∙ on) (ap (λ (b : AttachedHist). b.table) (sym is) ∙ sym same) in
+    others number apart ∙ was number (λ k d below. none k d (omega (arith, below)))
+
+-- the one for whose row memory is refused needs it, and did before the first of them
+pub memory-needed : (emission : Emission) (hists : List AttachedHist) (i : ℕ) (a : AttachedHist) (old now : List Table) → KeysAgree hists
+    → i < length hists → a ≡ get_or hists i a → is_passed a.spec.filter emission ≡ true
+    → ((k : ℕ) (d : AttachedHist) → k < i → CanCount emission now (get_or hists k d))
+    → ((number : ℕ) → IsUntouched emission hists i number → table_numbered number now ≡ table_numbered number old)
+    → NeedsMemoryIn a.spec emission (table_numbered a.table now) → Any (NeedsMemory emission old) hists
+memory-needed emission hists i a old now agree inside is on ready was needs =
+    let first : IsUntouched emission hists i a.table = λ k d below passes same.
+    let found = table_numbered a.table now in
+    let there : IfSome found (λ (hist : Seen). IsReservedAs hist (get_or hists k d).spec emission) =
+    subst (λ (n : ℕ). IfSome (table_numbered n now) (λ (hist : Seen). IsReservedAs hist (get_or hists k d).spec emission)) same (ready k d below passes) in
+    reserved-enough emission found a.spec
+    (reserved-alike emission found (get_or hists k d).spec a.spec (sym (same-keys hists i k a d agree inside (omega (arith, below, inside)) is same)) there)
+    needs in
+    (i, a, inside, sym is, record { passes = on; entry = subst (NeedsMemoryIn a.spec emission) (was a.table first) needs })
 
 -- ---- rows that are counted
 

@@ -1,6 +1,6 @@
 -- When an emission can be delivered to an instance, and what it does there.
 use Rattle.std.specs.Prelude.{◌≡◌, ℕ, ◌+◌, ◌-◌, ◌<◌, ◌≤◌, Bool, true, if◌then◌else◌, List, [], ◌∷◌, length, slice_index_or, slice_set, All, is_some, Option, Some, None, ⊤}
-use Rattle.std.specs.List.{AllByRecursion}
+use Rattle.std.specs.List.{AllByRecursion, Any}
 use Rattle.std.specs.Option.{option_map}
 use Rattle.trace_record.specs.Record.{IsRecord}
 use Rattle.page_ring.specs.Events as ring
@@ -11,7 +11,7 @@ use Rattle.trace_snapshot.specs.Sides as snapshot
 use Rattle.trace_snapshot.specs.Sides.{SideFamilies, exchanged}
 use Rattle.trace_command.specs.declared.command.Config.{Config}
 use Rattle.trace_format.specs.Operands.{Emission}
-use Rattle.trace_instance.specs.KeptHists.{AreHit, CanCount, HasRoomToCount}
+use Rattle.trace_instance.specs.KeptHists.{AreHit, CanCount, HasRoomToCount, NeedsMemory}
 use Rattle.trace_instance.specs.declared.hists.AttachedHist.{AttachedHist}
 use Rattle.trace_instance.specs.Instances.{InstanceSeen, IsShaped, WereOffered}
 use Rattle.trace_instance.specs.declared.change.Delivery.{Delivery}
@@ -96,6 +96,10 @@ IsWritable (Some pending) i =
 -- the hist triggers of the event at an index have the memory to count an emission
 abbrev pub CanCountRow : Emission → ℕ → InstanceSeen → Type 0
 CanCountRow emission event i = All (CanCount emission i.tables) (slice_index_or i.hists event [])
+
+-- some of them needs memory to count an emission
+abbrev pub NeedsRowMemory : Emission → ℕ → InstanceSeen → Type 0
+NeedsRowMemory emission event i = Any (NeedsMemory emission i.tables) (slice_index_or i.hists event [])
 
 -- each histogram counted few rows
 abbrev pub HasFewRows : InstanceSeen → Type 0

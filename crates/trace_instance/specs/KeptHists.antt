@@ -7,7 +7,7 @@ use Rattle.trace_hist.specs.Groups.{Table as Entries, grouped}
 use Rattle.trace_trigger.specs.FittingLaws.{CountsAlike}
 use Rattle.trace_trigger.specs.HistSpecs.{SpecSeen}
 use Rattle.trace_entries.specs.Hits.{Hit, hit_of}
-use Rattle.trace_hist.specs.Hists.{IsReservedAs, Seen, counted}
+use Rattle.trace_hist.specs.Hists.{IsReservedAs, NeedsEntryAs, Seen, counted}
 use Rattle.trace_entries.specs.RowPlaces.{most_rows}
 use Rattle.trace_trigger.specs.SameSpecs.{is_same, is_passed}
 use Rattle.trace_trigger.specs.declared.spec.Action.{Action}
@@ -99,6 +99,16 @@ passed emission hists =
 abbrev pub CanCount : Emission → List Table → AttachedHist → Type 0
 CanCount emission tables a =
     is_passed a.spec.filter emission ≡ true → IfSome (table_numbered a.table tables) (λ hist. IsReservedAs hist a.spec emission)
+
+-- a row needs memory in a table, if that is there: it needs a new entry, as a trigger reads it
+abbrev pub NeedsMemoryIn : SpecSeen → Emission → Option Seen → Type 0
+NeedsMemoryIn by emission None = ⊥
+NeedsMemoryIn by emission (Some hist) = NeedsEntryAs hist by emission
+
+-- an emission needs memory to be counted in the trigger's table: its filter passes that, and the row needs a new entry
+pub record NeedsMemory (emission : Emission) (tables : List Table) (a : AttachedHist) : Type 0 where
+  pub passes : is_passed a.spec.filter emission ≡ true
+  pub entry : NeedsMemoryIn a.spec emission (table_numbered a.table tables)
 
 -- one emission more may be counted in a trigger's table, by each trigger of its event
 abbrev pub HasRoomToCount : List Table → AttachedHist → Type 0

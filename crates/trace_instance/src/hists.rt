@@ -1,6 +1,6 @@
 //! The hist triggers of an event, as an instance keeps them (histogram.rst, "hist triggers").
 
-ghost use Rattle.std.specs.Prelude.{◌≡◌, ℕ, ◌+◌, ◌<◌, ◌≤◌, true, if◌then◌else◌, [], ◌∷◌, ◌++◌, length, position, All, IfOk, OnOk, OnErr, option_copied, is_some};
+ghost use Rattle.std.specs.Prelude.{◌≡◌, ℕ, ◌+◌, ◌<◌, ◌≤◌, true, if◌then◌else◌, [], ◌∷◌, ◌++◌, length, position, All, Any, IfOk, OnOk, OnErr, option_copied, is_some};
 ghost use Rattle.std.specs.List.{find, remove};
 ghost use Rattle.trace_instance.specs.private.Commands.{shown_attached};
 ghost use Rattle.trace_instance.specs.private.SharedTables as sharing;
@@ -195,6 +195,8 @@ impl EventHists {
         ensures passed { IfOk result (λ passed. passed ≡ kept.passed (record { values = row.now.values; cpu = cpu; pid = pid }) self.now) }
         ensures alike { (number : ℕ) → kept_at number tables.new ≡ kept_at number tables.old }
         ensures ready { OnOk result (All (kept.CanCount (record { values = row.now.values; cpu = cpu; pid = pid }) tables.new) self.now) }
+        // Memory is taken, and may be refused, only for a new entry in the table of one of them.
+        ensures memory { OnErr result (Any (kept.NeedsMemory (record { values = row.now.values; cpu = cpu; pid = pid }) tables.old) self.now) }
     {
         let passed = self.passed(row, cpu, pid);
         for i in 0..self.hists.len() {

@@ -1,6 +1,6 @@
 //! The tables of an instance's hist triggers (histogram.rst, "hist triggers"): a trigger counts in one, and triggers of one name share one.
 
-ghost use Rattle.std.specs.Prelude.{◌≡◌, ℕ, ◌==◌, if◌then◌else◌, position, option_map, option_copied, IfSome, OnOk};
+ghost use Rattle.std.specs.Prelude.{◌≡◌, ℕ, ◌==◌, if◌then◌else◌, position, option_map, option_copied, IfSome, OnOk, OnErr};
 ghost use Rattle.std.specs.List.{filter};
 ghost use Rattle.trace_hist.specs.Hists.{HasRoom, IsReservedAs};
 ghost use Rattle.trace_instance.specs.KeptHists as kept;
@@ -73,6 +73,8 @@ pub(crate) fn reserve(
     ensures others { (other : ℕ) → (other ≡ number → ⊥) → table_numbered other tables.new ≡ table_numbered other tables.old }
     ensures ready { OnOk result (IfSome (table_numbered number tables.new)
         (λ hist. IsReservedAs hist by.now (record { values = row.now.values; cpu = cpu; pid = pid }))) }
+    ensures memory { OnErr result (kept.NeedsMemoryIn by.now (record { values = row.now.values; cpu = cpu; pid = pid })
+        (table_numbered number tables.old)) }
 {
     let Some(index) = index_of(tables, number) else {
         return Ok(());

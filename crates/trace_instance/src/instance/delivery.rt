@@ -1,13 +1,13 @@
 //! An emission in one instance: what it does is worked out, its hist triggers' memory is reserved, and then it is applied.
 
-ghost use Rattle.std.specs.Prelude.{◌≡◌, ◌≤◌, ◌<◌, ◌==◌, [], true, not, is_some, length, slice_index_or, IfOk, OnOk};
+ghost use Rattle.std.specs.Prelude.{◌≡◌, ◌≤◌, ◌<◌, ◌==◌, [], true, not, is_some, length, slice_index_or, IfOk, OnOk, OnErr};
 ghost use Rattle.trace_record.specs.Record.{IsRecord};
 ghost use Rattle.trace_buffer.specs.Buffers as buffers;
 ghost use Rattle.trace_instance.specs.Instances.{IsAlike, passed_in};
 ghost use Rattle.trace_instance.specs.KeptHists.{KeysAgree};
 ghost use Rattle.trace_instance.specs.Rows as rows;
 ghost use Rattle.trace_instance.specs.Rows.{kept_holds};
-ghost use Rattle.trace_instance.specs.Deliveries.{CanCountRow, CanFire, HasFewRows, row_of, IsDelivered, IsOffered, IsExchanged, IsWritable, IsWritten, HasFew};
+ghost use Rattle.trace_instance.specs.Deliveries.{CanCountRow, NeedsRowMemory, CanFire, HasFewRows, row_of, IsDelivered, IsOffered, IsExchanged, IsWritable, IsWritten, HasFew};
 
 use super::Instance;
 use crate::change::{Delivery, Pending, Reach};
@@ -57,6 +57,8 @@ impl Instance {
         ensures passed { IfOk result (λ passed. passed ≡ passed_in (record { values = row.now.values; cpu = cpu; pid = pid }) event self.old) }
         ensures alike { IsAlike self.old self.new }
         ensures ready { OnOk result (CanCountRow (record { values = row.now.values; cpu = cpu; pid = pid }) event self.new) }
+        // Memory is taken, and may be refused, only for a row that needs a new entry in some table.
+        ensures memory { OnErr result (NeedsRowMemory (record { values = row.now.values; cpu = cpu; pid = pid }) event self.old) }
     {
         self.hists[event].reserve(&mut self.tables, row, cpu, pid)
     }

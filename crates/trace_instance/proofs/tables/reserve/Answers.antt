@@ -1,7 +1,7 @@
 use Rattle.std.proofs.Common.{◌≡◌, None, Some, get_or, refl, to_z, of_z, w32, rules}
 use Rattle.std.proofs.lemmas.Int.{to_z-of_z}
 use Rattle.std.specs.List.{position}
-use Rattle.trace_instance.proofs.Lookups.{alike-at, here-at, is_numbered, none-found, others-at}
+use Rattle.trace_instance.proofs.Lookups.{alike-at, here-at, is_numbered, none-found, others-at, read-at}
 use Rattle.trace_instance.proofs.tables.reserve.Goals as goal
 
 pub returns-in_default-clause-ready : goal.returns-in_default-clause-ready
@@ -30,3 +30,10 @@ returns-clause-ready c =
     rw (here-at c.args.number c.args.tables.now c.in-Some.index c.index-tables-index.result
     (get_or c.args.tables.now c.in-Some.index c.index-tables-index.result) (record (get_or c.args.tables.now c.in-Some.index c.index-tables-index.result) { hist = c.reserve_hit_as.new.self }) found refl refl)
     (rw pid at c.reserve_hit_as.ensures.reserved)
+
+pub returns-clause-memory : goal.returns-clause-memory
+returns-clause-memory c =
+    let found : position (is_numbered c.args.number) c.args.tables.now ≡ Some c.in-Some.index = search rules in
+    let pid : to_z w32 (of_z w32 c.args.pid) ≡ c.args.pid = to_z-of_z w32 c.args.pid (search rules) in
+    rw (read-at c.args.number c.args.tables.now c.in-Some.index c.index-tables-index.result (get_or c.args.tables.now c.in-Some.index c.index-tables-index.result) found refl)
+    (rw pid at c.reserve_hit_as.ensures.memory)

@@ -1,10 +1,12 @@
-use Rattle.std.proofs.Common.{◌≡◌, ◌∙◌, List, [], IfOk, get_or, ap, subst, to_z, of_z, w32, rules}
+use Rattle.std.proofs.Common.{◌≡◌, ◌∙◌, List, [], IfOk, OnErr, get_or, ap, subst, to_z, of_z, w32, rules}
+use Rattle.std.specs.List.{Any}
 use Rattle.std.proofs.lemmas.Int.{to_z-of_z}
 use Rattle.std.proofs.lemmas.List.{get_or_default}
 use Rattle.trace_format.specs.Operands.{Emission}
 use Rattle.trace_instance.specs.Instances.{InstanceSeen}
-use Rattle.trace_instance.specs.KeptHists.{passed}
+use Rattle.trace_instance.specs.KeptHists.{NeedsMemory, passed}
 use Rattle.trace_instance.specs.declared.hists.AttachedHist.{AttachedHist}
+use Rattle.trace_instance.specs.declared.tables.Table.{Table}
 use Rattle.trace_instance.proofs.HistChanges.{alike_one, with-tables}
 use Rattle.trace_instance.proofs.instance.Instance.reserve.Goals as goal
 
@@ -29,3 +31,15 @@ returns-clause-ready c =
     let here : c.index.result.now ≡ get_or c.self.inside.hists.items c.args.event [] =
     c.index.ensures ∙ get_or_default c.self.inside.hists.items c.args.event c.index.result.now [] (search rules) in
     rw (with-tables c.self.inside.tables c.reserve.new.tables (search rules), ← here) (rw pid at c.reserve.ensures.ready)
+
+pub returns-clause-memory : goal.returns-clause-memory
+returns-clause-memory c =
+    let e : Emission = record { values = c.args.row.now.values; cpu = c.args.cpu; pid = c.args.pid } in
+    let pid : to_z w32 (of_z w32 c.args.pid) ≡ c.args.pid = to_z-of_z w32 c.args.pid (search rules) in
+    let here : c.index.result.now ≡ get_or c.self.inside.hists.items c.args.event [] =
+    c.index.ensures ∙ get_or_default c.self.inside.hists.items c.args.event c.index.result.now [] (search rules) in
+    let seen : c.index.result.now ≡ get_or c.args.self.now.hists c.args.event [] =
+    here ∙ ap (λ (i : InstanceSeen). get_or i.hists c.args.event []) c.self.view_is in
+    let tables = c.deref_mut.ensures.value ∙ ap (λ (i : InstanceSeen). i.tables) c.self.view_is in
+    subst (λ (l : List AttachedHist). OnErr c.reserve.result (Any (NeedsMemory e c.args.self.now.tables) l)) seen
+    (subst (λ (t : List Table). OnErr c.reserve.result (Any (NeedsMemory e t) c.index.result.now)) tables (rw pid at c.reserve.ensures.memory))
