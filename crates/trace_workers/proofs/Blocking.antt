@@ -13,8 +13,9 @@ use Rattle.trace_history.specs.History.{IsLegal}
 use Rattle.trace_history.specs.Blocks.{Trail, StandsIn, IsBlock, IsUnworn}
 use Rattle.trace_book.specs.Bases.{numbers_of}
 use Rattle.trace_workers.specs.BlockRuns.{trails_of, commands_of, Begins, IsAfterBlock}
+use Rattle.trace_workers.specs.Ends.{EndAs, told_fault, reported}
 use Rattle.trace_workers.specs.Gates.{HasReply, LetsBegunPass}
-use Rattle.trace_workers.specs.PartRuns.{HasRun, begun_trail, begun_trails, AreWhole, SeesCallers, told_fault}
+use Rattle.trace_workers.specs.PartRuns.{HasRun, begun_trail, begun_trails, AreWhole, SeesCallers}
 use Rattle.trace_command.specs.declared.command.Command.{Command}
 use Rattle.trace_command.specs.declared.command.Config.{Config}
 use Rattle.trace_command.specs.declared.command.Entry.{Entry}
@@ -182,9 +183,25 @@ nothing_replied n [] thread call has = omega (arith, has.0)
 nothing_replied n (commands ∷ parts) zero call has = omega (arith, has.1)
 nothing_replied n (commands ∷ parts) (suc thread) call has = nothing_replied (n + 1) parts thread call (omega (arith, has.0), has.1)
 
-pub not_begun : (v : View Entry) (parts : List (List Command)) (may : ℕ → ℕ → Point → Bool → Type 0) → HasAllNames v
+-- memory was refused to each part
+no_memory : List (List Command) → List (Option BlockFault)
+no_memory [] = []
+no_memory (commands ∷ parts) = Some Memory ∷ no_memory parts
+
+none_ended : (may : ℕ → ℕ → Point → Bool → Type 0) (n thread : ℕ) (parts : List (List Command)) → EndAs may thread parts (nothing_of n parts) (no_memory parts)
+unfolding nothing_of no_memory
+none_ended may n thread [] = tt
+none_ended may n thread (commands ∷ parts) = (inr refl, none_ended may (n + 1) (thread + 1) parts)
+
+memory_reported : (parts : List (List Command)) → 0 < length parts → Some Memory ≡ reported (no_memory parts)
+unfolding no_memory
+memory_reported [] some = absurd (omega (arith, some))
+memory_reported (commands ∷ parts) some = refl
+
+pub not_begun : (v : View Entry) (parts : List (List Command)) (may : ℕ → ℕ → Point → Bool → Type 0) → HasAllNames v → 0 < length parts
     → (trails : List Trail) × AllZip Begins parts trails × IsAfterBlock v v trails × LetsBegunPass may trails
-not_begun v parts may names =
+    × (ends : List (Option BlockFault)) × (Some Memory ≡ reported ends) × EndAs may 0 parts trails ends
+not_begun v parts may names some =
     let trails = nothing_of 0 parts in (
       trails,
       nothing_begins 0 parts,
@@ -208,6 +225,9 @@ not_begun v parts may names =
         asking = λ thread call has. absurd (nothing_replied 0 parts thread call has);
         answered = λ thread call has. absurd (nothing_replied 0 parts thread (call + 1) has);
       },
+      no_memory parts,
+      memory_reported parts some,
+      none_ended may 0 0 parts,
     )
 
 -- ---- parts that keep their commands as they are

@@ -1,5 +1,5 @@
 -- What a gate answered, command by command and part by part.
-use Rattle.std.proofs.Common.{◌≡◌, ◌≢◌, ℕ, ◌+◌, ◌<◌, ◌⊎◌, inl, inr, Bool, true, false, List, [], ◌∷◌, ◌++◌, length, Result, Option, Some, None, map, get_or, refl, sym, ◌∙◌, subst, arith, length-append}
+use Rattle.std.proofs.Common.{◌≡◌, ◌≢◌, ℕ, ◌+◌, ◌<◌, ◌⊎◌, inl, inr, Bool, true, false, List, [], ◌∷◌, ◌++◌, length, Result, Option, Some, None, map, get_or, refl, ap, sym, ◌∙◌, subst, arith, length-append}
 use Rattle.std.proofs.lemmas.Bool.{cases_lt}
 use Rattle.std.proofs.lemmas.List.{get_or_append_left, get_or_push, map-append, length-map}
 use Rattle.trace_history.specs.Blocks.{Trail}
@@ -7,7 +7,8 @@ use Rattle.trace_command.specs.declared.command.Command.{Command}
 use Rattle.trace_command.specs.declared.command.Reply.{Reply}
 use Rattle.trace_command.specs.declared.refusal.Refusal.{Refusal}
 use Rattle.trace_workers.specs.Gates.{HasCommand, HasReply, LetsAllPass, LetsBegunPass, StopsOne}
-use Rattle.trace_workers.specs.PartRuns.{IsGated, told_fault}
+use Rattle.trace_workers.specs.Ends.{EndsAs, EndAs, told_fault, reported}
+use Rattle.trace_workers.specs.PartRuns.{IsGated}
 use Rattle.trace_workers.specs.declared.fault.BlockFault.{BlockFault}
 use Rattle.trace_workers.specs.declared.fault.BlockFault.TheVariants.{Memory, Stopped, NoThread}
 use Rattle.trace_workers.specs.declared.gate.Point.{Point}
@@ -30,6 +31,9 @@ gated_none may commands fault goes_on = record {
   asking = λ call within. absurd (omega (arith, within));
   answered = λ call within last. absurd (omega (arith, within));
   stopped = λ is. absurd (goes_on is);
+  place = λ is. absurd (goes_on is);
+  short = λ is. inr refl;
+  none = λ is. refl;
 }
 
 -- further commands were not asked
@@ -39,6 +43,9 @@ gated_more may commands others replies fault gated = record {
   asking = gated.asking;
   answered = gated.answered;
   stopped = λ is. let at = gated.stopped is in (at.0, at.1, omega (arith, at.2, length-append commands others), at.3);
+  place = λ is. elim (gated.place is) [ inl here ↦ inl (omega (arith, here.0, length-append commands others), here.1) | inr after ↦ inr after ];
+  short = λ is. elim (gated.short is) [ inl here ↦ inl (omega (arith, here, length-append commands others)) | inr empty ↦ inr empty ];
+  none = gated.none;
 }
 
 -- the next command was not to be asked
@@ -49,15 +56,21 @@ gated_before may commands replies command call same is answer gated = record {
   asking = gated.asking;
   answered = λ n within last. gated.answered n within (λ e. absurd cc);
   stopped = λ e. (call, Asking, omega (arith, same, is, length-append commands (command ∷ [])), answer);
+  place = λ e. inl (omega (arith, same, length-append commands (command ∷ [])), subst (λ (n : ℕ). may n Asking false) (sym is) answer);
+  short = λ e. absurd cc;
+  none = λ e. absurd cc;
 }
 
 -- the next command was asked for nothing
-pub gated_memory : (may : ℕ → Point → Bool → Type 0) (commands : List Command) (replies : List Answer) (command : Command)
+pub gated_memory : (may : ℕ → Point → Bool → Type 0) (commands : List Command) (replies : List Answer) (command : Command) → length commands ≡ length replies
     → IsGated may commands replies None → IsGated may (commands ++ command ∷ []) replies (Some Memory)
-gated_memory may commands replies command gated = record {
+gated_memory may commands replies command same gated = record {
   asking = gated.asking;
   answered = λ n within last. gated.answered n within (λ e. absurd cc);
   stopped = λ e. absurd cc;
+  place = λ e. absurd cc;
+  short = λ e. inl (omega (arith, same, length-append commands (command ∷ [])));
+  none = λ e. absurd cc;
 }
 
 -- the next command was answered, and the worker went on
@@ -71,6 +84,9 @@ gated_after may commands replies all command answer call grown is first second g
       answered = λ n within last.
           at_next (λ n. may n Answered true) call n (λ n below. gated.answered n (omega (arith, below, is)) (λ e. absurd cc)) second (omega (arith, within, many));
       stopped = λ e. absurd cc;
+      place = λ e. absurd cc;
+      short = λ e. absurd cc;
+      none = λ e. absurd cc;
     }
 
 -- the next command was answered, and the worker was stopped there
@@ -83,6 +99,9 @@ gated_stop may commands replies all command answer call grown same is first seco
       asking = λ n within. at_next (λ n. may n Asking true) call n (λ n below. gated.asking n (omega (arith, below, is))) first (omega (arith, within, many));
       answered = λ n within last. let more : n + 1 < length all = last refl in gated.answered n (omega (arith, more, many, is)) (λ e. absurd cc);
       stopped = λ e. (call, Answered, omega (arith, same, is, length-append commands (command ∷ [])), second);
+      place = λ e. inr (call, sym many, second);
+      short = λ e. absurd cc;
+      none = λ e. absurd cc;
     }
 
 -- a part that was asked whole was let pass everywhere
@@ -183,14 +202,71 @@ told_stopped told (Some NoThread) (Some Memory) is stopped = absurd cc
 told_stopped told (Some NoThread) (Some Stopped) is stopped = inr refl
 told_stopped told (Some NoThread) (Some NoThread) is stopped = absurd cc
 
--- where the block tells Stopped, of its three faults one of the first two is Stopped, unless the third is
-pub stopped_early : (P : Type 0) (result before inner fault refused : Option BlockFault) → result ≡ told_fault before inner → inner ≡ told_fault fault refused
-    → refused ≢ Some Stopped → (before ≡ Some Stopped → P) → (fault ≡ Some Stopped → P) → result ≡ Some Stopped → P
-stopped_early P result before inner fault refused is inner_is other earlier last told =
-    elim (told_stopped result before inner is told) [
-      | inl e ↦ earlier e
-      | inr here ↦ elim (told_stopped inner fault refused inner_is here) [
-        | inl e ↦ last e
-        | inr e ↦ absurd (other e)
-      ]
-    ]
+-- where the block tells Stopped, one of its two faults is Stopped
+pub stopped_early : (P : Type 0) (result before fault : Option BlockFault) → result ≡ told_fault before fault
+    → (before ≡ Some Stopped → P) → (fault ≡ Some Stopped → P) → result ≡ Some Stopped → P
+stopped_early P result before fault is earlier last told =
+    elim (told_stopped result before fault is told) [ inl e ↦ earlier e | inr e ↦ last e ]
+
+-- ---- how parts end
+
+-- of one part
+pub ends_as : (may : ℕ → Point → Bool → Type 0) (commands : List Command) (replies : List Answer) (fault : Option BlockFault)
+    → IsGated may commands replies fault → (fault ≡ None → length replies ≡ length commands) → EndsAs may commands replies fault
+ends_as may commands replies None gated whole = whole refl
+ends_as may commands replies (Some Memory) gated whole = gated.short refl
+ends_as may commands replies (Some Stopped) gated whole = gated.place refl
+ends_as may commands replies (Some NoThread) gated whole = gated.none refl
+
+-- one part more
+pub end_push : (may : ℕ → ℕ → Point → Bool → Type 0) (first thread : ℕ) (parts : List (List Command)) (commands : List Command) (trails : List Trail) (trail : Trail)
+    (ends : List (Option BlockFault)) (end : Option BlockFault) → first + length parts ≡ thread → EndAs may first parts trails ends
+    → EndsAs (may thread) commands trail.replies end → EndAs may first (parts ++ commands ∷ []) (trails ++ trail ∷ []) (ends ++ end ∷ [])
+end_push may first thread [] commands [] trail [] end is before here =
+    let same : thread ≡ first = omega (arith, is) in
+    (subst (λ (n : ℕ). EndsAs (may n) commands trail.replies end) same here, tt)
+end_push may first thread [] commands [] trail (other ∷ ends) end is before here = absurd before
+end_push may first thread [] commands (one ∷ trails) trail ends end is before here = absurd before
+end_push may first thread (own ∷ parts) commands [] trail ends end is before here = absurd before
+end_push may first thread (own ∷ parts) commands (one ∷ trails) trail [] end is before here = absurd before
+end_push may first thread (own ∷ parts) commands (one ∷ trails) trail (other ∷ ends) end is before here =
+    (before.0, end_push may (first + 1) thread parts commands trails trail ends end (omega (arith, is)) before.1 here)
+
+-- it makes no difference which two of three faults are compared first
+told_either : (a b c : Option BlockFault) → told_fault a (told_fault b c) ≡ told_fault (told_fault a b) c
+told_either None b c = refl
+told_either (Some Memory) b c = refl
+told_either (Some Stopped) None c = refl
+told_either (Some Stopped) (Some Memory) c = refl
+told_either (Some Stopped) (Some Stopped) None = refl
+told_either (Some Stopped) (Some Stopped) (Some Memory) = refl
+told_either (Some Stopped) (Some Stopped) (Some Stopped) = refl
+told_either (Some Stopped) (Some Stopped) (Some NoThread) = refl
+told_either (Some Stopped) (Some NoThread) None = refl
+told_either (Some Stopped) (Some NoThread) (Some Memory) = refl
+told_either (Some Stopped) (Some NoThread) (Some Stopped) = refl
+told_either (Some Stopped) (Some NoThread) (Some NoThread) = refl
+told_either (Some NoThread) None c = refl
+told_either (Some NoThread) (Some Memory) c = refl
+told_either (Some NoThread) (Some Stopped) None = refl
+told_either (Some NoThread) (Some Stopped) (Some Memory) = refl
+told_either (Some NoThread) (Some Stopped) (Some Stopped) = refl
+told_either (Some NoThread) (Some Stopped) (Some NoThread) = refl
+told_either (Some NoThread) (Some NoThread) None = refl
+told_either (Some NoThread) (Some NoThread) (Some Memory) = refl
+told_either (Some NoThread) (Some NoThread) (Some Stopped) = refl
+told_either (Some NoThread) (Some NoThread) (Some NoThread) = refl
+
+told_alone : (one : Option BlockFault) → told_fault one None ≡ one
+told_alone None = refl
+told_alone (Some Memory) = refl
+told_alone (Some Stopped) = refl
+told_alone (Some NoThread) = refl
+
+reported_push : (ends : List (Option BlockFault)) (end : Option BlockFault) → reported (ends ++ end ∷ []) ≡ told_fault (reported ends) end
+reported_push [] end = told_alone end
+reported_push (one ∷ ends) end = ap (told_fault one) (reported_push ends end) ∙ told_either one (reported ends) end
+
+-- what is told of parts, and of one more
+pub told_push : (told before end : Option BlockFault) (ends : List (Option BlockFault)) → told ≡ told_fault before end → before ≡ reported ends → told ≡ reported (ends ++ end ∷ [])
+told_push told before end ends is all = is ∙ ap (λ (one : Option BlockFault). told_fault one end) all ∙ sym (reported_push ends end)

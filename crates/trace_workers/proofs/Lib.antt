@@ -2,3 +2,4 @@ pub mod Working
 pub mod Blocking
 pub mod Gating
 pub mod Joining
+pub mod Asking

@@ -6,6 +6,7 @@ use Rattle.trace_history.specs.History.{IsLegal}
 use Rattle.trace_history.specs.Blocks.{Trail, StandsIn, IsUnworn}
 use Rattle.trace_book.specs.Bases.{numbers_of}
 use Rattle.trace_book.specs.Asks.{GoesOn}
+use Rattle.trace_workers.specs.Ends.{StopsHere, IsShort}
 use Rattle.trace_workers.specs.declared.fault.BlockFault.{BlockFault}
 use Rattle.trace_workers.specs.declared.fault.BlockFault.TheVariants.{Memory, Stopped, NoThread}
 use Rattle.trace_workers.specs.declared.gate.Point.{Point}
@@ -51,6 +52,10 @@ pub record IsGated (may : ℕ → Point → Bool → Type 0) (commands : List Co
   pub asking : (call : ℕ) → call < length replies → may call Asking true
   pub answered : (call : ℕ) → call < length replies → (fault ≡ Some Stopped → call + 1 < length replies) → may call Answered true
   pub stopped : fault ≡ Some Stopped → (call : ℕ) × (point : Point) × (call < length commands) × may call point false
+  -- it ended where its replies end
+  pub place : fault ≡ Some Stopped → StopsHere may commands replies
+  pub short : fault ≡ Some Memory → IsShort commands replies
+  pub none : fault ≡ Some NoThread → replies ≡ []
 
 -- what was asked of each part
 abbrev pub begun_trails : List (List Command) → List Part → List Trail
@@ -67,16 +72,3 @@ AreWhole (commands ∷ parts) [] = ⊥
 -- a pass that has seen anything new has seen no other entries than those of callers
 abbrev pub SeesCallers : View Entry → View Entry → Type 0
 SeesCallers v w = (w.seen ≡ v.seen) ⊎ All (λ (entry : Entry). entry.by < 65536) w.seen
-
--- of two faults the one that a block tells: Memory before Stopped, and that before NoThread
-abbrev pub told_fault : Option BlockFault → Option BlockFault → Option BlockFault
-told_fault None other = other
-told_fault (Some Memory) other = Some Memory
-told_fault (Some Stopped) (Some Memory) = Some Memory
-told_fault (Some Stopped) None = Some Stopped
-told_fault (Some Stopped) (Some Stopped) = Some Stopped
-told_fault (Some Stopped) (Some NoThread) = Some Stopped
-told_fault (Some NoThread) None = Some NoThread
-told_fault (Some NoThread) (Some Memory) = Some Memory
-told_fault (Some NoThread) (Some Stopped) = Some Stopped
-told_fault (Some NoThread) (Some NoThread) = Some NoThread

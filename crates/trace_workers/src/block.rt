@@ -11,14 +11,16 @@
 //! When a part has ended, its half is joined again with what is below it. So the pass that comes back has all names, whether or not the parts ran to
 //! their ends, and it has seen what all of them did. Nobody acts under the names that are left over.
 
-ghost use Rattle.std.specs.Prelude.{◌≡◌, ◌≢◌, ◌+◌, ◌-◌, ◌<◌, ◌≤◌, ◌^◌, [], map, length, vec_len, vec_capacity, Some, None, true, IfOk, IfErr, List};
+ghost use Rattle.std.specs.Prelude.{◌≡◌, ◌≢◌, ◌+◌, ◌-◌, ◌<◌, ◌≤◌, ◌^◌, [], map, length, vec_len, vec_capacity, Option, Some, None, true, IfOk, IfErr, OnErr, List};
 ghost use Rattle.std.specs.List.{AllZip};
 ghost use Rattle.ticket_lock.specs.Calls.{view_of, IsOf};
 ghost use Rattle.ticket_lock.specs.Views.{HasAllNames};
 ghost use Rattle.trace_history.specs.Blocks.{Trail};
 ghost use Rattle.trace_workers.specs.BlockRuns.{trails_of, commands_of, Begins, IsAfterBlock};
+ghost use Rattle.trace_workers.specs.Ends.{EndAs, reported};
 ghost use Rattle.trace_workers.specs.Gates.{LetsAllPass, LetsBegunPass, StopsOne};
 ghost use Rattle.trace_workers.specs.PartRuns.{HasRun, HasAsked, IsGated, AreWhole, SeesCallers, begun_trails};
+ghost use Rattle.trace_workers.specs.declared.fault.BlockFault.{BlockFault};
 ghost use Rattle.trace_workers.specs.declared.fault.BlockFault.TheVariants.{Stopped};
 
 use crate::asked::Asked;
@@ -27,7 +29,7 @@ use crate::gate::Gate;
 use crate::part::Part;
 use crate::thread::{Given, Returned, run_part};
 use core::thread::Stack;
-use std::alloc::Global;
+use std::alloc::{AllocError, Global};
 use std::snapshot::Snapshot;
 use std::sync::Wait;
 use std::sync::atomic::{AtomicBool, Ordering};
@@ -49,7 +51,7 @@ struct Ended {
 }
 
 // Runs the last part on a thread of its own under the upper half of the names, and the parts before it under the lower half. `done` has room for
-// their results. If a thread can't be started, `missed` is set, and the part, called here, only returns its pass.
+// their results. If a thread can't be started, `missed` is set, and the part, called here, only returns its pass, with the fault `NoThread`.
 fn run_parts<'s, E, R: Threads + Wait + Sync, G: Gate + Sync, C: Asked + Send + Drop + 's>(
     scope: &Scope<'s, E>,
     rt: &'s R,
@@ -76,6 +78,8 @@ fn run_parts<'s, E, R: Threads + Wait + Sync, G: Gate + Sync, C: Asked + Send + 
     ensures begun { LetsBegunPass (G.may_answer gate.now) (begun_trails (commands_of C.command parts.items) result.done.items) }
     ensures gate { result.fault ≡ None → LetsAllPass (G.may_answer gate.now) (commands_of C.command parts.items) }
     ensures stopped { result.fault ≡ Some Stopped → StopsOne (G.may_answer gate.now) (commands_of C.command parts.items) }
+    ensures ends { (ends : List (Option BlockFault)) × (result.fault ≡ reported ends)
+        × EndAs (G.may_answer gate.now) 0 (commands_of C.command parts.items) (begun_trails (commands_of C.command parts.items) result.done.items) ends }
 {
     let Some(commands) = parts.pop() else {
         return Ended {
@@ -110,9 +114,9 @@ fn run_parts<'s, E, R: Threads + Wait + Sync, G: Gate + Sync, C: Asked + Send + 
         missed.store(true, Ordering::SeqCst);
     }
     let others = run_parts(scope, rt, alloc, lock, lower, parts, done, gate, missed);
-    let (returned, refused) = match started {
-        Ok(handle) => (handle.join(rt), None),
-        Err(refused) => ((refused.value)(), Some(BlockFault::NoThread)),
+    let returned = match started {
+        Ok(handle) => handle.join(rt),
+        Err(refused) => (refused.value)(),
     };
     let Ended {
         pass: lower,
@@ -128,8 +132,20 @@ fn run_parts<'s, E, R: Threads + Wait + Sync, G: Gate + Sync, C: Asked + Send + 
     Ended {
         pass: lock.join(lower, upper),
         done,
-        fault: first_of(before, first_of(fault, refused)),
+        fault: first_of(before, fault),
     }
+}
+
+// Room for the results of so many parts. For none of them no memory is taken.
+fn room_for_results(alloc: Global, parts: usize) -> Result<Vec<Part>, AllocError>
+    ensures empty { IfOk result (λ done. (done.items ≡ []) × (vec_len done ≡ 0)) }
+    ensures room { IfOk result (λ done. vec_len done + parts ≤ vec_capacity done) }
+    ensures memory { OnErr result (0 < parts) }
+{
+    if parts == 0 {
+        return Ok(Vec::new(alloc));
+    }
+    Vec::with_capacity(alloc, parts)
 }
 
 /// Runs a block as [`run_block`] does, whose parts keep their commands in a form of their own: what is said there of the commands is said here of
@@ -150,13 +166,14 @@ pub fn run_block_of<R: Threads + Wait + Sync, G: Gate + Sync, C: Asked + Send + 
     ensures done { IfOk result.1 (λ done. (vec_len done ≡ vec_len parts)
         × IsAfterBlock (view_of root) (view_of result.0) (trails_of (commands_of C.command parts.items) done.items)) }
     ensures fault { IfErr result.1 (λ fault. (trails : List Trail) × AllZip Begins (commands_of C.command parts.items) trails
-        × IsAfterBlock (view_of root) (view_of result.0) trails × LetsBegunPass (G.may_answer gate.now) trails) }
+        × IsAfterBlock (view_of root) (view_of result.0) trails × LetsBegunPass (G.may_answer gate.now) trails
+        × (ends : List (Option BlockFault)) × (Some fault ≡ reported ends) × EndAs (G.may_answer gate.now) 0 (commands_of C.command parts.items) trails ends) }
     ensures open { G.is_open gate.now ≡ true → IfErr result.1 (λ fault. fault ≢ Stopped) }
     ensures gate { IfOk result.1 (λ done. LetsAllPass (G.may_answer gate.now) (commands_of C.command parts.items)) }
     ensures stopped { IfErr result.1 (λ fault. fault ≡ Stopped
         → StopsOne (G.may_answer gate.now) (commands_of C.command parts.items)) }
 {
-    let Ok(done) = Vec::with_capacity(alloc, parts.len()) else {
+    let Ok(done) = room_for_results(alloc, parts.len()) else {
         return (root, Err(BlockFault::Memory));
     };
     let flag = AtomicBool::new(false);
@@ -176,7 +193,9 @@ pub fn run_block_of<R: Threads + Wait + Sync, G: Gate + Sync, C: Asked + Send + 
                 × (G.is_open gate.entry.now ≡ true → result.fault ≢ Some Stopped)
                 × LetsBegunPass (G.may_answer gate.entry.now) (begun_trails (commands_of C.command parts.items) result.done.items)
                 × (result.fault ≡ None → LetsAllPass (G.may_answer gate.entry.now) (commands_of C.command parts.items))
-                × (result.fault ≡ Some Stopped → StopsOne (G.may_answer gate.entry.now) (commands_of C.command parts.items)) }
+                × (result.fault ≡ Some Stopped → StopsOne (G.may_answer gate.entry.now) (commands_of C.command parts.items))
+                × ((ends : List (Option BlockFault)) × (result.fault ≡ reported ends) × EndAs (G.may_answer gate.entry.now) 0
+                (commands_of C.command parts.items) (begun_trails (commands_of C.command parts.items) result.done.items) ends) }
         { run_parts(scope, rt, alloc, lock, root, parts, done, gate, missed) },
     );
     let Ended { pass, done, fault } = ended;
@@ -210,9 +229,12 @@ pub fn run_block<R: Threads + Wait + Sync, G: Gate + Sync>(
     // Each part's replies are the trail of its commands, starting from what the root had seen.
     ensures done { IfOk result.1 (λ done. (vec_len done ≡ vec_len parts)
         × IsAfterBlock (view_of root) (view_of result.0) (trails_of (map (λ part. part.items) parts.items) done.items)) }
-    // After a fault the same is true of the first commands of each part, with replies that are not returned. The gate let each part come that far.
+    // After a fault the same is true of the first commands of each part, with replies that are not returned. The gate let each part come that far, and
+    // the fault is the first in `BlockFault` of those for which parts ended early: `Stopped` only where the gate may have answered `false` as the
+    // part's replies end, `NoThread` only for a part without a reply.
     ensures fault { IfErr result.1 (λ fault. (trails : List Trail) × AllZip Begins (map (λ part. part.items) parts.items) trails
-        × IsAfterBlock (view_of root) (view_of result.0) trails × LetsBegunPass (G.may_answer gate.now) trails) }
+        × IsAfterBlock (view_of root) (view_of result.0) trails × LetsBegunPass (G.may_answer gate.now) trails
+        × (ends : List (Option BlockFault)) × (Some fault ≡ reported ends) × EndAs (G.may_answer gate.now) 0 (map (λ part. part.items) parts.items) trails ends) }
     ensures open { G.is_open gate.now ≡ true → IfErr result.1 (λ fault. fault ≢ Stopped) }
     // The gate let each command of each part pass, at both points and by the command's own indexes, as far as `may_answer` tells. Not stated: that it
     // was asked at `Asking` before the command, and at `Answered` after it.

@@ -1,7 +1,7 @@
 //! Why a block returned no replies.
 
 ghost use Rattle.std.specs.Prelude.{◌≡◌, Some};
-ghost use Rattle.trace_workers.specs.PartRuns.{told_fault};
+ghost use Rattle.trace_workers.specs.Ends.{told_fault};
 
 use std::error::Error;
 use std::fmt;

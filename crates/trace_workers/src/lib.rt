@@ -3,6 +3,7 @@
 
 mod asked;
 mod block;
+mod call;
 mod fault;
 mod gate;
 mod history;
@@ -10,7 +11,7 @@ mod part;
 mod thread;
 mod worker;
 
-pub use asked::Asked;
+pub use asked::{Asked, Ready};
 pub use block::{run_block, run_block_of};
 pub use fault::BlockFault;
 pub use gate::{Gate, OpenGate, Point};

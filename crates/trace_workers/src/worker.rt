@@ -10,6 +10,7 @@ ghost use Rattle.trace_command.specs.declared.refusal.Refusal.{Refusal};
 ghost use Rattle.trace_command.specs.declared.refusal.Refusal.TheVariants.{Memory};
 
 use crate::asked::Asked;
+use crate::call::ask_in;
 use crate::fault::BlockFault;
 use crate::gate::{Gate, Point};
 use std::alloc::Global;
@@ -35,7 +36,7 @@ fn is_memory(answer: &Result<Reply, Refusal>) -> bool
     }
 }
 
-// Runs one command of a part. The gate is asked before and after it, never while the lock is held.
+// Runs one command of a part. The gate is asked before and after it, never while the lock is held. Nor is it held as the command is read.
 fn take_turn<R: Wait, G: Gate, C: Asked + Drop>(
     rt: &R,
     alloc: Global,
@@ -64,7 +65,7 @@ fn take_turn<R: Wait, G: Gate, C: Asked + Drop>(
     if !gate.arrive(thread, call, Point::Asking) {
         return (Worker { pass, replies }, Some(BlockFault::Stopped));
     }
-    let (pass, answer) = command.ask_in(rt, alloc, lock, pass);
+    let (pass, answer) = ask_in(rt, alloc, lock, pass, command);
     let goes_on = gate.arrive(thread, call, Point::Answered);
     if is_memory(&answer) {
         return (Worker { pass, replies }, Some(BlockFault::Memory));

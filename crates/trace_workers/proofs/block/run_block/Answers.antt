@@ -1,8 +1,12 @@
-use Rattle.std.proofs.Common.{◌≡◌, IfOk, IfErr, List, vec_len, subst}
+use Rattle.std.proofs.Common.{◌≡◌, IfOk, IfErr, List, Option, Some, vec_len, subst}
+use Rattle.std.specs.List.{AllZip}
 use Rattle.ticket_lock.specs.Calls.{view_of}
 use Rattle.trace_command.specs.declared.command.Command.{Command}
-use Rattle.trace_workers.specs.BlockRuns.{trails_of, IsAfterBlock}
-use Rattle.trace_workers.specs.Gates.{LetsAllPass, StopsOne}
+use Rattle.trace_workers.specs.BlockRuns.{trails_of, Begins, IsAfterBlock}
+use Rattle.trace_workers.specs.Gates.{LetsAllPass, LetsBegunPass, StopsOne}
+use Rattle.trace_history.specs.Blocks.{Trail}
+use Rattle.trace_workers.specs.Ends.{EndAs, reported}
+use Rattle.trace_workers.specs.declared.fault.BlockFault.{BlockFault}
 use Rattle.trace_workers.specs.declared.fault.BlockFault.TheVariants.{Stopped}
 use Rattle.trace_workers.proofs.Blocking.{parts_same}
 use Rattle.trace_workers.proofs.block.run_block.Goals as goal
@@ -24,3 +28,12 @@ pub returns-clause-stopped : goal.returns-clause-stopped
 returns-clause-stopped g c =
     subst (λ (parts : List (List Command)). IfErr c.run_block_of.result.1 (λ fault. fault ≡ Stopped → StopsOne (g.G.Gate.may_answer c.args.gate.now) parts))
     (parts_same c.args.parts.items) c.run_block_of.ensures.stopped
+
+pub returns-clause-fault : goal.returns-clause-fault
+returns-clause-fault g c =
+    let may = g.G.Gate.may_answer c.args.gate.now in
+    subst
+    (λ (parts : List (List Command)). IfErr c.run_block_of.result.1 (λ fault. (trails : List Trail) × AllZip Begins parts trails
+    × IsAfterBlock (view_of c.args.root) (view_of c.run_block_of.result.0) trails × LetsBegunPass may trails
+    × (ends : List (Option BlockFault)) × (Some fault ≡ reported ends) × EndAs may 0 parts trails ends))
+    (parts_same c.args.parts.items) c.run_block_of.ensures.fault

@@ -48,7 +48,8 @@ returns-then-not-arrive-clause-gate g c asked same before =
 -- memory was refused to it
 pub returns-then-is_memory-clause-gate : goal.returns-then-is_memory-clause-gate
 returns-then-is_memory-clause-gate g c asked same before =
-    gated_memory (g.G.Gate.may_answer c.args.gate.now c.args.thread) asked c.args.worker.replies.items (g.C.Asked.command c.args.command) before
+    gated_memory (g.G.Gate.may_answer c.args.gate.now c.args.thread) asked c.args.worker.replies.items (g.C.Asked.command c.args.command)
+    (omega (arith, same, c.args.worker.replies.ok.0)) before
 
 -- it was answered, and the gate was asked again
 pub returns-clause-gate : goal.returns-clause-gate
