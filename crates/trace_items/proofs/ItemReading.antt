@@ -1,5 +1,5 @@
 -- The items of a script, read one after the other.
-use Rattle.std.proofs.Common.{◌≡◌, ℕ, suc, ◌+◌, ◌||◌, Bool, true, false, if◌then◌else◌, List, [], ◌∷◌, length, Option, Result, Ok, Err, IsSome, refl, ap, sym, subst, ◌∙◌, arith}
+use Rattle.std.proofs.Common.{◌≡◌, ℕ, suc, ◌+◌, ◌-◌, ◌||◌, Bool, true, false, if◌then◌else◌, List, [], ◌∷◌, drop, length, Option, Result, Ok, Err, IsSome, refl, ap, sym, subst, ◌∙◌, arith}
 use Rattle.std.specs.List.{list_any, slice_get}
 use Rattle.trace_format.specs.declared.pair.Pair.{Pair}
 use Rattle.trace_script.specs.Lines.{line_of}
@@ -98,6 +98,32 @@ module _ (number : ℕ) (line : List ℕ) (all lines : List (List ℕ)) (read : 
       ∙ ap (λ (first : Item). first ∷ items_from next 0 (after_end lines)) part.1
       ∙ ap (λ (more : List (List ℕ)). item ∷ items_from next 0 more) part.3
       ∙ ap (λ (n : ℕ). item ∷ items_from n 0 rest) (omega (arith, part.2))
+
+-- ---- the lines that are left
+
+left_after : (end : Bool) (line : List ℕ) (lines : List (List ℕ)) → (list_any is_end lines ≡ true → after_end lines ≡ drop (suc (length (before_end lines))) lines)
+    → (end || list_any is_end lines) ≡ true
+    → (if end then lines else after_end lines) ≡ drop (suc (length (if end then [] else line ∷ before_end lines))) (line ∷ lines)
+left_after true line lines rest any = refl
+left_after false line lines rest any = rest any
+
+left_after_end : (lines : List (List ℕ)) → list_any is_end lines ≡ true → after_end lines ≡ drop (suc (length (before_end lines))) lines
+left_after_end [] any = absurd cc
+left_after_end (line ∷ lines) any = left_after (is_end line) line lines (left_after_end lines) any
+
+-- after a line by itself
+pub line_left : (number : ℕ) (line : List ℕ) (all lines : List (List ℕ)) → all ≡ line ∷ lines → lines ≡ drop (number + 1 - number) all
+line_left number line all lines is =
+    let one : number + 1 - number ≡ 1 = omega arith in
+    ap (drop 1) (sym is) ∙ ap (λ (n : ℕ). drop n all) (sym one)
+
+-- after a part
+pub part_left : (number : ℕ) (line : List ℕ) (all lines : List (List ℕ)) (item : Item) (count : ℕ) (rest : List (List ℕ)) → all ≡ line ∷ lines
+    → IsPartRead (number + 1) lines item count rest → rest ≡ drop (number + 1 + count + 1 - number) all
+part_left number line all lines item count rest is part =
+    let many : number + 1 + count + 1 - number ≡ suc (suc count) = omega arith in
+    sym part.3 ∙ left_after_end lines part.0 ∙ ap (λ (n : ℕ). drop (suc n) lines) part.2
+    ∙ (ap (drop (suc (suc count))) (sym is) ∙ ap (λ (n : ℕ). drop n all) (sym many))
 
 -- an emission, which begins no part
 pub emission_next : (number : ℕ) (line : List ℕ) (all lines : List (List ℕ)) (head : EmissionHead) (pairs : List Pair) → all ≡ line ∷ lines

@@ -1,6 +1,6 @@
 //! The items of a script, read one after the other: a line by itself, or a whole part.
 
-ghost use Rattle.std.specs.Prelude.{◌≡◌, ℕ, List, ◌+◌, ◌-◌, ◌<◌, ◌≤◌, ◌^◌, ◌∷◌, length, IfOk, Ok};
+ghost use Rattle.std.specs.Prelude.{◌≡◌, ℕ, List, ◌+◌, ◌-◌, ◌<◌, ◌≤◌, ◌^◌, ◌∷◌, drop, length, IfOk, Ok};
 ghost use Rattle.std.specs.Option.{option_copied};
 ghost use Rattle.trace_script.specs.Lines.{line_of};
 ghost use Rattle.trace_script.specs.declared.line.Line.TheVariants.{Parallel};
@@ -68,7 +68,7 @@ fn begins(said: &Result<Line, ScriptFault>) -> bool
 /// Reads on at a line `parallel`: the part that it begins, if a line `end` follows it; else that line by itself. It is kept out of line, so
 /// that other lines don't take the room of a part. The text is that which begins with the line.
 #[inline(never)]
-#[tactic(auto, using(crate::proofs::ItemReading::part_next, crate::proofs::ItemReading::endless_next))]
+#[tactic(auto, using(crate::proofs::ItemReading::part_next, crate::proofs::ItemReading::endless_next, crate::proofs::ItemReading::line_left))]
 fn part_or_line<'a>(
     alloc: Global,
     number: usize,
@@ -82,6 +82,8 @@ fn part_or_line<'a>(
     requires says { Ok Parallel ≡ line_of line.now }
     ensures read { IfOk result (λ next. items_from number 0 (lines_of text.now)
         ≡ item_read number next.item ∷ items_from next.number 0 (lines_left (option_copied next.rest))) }
+    ensures lines { IfOk result (λ next. lines_left (option_copied next.rest) ≡ drop (next.number - number) (lines_of text.now)) }
+    ensures number { IfOk result (λ next. number < next.number) }
     ensures said { IfOk result (λ next. IsSaid next.item) }
     ensures line { IfOk result (λ next. HasFaultLine number (lines_of text.now) next.item) }
     ensures text { IfOk result (λ next. HasItsText text.now next.item) }
@@ -109,7 +111,7 @@ fn part_or_line<'a>(
 /// it; else one line. It fails only if memory is refused. It is kept out of line, so that emissions, for which [`crate::plain::plain_item`] is
 /// asked first, don't take its room.
 #[inline(never)]
-#[tactic(auto, using(crate::proofs::ItemReading::line_next))]
+#[tactic(auto, using(crate::proofs::ItemReading::line_next, crate::proofs::ItemReading::line_left))]
 pub fn next_item<'a>(
     alloc: Global,
     number: usize,
@@ -118,6 +120,8 @@ pub fn next_item<'a>(
     requires room { number + length text.now < 2 ^ 63 - 1 }
     ensures read { IfOk result (λ next. items_from number 0 (lines_of text.now)
         ≡ item_read number next.item ∷ items_from next.number 0 (lines_left (option_copied next.rest))) }
+    ensures lines { IfOk result (λ next. lines_left (option_copied next.rest) ≡ drop (next.number - number) (lines_of text.now)) }
+    ensures number { IfOk result (λ next. number < next.number) }
     ensures said { IfOk result (λ next. IsSaid next.item) }
     ensures line { IfOk result (λ next. HasFaultLine number (lines_of text.now) next.item) }
     ensures text { IfOk result (λ next. HasItsText text.now next.item) }

@@ -32,6 +32,7 @@ pub fn plain_item<'a>(
 ) -> Result<Option<PlainItem<'a>>, AllocError>
     ensures read { IfOk result (λ found. IfSome found (λ plain. (number : ℕ) → items_from number 0 (lines_of text.now)
         ≡ Single number plain.line.now ∷ items_from (number + 1) 0 (lines_left (option_copied plain.rest)))) }
+    ensures lines { IfOk result (λ found. IfSome found (λ plain. lines_of text.now ≡ plain.line.now ∷ lines_left (option_copied plain.rest))) }
     ensures said { IfOk result (λ found. IfSome found (λ plain. line_of plain.line.now ≡ emission_said plain.head pairs.new.items)) }
     ensures shorter { IfOk result (λ found. IfSome found (λ plain. bytes_left (option_copied plain.rest) ≤ length text.now)) }
     ensures found { IfOk result (λ found. (line : List ℕ) (lines : List (List ℕ)) → lines_of text.now ≡ line ∷ lines

@@ -27,7 +27,7 @@ pub trait Source {
 #[derive(Drop)]
 pub struct Input<R> {
     pub device: R,
-    pub failures: u64,
+    failures: u64,
 }
 
 impl<R: Read> Input<R> {
