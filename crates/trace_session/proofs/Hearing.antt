@@ -3,7 +3,8 @@ use Rattle.std.proofs.Common.{◌≡◌, ◌↔◌, ℕ, ◌-◌, ◌≤◌, Boo
 use Rattle.std.proofs.lemmas.List.{append-nil}
 use Rattle.trace_items.specs.PartReads.{IsLineAt}
 use Rattle.trace_script.specs.declared.outcome.Outcome.{Outcome}
-use Rattle.trace_session.specs.Heard.{Heard, Hears, AreInOrder, heard_each, heard_of, line_at}
+use Rattle.trace_session.specs.Heard.{Heard, Hears, heard_of, line_at}
+use Rattle.trace_session.specs.private.HeardItems.{AreInOrder, heard_each}
 use Rattle.trace_parts.specs.ThreadTexts.{told_if}
 use Rattle.trace_parts.specs.declared.outcome_at.OutcomeAt.{OutcomeAt}
 
@@ -43,7 +44,7 @@ hears_all old now all (more, is, heard) = subst (Hears old now) (sym (append-nil
 
 -- ---- lines
 
-line_is : (first number : ℕ) (lines : List (List ℕ)) (line : List ℕ) → IsLineAt first lines number line → line_at first lines number ≡ line
+pub line_is : (first number : ℕ) (lines : List (List ℕ)) (line : List ℕ) → IsLineAt first lines number line → line_at first lines number ≡ line
 line_is first number lines line (place, same, found) =
     let at : number - first ≡ place = omega (arith, same) in
     ap (λ (o : Option (List ℕ)). unwrap_or o []) (ap (slice_get lines) at ∙ found)

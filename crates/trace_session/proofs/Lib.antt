@@ -8,6 +8,7 @@ pub mod PartExamples
 pub mod PartWriting
 pub mod PartRunning
 pub mod Hearing
+pub mod HearingAll
 pub mod PartLines
 pub mod PartAsking
 pub mod SingleLines

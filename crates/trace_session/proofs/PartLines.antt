@@ -13,7 +13,8 @@ use Rattle.trace_script.specs.Lines.{line_of}
 use Rattle.trace_script.specs.declared.fault.ScriptFault.{ScriptFault}
 use Rattle.trace_script.specs.declared.line.Line.{Line}
 use Rattle.trace_script.specs.declared.line.Line.TheVariants.{Blank, Ask, Parallel, Thread, End}
-use Rattle.trace_session.specs.Heard.{AreInOrder, HasItsLines, numbers_in}
+use Rattle.trace_session.specs.Heard.{numbers_in}
+use Rattle.trace_session.specs.private.HeardItems.{AreInOrder, HasItsLines}
 
 -- from a lower number on
 lower : (low from first : ℕ) (lines : List (List ℕ)) (numbers : List ℕ) → low ≤ from → AreInOrder from first lines numbers → AreInOrder low first lines numbers

@@ -5,7 +5,7 @@ use Rattle.trace_items.specs.Items.{Single}
 use Rattle.trace_items.specs.declared.stop.Stop.{Stop}
 use Rattle.trace_script.specs.declared.outcome.Outcome.{Outcome}
 use Rattle.trace_session.specs.Devices.{AppendsFront, Passes}
-use Rattle.trace_session.specs.Fronts.{PassesItem, AppendsItem}
+use Rattle.trace_session.specs.private.StepFronts.{PassesItem, AppendsItem}
 use Rattle.trace_session.specs.Heard.{Heard, Hears, heard_of}
 use Rattle.trace_session.specs.Parts.{MayGive, given_by}
 use Rattle.trace_session.specs.Sessions.{Progress, Turn, turn_of, text_of, status_of}

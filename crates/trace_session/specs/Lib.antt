@@ -4,6 +4,8 @@ pub mod Parts
 pub mod Passes
 pub mod PartTexts
 pub mod Heard
+pub mod Gated
 pub mod Fronts
 pub mod PartLaws
 pub mod PartExamples
+pub mod private

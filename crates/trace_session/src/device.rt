@@ -52,7 +52,7 @@ pub trait Sink {
 #[derive(Drop)]
 pub struct Output<W> {
     pub device: W,
-    pub failures: u64,
+    failures: u64,
 }
 
 impl<W: Write> Output<W> {

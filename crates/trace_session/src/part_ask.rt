@@ -1,70 +1,45 @@
-//! A line of a part, asked when its turn comes. It is read again, since its command was not kept.
+//! A line of a part, read when its turn comes. It is read again, since its command was not kept.
 
-ghost use Rattle.std.specs.Prelude.{◌≡◌, ◌≢◌, Ok, Err, IfOk, IfErr};
-ghost use Rattle.ticket_lock.specs.Calls.{view_of, IsOf};
-ghost use Rattle.trace_history.specs.History.{IsLegal};
-ghost use Rattle.trace_book.specs.Bases.{numbers_of};
+ghost use Rattle.std.specs.Prelude.{◌≡◌, Ok, IfOk};
 ghost use Rattle.trace_command.specs.declared.command.Command.{Command};
-ghost use Rattle.trace_command.specs.declared.command.Config.{Config};
-ghost use Rattle.trace_command.specs.declared.refusal.Refusal.TheVariants.{Memory};
 ghost use Rattle.trace_script.specs.Lines.{line_of};
 ghost use Rattle.trace_script.specs.declared.line.Line.TheVariants.{Ask};
 ghost use Rattle.trace_session.specs.PartTexts.{asked_command};
-ghost use Rattle.trace_book.specs.Asks.{GoesOn, IsDone, IsRefused, IsUndone};
+ghost use Rattle.trace_workers.specs.Readies.{command_of};
 
 use crate::part_line::AskedLine;
-use std::alloc::Global;
-use std::sync::Wait;
-use ticket_lock::{Pass, TicketLock};
-use trace_book::Book;
-use trace_command::{BorrowedEmission, Refusal, Reply};
+use std::alloc::{AllocError, Global};
 use trace_script::{Line, plain_emission, prepare};
-use trace_workers::{Asked, ask, ask_emission};
+use trace_workers::{Asked, Ready};
 
-/// Runs the command of a line that asks for one. So only memory can be missing.
-#[tactic(auto, using(crate::proofs::PartAsking::done_as, crate::proofs::PartAsking::refused_as, crate::proofs::PartAsking::undone_as, crate::proofs::PartAsking::stays, crate::proofs::PartAsking::idle))]
-fn ask_prepared<R: Wait>(
-    rt: &R,
-    alloc: Global,
-    lock: &TicketLock<Book>,
-    pass: Pass<Book>,
-    line: &[u8],
-) -> (Pass<Book>, Result<Reply, Refusal>)
-    requires { IsOf lock.now pass }
-    ensures of { IsOf lock.now result.0 }
-    ensures goes_on { GoesOn (view_of pass) (view_of result.0) }
-    ensures done { (command : Command) → line_of line.now ≡ Ok (Ask command)
-        → IfOk result.1 (IsDone (view_of pass) (view_of result.0) command) }
-    ensures refused { (command : Command) → line_of line.now ≡ Ok (Ask command)
-        → IfErr result.1 (λ refusal. refusal ≢ Memory → IsRefused (view_of pass) (view_of result.0) command refusal) }
-    ensures memory { result.1 ≡ Err Memory → IsUndone (view_of pass) (view_of result.0) }
-    ensures legal { (g : Config) → numbers_of g ≡ (view_of pass).base → IsLegal g (view_of pass).seen → IsLegal g (view_of result.0).seen }
+/// The command of a line that asks for one. So only memory can be missing.
+#[tactic(auto, using(crate::proofs::PartAsking::same_command))]
+fn prepared<'a>(alloc: Global, line: &[u8]) -> Result<Ready<'a>, AllocError>
+    ensures { IfOk result (λ ready. (command : Command) → line_of line.now ≡ Ok (Ask command) → command_of ready ≡ command) }
 {
     let Ok(Line::Ask(command)) = prepare(alloc, line) else {
-        return (pass, Err(Refusal::Memory));
+        return Err(AllocError);
     };
-    ask(rt, lock, pass, command)
+    Ok(Ready::Command(command))
 }
 
 impl<'a> Asked for AskedLine<'a> {
     ghost command = { asked_command };
 
-    #[tactic(auto, using(crate::proofs::PartAsking::done_as, crate::proofs::PartAsking::refused_as, crate::proofs::PartAsking::undone_as, crate::proofs::PartAsking::stays, crate::proofs::PartAsking::idle))]
-    fn ask_in<R: Wait>(
-        self,
-        rt: &R,
-        alloc: Global,
-        lock: &TicketLock<Book>,
-        pass: Pass<Book>,
-    ) -> (Pass<Book>, Result<Reply, Refusal>) {
+    #[tactic(auto, using(crate::proofs::PartAsking::same_command))]
+    fn read<'r>(self, alloc: Global) -> Result<Ready<'r>, AllocError>
+    where
+        Self: 'r,
+    {
         let mut pairs = Vec::new(alloc);
-        match plain_emission(self.line, &mut pairs) {
-            Ok(Some(head)) => {
-                let emission = BorrowedEmission::new(head.event, head.cpu, head.pid, &pairs);
-                ask_emission(rt, lock, pass, &emission)
-            }
-            Ok(None) => ask_prepared(rt, alloc, lock, pass, self.line),
-            Err(_) => (pass, Err(Refusal::Memory)),
+        match plain_emission(self.line, &mut pairs)? {
+            Some(head) => Ok(Ready::Emission {
+                event: head.event,
+                cpu: head.cpu,
+                pid: head.pid,
+                pairs,
+            }),
+            None => prepared(alloc, self.line),
         }
     }
 }

@@ -1,15 +1,17 @@
 //! A part: its threads run concurrently, and their output is assembled.
 
-ghost use Rattle.std.specs.Prelude.{◌≡◌, ◌≤◌, List, true, vec_len, IfOk, IsErrOf};
+ghost use Rattle.std.specs.Prelude.{◌≡◌, ◌≤◌, List, true, vec_len, IfOk, OnOk, IsErrOf};
 ghost use Rattle.ticket_lock.specs.Calls.{view_of, IsOf};
 ghost use Rattle.trace_command.specs.declared.command.Config.{Config};
 ghost use Rattle.trace_items.specs.PartReads.{commands_in};
+ghost use Rattle.trace_session.specs.Gated.{commands_asked};
 ghost use Rattle.trace_session.specs.Parts.{Given, PartMayGive};
 ghost use Rattle.trace_parts.specs.ThreadTexts.{told_if};
 ghost use Rattle.trace_session.specs.PartTexts.{AreOutcomesOf};
 ghost use Rattle.trace_session.specs.Passes.{IsSessionPass, progress_of};
 ghost use Rattle.trace_session.specs.Sessions.{status_of};
 ghost use Rattle.trace_parts.specs.declared.outcome_at.OutcomeAt.{OutcomeAt};
+ghost use Rattle.trace_workers.specs.Gates.{LetsAllPass, StopsOne};
 
 use crate::environment::Environment;
 use crate::part_split::split_threads;
@@ -42,6 +44,9 @@ pub fn run_part<R: Threads + Wait + Sync, G: Gate + Sync>(
         × (given.text ≡ written.text.items) × (written.status ≡ status_of given.outcomes)
         × (told : List OutcomeAt) × AreOutcomesOf (commands_in threads.entry.items) given.outcomes told
         × (written.outcomes.items ≡ told_if is_told told)) }
+    ensures gate { OnOk result.1 (LetsAllPass (G.may_answer env.now.gate.now) (commands_asked (commands_in threads.entry.items))) }
+    ensures stopped { IsErrOf result.1 Stop.Stopped
+        → StopsOne (G.may_answer env.now.gate.now) (commands_asked (commands_in threads.entry.items)) }
     ensures open { G.is_open env.now.gate.now ≡ true → IsErrOf result.1 Stop.Stopped → ⊥ }
     ensures device { IsErrOf result.1 Stop.Device → ⊥ }
 {

@@ -8,7 +8,7 @@ ghost use Rattle.trace_command.specs.declared.command.Config.{Config};
 ghost use Rattle.trace_items.specs.Items.{HasNoPart};
 ghost use Rattle.trace_items.specs.Sources.{ConsumesAtMost, HasRisen};
 ghost use Rattle.trace_session.specs.Fronts.{AppendsSession, AppendsBegun, AppendsBegunFront, AppendsStopped};
-ghost use Rattle.trace_session.specs.Fronts.{PassesSession, PassesBegun, PassesStopped};
+ghost use Rattle.trace_session.specs.private.StepFronts.{PassesSession, PassesBegun, PassesStopped};
 ghost use Rattle.trace_session.specs.Passes.{IsSessionPass, progress_of};
 ghost use Rattle.trace_session.specs.Sessions.{beginning, IsWhole, IsRead};
 
@@ -53,19 +53,23 @@ fn do_items<R: Threads + Wait + Sync, W: Sink, G: Gate + Sync>(
     requires short { length script.now ≤ MOST_SCRIPT_BYTES }
     requires none { replies.old ≡ [] }
     ensures ok { IfOk result (λ status. (g : Config) → IsSessionPass g (view_of pass)
-        → PassesSession g script.now status (W.contents writer.old) (W.contents writer.new) replies.new) }
+        → PassesSession g (G.may_answer env.now.gate.now) script.now status
+        (W.contents writer.old) (W.contents writer.new) replies.new (W.heard writer.old) (W.heard writer.new)) }
     ensures whole { IfOk result IsWhole }
     ensures failures { OnOk result (W.failures writer.new ≡ W.failures writer.old) }
     ensures memory { IsErrOf result Stop.Memory → (g : Config) → IsSessionPass g (view_of pass)
-        → PassesBegun g script.now (W.contents writer.old) (W.contents writer.new) replies.new }
+        → PassesBegun g (G.may_answer env.now.gate.now) script.now
+        (W.contents writer.old) (W.contents writer.new) replies.new (W.heard writer.old) (W.heard writer.new) }
     ensures unfailed { IsErrOf result Stop.Memory → W.failures writer.new ≡ W.failures writer.old }
     ensures stopped { IsErrOf result Stop.Stopped → (g : Config) → IsSessionPass g (view_of pass)
-        → PassesStopped g script.now (W.contents writer.old) (W.contents writer.new) replies.new }
+        → PassesStopped g (G.may_answer env.now.gate.now) script.now
+        (W.contents writer.old) (W.contents writer.new) replies.new (W.heard writer.old) (W.heard writer.new) }
     ensures unwritten { IsErrOf result Stop.Stopped → W.failures writer.new ≡ W.failures writer.old }
     ensures open { G.is_open env.now.gate.now ≡ true → IsErrOf result Stop.Stopped → ⊥ }
     ensures risen { IsErrOf result Stop.Device → HasRisen (W.failures writer.old) (W.failures writer.new) }
     ensures device { IsErrOf result Stop.Device → (g : Config) → IsSessionPass g (view_of pass)
-        → AppendsBegunFront g script.now (W.contents writer.old) (W.contents writer.new) }
+        → AppendsBegunFront g (G.may_answer env.now.gate.now) script.now
+        (W.contents writer.old) (W.contents writer.new) (W.heard writer.old) (W.heard writer.new) }
 {
     let mut pass = pass;
     let mut rest = Some(script);
@@ -120,19 +124,23 @@ fn do_script<R: Threads + Wait + Sync, W: Sink, G: Gate + Sync>(
     requires begins { progress_of (view_of pass) ≡ beginning }
     requires short { length script.now ≤ MOST_SCRIPT_BYTES }
     ensures ok { IfOk result (λ status. (g : Config) → IsSessionPass g (view_of pass)
-        → AppendsSession g script.now status (W.contents writer.old) (W.contents writer.new)) }
+        → AppendsSession g (G.may_answer env.now.gate.now) script.now status
+        (W.contents writer.old) (W.contents writer.new) (W.heard writer.old) (W.heard writer.new)) }
     ensures whole { IfOk result IsWhole }
     ensures failures { OnOk result (W.failures writer.new ≡ W.failures writer.old) }
     ensures memory { IsErrOf result Stop.Memory → (g : Config) → IsSessionPass g (view_of pass)
-        → AppendsBegun g script.now (W.contents writer.old) (W.contents writer.new) }
+        → AppendsBegun g (G.may_answer env.now.gate.now) script.now
+        (W.contents writer.old) (W.contents writer.new) (W.heard writer.old) (W.heard writer.new) }
     ensures unfailed { IsErrOf result Stop.Memory → W.failures writer.new ≡ W.failures writer.old }
     ensures stopped { IsErrOf result Stop.Stopped → (g : Config) → IsSessionPass g (view_of pass)
-        → AppendsStopped g script.now (W.contents writer.old) (W.contents writer.new) }
+        → AppendsStopped g (G.may_answer env.now.gate.now) script.now
+        (W.contents writer.old) (W.contents writer.new) (W.heard writer.old) (W.heard writer.new) }
     ensures unwritten { IsErrOf result Stop.Stopped → W.failures writer.new ≡ W.failures writer.old }
     ensures open { G.is_open env.now.gate.now ≡ true → IsErrOf result Stop.Stopped → ⊥ }
     ensures risen { IsErrOf result Stop.Device → HasRisen (W.failures writer.old) (W.failures writer.new) }
     ensures device { IsErrOf result Stop.Device → (g : Config) → IsSessionPass g (view_of pass)
-        → AppendsBegunFront g script.now (W.contents writer.old) (W.contents writer.new) }
+        → AppendsBegunFront g (G.may_answer env.now.gate.now) script.now
+        (W.contents writer.old) (W.contents writer.new) (W.heard writer.old) (W.heard writer.new) }
 {
     let mut replies = Replies::new(env.alloc)?;
     match do_items(env, pass, script, &mut replies, writer) {
@@ -172,27 +180,31 @@ fn attempt<T: Threads + Wait + Sync, R: Source, W: Sink, G: Gate + Sync>(
 ) -> Result<Status, Stop>
     requires { IsInRange config }
     ensures session { IfOk result (λ status. IfSome (R.remaining reader.old) (λ script.
-        AppendsSession config script status (W.contents writer.old) (W.contents writer.new))) }
+        AppendsSession config (G.may_answer gate.now) script status
+        (W.contents writer.old) (W.contents writer.new) (W.heard writer.old) (W.heard writer.new))) }
     ensures whole { IfOk result IsWhole }
     ensures end { OnOk result (IsAtEnd (R.remaining reader.new)) }
     ensures short { OnOk result (IfSome (R.remaining reader.old) (λ script. length script ≤ MOST_SCRIPT_BYTES)) }
     ensures reads { OnOk result (R.failures reader.new ≡ R.failures reader.old) }
     ensures writes { OnOk result (W.failures writer.new ≡ W.failures writer.old) }
     ensures memory { IsErrOf result Stop.Memory → IfSome (R.remaining reader.old) (λ script.
-        AppendsBegun config script (W.contents writer.old) (W.contents writer.new)) }
+        AppendsBegun config (G.may_answer gate.now) script
+        (W.contents writer.old) (W.contents writer.new) (W.heard writer.old) (W.heard writer.new)) }
     ensures unread { IsErrOf result Stop.Memory → R.failures reader.new ≡ R.failures reader.old }
     ensures unfailed { IsErrOf result Stop.Memory → W.failures writer.new ≡ W.failures writer.old }
     ensures consumed { IsErrOf result Stop.Memory
         → ConsumesAtMost MOST_SCRIPT_BYTES (R.remaining reader.old) (R.remaining reader.new) }
     ensures stopped { IsErrOf result Stop.Stopped → IfSome (R.remaining reader.old) (λ script.
-        AppendsStopped config script (W.contents writer.old) (W.contents writer.new)) }
+        AppendsStopped config (G.may_answer gate.now) script
+        (W.contents writer.old) (W.contents writer.new) (W.heard writer.old) (W.heard writer.new)) }
     ensures open { G.is_open gate.now ≡ true → IsErrOf result Stop.Stopped → ⊥ }
     ensures stopped_end { IsErrOf result Stop.Stopped → IsAtEnd (R.remaining reader.new) }
     ensures stopped_short { IsErrOf result Stop.Stopped → IfSome (R.remaining reader.old) (λ script. length script ≤ MOST_SCRIPT_BYTES) }
     ensures stopped_reads { IsErrOf result Stop.Stopped → R.failures reader.new ≡ R.failures reader.old }
     ensures stopped_writes { IsErrOf result Stop.Stopped → W.failures writer.new ≡ W.failures writer.old }
     ensures device { IsErrOf result Stop.Device → IfSome (R.remaining reader.old) (λ script.
-        AppendsBegunFront config script (W.contents writer.old) (W.contents writer.new)) }
+        AppendsBegunFront config (G.may_answer gate.now) script
+        (W.contents writer.old) (W.contents writer.new) (W.heard writer.old) (W.heard writer.new)) }
     ensures unwritten { IsErrOf result Stop.Device → (HasRisen (W.failures writer.old) (W.failures writer.new)
         × (R.failures reader.new ≡ R.failures reader.old)
         × IfSome (R.remaining reader.old) (λ script. length script ≤ MOST_SCRIPT_BYTES))
@@ -220,6 +232,9 @@ fn attempt<T: Threads + Wait + Sync, R: Source, W: Sink, G: Gate + Sync>(
 /// the output of the items before it was written; only with a gate that isn't open and a script with a part. With `Device`, a read or a write failed
 /// or the script has over 16,777,216 bytes, and a prefix of a session's output was written, nothing if a read failed or the script is too long.
 ///
+/// The gate may have answered `true` at each command of the parts whose output counts here (`LetsGivenPass`), and `false` at one of the part at which
+/// it stopped. A writer that states what it heard has heard of each item written, in order, and of no other (`HearsAll`); with `Device`, of the first.
+///
 /// It waits for turns and threads, so it is not promised that it returns.
 pub fn run_session<T: Threads + Wait + Sync, R: Source, W: Sink, G: Gate + Sync>(
     rt: &T,
@@ -231,23 +246,27 @@ pub fn run_session<T: Threads + Wait + Sync, R: Source, W: Sink, G: Gate + Sync>
 ) -> Status
     requires { IsInRange config }
 
-    // With memory and without failures: a lawful session of the bytes read.
+    // With memory and without failures: a lawful session of the bytes read, whose parts the gate let pass, and of which the writer has heard.
     ensures session { IsWhole result → IfSome (R.remaining reader.old) (λ script.
-        AppendsSession config script result (W.contents writer.old) (W.contents writer.new)) }
+        AppendsSession config (G.may_answer gate.now) script result
+        (W.contents writer.old) (W.contents writer.new) (W.heard writer.old) (W.heard writer.new)) }
     ensures end { IsRead result → IsAtEnd (R.remaining reader.new) }
     ensures short { IsRead result → IfSome (R.remaining reader.old) (λ script. length script ≤ MOST_SCRIPT_BYTES) }
     ensures failures { IsRead result
         → (R.failures reader.new ≡ R.failures reader.old) × (W.failures writer.new ≡ W.failures writer.old) }
 
-    // Stopped by the gate at a part: the output of the items before it was written, and none of the part's. A script without parts is never stopped.
+    // Stopped by the gate at a part, in which it may answer `false`: the output of the items before it was written, and none of the part's. A script
+    // without parts is never stopped.
     ensures stopped { result ≡ Status.Stopped → IfSome (R.remaining reader.old) (λ script.
-        AppendsStopped config script (W.contents writer.old) (W.contents writer.new)) }
+        AppendsStopped config (G.may_answer gate.now) script
+        (W.contents writer.old) (W.contents writer.new) (W.heard writer.old) (W.heard writer.new)) }
     ensures part { result ≡ Status.Stopped → IfSome (R.remaining reader.old) (λ script. HasNoPart script → ⊥) }
     ensures open { G.is_open gate.now ≡ true → result ≢ Status.Stopped }
 
     // Out of memory: no device failed, and the script was not seen to be too long.
     ensures memory { result ≡ Status.Memory → IfSome (R.remaining reader.old) (λ script.
-        AppendsBegun config script (W.contents writer.old) (W.contents writer.new)) }
+        AppendsBegun config (G.may_answer gate.now) script
+        (W.contents writer.old) (W.contents writer.new) (W.heard writer.old) (W.heard writer.new)) }
     ensures unfailed { result ≡ Status.Memory
         → (R.failures reader.new ≡ R.failures reader.old) × (W.failures writer.new ≡ W.failures writer.old) }
     ensures consumed { result ≡ Status.Memory
@@ -255,7 +274,8 @@ pub fn run_session<T: Threads + Wait + Sync, R: Source, W: Sink, G: Gate + Sync>
 
     // A failure, or a script that is too long.
     ensures device { result ≡ Status.Device → IfSome (R.remaining reader.old) (λ script.
-        AppendsBegunFront config script (W.contents writer.old) (W.contents writer.new)) }
+        AppendsBegunFront config (G.may_answer gate.now) script
+        (W.contents writer.old) (W.contents writer.new) (W.heard writer.old) (W.heard writer.new)) }
     ensures unwritten { result ≡ Status.Device → (HasRisen (W.failures writer.old) (W.failures writer.new)
         × (R.failures reader.new ≡ R.failures reader.old)
         × IfSome (R.remaining reader.old) (λ script. length script ≤ MOST_SCRIPT_BYTES))

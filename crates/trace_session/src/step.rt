@@ -1,8 +1,9 @@
 //! One item of a session: a single line or a part runs, and its output is written.
 
-ghost use Rattle.std.specs.Prelude.{◌≡◌, ◌≢◌, ◌≤◌, [], ◌∷◌, true, None, vec_len, IfOk, OnOk, IsErrOf};
+ghost use Rattle.std.specs.Prelude.{◌≡◌, ◌≢◌, ◌≤◌, [], ◌∷◌, true, None, vec_len, IfOk, IsSome, OnOk, OnErr, IsErrOf};
 ghost use Rattle.ticket_lock.specs.Calls.{view_of, IsOf};
 ghost use Rattle.trace_command.specs.declared.command.Config.{Config};
+ghost use Rattle.trace_items.specs.declared.item.ItemRead.TheVariants as reads;
 ghost use Rattle.trace_items.specs.Items.{Single, Threads, Faulty};
 ghost use Rattle.trace_items.specs.NextItems.{item_read, IsSaid};
 ghost use Rattle.trace_items.specs.FewThreads.{HasFewThreads};
@@ -12,10 +13,13 @@ ghost use Rattle.trace_items.specs.Sources.{HasRisen};
 ghost use Rattle.trace_script.specs.Lines.{line_of};
 ghost use Rattle.trace_script.specs.PlainEmissions.{emission_said};
 ghost use Rattle.trace_session.specs.Devices.{Passes};
-ghost use Rattle.trace_session.specs.Fronts.{PassesItem, AppendsItem, IsThreads};
-ghost use Rattle.trace_session.specs.Heard.{Hears, HearsPart, HearsItem, AreInOrder, HasItsLines, heard_of, numbers_in};
+ghost use Rattle.trace_session.specs.private.StepFronts.{PassesItem, GivesItem, AppendsItem};
+ghost use Rattle.trace_session.specs.Gated.{LetsPass, Stops, commands_asked};
+ghost use Rattle.trace_session.specs.Heard.{Hears, heard_of, numbers_in};
+ghost use Rattle.trace_session.specs.private.HeardItems.{AreInOrder, HasItsLines};
 ghost use Rattle.trace_session.specs.Passes.{IsSessionPass, progress_of};
 ghost use Rattle.trace_session.specs.Sessions.{Progress, turn_of};
+ghost use Rattle.trace_workers.specs.Gates.{LetsAllPass, StopsOne};
 
 use crate::device::Sink;
 use crate::environment::Environment;
@@ -51,7 +55,7 @@ fn is_silent<W: Sink>(outcome: &Option<Outcome>, writer: &W) -> bool
 /// Runs an emission whose words lie in its line, and writes its output. One that is done prints nothing, so that only a writer that hears is told
 /// of it. It is inlined, so that neither its words nor its answer are moved.
 #[inline(always)]
-#[tactic(auto, using(crate::proofs::Stepping::done_unheard, crate::proofs::Stepping::no_fault))]
+#[tactic(auto, using(crate::proofs::Stepping::done_unheard, crate::proofs::Stepping::no_fault, crate::proofs::Stepping::untold_flushed))]
 pub(crate) fn do_emission<R: Wait, W: Sink, G>(
     env: &Environment<'_, R, G>,
     pass: Pass<Book>,
@@ -79,6 +83,8 @@ pub(crate) fn do_emission<R: Wait, W: Sink, G>(
     ensures device { IsErrOf result.1 Stop.Device → (g : Config) → IsSessionPass g (view_of pass)
         → AppendsItem g (Single number plain.now.line.now) (progress_of (view_of pass)) (progress_of (view_of result.0))
         (W.contents writer.old) replies.old (W.contents writer.new) }
+    ensures flushed { IfOk result.1 (λ status. IsSome (W.heard writer.old) → status ≢ Status.Done → replies.new ≡ []) }
+    ensures unheard { OnErr result.1 (W.heard writer.new ≡ W.heard writer.old) }
     ensures heard { (g : Config) → IsSessionPass g (view_of pass) → OnOk result.1 (Hears (W.heard writer.old) (W.heard writer.new)
         (heard_of number plain.now.line.now (turn_of g (progress_of (view_of pass)) plain.now.line.now).outcome (W.contents writer.new) ∷ [])) }
 {
@@ -124,6 +130,8 @@ fn do_line<R: Wait, W: Sink, G>(
     ensures device { IsErrOf result.1 Stop.Device → (g : Config) → IsSessionPass g (view_of pass)
         → AppendsItem g (Single number line.now) (progress_of (view_of pass)) (progress_of (view_of result.0))
         (W.contents writer.old) replies.old (W.contents writer.new) }
+    ensures flushed { IfOk result.1 (λ status. IsSome (W.heard writer.old) → status ≢ Status.Done → replies.new ≡ []) }
+    ensures unheard { OnErr result.1 (W.heard writer.new ≡ W.heard writer.old) }
     ensures heard { (g : Config) → IsSessionPass g (view_of pass) → OnOk result.1 (Hears (W.heard writer.old) (W.heard writer.new)
         (heard_of number line.now (turn_of g (progress_of (view_of pass)) line.now).outcome (W.contents writer.new) ∷ [])) }
 {
@@ -155,22 +163,26 @@ fn do_part<R: thread::Threads + Wait + Sync, W: Sink, G: Gate + Sync>(
     ensures of { IsOf env.now.lock.now result.0 }
     ensures session { (g : Config) → IsSessionPass g (view_of pass) → IsSessionPass g (view_of result.0) }
     ensures done { IfOk result.1 (λ status. (g : Config) → IsSessionPass g (view_of pass)
-        → PassesItem g (Threads (commands_in threads.entry.items)) (progress_of (view_of pass)) (progress_of (view_of result.0)) status
-        (W.contents writer.old) replies.old (W.contents writer.new) replies.new) }
+        → GivesItem g number (reads.Threads text.entry threads.entry) (progress_of (view_of pass)) (progress_of (view_of result.0)) status
+        (W.contents writer.old) replies.old (W.contents writer.new) replies.new (W.heard writer.old) (W.heard writer.new)) }
     ensures failures { OnOk result.1 (W.failures writer.new ≡ W.failures writer.old) }
     ensures memory { IsErrOf result.1 Stop.Memory
         → Passes (W.contents writer.old) replies.old (W.contents writer.new) replies.new [] }
     ensures unfailed { IsErrOf result.1 Stop.Memory → W.failures writer.new ≡ W.failures writer.old }
     ensures stopped { IsErrOf result.1 Stop.Stopped
         → Passes (W.contents writer.old) replies.old (W.contents writer.new) replies.new [] }
+    ensures passed { OnOk result.1 (LetsAllPass (G.may_answer env.now.gate.now) (commands_asked (commands_in threads.entry.items))) }
+    ensures passed_device { IsErrOf result.1 Stop.Device
+        → LetsAllPass (G.may_answer env.now.gate.now) (commands_asked (commands_in threads.entry.items)) }
+    ensures part { IsErrOf result.1 Stop.Stopped
+        → StopsOne (G.may_answer env.now.gate.now) (commands_asked (commands_in threads.entry.items)) }
     ensures unwritten { IsErrOf result.1 Stop.Stopped → W.failures writer.new ≡ W.failures writer.old }
     ensures open { G.is_open env.now.gate.now ≡ true → IsErrOf result.1 Stop.Stopped → ⊥ }
     ensures risen { IsErrOf result.1 Stop.Device → HasRisen (W.failures writer.old) (W.failures writer.new) }
     ensures device { IsErrOf result.1 Stop.Device → (g : Config) → IsSessionPass g (view_of pass)
         → AppendsItem g (Threads (commands_in threads.entry.items)) (progress_of (view_of pass)) (progress_of (view_of result.0))
         (W.contents writer.old) replies.old (W.contents writer.new) }
-    ensures heard { (g : Config) → IsSessionPass g (view_of pass) → OnOk result.1 (HearsPart g number text.now (commands_in threads.entry.items)
-        (progress_of (view_of pass)) (progress_of (view_of result.0)) (W.contents writer.new) (W.heard writer.old) (W.heard writer.new)) }
+    ensures unheard { OnErr result.1 (W.heard writer.new ≡ W.heard writer.old) }
 {
     let (pass, ran) = run_part(env, pass, threads, writer.hears());
     match ran {
@@ -197,6 +209,8 @@ fn do_fault<W: Sink>(
     ensures risen { IsErrOf result Stop.Device → HasRisen (W.failures writer.old) (W.failures writer.new) }
     ensures device { IsErrOf result Stop.Device → (g : Config) (before : Progress)
         → AppendsItem g (Faulty at) before before (W.contents writer.old) replies.old (W.contents writer.new) }
+    ensures flushed { IfOk result (λ status. IsSome (W.heard writer.old) → status ≢ Status.Done → replies.new ≡ []) }
+    ensures unheard { OnErr result (W.heard writer.new ≡ W.heard writer.old) }
     ensures heard { OnOk result (Hears (W.heard writer.old) (W.heard writer.new)
         (heard_of at.number line.now (Some (Outcome.Fault at.fault)) (W.contents writer.new) ∷ [])) }
 {
@@ -224,23 +238,24 @@ pub(crate) fn do_item<R: thread::Threads + Wait + Sync, W: Sink, G: Gate + Sync>
     ensures of { IsOf env.now.lock.now result.0 }
     ensures session { (g : Config) → IsSessionPass g (view_of pass) → IsSessionPass g (view_of result.0) }
     ensures done { IfOk result.1 (λ status. (g : Config) → IsSessionPass g (view_of pass)
-        → PassesItem g (item_read number item.entry) (progress_of (view_of pass)) (progress_of (view_of result.0)) status
-        (W.contents writer.old) replies.old (W.contents writer.new) replies.new) }
+        → GivesItem g number item.entry (progress_of (view_of pass)) (progress_of (view_of result.0)) status
+        (W.contents writer.old) replies.old (W.contents writer.new) replies.new (W.heard writer.old) (W.heard writer.new)) }
     ensures failures { OnOk result.1 (W.failures writer.new ≡ W.failures writer.old) }
     ensures memory { IsErrOf result.1 Stop.Memory
         → Passes (W.contents writer.old) replies.old (W.contents writer.new) replies.new [] }
     ensures unfailed { IsErrOf result.1 Stop.Memory → W.failures writer.new ≡ W.failures writer.old }
     ensures stopped { IsErrOf result.1 Stop.Stopped
         → Passes (W.contents writer.old) replies.old (W.contents writer.new) replies.new [] }
-    ensures part { IsErrOf result.1 Stop.Stopped → IsThreads (item_read number item.entry) }
+    ensures passed { OnOk result.1 (LetsPass (G.may_answer env.now.gate.now) (item_read number item.entry)) }
+    ensures passed_device { IsErrOf result.1 Stop.Device → LetsPass (G.may_answer env.now.gate.now) (item_read number item.entry) }
+    ensures part { IsErrOf result.1 Stop.Stopped → Stops (G.may_answer env.now.gate.now) (item_read number item.entry) }
     ensures unwritten { IsErrOf result.1 Stop.Stopped → W.failures writer.new ≡ W.failures writer.old }
     ensures open { G.is_open env.now.gate.now ≡ true → IsErrOf result.1 Stop.Stopped → ⊥ }
     ensures risen { IsErrOf result.1 Stop.Device → HasRisen (W.failures writer.old) (W.failures writer.new) }
     ensures device { IsErrOf result.1 Stop.Device → (g : Config) → IsSessionPass g (view_of pass)
         → AppendsItem g (item_read number item.entry) (progress_of (view_of pass)) (progress_of (view_of result.0))
         (W.contents writer.old) replies.old (W.contents writer.new) }
-    ensures heard { (g : Config) → IsSessionPass g (view_of pass) → OnOk result.1 (HearsItem g number item.entry
-        (progress_of (view_of pass)) (progress_of (view_of result.0)) (W.contents writer.new) (W.heard writer.old) (W.heard writer.new)) }
+    ensures unheard { OnErr result.1 (W.heard writer.new ≡ W.heard writer.old) }
 {
     match item {
         ItemRead::Line { line, said } => do_line(env, pass, number, line, said, replies, writer),

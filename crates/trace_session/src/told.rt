@@ -4,7 +4,8 @@ ghost use Rattle.std.specs.Prelude.{◌≡◌, ◌≢◌, ◌≤◌, ◌↔◌, 
 ghost use Rattle.trace_items.specs.ScriptLines.{lines_of};
 ghost use Rattle.trace_items.specs.Sources.{HasRisen};
 ghost use Rattle.trace_session.specs.Devices.{AppendsFront, Passes};
-ghost use Rattle.trace_session.specs.Heard.{Hears, AreInOrder, IsLeft, heard_of, heard_each, left_at};
+ghost use Rattle.trace_session.specs.Heard.{Hears, heard_of};
+ghost use Rattle.trace_session.specs.private.HeardItems.{AreInOrder, IsLeft, heard_each, left_at};
 ghost use Rattle.trace_session.specs.Sessions.{text_of, status_of};
 
 use crate::device::Sink;

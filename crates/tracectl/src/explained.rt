@@ -10,23 +10,23 @@ use std::io;
 use std::io::Write;
 use trace_explain::{Explainer, ScriptLine};
 use trace_script::Outcome;
-use trace_session::{Output, Sink};
+use trace_session::Sink;
 
 /// The output of a session, and a second writer, to which it is told what is wrong with a line that was refused or has a fault.
 #[derive(Drop)]
-pub struct Explained<'a, W, E> {
+pub struct Explained<'a, S, E> {
     script: &'a str,
-    output: Output<W>,
+    output: S,
     errors: E,
     explainer: Explainer,
 }
 
-impl<'a, W: Write, E: Write> Explained<'a, W, E> {
-    /// The name of the script, and the two writers, before the first line.
-    pub fn new(alloc: Global, script: &'a str, output: W, errors: E) -> Explained<'a, W, E> {
+impl<'a, S: Sink, E: Write> Explained<'a, S, E> {
+    /// The name of the script, the output and the second writer, before the first line.
+    pub fn new(alloc: Global, script: &'a str, output: S, errors: E) -> Explained<'a, S, E> {
         Explained {
             script,
-            output: Output::new(output),
+            output,
             errors,
             explainer: Explainer::new(alloc),
         }
@@ -59,10 +59,10 @@ impl<'a, W: Write, E: Write> Explained<'a, W, E> {
     }
 }
 
-impl<'a, W: Write, E: Write> Sink for Explained<'a, W, E> {
-    ghost contents = { λ explained. W.contents explained.output.device };
+impl<'a, S: Sink, E: Write> Sink for Explained<'a, S, E> {
+    ghost contents = { λ explained. S.contents explained.output };
 
-    ghost failures = { λ explained. explained.output.failures };
+    ghost failures = { λ explained. S.failures explained.output };
 
     ghost heard = { λ _. None };
 

@@ -63,7 +63,8 @@ fn session<R: Read + Drop>(
             session_to(rt, threads, config, notes.lists, script, output)
         }
         (true, false) => {
-            let output = Explained::new(rt.alloc(), name, rt.stdout(), rt.stderr());
+            let output = Output::new(rt.stdout());
+            let output = Explained::new(rt.alloc(), name, output, rt.stderr());
             session_to(rt, threads, config, notes.lists, script, output)
         }
         (false, true) => {
@@ -72,7 +73,8 @@ fn session<R: Read + Drop>(
             session_to(rt, threads, config, notes.lists, script, output)
         }
         (true, true) => {
-            let output = Explained::new(rt.alloc(), name, rt.stdout(), rt.stderr());
+            let output = Output::new(rt.stdout());
+            let output = Explained::new(rt.alloc(), name, output, rt.stderr());
             let output = Drawn::new(rt.alloc(), output, rt.stderr());
             session_to(rt, threads, config, notes.lists, script, output)
         }

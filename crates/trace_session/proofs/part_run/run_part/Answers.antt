@@ -1,9 +1,11 @@
-use Rattle.std.proofs.Common.{◌≡◌, ℕ, Vec, List, length, ap, ◌∙◌, arith}
+use Rattle.std.proofs.Common.{◌≡◌, ℕ, Vec, List, length, ap, subst, ◌∙◌, arith}
 use Rattle.std.specs.declared.alloc.Global.{Global}
 use Rattle.ticket_lock.specs.Calls.{view_of}
+use Rattle.trace_command.specs.declared.command.Command.{Command}
 use Rattle.trace_items.specs.PartReads.{commands_in}
 use Rattle.trace_parts.specs.ThreadTexts.{told_if}
 use Rattle.trace_session.specs.PartTexts.{items_in, numbered_threads, outcomes_of_threads, replies_in}
+use Rattle.trace_workers.specs.Gates.{LetsAllPass}
 use Rattle.trace_session.proofs.PartRunning.{numbers_of_lines, of_threads, block_numbered, may_give}
 use Rattle.trace_session.proofs.part_run.run_part.Goals as goal
 
@@ -41,3 +43,9 @@ returns-in-Ok-write_threads-clause-given g c config pass =
     ∙ ap (λ (numbers : List (List ℕ)). told_if c.args.is_told (outcomes_of_threads numbers (replies_in done))) c.in-Ok.ensures.numbers in
     may_give config v w threads done written.written.text.items written.written.status c.args.is_told written.written.outcomes.items pass after.0 after.1 written.ensures.unworn text
     written.ensures.status outcomes
+
+-- the gate was asked for the commands of the threads' lines
+pub returns-in-Ok-write_threads-clause-gate : goal.returns-in-Ok-write_threads-clause-gate
+returns-in-Ok-write_threads-clause-gate g c =
+    let may = g.G.Gate.may_answer c.args.env.now.gate.now in
+    subst (λ (asked : List (List Command)). LetsAllPass may asked) c.in-Ok.ensures.commands (rw c.in-Ok-replied.is at c.run_block_of-pass.ensures.gate)

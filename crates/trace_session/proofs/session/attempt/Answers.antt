@@ -1,13 +1,15 @@
-use Rattle.std.proofs.Common.{rules, ◌≡◌, ◌⊎◌, inl, inr, List, ℕ, Option, Some, None, IfSome, Result, Ok, Err, IfOk, IsErrOf, refl, ap, sym, subst, ◌∙◌}
+use Rattle.std.proofs.Common.{rules, ◌≡◌, ◌⊎◌, inl, inr, List, ℕ, Bool, Option, Some, None, IfSome, Result, Ok, Err, IfOk, IsErrOf, refl, ap, sym, subst, ◌∙◌}
 use Rattle.std.proofs.lemmas.Result.{err_from_is_err_and}
 use Rattle.ticket_lock.specs.Calls.{view_of}
 use Rattle.trace_command.specs.declared.command.Config.{Config}
 use Rattle.trace_items.specs.declared.stop.Stop.{Stop}
 use Rattle.trace_items.specs.declared.stop.Stop.TheVariants.{Memory, Device, Stopped}
+use Rattle.trace_session.specs.Heard.{Heard}
 use Rattle.trace_session.specs.Fronts.{AppendsSession, AppendsBegun, AppendsBegunFront, AppendsStopped}
 use Rattle.trace_session.specs.Passes.{IsSessionPass}
 use Rattle.trace_session.specs.declared.status.Status.{Status}
 use Rattle.trace_session.proofs.DeviceLemmas.{Appends_nothing}
+use Rattle.trace_workers.specs.declared.gate.Point.{Point}
 use Rattle.trace_session.proofs.Standing.{nothing_begun, nothing_begun_front}
 use Rattle.trace_session.proofs.session.attempt.Goals as goal
 
@@ -16,11 +18,11 @@ of_bytes : (bytes : Option (List ℕ)) (script : List ℕ) (P : List ℕ → Typ
 of_bytes None script P read holds = tt
 of_bytes (Some known) script P read holds = subst P read holds
 
-session_of : (ran : Result Status Stop) (bytes : Option (List ℕ)) (script : List ℕ) (config : Config) (seated : Config → Type 0) (old new : Option (List ℕ))
-    → IfSome bytes (λ known. script ≡ known) → seated config → IfOk ran (λ status. (g : Config) → seated g → AppendsSession g script status old new)
-    → IfOk ran (λ status. IfSome bytes (λ known. AppendsSession config known status old new))
-session_of (Ok status) bytes script config seated old new read seat ok = of_bytes bytes script (λ known. AppendsSession config known status old new) read (ok config seat)
-session_of (Err stop) bytes script config seated old new read seat ok = tt
+session_of : (may : ℕ → ℕ → Point → Bool → Type 0) (ran : Result Status Stop) (bytes : Option (List ℕ)) (script : List ℕ) (config : Config) (seated : Config → Type 0) (old new : Option (List ℕ)) (heard hears : Option (List Heard))
+    → IfSome bytes (λ known. script ≡ known) → seated config → IfOk ran (λ status. (g : Config) → seated g → AppendsSession g may script status old new heard hears)
+    → IfOk ran (λ status. IfSome bytes (λ known. AppendsSession config may known status old new heard hears))
+session_of may (Ok status) bytes script config seated old new heard hears read seat ok = of_bytes bytes script (λ known. AppendsSession config may known status old new heard hears) read (ok config seat)
+session_of may (Err stop) bytes script config seated old new heard hears read seat ok = tt
 
 -- why the call failed is why the session did
 moved : {T : Type 0} (call : Result T Stop) (ran : Result Status Stop) (before after stop : Stop) → call ≡ Err before → ran ≡ Err after → after ≡ before → IsErrOf ran stop
@@ -50,7 +52,7 @@ returns-in_err-lock g c =
       short = rw p.1 tt;
       reads = rw p.1 tt;
       writes = rw p.1 tt;
-      memory = λ _. nothing_begun c.args.config remaining contents;
+      memory = λ _. nothing_begun c.args.config (g.G.Gate.may_answer c.args.gate.now) remaining contents (g.W.Sink.heard c.args.writer.now);
       unread = λ _. refl;
       unfailed = λ _. refl;
       consumed = λ _. search rules;
@@ -60,7 +62,7 @@ returns-in_err-lock g c =
       stopped_short = λ is. absurd (made.stopped (moved c.new_book.result c.from_residual.result _ p.0 Stopped c.in_err-lock.was p.1 p.2 is));
       stopped_reads = λ _. refl;
       stopped_writes = λ _. refl;
-      device = λ _. nothing_begun_front c.args.config remaining contents;
+      device = λ _. nothing_begun_front c.args.config (g.G.Gate.may_answer c.args.gate.now) remaining contents (g.W.Sink.heard c.args.writer.now);
       unwritten = λ _. inr (Appends_nothing contents);
       only = λ is. absurd (made.device (moved c.new_book.result c.from_residual.result _ p.0 Device c.in_err-lock.was p.1 p.2 is));
     }
@@ -80,7 +82,7 @@ returns-in_err-script g c =
       short = rw p.1 tt;
       reads = rw p.1 tt;
       writes = rw p.1 tt;
-      memory = λ _. nothing_begun c.args.config remaining contents;
+      memory = λ _. nothing_begun c.args.config (g.G.Gate.may_answer c.args.gate.now) remaining contents (g.W.Sink.heard c.args.writer.now);
       unread = λ is. (read.memory (moved c.read_script.result c.from_residual-in_err-script.result _ p.0 Memory c.in_err-script.was p.1 p.2 is)).0;
       unfailed = λ _. refl;
       consumed = λ is. (read.memory (moved c.read_script.result c.from_residual-in_err-script.result _ p.0 Memory c.in_err-script.was p.1 p.2 is)).1;
@@ -90,7 +92,7 @@ returns-in_err-script g c =
       stopped_short = λ is. absurd (read.stopped (moved c.read_script.result c.from_residual-in_err-script.result _ p.0 Stopped c.in_err-script.was p.1 p.2 is));
       stopped_reads = λ is. absurd (read.stopped (moved c.read_script.result c.from_residual-in_err-script.result _ p.0 Stopped c.in_err-script.was p.1 p.2 is));
       stopped_writes = λ _. refl;
-      device = λ _. nothing_begun_front c.args.config remaining contents;
+      device = λ _. nothing_begun_front c.args.config (g.G.Gate.may_answer c.args.gate.now) remaining contents (g.W.Sink.heard c.args.writer.now);
       unwritten = λ _. inr (Appends_nothing contents);
       only = λ is. either (read.device (moved c.read_script.result c.from_residual-in_err-script.result _ p.0 Device c.in_err-script.was p.1 p.2 is));
     }
@@ -100,28 +102,31 @@ returns-in_err-script g c =
 pub returns-clause-session : goal.returns-clause-session
 returns-clause-session g c =
     let contents = g.W.Sink.contents in
-    session_of c.do_script.result (g.R.Source.remaining c.args.reader.now) c.in_ok-script.script.items c.args.config (λ (config : Config). IsSessionPass config (view_of c.in_ok-lock.root))
-    (contents c.args.writer.now) (contents c.do_script.new.writer) c.in_ok-script.ensures.script c.in_ok-lock.ensures.session (rw c.deref.ensures.value at c.do_script.ensures.ok)
+    session_of (g.G.Gate.may_answer c.args.gate.now) c.do_script.result (g.R.Source.remaining c.args.reader.now) c.in_ok-script.script.items c.args.config (λ (config : Config). IsSessionPass config (view_of c.in_ok-lock.root))
+    (contents c.args.writer.now) (contents c.do_script.new.writer) (g.W.Sink.heard c.args.writer.now) (g.W.Sink.heard c.do_script.new.writer) c.in_ok-script.ensures.script c.in_ok-lock.ensures.session (rw c.deref.ensures.value at c.do_script.ensures.ok)
 
 pub returns-clause-memory : goal.returns-clause-memory
 returns-clause-memory g c h =
     let contents = g.W.Sink.contents in
     of_bytes (g.R.Source.remaining c.args.reader.now) c.in_ok-script.script.items
-    (λ (known : List ℕ). AppendsBegun c.args.config known (contents c.args.writer.now) (contents c.do_script.new.writer)) c.in_ok-script.ensures.script
+    (λ (known : List ℕ). AppendsBegun c.args.config (g.G.Gate.may_answer c.args.gate.now) known (contents c.args.writer.now) (contents c.do_script.new.writer)
+    (g.W.Sink.heard c.args.writer.now) (g.W.Sink.heard c.do_script.new.writer)) c.in_ok-script.ensures.script
     (rw c.deref.ensures.value at c.do_script.ensures.memory h c.args.config c.in_ok-lock.ensures.session)
 
 pub returns-clause-stopped : goal.returns-clause-stopped
 returns-clause-stopped g c h =
     let contents = g.W.Sink.contents in
     of_bytes (g.R.Source.remaining c.args.reader.now) c.in_ok-script.script.items
-    (λ (known : List ℕ). AppendsStopped c.args.config known (contents c.args.writer.now) (contents c.do_script.new.writer)) c.in_ok-script.ensures.script
+    (λ (known : List ℕ). AppendsStopped c.args.config (g.G.Gate.may_answer c.args.gate.now) known (contents c.args.writer.now) (contents c.do_script.new.writer)
+    (g.W.Sink.heard c.args.writer.now) (g.W.Sink.heard c.do_script.new.writer)) c.in_ok-script.ensures.script
     (rw c.deref.ensures.value at c.do_script.ensures.stopped h c.args.config c.in_ok-lock.ensures.session)
 
 pub returns-clause-device : goal.returns-clause-device
 returns-clause-device g c h =
     let contents = g.W.Sink.contents in
     of_bytes (g.R.Source.remaining c.args.reader.now) c.in_ok-script.script.items
-    (λ (known : List ℕ). AppendsBegunFront c.args.config known (contents c.args.writer.now) (contents c.do_script.new.writer)) c.in_ok-script.ensures.script
+    (λ (known : List ℕ). AppendsBegunFront c.args.config (g.G.Gate.may_answer c.args.gate.now) known (contents c.args.writer.now) (contents c.do_script.new.writer)
+    (g.W.Sink.heard c.args.writer.now) (g.W.Sink.heard c.do_script.new.writer)) c.in_ok-script.ensures.script
     (rw c.deref.ensures.value at c.do_script.ensures.device h c.args.config c.in_ok-lock.ensures.session)
 
 pub returns-clause-only : goal.returns-clause-only

@@ -1,14 +1,18 @@
-use Rattle.std.proofs.Common.{rules, ◌≢◌, List, ℕ, Option, Result, Ok, Err, IfOk, IsErrOf, refl, ap, sym, ◌∙◌, ◌≡◌}
+use Rattle.std.proofs.Common.{rules, ◌≢◌, List, ℕ, Bool, Option, Some, Result, Ok, Err, IfOk, IsErrOf, refl, ap, sym, ◌∙◌, ◌≡◌}
 use Rattle.std.proofs.lemmas.Result.{err_from_is_err_and}
 use Rattle.ticket_lock.specs.Calls.{view_of}
 use Rattle.trace_command.specs.declared.command.Config.{Config}
 use Rattle.trace_items.specs.declared.stop.Stop.{Stop}
 use Rattle.trace_items.specs.declared.stop.Stop.TheVariants.{Memory, Device, Stopped}
 use Rattle.trace_session.specs.Devices.{AppendsFront}
-use Rattle.trace_session.specs.Fronts.{PassesSession, PassesBegun, PassesStopped, AppendsBegunFront}
+use Rattle.std.specs.Io.KnownBytes.{Appends}
+use Rattle.trace_session.specs.Heard.{Heard}
+use Rattle.trace_session.specs.Fronts.{AppendsSession, AppendsBegunFront}
+use Rattle.trace_session.specs.private.StepFronts.{PassesSession, PassesBegun, PassesStopped}
 use Rattle.trace_session.specs.Passes.{IsSessionPass}
 use Rattle.trace_session.specs.declared.status.Status.{Status}
-use Rattle.trace_session.proofs.Standing.{begun_flushed, begun_cut, stopped_cut, session_cut}
+use Rattle.trace_workers.specs.declared.gate.Point.{Point}
+use Rattle.trace_session.proofs.Standing.{session_flushed, begun_flushed, stopped_flushed, begun_cut, stopped_cut, session_cut, nothing_begun}
 use Rattle.trace_session.proofs.session.do_script.Goals as goal
 
 -- why a call failed is why the session did
@@ -19,30 +23,66 @@ moved call ran before after stop was came same is =
     let one : stop ≡ before = cc in
     was ∙ ap (λ (x : Stop). Err x) (sym one)
 
-cut : (ran : Result Status Stop) (seated : Config → Type 0) (script : List ℕ) (before now new : Option (List ℕ)) (waiting : List ℕ) → ran ≢ Err Device
-    → IfOk ran (λ status. (config : Config) → seated config → PassesSession config script status before now waiting)
-    → (IsErrOf ran Memory → (config : Config) → seated config → PassesBegun config script before now waiting)
-    → (IsErrOf ran Stopped → (config : Config) → seated config → PassesStopped config script before now waiting)
-    → AppendsFront now new waiting → (config : Config) → seated config → AppendsBegunFront config script before new
-cut (Ok status) seated script before now new waiting not ok memory stopped more config seat = session_cut config script status before now new waiting (ok config seat) more
-cut (Err Memory) seated script before now new waiting not ok memory stopped more config seat = begun_cut config script before now new waiting (memory refl config seat) more
-cut (Err Stopped) seated script before now new waiting not ok memory stopped more config seat = stopped_cut config script before now new waiting (stopped refl config seat) more
-cut (Err Device) seated script before now new waiting not ok memory stopped more config seat = absurd (not refl)
+module _ (may : ℕ → ℕ → Point → Bool → Type 0) (seated : Config → Type 0) (script : List ℕ) (before now new : Option (List ℕ)) (waiting : List ℕ)
+    (first hears hears_new : Option (List Heard)) (unheard : hears_new ≡ hears) where
+  cut : (ran : Result Status Stop) → ran ≢ Err Device
+      → IfOk ran (λ status. (config : Config) → seated config → PassesSession config may script status before now waiting first hears)
+      → (IsErrOf ran Memory → (config : Config) → seated config → PassesBegun config may script before now waiting first hears)
+      → (IsErrOf ran Stopped → (config : Config) → seated config → PassesStopped config may script before now waiting first hears)
+      → AppendsFront now new waiting → (config : Config) → seated config → AppendsBegunFront config may script before new first hears_new
+  cut (Ok status) not ok memory stopped more config seat =
+      session_cut config may script before now new waiting first hears hears_new unheard status (ok config seat) more
+  cut (Err Memory) not ok memory stopped more config seat = begun_cut config may script before now new waiting first hears hears_new unheard (memory refl config seat) more
+  cut (Err Stopped) not ok memory stopped more config seat = stopped_cut config may script before now new waiting first hears hears_new unheard (stopped refl config seat) more
+  cut (Err Device) not ok memory stopped more config seat = absurd (not refl)
+
+  all : (ran : Result Status Stop) → IfOk ran (λ status. (config : Config) → seated config → PassesSession config may script status before now waiting first hears)
+      → Appends now new waiting → IfOk ran (λ status. (config : Config) → seated config → AppendsSession config may script status before new first hears_new)
+  all (Ok status) ok more = λ config seat. session_flushed config may script before now new waiting first hears hears_new unheard status (ok config seat) more
+  all (Err stop) ok more = tt
 
 pub returns-in_err-flush-in_default-clause-device : goal.returns-in_err-flush-in_default-clause-device
 returns-in_err-flush-in_default-clause-device g c h =
     let contents = g.W.Sink.contents in
+    let heard = g.W.Sink.heard in
     let ran = c.do_items.ensures in
-    cut c.do_items.result (λ (config : Config). IsSessionPass config (view_of c.args.pass)) c.args.script.now (contents c.args.writer.now) (contents c.do_items.new.writer) (contents c.flush.new.writer)
-    c.do_items.new.replies (search rules)
+    cut (g.G.Gate.may_answer c.args.env.now.gate.now) (λ (config : Config). IsSessionPass config (view_of c.args.pass)) c.args.script.now
+    (contents c.args.writer.now) (contents c.do_items.new.writer) (contents c.flush.new.writer) c.do_items.new.replies
+    (heard c.args.writer.now) (heard c.do_items.new.writer) (heard c.flush.new.writer) c.flush.ensures.heard c.do_items.result (search rules)
     ran.ok ran.memory ran.stopped c.in_err-flush-in_default.ensures.failed.1
+
+pub returns-in_err-replies-clause-memory : goal.returns-in_err-replies-clause-memory
+returns-in_err-replies-clause-memory g c h config seat =
+    nothing_begun config (g.G.Gate.may_answer c.args.env.now.gate.now) (Some c.args.script.now) (g.W.Sink.contents c.args.writer.now) (g.W.Sink.heard c.args.writer.now)
+
+pub returns-clause-ok : goal.returns-clause-ok
+returns-clause-ok g c =
+    let contents = g.W.Sink.contents in
+    let heard = g.W.Sink.heard in
+    let flushed =
+    all (g.G.Gate.may_answer c.args.env.now.gate.now) (λ (config : Config). IsSessionPass config (view_of c.args.pass)) c.args.script.now
+    (contents c.args.writer.now) (contents c.do_items.new.writer) (contents c.flush.new.writer) c.do_items.new.replies
+    (heard c.args.writer.now) (heard c.do_items.new.writer) (heard c.flush.new.writer) c.flush.ensures.heard c.do_items.result
+    c.do_items.ensures.ok c.in_ok-flush-in_default.ensures.bytes in
+    search rules
 
 pub returns-clause-memory : goal.returns-clause-memory
 returns-clause-memory g c h config seat =
     let contents = g.W.Sink.contents in
-    begun_flushed config c.args.script.now (contents c.args.writer.now) (contents c.do_items.new.writer) (contents c.flush.new.writer) c.do_items.new.replies
-    (c.do_items.ensures.memory (search rules) config seat)
-    c.in_ok-flush-in_default.ensures.bytes
+    let heard = g.W.Sink.heard in
+    begun_flushed config (g.G.Gate.may_answer c.args.env.now.gate.now) c.args.script.now
+    (contents c.args.writer.now) (contents c.do_items.new.writer) (contents c.flush.new.writer) c.do_items.new.replies
+    (heard c.args.writer.now) (heard c.do_items.new.writer) (heard c.flush.new.writer) c.flush.ensures.heard
+    (c.do_items.ensures.memory (search rules) config seat) c.in_ok-flush-in_default.ensures.bytes
+
+pub returns-clause-stopped : goal.returns-clause-stopped
+returns-clause-stopped g c h config seat =
+    let contents = g.W.Sink.contents in
+    let heard = g.W.Sink.heard in
+    stopped_flushed config (g.G.Gate.may_answer c.args.env.now.gate.now) c.args.script.now
+    (contents c.args.writer.now) (contents c.do_items.new.writer) (contents c.flush.new.writer) c.do_items.new.replies
+    (heard c.args.writer.now) (heard c.do_items.new.writer) (heard c.flush.new.writer) c.flush.ensures.heard
+    (c.do_items.ensures.stopped (search rules) config seat) c.in_ok-flush-in_default.ensures.bytes
 
 pub returns-in_err-flush-in_default-clause-ok : goal.returns-in_err-flush-in_default-clause-ok
 returns-in_err-flush-in_default-clause-ok g c =

@@ -1,6 +1,9 @@
+use Rattle.std.proofs.Common.{[], ◌∷◌}
 use Rattle.ticket_lock.specs.Calls.{view_of}
 use Rattle.trace_command.specs.declared.command.Config.{Config}
 use Rattle.trace_session.specs.Passes.{IsSessionPass, progress_of}
+use Rattle.trace_session.specs.Sessions.{status_of}
+use Rattle.trace_session.proofs.Stepping.{flushed_as}
 use Rattle.trace_session.proofs.SingleLines.{line_done, line_cut, line_heard}
 use Rattle.trace_session.proofs.step.do_emission.Goals as goal
 
@@ -25,3 +28,7 @@ returns-else-is_silent-clause-heard g c =
     line_heard c.args.number c.args.plain.now.line.now c.in-Ok.outcome (λ (config : Config). IsSessionPass config (view_of c.args.pass)) (progress_of (view_of c.args.pass))
     (progress_of (view_of c.ask_emission_line-pass.result.0)) (λ config seat. (rw c.in-Ok.is at c.ask_emission_line-pass.ensures.turn) config c.args.plain.now.line.now seat c.requires.says)
     c.give.result (heard c.args.writer.now) (heard c.give.new.writer) (contents c.give.new.writer) c.give.ensures.heard
+
+pub returns-else-is_silent-clause-flushed : goal.returns-else-is_silent-clause-flushed
+returns-else-is_silent-clause-flushed g c =
+    flushed_as _ _ c.give.result (status_of (c.in-Ok.outcome ∷ [])) c.give.ensures.status c.give.ensures.all

@@ -1,4 +1,4 @@
-use Rattle.std.proofs.Common.{◌≡◌, ℕ, Bool, false, List, ◌++◌, Option, None, Result, Ok, Err, IfOk, IsErrOf, OnOk, refl, ap, sym, subst, ◌∙◌}
+use Rattle.std.proofs.Common.{◌≡◌, ℕ, Bool, false, List, ◌++◌, Option, None, Result, Ok, Err, IfOk, IsErrOf, IsSome, OnOk, ◌≢◌, [], refl, ap, sym, subst, ◌∙◌}
 use Rattle.ticket_lock.specs.Calls.{view_of}
 use Rattle.trace_command.specs.declared.command.Config.{Config}
 use Rattle.trace_items.specs.Items.{Threads}
@@ -10,15 +10,18 @@ use Rattle.trace_items.specs.declared.stop.Stop.TheVariants.{Device, Stopped}
 use Rattle.trace_parts.specs.ThreadTexts.{told_if}
 use Rattle.trace_parts.specs.declared.outcome_at.OutcomeAt.{OutcomeAt}
 use Rattle.trace_session.specs.Devices.{AppendsFront, Passes}
-use Rattle.trace_session.specs.Fronts.{PassesItem, AppendsItem}
-use Rattle.trace_session.specs.Heard.{Heard, Hears, HearsPart, heard_each}
+use Rattle.trace_session.specs.private.StepFronts.{AppendsItem}
+use Rattle.trace_session.specs.Heard.{Heard, Hears, heard_lines, numbers_in}
+use Rattle.trace_session.specs.private.HeardItems.{heard_each}
 use Rattle.trace_session.specs.Parts.{Given, PartMayGive}
 use Rattle.trace_session.specs.PartTexts.{AreOutcomesOf}
 use Rattle.trace_session.specs.Passes.{IsSessionPass, progress_of}
 use Rattle.trace_session.specs.Sessions.{Progress, status_of}
 use Rattle.trace_session.specs.declared.status.Status.{Status}
+use Rattle.trace_session.specs.declared.status.Status.TheVariants as statuses
 use Rattle.trace_session.proofs.DeviceLemmas.{Passes_nothing}
 use Rattle.trace_session.proofs.Hearing.{hears_told}
+use Rattle.trace_session.proofs.HearingAll.{each_of_threads}
 use Rattle.trace_session.proofs.step.do_part.Goals as goal
 
 -- what a part gave, and what is told of it
@@ -26,12 +29,24 @@ module _ (seated : Config → Type 0) (threads : List (List Numbered)) (before a
     (gave : (g : Config) → seated g → (given : Given) × PartMayGive g threads before after given × (given.text ≡ text) × (status ≡ status_of given.outcomes)
     × (told : List OutcomeAt) × AreOutcomesOf threads given.outcomes told × (outcomes ≡ told_if is_told told))
   where
-    part_done : (result : Result Status Stop) (old new : Option (List ℕ)) (waited waits : List ℕ) → IfOk result (λ now. now ≡ status)
-        → OnOk result (Passes old waited new waits text) → IfOk result (λ now. (g : Config) → seated g → PassesItem g (Threads threads) before after now old waited new waits)
-    part_done (Ok now) old new waited waits is written = λ g seat.
-        let x = gave g seat in
-        (x.0, x.1, is ∙ x.3, subst (λ (t : List ℕ). Passes old waited new waits t) (sym x.2) written)
-    part_done (Err stop) old new waited waits is written = tt
+    part_done : (result : Result Status Stop) (old new : Option (List ℕ)) (waited waits : List ℕ) (heard hears : Option (List Heard)) (number : ℕ) (lines : List ℕ)
+        → IfOk result (λ now. now ≡ status) → OnOk result (Passes old waited new waits text) → (is_told ≡ false → heard ≡ None)
+        → OnOk result (Hears heard hears (heard_each number (lines_of lines) new outcomes))
+        → OnOk result (IsSome heard → status ≢ statuses.Done → waits ≡ [])
+        → IfOk result (λ now. (g : Config) → seated g
+        → (given : Given) × PartMayGive g threads before after given × (now ≡ status_of given.outcomes) × Passes old waited new waits given.text
+        × Hears heard hears (heard_lines number (lines_of lines) new (numbers_in threads) given.outcomes) × (IsSome heard → now ≢ statuses.Done → waits ≡ []))
+    part_done (Ok now) old new waited waits heard hears number lines is written deaf told flushed = λ g seat.
+        let x = gave g seat in (
+          x.0,
+          x.1,
+          is ∙ x.3,
+          subst (λ (t : List ℕ). Passes old waited new waits t) (sym x.2) written,
+          subst (λ (more : List Heard). Hears heard hears more) (each_of_threads number (lines_of lines) new threads x.0.outcomes x.4 x.5)
+              (hears_told is_told heard hears number (lines_of lines) new x.4 outcomes deaf x.6 told),
+          λ tells not. flushed tells (λ done. not (is ∙ done)),
+        )
+    part_done (Err stop) old new waited waits heard hears number lines is written deaf told flushed = tt
 
     part_cut : (old new : Option (List ℕ)) (waited : List ℕ) → AppendsFront old new (waited ++ text)
         → (g : Config) → seated g → AppendsItem g (Threads threads) before after old waited new
@@ -39,16 +54,12 @@ module _ (seated : Config → Type 0) (threads : List (List Numbered)) (before a
         let x = gave g seat in
         (x.0, x.1, subst (λ (t : List ℕ). AppendsFront old new (waited ++ t)) (sym x.2) cut)
 
-    part_heard : (result : Result Status Stop) (old new : Option (List Heard)) (number : ℕ) (lines : List ℕ) (held : Option (List ℕ)) → (is_told ≡ false → old ≡ None)
-        → OnOk result (Hears old new (heard_each number (lines_of lines) held outcomes))
-        → (g : Config) → seated g → OnOk result (HearsPart g number lines threads before after held old new)
-    part_heard (Ok now) old new number lines held deaf heard g seat =
-        let x = gave g seat in
-        (x.0, x.1, x.4, x.5, hears_told is_told old new number (lines_of lines) held x.4 outcomes deaf x.6 heard)
-    part_heard (Err stop) old new number lines held deaf heard g seat = tt
-
 stop_is : (ran : Result Status Stop) (stop other : Stop) → ran ≡ Err stop → IsErrOf ran other → stop ≡ other
 stop_is ran stop other is also = let e : ran ≡ Err other = also in cc
+
+on_ok : {P : Type 0} (result : Result Status Stop) → P → OnOk result P
+on_ok {P} (Ok status) p = p
+on_ok {P} (Err stop) p = tt
 
 pub returns-in-Ok : goal.returns-in-Ok
 returns-in-Ok g c =
@@ -66,18 +77,22 @@ returns-in-Ok g c =
       of = ran.of;
       session = ran.session;
       done = part_done seated threads before after written.text.items written.status c.hears.result written.outcomes.items gave c.give_part.result
-          (contents c.args.writer.now) (contents c.give_part.new.writer) c.args.replies.now c.give_part.new.replies told.status told.written;
+          (contents c.args.writer.now) (contents c.give_part.new.writer) c.args.replies.now c.give_part.new.replies
+          (heard c.args.writer.now) (heard c.give_part.new.writer) c.args.number c.args.text.now
+          told.status told.written c.hears.ensures told.heard told.all;
       failures = told.failures;
       memory = λ is. absurd (told.memory is);
       unfailed = λ is. absurd (told.memory is);
       stopped = λ is. absurd (told.stopped is);
+      passed = on_ok c.give_part.result (rw c.in-Ok.is at ran.gate);
+      passed_device = λ _. rw c.in-Ok.is at ran.gate;
+      part = λ is. absurd (told.stopped is);
       unwritten = λ is. absurd (told.stopped is);
       «open» = λ _ is. told.stopped is;
       risen = λ is. (told.device is).0;
       device = λ is. part_cut seated threads before after written.text.items written.status c.hears.result written.outcomes.items gave
           (contents c.args.writer.now) (contents c.give_part.new.writer) c.args.replies.now (told.device is).1;
-      heard = part_heard seated threads before after written.text.items written.status c.hears.result written.outcomes.items gave c.give_part.result
-          (heard c.args.writer.now) (heard c.give_part.new.writer) c.args.number c.args.text.now (contents c.give_part.new.writer) c.hears.ensures told.heard;
+      unheard = told.unheard;
     }
 
 pub returns-in-Err : goal.returns-in-Err
@@ -92,9 +107,12 @@ returns-in-Err g c =
       memory = λ _. nothing;
       unfailed = λ _. refl;
       stopped = λ _. nothing;
+      passed = tt;
+      passed_device = λ is. absurd (ran.device (c.in-Err.is ∙ ap (λ (stop : Stop). Err stop) (stop_is (Err c.in-Err.stop) c.in-Err.stop Device refl is)));
+      part = λ is. ran.stopped (c.in-Err.is ∙ ap (λ (stop : Stop). Err stop) (stop_is (Err c.in-Err.stop) c.in-Err.stop Stopped refl is));
       unwritten = λ _. refl;
       «open» = λ gate is. ran.«open» gate (c.in-Err.is ∙ ap (λ (stop : Stop). Err stop) (stop_is (Err c.in-Err.stop) c.in-Err.stop Stopped refl is));
       risen = λ is. absurd (ran.device (c.in-Err.is ∙ ap (λ (stop : Stop). Err stop) (stop_is (Err c.in-Err.stop) c.in-Err.stop Device refl is)));
       device = λ is. absurd (ran.device (c.in-Err.is ∙ ap (λ (stop : Stop). Err stop) (stop_is (Err c.in-Err.stop) c.in-Err.stop Device refl is)));
-      heard = λ _ _. tt;
+      unheard = refl;
     }
