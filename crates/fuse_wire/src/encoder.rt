@@ -225,6 +225,9 @@ pub fn encode(unique: u64, reply: &Reply<'_>, out: &mut Vec<u8>) -> Result<(), A
 pub fn encode_wakeup(wakeup: u64, out: &mut Vec<u8>) -> Result<(), AllocError>
     ensures ok { OnOk result (out.new.items ≡ wakeup_bytes wakeup) }
     ensures err { OnErr result (out.new.items ≡ []) }
+    // It fails only where room was missing, and no room is given up.
+    ensures full { OnErr result (vec_capacity out.old < 24) }
+    ensures capacity { vec_capacity out.old ≤ vec_capacity out.new }
 {
     out.clear();
     let pushed = push_message(out, WAKEUP, 0, [word(wakeup)].as_flattened());

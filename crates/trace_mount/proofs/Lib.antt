@@ -1,9 +1,15 @@
+pub mod Firsts
 pub mod Steps
 pub mod FileLemmas
+pub mod PipeLemmas
 pub mod ReadLemmas
 pub mod LineLemmas
 pub mod ListingLemmas
 pub mod ShortLemmas
 pub mod WriteLemmas
 pub mod ServeLemmas
+pub mod OwedLemmas
 pub mod PartLaws
+pub mod TimesLemmas
+pub mod AnsweredOnce
+pub mod WaitLaws

@@ -10,7 +10,7 @@ use Rattle.trace_format.specs.Definitions.{Definition}
 use Rattle.mount_tree.specs.declared.file.File.{File}
 use Rattle.mount_tree.specs.declared.file.File.TheVariants as files
 use Rattle.trace_mount.specs.Injections.{first_line, injection, line_size, pairs_of_line}
-use Rattle.trace_mount.specs.Mounted.{IsAsked, IsMounted, IsStep, MountSeen}
+use Rattle.trace_mount.specs.Mounted.{IsAsked, HasLedTo, IsStep, MountSeen}
 use Rattle.trace_mount.specs.Served.{inject, inject_asked, write_kind, write_text, written}
 use Rattle.trace_mount.specs.Services.{OpenSeen, Service, Terms, node_of, scene_of}
 use Rattle.trace_mount.proofs.Steps.{asked-step, memory-step}
@@ -26,10 +26,10 @@ text-kind g s handle pid bytes own (files.OfEvent event file) other = refl
 text-kind g s handle pid bytes own (files.Inject event) other = absurd (other event refl)
 
 -- memory is refused before a command is asked
-pub asked-none : (past : List Request) (old : MountSeen) (request : Request) → IsMounted past old → IsAsked past old old request (Err Memory)
-asked-none past old request mounted = record { answered = λ other. absurd (other refl); mounted = mounted; terms = refl; files = refl }
+pub asked-none : (past : List Request) (old : MountSeen) (request : Request) → HasLedTo past old → IsAsked past old old request (Err Memory)
+asked-none past old request mounted = record { answered = λ other. absurd (other refl); mounted = mounted; terms = refl; files = refl; parked = refl }
 
-pub memory-inject : (past : List Request) (old : MountSeen) (handle size : ℕ) (request : Option Request) → IsMounted past old
+pub memory-inject : (past : List Request) (old : MountSeen) (handle size : ℕ) (request : Option Request) → HasLedTo past old
     → IsStep past old old (inject_asked handle size old.files request) (Some (replies.Error ENOMEM))
 memory-inject past old handle size None mounted = memory-step past old _ mounted
 memory-inject past old handle size (Some request) mounted =

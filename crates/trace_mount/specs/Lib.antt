@@ -2,7 +2,10 @@ pub mod Services
 pub mod Errnos
 pub mod Told
 pub mod Injections
+pub mod Pipes
 pub mod Served
+pub mod Owed
 pub mod Mounted
 pub mod MountLaws
+pub mod ParkedLaws
 pub mod private

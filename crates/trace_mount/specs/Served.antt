@@ -1,10 +1,10 @@
--- What a mounted tracer does at each request of a kernel: it asks the tracer one command, or none, and replies. After a command that was refused all
--- is as before, but what `outcome` says of the open files.
-use Rattle.std.specs.Prelude.{ℕ, ◌-◌, ◌/◌, ◌%◌, ◌^◌, ◌==◌, Bool, false, not, ◌||◌, nat_lt, is_none, List, [], ◌++◌, length, slice_index, take, drop, min, max, Option, Some, None, unwrap_or, Result, Ok, Err, codes, if◌then◌else◌}
+-- What a mounted tracer does at each request of a kernel: it asks the tracer one command, or none, and replies, or lets a read wait. After a command
+-- that was refused all is as before, but what `outcome` says of the open files.
+use Rattle.std.specs.Prelude.{ℕ, ◌+◌, ◌-◌, ◌/◌, ◌%◌, ◌^◌, ◌==◌, Bool, false, not, ◌||◌, nat_lt, is_none, List, [], ◌++◌, length, slice_index, take, drop, min, max, Option, Some, None, unwrap_or, Result, Ok, Err, codes, if◌then◌else◌}
 use Rattle.std.specs.List.{slice_get}
 use Rattle.std.specs.Option.{option_map}
 use Rattle.fuse_wire.specs.declared.errno.Errno.{Errno}
-use Rattle.fuse_wire.specs.declared.errno.Errno.TheVariants.{EPERM, ENOENT, EBADF, EACCES, EISDIR, EINVAL, ENOSPC, ENOSYS}
+use Rattle.fuse_wire.specs.declared.errno.Errno.TheVariants.{EPERM, ENOENT, EBADF, EAGAIN, EACCES, EISDIR, EINVAL, ENOSPC, ENOSYS}
 use Rattle.fuse_wire.specs.declared.reply.Reply.{Reply}
 use Rattle.fuse_wire.specs.declared.reply.Reply.TheVariants as replies
 use Rattle.fuse_wire.specs.declared.request.Operation.{Operation}
@@ -16,6 +16,7 @@ use Rattle.trace_command.specs.declared.command.Reply.TheVariants as answers
 use Rattle.trace_command.specs.declared.refusal.Refusal.{Refusal}
 use Rattle.trace_format.specs.Definitions.{Definition}
 use Rattle.trace_history.specs.Settings.{declared_events}
+use Rattle.mount_tree.specs.Children.{is_there}
 use Rattle.mount_tree.specs.FileKinds.{access_of_file, kind_of_file}
 use Rattle.mount_tree.specs.NodePaths.{path_of}
 use Rattle.mount_tree.specs.Scenes.{SceneSeen, most_made}
@@ -29,7 +30,9 @@ use Rattle.mount_tree.specs.declared.node.Node.TheVariants as nodes
 use Rattle.mount_tree.specs.declared.node.Owner.TheVariants.{Top, Made}
 use Rattle.trace_mount.specs.Errnos.{errno_of, errno_of_other}
 use Rattle.trace_mount.specs.Injections.{first_line, injection, line_size, pairs_of_line}
-use Rattle.trace_mount.specs.Services.{OpenSeen, Service, Terms, file_at, free_handle, node_of, scene_of, with_file, with_text, with_write, without_file}
+use Rattle.trace_mount.specs.Pipes.{ends, is_dry, is_used_up, would_wait}
+use Rattle.trace_mount.specs.Services.{OpenSeen, Service, Terms, file_at, free_handle, just_opened, node_of, read_of_pipe, scene_of, with_file, with_records, with_text, with_wakeup, with_write, without_file}
+use Rattle.trace_mount.specs.declared.parked.Parked.{Parked}
 use Rattle.trace_mount.specs.Told.{agree, attributes_of, check_access, empties, get_attributes, known, look_up, may, most_data, open_folder, read_folder, set_attributes, wants_read, wants_write}
 
 -- ---- steps
@@ -46,6 +49,10 @@ pub data Step : Type 0 where
   Takes : (outcome : Outcome) → Step
   -- the tracer is asked this, and its answer gives the outcome
   Asks : (request : Request) (outcome : Result Answer Refusal → Outcome) → Step
+  -- a read waits from now on, and has no reply yet; memory is taken
+  Parks : (read : Parked) → Step
+  -- the read of this number waits no more, if it does
+  Interrupts : (unique : ℕ) → Step
 
 abbrev pub told : Reply → List (Option OpenSeen) → Outcome
 told reply files = record { reply = Some reply; files = files }
@@ -79,7 +86,7 @@ opened flags (Some (nodes.Folder owner folder)) files = failed EISDIR files
 opened flags (Some (nodes.File owner file)) files =
     if may (access_of_file file) (wants_read flags) (wants_write flags)
     then taking (replies.Opened (free_handle files) (open_flags (kind_of_file file)))
-    (with_file (free_handle files) (record { owner = owner; file = file; starts_over = empties flags; text = None }) files)
+    (with_file (free_handle files) (just_opened owner file (empties flags)) files)
     else failed EACCES files
 
 -- ---- READ
@@ -116,7 +123,7 @@ records_for size = max 1 (min size most_data / 2048)
 -- what was taken: as much as there is room for is given, and the rest is kept
 abbrev pub given_records : ℕ → ℕ → List ℕ → List (Option OpenSeen) → Outcome
 given_records handle size text files =
-    told (replies.Data (part_of 0 size text)) (with_text (drop (min size most_data) text) handle files)
+    told (replies.Data (part_of 0 size text)) (with_records (drop (min size most_data) text) handle files)
 
 abbrev pub taken_records : ℕ → ℕ → List (Option OpenSeen) → Result Answer Refusal → Outcome
 taken_records handle size files (Ok answer) = given_records handle size (text_in answer) files
@@ -125,22 +132,63 @@ taken_records handle size files (Err refusal) = told (replies.Error (errno_of re
 abbrev pub read_records : SceneSeen → ℕ → ℕ → Node → List (Option OpenSeen) → Step
 read_records scene handle size node files = Asks (read_of scene node (Some (records_for size))) (taken_records handle size files)
 
+-- fcntl.h: O_NONBLOCK is 2048
+abbrev pub is_nonblocking : ℕ → Bool
+is_nonblocking flags = flags / 2048 % 2 == 1
+
+-- no record waits: the pipe ends, or the read waits, unless it may not
+abbrev pub read_dry : Parked → ℕ → Bool → List (Option OpenSeen) → Step
+read_dry read flags has_ended files =
+    if has_ended then plain (replies.Data []) files else if is_nonblocking flags then failed EAGAIN files else Parks read
+
+abbrev pub read_new : Terms → Service → Parked → ℕ → OpenSeen → Step
+read_new g s read flags file =
+    if is_dry g s file.owner file.file then read_dry read flags (ends g s file) s.files
+    else read_records (scene_of g s) read.handle read.size (node_of file) s.files
+
 -- what was kept comes first
-abbrev pub read_pipe : SceneSeen → ℕ → ℕ → OpenSeen → List (Option OpenSeen) → Step
-read_pipe scene handle size file files =
-    if length (unwrap_or file.text []) == 0
-    then read_records scene handle size (node_of file) files
-    else Plain (given_records handle size (unwrap_or file.text []) files)
+abbrev pub read_pipe : Terms → Service → Parked → ℕ → OpenSeen → Step
+read_pipe g s read flags file =
+    if is_used_up file then read_new g s read flags file
+    else Plain (given_records read.handle read.size (unwrap_or file.text []) s.files)
 
-abbrev pub read_kind : SceneSeen → ℕ → ℕ → ℕ → OpenSeen → List (Option OpenSeen) → FileKind → Step
-read_kind scene handle offset size file files kinds.Pipe = read_pipe scene handle size file files
-read_kind scene handle offset size file files kinds.Inject = failed EACCES files
-read_kind scene handle offset size file files _ = read_text scene handle offset size file files
+abbrev pub read_kind : Terms → Service → Parked → ℕ → ℕ → OpenSeen → FileKind → Step
+read_kind g s read offset flags file kinds.Pipe = read_pipe g s read flags file
+read_kind g s read offset flags file kinds.Inject = failed EACCES s.files
+read_kind g s read offset flags file _ = read_text (scene_of g s) read.handle offset read.size file s.files
 
-abbrev pub read_file : SceneSeen → ℕ → ℕ → ℕ → List (Option OpenSeen) → Option OpenSeen → Step
-read_file scene handle offset size files None = failed EBADF files
-read_file scene handle offset size files (Some file) =
-    read_kind scene handle offset size file files (kind_of_file file.file)
+abbrev pub read_file : Terms → Service → Parked → ℕ → ℕ → Option OpenSeen → Step
+read_file g s read offset flags None = failed EBADF s.files
+read_file g s read offset flags (Some file) = read_kind g s read offset flags file (kind_of_file file.file)
+
+-- ---- POLL
+
+-- poll.h: POLLIN is 1, POLLOUT 4, POLLRDNORM 64, POLLWRNORM 256
+abbrev pub ready_pipe : ℕ
+ready_pipe = 1 + 64
+
+abbrev pub ready_file : ℕ
+ready_file = 1 + 4 + 64 + 256
+
+-- fuse.h: FUSE_POLL_SCHEDULE_NOTIFY is 1
+abbrev pub wants_wakeup : ℕ → Bool
+wants_wakeup flags = flags % 2 == 1
+
+-- a pipe is ready where a read of it would not wait; if it is not, the poll may want to be told when it is
+abbrev pub poll_pipe : Bool → ℕ → ℕ → ℕ → List (Option OpenSeen) → Step
+poll_pipe waits handle wakeup flags files =
+    if waits
+    then plain (replies.Poll 0) (if wants_wakeup flags then with_wakeup (Some wakeup) handle files else files)
+    else plain (replies.Poll ready_pipe) files
+
+-- any other file is always ready
+abbrev pub poll_kind : Terms → Service → ℕ → ℕ → ℕ → OpenSeen → FileKind → Step
+poll_kind g s handle wakeup flags file kinds.Pipe = poll_pipe (would_wait g s file) handle wakeup flags s.files
+poll_kind g s handle wakeup flags file _ = plain (replies.Poll ready_file) s.files
+
+abbrev pub poll_file : Terms → Service → ℕ → ℕ → ℕ → Option OpenSeen → Step
+poll_file g s handle wakeup flags None = failed EBADF s.files
+poll_file g s handle wakeup flags (Some file) = poll_kind g s handle wakeup flags file (kind_of_file file.file)
 
 -- ---- WRITE
 
@@ -169,9 +217,12 @@ inject cpus handle pid bytes files (Some event) =
     then inject_asked handle (line_size bytes) files (option_map (injection (pid % cpus) event pid) (pairs_of_line (first_line bytes)))
     else failed EINVAL files
 
+-- an instance that was removed has no `inject` any more
 abbrev pub write_kind : Terms → Service → ℕ → ℕ → List ℕ → OpenSeen → File → Step
 write_kind g s handle pid bytes file (files.Inject event) =
-    inject g.config.cpus handle pid bytes s.files (slice_get (declared_events s.past) event)
+    if is_there (scene_of g s) (nodes.File file.owner (files.Inject event))
+    then inject g.config.cpus handle pid bytes s.files (slice_get (declared_events s.past) event)
+    else failed ENOENT s.files
 write_kind g s handle pid bytes file _ = write_text (scene_of g s) handle (node_of file) (not file.starts_over) bytes s.files
 
 abbrev pub write_file : Terms → Service → ℕ → ℕ → List ℕ → Option OpenSeen → Step
@@ -237,32 +288,33 @@ remove_folder name files _ = failed EPERM files
 
 -- ---- all requests
 
--- what a request by this process, about this node, if its number is one's, comes to
-abbrev pub step_of : Terms → Service → ℕ → Option Node → Operation → Step
-step_of g s pid target (operations.Lookup name) = plain (look_up g (scene_of g s) target name) s.files
-step_of g s pid target operations.GetAttr = plain (get_attributes g (scene_of g s) target) s.files
-step_of g s pid target (operations.SetAttr valid size) = plain (set_attributes g (scene_of g s) target valid size) s.files
-step_of g s pid target (operations.MkDir name) = make_folder g (scene_of g s) name s.files (known (scene_of g s) target)
-step_of g s pid target (operations.RmDir name) = remove_folder name s.files (known (scene_of g s) target)
-step_of g s pid target (operations.Open flags) = opened flags (known (scene_of g s) target) s.files
-step_of g s pid target (operations.Read handle offset size flags) = read_file (scene_of g s) handle offset size s.files (file_at handle s.files)
-step_of g s pid target (operations.Write handle offset bytes) = write_file g s handle pid bytes (file_at handle s.files)
-step_of g s pid target (operations.Release handle) = release (scene_of g s) handle s.files (file_at handle s.files)
-step_of g s pid target operations.OpenDir = plain (open_folder (scene_of g s) target) s.files
-step_of g s pid target (operations.ReadDir handle offset size) = taking (read_folder (scene_of g s) target offset size) s.files
-step_of g s pid target (operations.Access mask) = plain (check_access (scene_of g s) target mask) s.files
-step_of g s pid target (operations.Init major minor max_readahead flags) = plain (agree major max_readahead flags) s.files
-step_of g s pid target operations.StatFs = plain (replies.StatFs 4096 255) s.files
-step_of g s pid target (operations.Flush handle) = plain replies.Done s.files
-step_of g s pid target operations.Fsync = plain replies.Done s.files
-step_of g s pid target (operations.ReleaseDir handle) = plain replies.Done s.files
-step_of g s pid target operations.Destroy = plain replies.Done s.files
--- not asked again: a file is always ready, and has no attributes beside those of stat(2)
-step_of g s pid target (operations.Poll handle wakeup flags events) = failed ENOSYS s.files
-step_of g s pid target (operations.GetXAttr name) = failed ENOSYS s.files
-step_of g s pid target operations.ListXAttr = failed ENOSYS s.files
-step_of g s pid target (operations.Other opcode) = failed (errno_of_other opcode) s.files
--- these have no reply: no number of a node is kept, and no request waits that could be interrupted
-step_of g s pid target operations.Forget = Plain (record { reply = None; files = s.files })
-step_of g s pid target (operations.BatchForget count) = Plain (record { reply = None; files = s.files })
-step_of g s pid target (operations.Interrupt unique) = Plain (record { reply = None; files = s.files })
+-- what a request of this number by this process, about this node, if its number is one's, comes to
+abbrev pub step_of : Terms → Service → ℕ → ℕ → Option Node → Operation → Step
+step_of g s unique pid target (operations.Lookup name) = plain (look_up g (scene_of g s) target name) s.files
+step_of g s unique pid target operations.GetAttr = plain (get_attributes g (scene_of g s) target) s.files
+step_of g s unique pid target (operations.SetAttr valid size) = plain (set_attributes g (scene_of g s) target valid size) s.files
+step_of g s unique pid target (operations.MkDir name) = make_folder g (scene_of g s) name s.files (known (scene_of g s) target)
+step_of g s unique pid target (operations.RmDir name) = remove_folder name s.files (known (scene_of g s) target)
+step_of g s unique pid target (operations.Open flags) = opened flags (known (scene_of g s) target) s.files
+step_of g s unique pid target (operations.Read handle offset size flags) =
+    read_file g s (read_of_pipe unique handle size) offset flags (file_at handle s.files)
+step_of g s unique pid target (operations.Write handle offset bytes) = write_file g s handle pid bytes (file_at handle s.files)
+step_of g s unique pid target (operations.Release handle) = release (scene_of g s) handle s.files (file_at handle s.files)
+step_of g s unique pid target operations.OpenDir = plain (open_folder (scene_of g s) target) s.files
+step_of g s unique pid target (operations.ReadDir handle offset size) = taking (read_folder (scene_of g s) target offset size) s.files
+step_of g s unique pid target (operations.Access mask) = plain (check_access (scene_of g s) target mask) s.files
+step_of g s unique pid target (operations.Init major minor max_readahead flags) = plain (agree major max_readahead flags) s.files
+step_of g s unique pid target operations.StatFs = plain (replies.StatFs 4096 255) s.files
+step_of g s unique pid target (operations.Flush handle) = plain replies.Done s.files
+step_of g s unique pid target operations.Fsync = plain replies.Done s.files
+step_of g s unique pid target (operations.ReleaseDir handle) = plain replies.Done s.files
+step_of g s unique pid target operations.Destroy = plain replies.Done s.files
+step_of g s unique pid target (operations.Poll handle wakeup flags events) = poll_file g s handle wakeup flags (file_at handle s.files)
+-- not asked again: a file has no attributes beside those of stat(2)
+step_of g s unique pid target (operations.GetXAttr name) = failed ENOSYS s.files
+step_of g s unique pid target operations.ListXAttr = failed ENOSYS s.files
+step_of g s unique pid target (operations.Other opcode) = failed (errno_of_other opcode) s.files
+-- these have no reply: no number of a node is kept, and a read that is interrupted has one of its own
+step_of g s unique pid target operations.Forget = Plain (record { reply = None; files = s.files })
+step_of g s unique pid target (operations.BatchForget count) = Plain (record { reply = None; files = s.files })
+step_of g s unique pid target (operations.Interrupt number) = Interrupts number

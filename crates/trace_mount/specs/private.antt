@@ -2,3 +2,4 @@
 pub mod StillReplies
 pub mod Pushed
 pub mod ShortReplies
+pub mod Looks

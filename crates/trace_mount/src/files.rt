@@ -1,9 +1,11 @@
 //! The open files, by their handles.
 
-ghost use Rattle.std.specs.Prelude.{◌≡◌, Option, [], set, drop, false, is_none, unwrap_or, position, OnErr, IfOk};
+ghost use Rattle.std.specs.Prelude.{◌≡◌, Option, [], length, set, drop, true, false, is_none, unwrap_or, position, OnErr, OnOk, IfOk};
+ghost use Rattle.std.specs.List.{list_any};
 ghost use Rattle.std.specs.Option.{option_copied, option_map};
 ghost use Rattle.trace_command.specs.FileNames.{bytes_now};
-ghost use Rattle.trace_mount.specs.Services.{OpenSeen, file_at, free_handle, text_at, with_change, with_file, with_text, with_write, without_file};
+ghost use Rattle.trace_mount.specs.Pipes.{is_used_up};
+ghost use Rattle.trace_mount.specs.Services.{OpenSeen, file_at, free_handle, has_wakeup, just_opened, text_at, wakeup_at, with_change, with_file, with_records, with_text, with_wakeup, with_write, without_file};
 
 use mount_tree::{File, Owner};
 use std::alloc::{AllocError, Global};
@@ -12,7 +14,7 @@ use std::mem;
 use trace_lex::Text;
 
 /// An open file: whose it is and which, whether it was opened to be emptied and nothing was written yet, and the text that its reads give, of which
-/// so many bytes were given and won't be again.
+/// so many bytes were given and won't be again; of a pipe also whether a read gave records, and the number by which a poll is to be told.
 #[derive(Drop)]
 pub struct OpenFile {
     owner: Owner,
@@ -20,6 +22,8 @@ pub struct OpenFile {
     starts_over: bool,
     text: Option<Text>,
     given: usize,
+    has_read: bool,
+    wakeup: Option<u64>,
 }
 
 impl Model for OpenFile {
@@ -29,7 +33,7 @@ impl Model for OpenFile {
 
     ghost Value = { OpenSeen };
 
-    ghost view = { λ f. record { owner = f.owner; file = f.file; starts_over = f.starts_over; text = option_map (drop f.given) f.text } };
+    ghost view = { λ f. record { owner = f.owner; file = f.file; starts_over = f.starts_over; text = option_map (drop f.given) f.text; has_read = f.has_read; wakeup = f.wakeup } };
 
     ghost invariant = { λ f. f.given ≤ length (unwrap_or f.text []) };
 }
@@ -37,7 +41,7 @@ impl Model for OpenFile {
 impl OpenFile {
     /// One that was just opened.
     pub fn new(owner: Owner, file: File, starts_over: bool) -> OpenFile
-        ensures { result ≡ record { owner = owner; file = file; starts_over = starts_over; text = None } }
+        ensures { result ≡ just_opened owner file starts_over }
     {
         OpenFile {
             owner,
@@ -45,6 +49,8 @@ impl OpenFile {
             starts_over,
             text: None,
             given: 0,
+            has_read: false,
+            wakeup: None,
         }
     }
 
@@ -79,9 +85,33 @@ impl OpenFile {
         }
     }
 
-    // With another text, of which so many bytes were given.
-    fn with_text(self, text: Text, given: usize) -> OpenFile
-        ensures { result ≡ record self { text = Some (drop given text) } }
+    /// Whether a read of it gave records.
+    pub fn has_read(&self) -> bool
+        ensures { result ≡ self.now.has_read }
+    {
+        self.has_read
+    }
+
+    /// Whether nothing is left for its reads of what was taken.
+    pub fn is_used_up(&self) -> bool
+        ensures { result ≡ is_used_up self.now }
+    {
+        match self.text() {
+            Some(text) => text.is_empty(),
+            None => true,
+        }
+    }
+
+    /// The number by which a poll is to be told that it is ready, if one is.
+    pub fn wakeup(&self) -> Option<u64>
+        ensures { result ≡ self.now.wakeup }
+    {
+        self.wakeup
+    }
+
+    // With another text.
+    fn with_text(self, text: Text) -> OpenFile
+        ensures { result ≡ record self { text = Some text } }
     {
         let OpenFile {
             owner,
@@ -89,6 +119,32 @@ impl OpenFile {
             starts_over,
             text: _,
             given: _,
+            has_read,
+            wakeup,
+        } = self;
+        OpenFile {
+            owner,
+            file,
+            starts_over,
+            text: Some(text),
+            given: 0,
+            has_read,
+            wakeup,
+        }
+    }
+
+    // With records that were taken, of whose text so many bytes were given.
+    fn with_records(self, text: Text, given: usize) -> OpenFile
+        ensures { result ≡ record self { text = Some (drop given text); has_read = true } }
+    {
+        let OpenFile {
+            owner,
+            file,
+            starts_over,
+            text: _,
+            given: _,
+            has_read: _,
+            wakeup,
         } = self;
         let given = given.min(text.as_bytes().len());
         OpenFile {
@@ -97,12 +153,14 @@ impl OpenFile {
             starts_over,
             text: Some(text),
             given,
+            has_read: true,
+            wakeup,
         }
     }
 
-    // Without the first bytes of its text.
+    // Without the first bytes of its text, which a read gave.
     fn after_giving(self, count: usize) -> OpenFile
-        ensures { result ≡ record self { text = option_map (drop count) self.text } }
+        ensures { result ≡ record self { text = option_map (drop count) self.text; has_read = true } }
     {
         let OpenFile {
             owner,
@@ -110,6 +168,8 @@ impl OpenFile {
             starts_over,
             text,
             given,
+            has_read: _,
+            wakeup,
         } = self;
         let given = match &text {
             Some(text) => given + count.min(text.as_bytes().len() - given),
@@ -121,6 +181,8 @@ impl OpenFile {
             starts_over,
             text,
             given,
+            has_read: true,
+            wakeup,
         }
     }
 
@@ -134,6 +196,8 @@ impl OpenFile {
             starts_over: _,
             text,
             given,
+            has_read,
+            wakeup,
         } = self;
         OpenFile {
             owner,
@@ -141,23 +205,63 @@ impl OpenFile {
             starts_over: false,
             text,
             given,
+            has_read,
+            wakeup,
+        }
+    }
+
+    // With another number by which a poll is to be told, or none.
+    fn with_wakeup(self, wakeup: Option<u64>) -> OpenFile
+        ensures { result ≡ record self { wakeup = wakeup } }
+    {
+        let OpenFile {
+            owner,
+            file,
+            starts_over,
+            text,
+            given,
+            has_read,
+            wakeup: _,
+        } = self;
+        OpenFile {
+            owner,
+            file,
+            starts_over,
+            text,
+            given,
+            has_read,
+            wakeup,
         }
     }
 }
 
-/// The open files: for each handle its file, if it has one.
+/// The open files: for each handle its file, if it has one. Unless `may_wake`, no poll of one is to be told.
 #[derive(Drop)]
 pub struct OpenFiles {
     slots: Vec<Option<OpenFile>>,
+    may_wake: bool,
 }
 
 impl Model for OpenFiles {
-    ghost use Rattle.std.specs.Prelude.{List, Option};
-    ghost use Rattle.trace_mount.specs.Services.{OpenSeen};
+    ghost use Rattle.std.specs.Prelude.{◌≡◌, false, List, Option};
+    ghost use Rattle.std.specs.List.{list_any};
+    ghost use Rattle.trace_mount.specs.Services.{OpenSeen, has_wakeup};
 
     ghost Value = { List (Option OpenSeen) };
 
     ghost view = { λ f. f.slots.items };
+
+    ghost invariant = { λ f. f.may_wake ≡ false → list_any has_wakeup f.slots.items ≡ false };
+}
+
+// Whether a poll of the file is to be told.
+fn has_wakeup(slot: &Option<OpenFile>) -> bool
+    ensures { result ≡ has_wakeup slot.now }
+{
+    match slot {
+        Some(file) => file.wakeup.is_some(),
+        None => false,
+    }
 }
 
 // The first slot that has no file.
@@ -167,6 +271,52 @@ fn first_free(slots: &[Option<OpenFile>]) -> Option<usize>
     slots.iter().position(|slot| !slot.is_some())
 }
 
+// Adds a file at a handle that is not in use, or is the next one.
+fn add_at(
+    slots: &mut Vec<Option<OpenFile>>,
+    handle: usize,
+    file: OpenFile,
+) -> Result<(), AllocError>
+    ensures ok { OnOk result (slots.new.items ≡ with_file handle file slots.old.items) }
+    ensures err { OnErr result (slots.new.items ≡ slots.old.items) }
+{
+    if handle < slots.len() {
+        slots[handle] = Some(file);
+    } else {
+        slots.push(Some(file))?;
+    }
+    Ok(())
+}
+
+// Takes the file of a handle out.
+fn take_at(slots: &mut Vec<Option<OpenFile>>, handle: u64) -> Option<OpenFile>
+    ensures value { result ≡ file_at handle slots.old.items }
+    ensures after { slots.new.items ≡ without_file handle slots.old.items }
+{
+    let index = handle as usize;
+    if index >= slots.len() {
+        return None;
+    }
+    mem::replace(&mut slots[index], None)
+}
+
+// Puts a file in the place of the one of a handle.
+fn put_at(slots: &mut Vec<Option<OpenFile>>, handle: u64, file: Option<OpenFile>)
+    ensures { slots.new.items ≡ set slots.old.items handle file }
+{
+    let index = handle as usize;
+    if index < slots.len() {
+        slots[index] = file;
+    }
+}
+
+// Whether a poll of some file is to be told.
+fn any_has_wakeup(slots: &[Option<OpenFile>]) -> bool
+    ensures { result ≡ list_any has_wakeup slots.now }
+{
+    slots.iter().any(|slot| has_wakeup(slot))
+}
+
 impl OpenFiles {
     /// None.
     pub fn new(alloc: Global) -> OpenFiles
@@ -174,6 +324,7 @@ impl OpenFiles {
     {
         OpenFiles {
             slots: Vec::new(alloc),
+            may_wake: false,
         }
     }
 
@@ -184,6 +335,30 @@ impl OpenFiles {
         match self.slots.get(handle as usize) {
             Some(Some(file)) => Some(file),
             _ => None,
+        }
+    }
+
+    /// How many handles there may be.
+    pub fn count(&self) -> usize
+        ensures { result ≡ length self.now }
+    {
+        self.slots.len()
+    }
+
+    /// Whether a poll of some file may have to be told.
+    pub fn may_wake(&self) -> bool
+        ensures { result ≡ false → list_any has_wakeup self.now ≡ false }
+    {
+        self.may_wake
+    }
+
+    /// The number by which a poll of a file is to be told that it is ready, if one is.
+    pub fn wakeup(&self, handle: u64) -> Option<u64>
+        ensures { result ≡ wakeup_at handle self.now }
+    {
+        match self.get(handle) {
+            Some(file) => file.wakeup(),
+            None => None,
         }
     }
 
@@ -214,18 +389,15 @@ impl OpenFiles {
         first_free(&self.slots).unwrap_or(self.slots.len())
     }
 
-    /// Gives a file that was opened the lowest handle that is not in use.
+    /// Gives a file that was just opened the lowest handle that is not in use.
     pub fn open(&mut self, file: OpenFile) -> Result<u64, AllocError>
+        requires { file.wakeup ≡ None }
         ensures handle { IfOk result (λ handle. handle ≡ free_handle self.old) }
         ensures ok { IfOk result (λ handle. self.new ≡ with_file handle file self.old) }
         ensures err { OnErr result (self.new ≡ self.old) }
     {
         let handle = self.free_handle();
-        if handle < self.slots.len() {
-            self.slots[handle] = Some(file);
-        } else {
-            self.slots.push(Some(file))?;
-        }
+        add_at(&mut self.slots, handle, file)?;
         Ok(handle as u64)
     }
 
@@ -234,21 +406,16 @@ impl OpenFiles {
         ensures value { result ≡ file_at handle self.old }
         ensures after { self.new ≡ without_file handle self.old }
     {
-        let index = handle as usize;
-        if index >= self.slots.len() {
-            return None;
-        }
-        mem::replace(&mut self.slots[index], None)
+        take_at(&mut self.slots, handle)
     }
 
     // Puts a file back.
     fn put(&mut self, handle: u64, file: Option<OpenFile>)
         ensures { self.new ≡ set self.old handle file }
     {
-        let index = handle as usize;
-        if index < self.slots.len() {
-            self.slots[index] = file;
-        }
+        let wakes = has_wakeup(&file);
+        put_at(&mut self.slots, handle, file);
+        self.may_wake = self.may_wake || wakes;
     }
 
     /// Closes the file of a handle.
@@ -258,24 +425,61 @@ impl OpenFiles {
         self.put(handle, None);
     }
 
-    /// This text, without so many bytes that were given, is what the reads of the file give.
-    pub fn keep_text(&mut self, handle: u64, text: Text, given: usize)
-        ensures { self.new ≡ with_text (drop given text) handle self.old }
+    /// This text is what the reads of the file give.
+    pub fn keep_text(&mut self, handle: u64, text: Text)
+        ensures { self.new ≡ with_text text handle self.old }
     {
         let Some(file) = self.take(handle) else {
             return;
         };
-        self.put(handle, Some(file.with_text(text, given)));
+        self.put(handle, Some(file.with_text(text)));
     }
 
-    /// So many bytes more of the text were given, if there is one.
+    /// Records were taken for a read of the file, whose text this is, and so many bytes of it were given.
+    pub fn keep_records(&mut self, handle: u64, text: Text, given: usize)
+        ensures { self.new ≡ with_records (drop given text) handle self.old }
+    {
+        let Some(file) = self.take(handle) else {
+            return;
+        };
+        self.put(handle, Some(file.with_records(text, given)));
+    }
+
+    /// So many bytes more of the records' text were given, if there is one.
     pub fn give(&mut self, handle: u64, count: usize)
-        ensures { self.new ≡ with_change (λ file. record file { text = option_map (drop count) file.text }) handle self.old }
+        ensures { self.new ≡ with_change (λ file. record file { text = option_map (drop count) file.text; has_read = true }) handle self.old }
     {
         let Some(file) = self.take(handle) else {
             return;
         };
         self.put(handle, Some(file.after_giving(count)));
+    }
+
+    /// By this number a poll of the file is to be told that it is ready.
+    pub fn keep_wakeup(&mut self, handle: u64, wakeup: u64)
+        ensures { self.new ≡ with_wakeup (Some wakeup) handle self.old }
+    {
+        let Some(file) = self.take(handle) else {
+            return;
+        };
+        self.put(handle, Some(file.with_wakeup(Some(wakeup))));
+    }
+
+    /// No poll of the file is to be told any more.
+    pub fn forget_wakeup(&mut self, handle: u64)
+        ensures { self.new ≡ with_wakeup None handle self.old }
+    {
+        let Some(file) = self.take(handle) else {
+            return;
+        };
+        self.put(handle, Some(file.with_wakeup(None)));
+    }
+
+    /// Looks whether a poll of some file is still to be told.
+    pub fn look_for_wakeups(&mut self)
+        ensures { self.new ≡ self.old }
+    {
+        self.may_wake = any_has_wakeup(&self.slots);
     }
 
     /// Something was written to the file.

@@ -9,7 +9,7 @@ ghost use Rattle.trace_format.specs.declared.pair.Pair.{Pair as PairSeen};
 ghost use Rattle.trace_command.specs.Requests.{Request, request_of};
 ghost use Rattle.trace_history.specs.Settings.{declared_events};
 ghost use Rattle.trace_mount.specs.Injections.{default_pair, first_line as line_of, injection, left_out, pairs_asked as asked_pairs, pairs_of_line as pairs_of};
-ghost use Rattle.trace_mount.specs.Mounted.{IsMounted, IsQuiet, IsStep, StepsBy};
+ghost use Rattle.trace_mount.specs.Mounted.{HasLedTo, IsQuiet, IsStep, StepsBy};
 ghost use Rattle.trace_mount.specs.Served.{Asks, inject as injected, written};
 ghost use Rattle.trace_mount.specs.private.ShortReplies.{IsShort};
 
@@ -158,7 +158,7 @@ impl Mount {
         bytes: &[u8],
     ) -> Reply<'static>
         requires { length bytes.now < 2 ^ 32 }
-        ensures step { (past : List Request) → IsMounted past self.old
+        ensures step { (past : List Request) → HasLedTo past self.old
             → IsStep past self.old self.new
             (injected self.old.live.config.cpus handle pid bytes.now self.old.files (slice_get (declared_events past) event)) (Some result) }
         ensures short { IsShort result }

@@ -1,6 +1,7 @@
 //! What reads of a file give, and what a step does. The functions do nothing: their contracts are theorems.
 
 ghost use Rattle.trace_mount.specs.MountLaws.{FirstTextIsKept, NothingLeftIsAll, ReadsGiveParts, ReadsGoOn, StepsDoOneCommandAtMost};
+ghost use Rattle.trace_mount.specs.ParkedLaws.{ClosedReadsTakeNothing, InterruptedReadsTakeNothing, InterruptingAsksNothing, NoReadWaitsForWhatIsThere, NothingIsOwedToRequests, OldestIsAnsweredFirst, ReadsAreAnsweredOnce, TakenTextIsGivenOrKept, TellingDoesOneCommandAtMost, WaitingAsksNothing};
 
 /// Reads of a file that go on one after another give together one part of the text that the first of them made, and so from the beginning on what
 /// one read gives.
@@ -14,4 +15,32 @@ pub fn reads_give_one_text()
 /// A request does one command of the tracer at most.
 pub fn requests_do_one_command()
     ensures { StepsDoOneCommandAtMost }
+{}
+
+/// Each read is answered once: of whatever was served, the reads that waited and those that were asked are those that were answered and those that wait
+/// still.
+pub fn reads_are_answered_once()
+    ensures { ReadsAreAnsweredOnce }
+{}
+
+/// No record is lost, and none goes to two readers, whatever reads wait, are interrupted or lose their file: only a read that is answered takes records,
+/// by one command, and what it took is its reply and what its open file keeps.
+pub fn waiting_loses_nothing()
+    ensures waiting { WaitingAsksNothing }
+    ensures interrupting { InterruptingAsksNothing }
+    ensures interrupted { InterruptedReadsTakeNothing }
+    ensures closed { ClosedReadsTakeNothing }
+    ensures one { TellingDoesOneCommandAtMost }
+    ensures text { TakenTextIsGivenOrKept }
+{}
+
+/// Where something waits, no read does that could take it, whenever a request is answered.
+pub fn no_read_waits_for_what_is_there()
+    ensures waits { NoReadWaitsForWhatIsThere }
+    ensures requests { NothingIsOwedToRequests }
+{}
+
+/// Of the parked reads that wait no more the oldest is answered first.
+pub fn oldest_is_answered_first()
+    ensures { OldestIsAnsweredFirst }
 {}

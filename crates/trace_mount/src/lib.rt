@@ -9,9 +9,13 @@ pub mod laws;
 mod listing;
 mod mount;
 mod opening;
+mod owed;
+mod parked;
+mod pipes;
 mod reading;
 mod telling;
 mod told;
 mod writing;
 
 pub use mount::Mount;
+pub use parked::Parked;

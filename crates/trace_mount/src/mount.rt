@@ -1,16 +1,17 @@
 //! A mounted tracer, and its reply to each request.
 
-ghost use Rattle.std.specs.Prelude.{◌≡◌, ◌≢◌, ◌≤◌, true, [], List, Some, IfOk, IfErr, OnOk, vec_capacity};
+ghost use Rattle.std.specs.Prelude.{◌≡◌, ◌≢◌, ◌≤◌, ℕ, true, false, [], List, Some, IfOk, IfErr, OnOk, vec_capacity};
 ghost use Rattle.trace_command.specs.Configs.{IsInRange};
 ghost use Rattle.trace_command.specs.Requests.{Request as Command};
 ghost use Rattle.trace_command.specs.declared.refusal.Refusal.TheVariants as refusals;
-ghost use Rattle.trace_mount.specs.Mounted.{IsCalled, IsMounted, IsStep, IsSteppedBy, service_of, terms_of, most_reply};
+ghost use Rattle.trace_mount.specs.Mounted.{HasLedTo, IsCalled, IsMounted, IsServed, IsServedBy, IsStep, IsSteppedBy, service_of, terms_of, most_reply};
 ghost use Rattle.trace_mount.specs.Served.{step_of};
-ghost use Rattle.trace_mount.specs.private.StillReplies.{HasFewBytes, is_still, is_told, still_reply};
+ghost use Rattle.trace_mount.specs.private.StillReplies.{HasFewBytes, changes, is_change, is_still, still_reply};
 ghost use Rattle.trace_mount.specs.private.ShortReplies.{IsShort};
 
 use crate::errno::errno_of_other;
 use crate::files::OpenFiles;
+use crate::parked::{Parked, interrupt, read_of_pipe};
 use crate::telling::{tell_short, tell_wrong};
 use crate::told::agree;
 use fuse_wire::{DecodeError, Errno, Operation, Reply, Request, decode};
@@ -20,12 +21,15 @@ use std::marker::Model;
 use trace_command::{Config, Refusal};
 use trace_live::Live;
 
-/// A mounted tracer: the tracer, which folders and files it has, the open files, and whose they are.
+/// A mounted tracer: the tracer, which folders and files it has, the open files, the reads that wait, whether something has to be told before the next
+/// request is answered, and whose the files are.
 pub struct Mount {
     pub(crate) alloc: Global,
     pub(crate) live: Live,
     pub(crate) scene: Scene,
     pub(crate) files: OpenFiles,
+    pub(crate) parked: Vec<Parked>,
+    pub(crate) owes: bool,
     pub(crate) uid: u32,
     pub(crate) gid: u32,
 }
@@ -38,6 +42,8 @@ impl Drop for Mount {
             live: _,
             scene: _,
             files: _,
+            parked: _,
+            owes: _,
             uid: _,
             gid: _,
         } = self;
@@ -49,7 +55,24 @@ impl Model for Mount {
 
     ghost Value = { MountSeen };
 
-    ghost view = { λ m. record { live = m.live; scene = m.scene; files = m.files; uid = m.uid; gid = m.gid } };
+    ghost view = { λ m. record { live = m.live; scene = m.scene; files = m.files; parked = m.parked.items; owes = m.owes; uid = m.uid; gid = m.gid } };
+}
+
+// Whether an operation may change something.
+fn changes(operation: &Operation<'_>) -> bool
+    ensures { result ≡ changes operation.now }
+{
+    matches!(
+        operation,
+        Operation::MkDir { .. }
+            | Operation::RmDir { .. }
+            | Operation::Open { .. }
+            | Operation::Read { .. }
+            | Operation::Write { .. }
+            | Operation::Release { .. }
+            | Operation::Interrupt { .. }
+            | Operation::Poll { .. }
+    )
 }
 
 impl Mount {
@@ -58,7 +81,8 @@ impl Mount {
     pub fn new(alloc: Global, config: Config, uid: u32, gid: u32) -> Result<Mount, Refusal>
         ensures made { IfOk result (λ mount. IsMounted [] mount) }
         ensures terms { IfOk result (λ mount. terms_of mount ≡ record { config = config; uid = uid; gid = gid }) }
-        ensures closed { IfOk result (λ mount. mount.files ≡ []) }
+        ensures closed { IfOk result (λ mount. (mount.files ≡ []) × (mount.parked ≡ [])) }
+        ensures nothing_owed { IfOk result (λ mount. mount.owes ≡ false) }
         ensures in_range { OnOk result (IsInRange config) }
         ensures out_of_range { ¬ IsInRange config → IfErr result (λ r. r ≡ refusals.BadValue) }
         ensures refused { IfErr result (λ r. r ≢ refusals.Memory → (r ≡ refusals.BadValue) × ¬ IsInRange config) }
@@ -69,16 +93,19 @@ impl Mount {
             live,
             scene: Scene::new(alloc, config.cpus),
             files: OpenFiles::new(alloc),
+            parked: Vec::new(alloc),
+            owes: false,
             uid,
             gid,
         })
     }
 
-    /// Serves a request: `reply`, which is empty and has the room, gets the bytes of its reply, none if it has none. Bytes that are no framed request
-    /// have none.
+    /// Serves a request: `reply`, which is empty and has the room, gets the bytes of its reply, none if it has none or waits. Bytes that are no framed
+    /// request have none. What is owed has to be told before.
     pub fn answer(&mut self, asked: &[u8], reply: &mut Vec<u8>)
         requires room { most_reply ≤ vec_capacity reply.old }
         requires empty { reply.old.items ≡ [] }
+        requires nothing_owed { self.old.owes ≡ false }
         ensures served { (past : List Command) → IsMounted past self.old → IsCalled past self.old self.new asked.now reply.new.items }
         ensures capacity { vec_capacity reply.old ≤ vec_capacity reply.new }
     {
@@ -94,7 +121,24 @@ impl Mount {
         requires room { most_reply ≤ vec_capacity out.old }
         requires empty { out.old.items ≡ [] }
         requires few { HasFewBytes request.now.operation }
-        ensures served { (past : List Command) → IsMounted past self.old → IsSteppedBy past self.old self.new request.now out.new.items }
+        requires nothing_owed { self.old.owes ≡ false }
+        ensures served { (past : List Command) → IsMounted past self.old → IsServedBy past self.old self.new request.now out.new.items }
+        ensures capacity { vec_capacity out.old ≤ vec_capacity out.new }
+    {
+        if !changes(&request.operation) {
+            return self.look(request, out);
+        }
+        self.act(request, out);
+        self.look_for_owed();
+    }
+
+    // Serves a request that may change something.
+    fn act(&mut self, request: &Request<'_>, out: &mut Vec<u8>)
+        requires room { most_reply ≤ vec_capacity out.old }
+        requires empty { out.old.items ≡ [] }
+        requires few { HasFewBytes request.now.operation }
+        requires changes { changes request.now.operation ≡ true }
+        ensures served { (past : List Command) → HasLedTo past self.old → IsSteppedBy past self.old self.new request.now out.new.items }
         ensures capacity { vec_capacity out.old ≤ vec_capacity out.new }
     {
         let node = Node::from_number(request.node);
@@ -103,12 +147,12 @@ impl Mount {
                 handle,
                 offset,
                 size,
-                ..
-            } => self.read(request.unique, *handle, *offset, *size, out),
-            Operation::ReadDir { offset, size, .. } => {
-                self.read_folder(request.unique, node, *offset, *size, out);
+                flags,
+            } => {
+                let read = read_of_pipe(request.unique, *handle, *size);
+                self.read(read, *offset, *flags, out);
             }
-            Operation::Forget | Operation::BatchForget { .. } | Operation::Interrupt { .. } => {}
+            Operation::Interrupt { unique } => interrupt(&mut self.parked, *unique),
             operation => {
                 let reply = self.reply_to(request.pid, node, operation);
                 tell_short(request.unique, &reply, out);
@@ -116,17 +160,39 @@ impl Mount {
         }
     }
 
-    // The reply to an operation that reads no file and no folder.
+    // Serves a request that changes nothing.
+    fn look(&self, request: &Request<'_>, out: &mut Vec<u8>)
+        requires room { most_reply ≤ vec_capacity out.old }
+        requires empty { out.old.items ≡ [] }
+        requires still { changes request.now.operation ≡ false }
+        ensures served { (past : List Command) → HasLedTo past self.now
+            → IsServed (terms_of self.now) (service_of past self.now) request.now out.new.items (service_of past self.now) }
+        ensures capacity { vec_capacity out.old ≤ vec_capacity out.new }
+    {
+        let node = Node::from_number(request.node);
+        match &request.operation {
+            Operation::ReadDir { offset, size, .. } => {
+                self.read_folder(request.unique, node, *offset, *size, out);
+            }
+            Operation::Forget | Operation::BatchForget { .. } => {}
+            operation => {
+                let reply = self.reply_about(node, operation);
+                tell_short(request.unique, &reply, out);
+            }
+        }
+    }
+
+    // The reply to an operation that may change something.
     fn reply_to(
         &mut self,
         pid: u32,
         node: Option<Node>,
         operation: &Operation<'_>,
     ) -> Reply<'static>
-        requires told { is_told operation.now ≡ true }
+        requires replies { is_change operation.now ≡ true }
         requires few { HasFewBytes operation.now }
-        ensures step { (past : List Command) → IsMounted past self.old
-            → IsStep past self.old self.new (step_of (terms_of self.old) (service_of past self.old) pid node operation.now) (Some result) }
+        ensures step { (past : List Command) (unique : ℕ) → HasLedTo past self.old
+            → IsStep past self.old self.new (step_of (terms_of self.old) (service_of past self.old) unique pid node operation.now) (Some result) }
         ensures short { IsShort result }
     {
         match operation {
@@ -135,7 +201,13 @@ impl Mount {
             Operation::Open { flags } => self.open(node, *flags),
             Operation::Write { handle, bytes, .. } => self.write(*handle, pid, bytes.as_slice()),
             Operation::Release { handle } => self.release(*handle),
-            _ => self.reply_about(node, operation),
+            Operation::Poll {
+                handle,
+                wakeup,
+                flags,
+                ..
+            } => self.poll(*handle, *wakeup, *flags),
+            _ => unreachable!(),
         }
     }
 

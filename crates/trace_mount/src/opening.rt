@@ -3,8 +3,8 @@
 ghost use Rattle.std.specs.Prelude.{◌≡◌, List, Some};
 ghost use Rattle.trace_command.specs.Requests.{Request};
 ghost use Rattle.mount_tree.specs.declared.node.Node.TheVariants as nodes;
-ghost use Rattle.trace_mount.specs.Mounted.{StepsBy};
-ghost use Rattle.trace_mount.specs.Served.{emptied, open_flags as flags_of, opened, release as released};
+ghost use Rattle.trace_mount.specs.Mounted.{HasLedTo, IsStep, StepsBy, service_of, terms_of};
+ghost use Rattle.trace_mount.specs.Served.{emptied, open_flags as flags_of, opened, poll_file, poll_pipe as polled, release as released};
 ghost use Rattle.trace_mount.specs.Services.{OpenSeen, file_at};
 ghost use Rattle.trace_mount.specs.Told.{known};
 ghost use Rattle.trace_mount.specs.private.ShortReplies.{IsShort};
@@ -55,6 +55,38 @@ impl Mount {
             },
             Err(_) => Reply::Error(Errno::ENOMEM),
         }
+    }
+
+    /// POLL: of a pipe whether a read of it would not wait; if it would, a poll may want to be told when it is ready. Other files are always ready.
+    pub(crate) fn poll(&mut self, handle: u64, wakeup: u64, flags: u32) -> Reply<'static>
+        ensures step { (past : List Request) → HasLedTo past self.old → IsStep past self.old self.new
+            (poll_file (terms_of self.old) (service_of past self.old) handle wakeup flags (file_at handle self.old.files)) (Some result) }
+        ensures short { IsShort result }
+    {
+        let Some(open_file) = self.files.get(handle) else {
+            return Reply::Error(Errno::EBADF);
+        };
+        match open_file.file().kind() {
+            FileKind::Pipe => {
+                let waits = self.would_wait(open_file);
+                self.poll_pipe(handle, wakeup, flags, waits)
+            }
+            FileKind::Text | FileKind::Trace | FileKind::Inject => Reply::Poll { events: 325 },
+        }
+    }
+
+    // POLL of a pipe.
+    fn poll_pipe(&mut self, handle: u64, wakeup: u64, flags: u32, waits: bool) -> Reply<'static>
+        ensures step { StepsBy self.old self.new (polled waits handle wakeup flags self.old.files) result }
+        ensures short { IsShort result }
+    {
+        if !waits {
+            return Reply::Poll { events: 65 };
+        }
+        if flags % 2 == 1 {
+            self.files.keep_wakeup(handle, wakeup);
+        }
+        Reply::Poll { events: 0 }
     }
 
     /// RELEASE: a trace that was opened to be emptied, and that nothing was written to, is emptied.

@@ -1,16 +1,19 @@
 //! Reads of open files.
 
-ghost use Rattle.std.specs.Prelude.{◌≡◌, ◌≤◌, ℕ, List, Some, vec_capacity};
+ghost use Rattle.std.specs.Prelude.{◌≡◌, ◌≤◌, ℕ, [], List, Some, vec_capacity};
 ghost use Rattle.fuse_wire.specs.Replies.{reply_bytes};
 ghost use Rattle.fuse_wire.specs.declared.reply.Reply.TheVariants as replies;
 ghost use Rattle.trace_command.specs.Requests.{Request};
 ghost use Rattle.mount_tree.specs.declared.node.Node.TheVariants as nodes;
-ghost use Rattle.trace_mount.specs.Mounted.{IsMounted, IsTold, TellsBy, most_reply};
-ghost use Rattle.trace_mount.specs.Served.{Plain, given_records, part_of, read_anew as anew, read_file, read_pipe as pipe_step, read_records as taking, read_text as text_step, records_for as records, text_in as text_of};
+ghost use Rattle.mount_tree.specs.NodePaths.{owner_name};
+ghost use Rattle.trace_history.specs.Settings.{is_tracing};
+ghost use Rattle.trace_mount.specs.Mounted.{HasLedTo, IsTold, TellsBy, most_reply, service_of, terms_of};
+ghost use Rattle.trace_mount.specs.Served.{Parks, Plain, given_records, is_nonblocking as nonblocking, part_of, read_anew as anew, read_dry as dry_step, read_file, read_pipe as pipe_step, read_records as taking, read_text as text_step, records_for as records, text_in as text_of};
 ghost use Rattle.trace_mount.specs.Services.{OpenSeen, file_at, text_at};
 
 use crate::errno::errno_of;
 use crate::mount::Mount;
+use crate::parked::{Parked, add};
 use crate::telling::{MOST_DATA, tell_error, tell_part};
 use fuse_wire::Errno;
 use mount_tree::{File, FileKind, Owner};
@@ -38,28 +41,33 @@ fn text_in(alloc: Global, answer: Answer) -> Text
     }
 }
 
+/// Whether a read may not wait (O_NONBLOCK).
+fn is_nonblocking(flags: u32) -> bool
+    ensures { result ≡ nonblocking flags }
+{
+    flags / 2048 % 2 == 1
+}
+
 impl Mount {
-    /// READ.
-    pub(crate) fn read(
-        &mut self,
-        unique: u64,
-        handle: u64,
-        offset: u64,
-        size: u32,
-        out: &mut Vec<u8>,
-    )
+    /// READ, or a read that was parked.
+    pub(crate) fn read(&mut self, read: Parked, offset: u64, flags: u32, out: &mut Vec<u8>)
         requires room { most_reply ≤ vec_capacity out.old }
-        ensures told { TellsBy self.old self.new
-            (read_file self.old.scene handle offset size self.old.files (file_at handle self.old.files)) unique out.new.items }
+        requires empty { out.old.items ≡ [] }
+        ensures told { (past : List Request) → HasLedTo past self.old → IsTold past self.old self.new
+            (read_file (terms_of self.old) (service_of past self.old) read offset flags (file_at read.handle self.old.files)) read.unique out.new.items }
         ensures capacity { vec_capacity out.old ≤ vec_capacity out.new }
     {
-        let Some(open_file) = self.files.get(handle) else {
-            return tell_error(unique, Errno::EBADF, out);
+        let Some(open_file) = self.files.get(read.handle) else {
+            return tell_error(read.unique, Errno::EBADF, out);
         };
         let owner = open_file.owner();
         let file = open_file.file();
+        let (unique, handle, size) = (read.unique, read.handle, read.size);
         match file.kind() {
-            FileKind::Pipe => self.read_pipe(unique, handle, owner, file, size, out),
+            FileKind::Pipe => {
+                let has_read = open_file.has_read();
+                self.read_pipe(read, flags, owner, file, has_read, out);
+            }
             FileKind::Inject => tell_error(unique, Errno::EACCES, out),
             FileKind::Text => self.read_text(unique, handle, owner, file, offset, size, out),
             FileKind::Trace => self.read_text(unique, handle, owner, file, offset, size, out),
@@ -78,7 +86,7 @@ impl Mount {
         out: &mut Vec<u8>,
     )
         requires room { most_reply ≤ vec_capacity out.old }
-        ensures told { (past : List Request) (own : OpenSeen) → IsMounted past self.old → file_at handle self.old.files ≡ Some own
+        ensures told { (past : List Request) (own : OpenSeen) → HasLedTo past self.old → file_at handle self.old.files ≡ Some own
             → own.owner ≡ owner → own.file ≡ file
             → IsTold past self.old self.new (text_step self.old.scene handle offset size own self.old.files) unique out.new.items }
         ensures capacity { vec_capacity out.old ≤ vec_capacity out.new }
@@ -95,24 +103,59 @@ impl Mount {
     // READ of a pipe.
     fn read_pipe(
         &mut self,
-        unique: u64,
-        handle: u64,
+        read: Parked,
+        flags: u32,
         owner: Owner,
         file: File,
-        size: u32,
+        has_read: bool,
         out: &mut Vec<u8>,
     )
         requires room { most_reply ≤ vec_capacity out.old }
-        ensures told { (past : List Request) (own : OpenSeen) → IsMounted past self.old → file_at handle self.old.files ≡ Some own
-            → own.owner ≡ owner → own.file ≡ file
-            → IsTold past self.old self.new (pipe_step self.old.scene handle size own self.old.files) unique out.new.items }
+        requires empty { out.old.items ≡ [] }
+        ensures told { (past : List Request) (own : OpenSeen) → HasLedTo past self.old → file_at read.handle self.old.files ≡ Some own
+            → own.owner ≡ owner → own.file ≡ file → own.has_read ≡ has_read
+            → IsTold past self.old self.new
+            (pipe_step (terms_of self.old) (service_of past self.old) read flags own) read.unique out.new.items }
         ensures capacity { vec_capacity out.old ≤ vec_capacity out.new }
     {
-        if self.files.rest(handle).is_empty() {
-            self.read_records(unique, handle, owner, file, size, out);
-        } else {
-            self.read_rest(unique, handle, size, out);
+        if !self.files.rest(read.handle).is_empty() {
+            return self.read_rest(read.unique, read.handle, read.size, out);
         }
+        match self.dry_pipe(owner, file) {
+            Some(tracing) => {
+                let ends = has_read && !tracing;
+                self.read_dry(read, flags, ends, out);
+            }
+            None => self.read_records(read.unique, read.handle, owner, file, read.size, out),
+        }
+    }
+
+    // READ of a pipe in which no record waits: it ends, or the read waits, unless it may not.
+    fn read_dry(&mut self, read: Parked, flags: u32, ends: bool, out: &mut Vec<u8>)
+        requires room { most_reply ≤ vec_capacity out.old }
+        requires empty { out.old.items ≡ [] }
+        ensures told { TellsBy self.old self.new (dry_step read flags ends self.old.files) read.unique out.new.items }
+        ensures capacity { vec_capacity out.old ≤ vec_capacity out.new }
+    {
+        if ends {
+            tell_part(read.unique, &[], 0, 0, out);
+        } else if is_nonblocking(flags) {
+            tell_error(read.unique, Errno::EAGAIN, out);
+        } else {
+            self.park(read, out);
+        }
+    }
+
+    // Lets a read wait.
+    fn park(&mut self, read: Parked, out: &mut Vec<u8>)
+        requires room { most_reply ≤ vec_capacity out.old }
+        requires empty { out.old.items ≡ [] }
+        ensures told { TellsBy self.old self.new (Parks read) read.unique out.new.items }
+        ensures capacity { vec_capacity out.old ≤ vec_capacity out.new }
+    {
+        let Ok(()) = add(&mut self.parked, read) else {
+            return tell_error(read.unique, Errno::ENOMEM, out);
+        };
     }
 
     // Makes the text of a file.
@@ -135,7 +178,7 @@ impl Mount {
             Ok(answer) => {
                 let text = text_in(self.alloc, answer);
                 tell_part(unique, text.as_bytes(), offset, size, out);
-                self.files.keep_text(handle, text, 0);
+                self.files.keep_text(handle, text);
             }
             Err(refusal) => tell_error(unique, errno_of(&refusal), out),
         }
@@ -144,7 +187,7 @@ impl Mount {
     // Gives what was kept of a pipe.
     fn read_rest(&mut self, unique: u64, handle: u64, size: u32, out: &mut Vec<u8>)
         requires room { most_reply ≤ vec_capacity out.old }
-        ensures told { (past : List Request) (text : List ℕ) → IsMounted past self.old → text_at handle self.old.files ≡ Some text
+        ensures told { (past : List Request) (text : List ℕ) → HasLedTo past self.old → text_at handle self.old.files ≡ Some text
             → IsTold past self.old self.new (Plain (given_records handle size text self.old.files)) unique out.new.items }
         ensures capacity { vec_capacity out.old ≤ vec_capacity out.new }
     {
@@ -173,7 +216,7 @@ impl Mount {
                 let text = text_in(self.alloc, answer);
                 tell_part(unique, text.as_bytes(), 0, size, out);
                 self.files
-                    .keep_text(handle, text, size.min(MOST_DATA) as usize);
+                    .keep_records(handle, text, size.min(MOST_DATA) as usize);
             }
             Err(refusal) => tell_error(unique, errno_of(&refusal), out),
         }

@@ -1,14 +1,14 @@
 //! Replies, lists and parts of texts as bytes.
 
 ghost use Rattle.std.specs.Prelude.{◌≡◌, ◌+◌, ◌≤◌, [], ◌++◌, length, min, drop, vec_capacity, OnOk};
-ghost use Rattle.fuse_wire.specs.Replies.{reply_bytes, reply_size, IsSendable};
+ghost use Rattle.fuse_wire.specs.Replies.{reply_bytes, reply_size, wakeup_bytes, IsSendable};
 ghost use Rattle.mount_tree.specs.Children.{children};
 ghost use Rattle.trace_mount.specs.Mounted.{most_reply, wrong_reply};
 ghost use Rattle.trace_mount.specs.private.ShortReplies.{IsShort};
 ghost use Rattle.trace_mount.specs.Served.{part_of as part_of_text};
 ghost use Rattle.trace_mount.specs.Told.{listed_from, most_data};
 
-use fuse_wire::{Bytes, DirectoryEntry, Errno, Reply, encode, has_reply};
+use fuse_wire::{Bytes, DirectoryEntry, Errno, Reply, encode, encode_wakeup, has_reply};
 use mount_tree::Node;
 use std::alloc::AllocError;
 
@@ -77,4 +77,16 @@ pub(crate) fn tell_short(unique: u64, reply: &Reply<'_>, out: &mut Vec<u8>)
     ensures capacity { vec_capacity out.old ≤ vec_capacity out.new }
 {
     tell(unique, reply, out);
+}
+
+/// Tells the poll whose number this is that its file is ready.
+pub(crate) fn tell_wakeup(wakeup: u64, out: &mut Vec<u8>)
+    requires room { most_reply ≤ vec_capacity out.old }
+    ensures bytes { out.new.items ≡ wakeup_bytes wakeup }
+    ensures capacity { vec_capacity out.old ≤ vec_capacity out.new }
+{
+    match encode_wakeup(wakeup, out) {
+        Ok(()) => {}
+        Err(_) => unreachable!(),
+    }
 }

@@ -3,7 +3,7 @@
 ghost use Rattle.std.specs.Prelude.{◌≡◌, ◌<◌, ◌^◌, List, Some, length};
 ghost use Rattle.trace_command.specs.Requests.{Request};
 ghost use Rattle.mount_tree.specs.declared.node.Node.TheVariants as nodes;
-ghost use Rattle.trace_mount.specs.Mounted.{IsMounted, IsStep, StepsBy, service_of, terms_of};
+ghost use Rattle.trace_mount.specs.Mounted.{HasLedTo, IsStep, StepsBy, service_of, terms_of};
 ghost use Rattle.trace_mount.specs.Served.{make_folder as making, make_instance as making_instance, remove_folder as removing, remove_instance, without_newline, write_file, write_text as text_step};
 ghost use Rattle.trace_mount.specs.Services.{file_at};
 ghost use Rattle.trace_mount.specs.Told.{known};
@@ -32,7 +32,7 @@ impl Mount {
     /// WRITE.
     pub(crate) fn write(&mut self, handle: u64, pid: u32, bytes: &[u8]) -> Reply<'static>
         requires { length bytes.now < 2 ^ 32 }
-        ensures step { (past : List Request) → IsMounted past self.old
+        ensures step { (past : List Request) → HasLedTo past self.old
             → IsStep past self.old self.new (write_file (terms_of self.old) (service_of past self.old) handle pid bytes.now (file_at handle self.old.files)) (Some result) }
         ensures short { IsShort result }
     {
@@ -43,7 +43,12 @@ impl Mount {
         let file = open_file.file();
         let append = !open_file.starts_over();
         match file {
-            File::Inject(event) => self.inject(handle, event, pid, bytes),
+            File::Inject(event) => {
+                if !self.scene.exists(Node::File(owner, file)) {
+                    return Reply::Error(Errno::ENOENT);
+                }
+                self.inject(handle, event, pid, bytes)
+            }
             _ => self.write_text(handle, owner, file, append, bytes),
         }
     }

@@ -1,5 +1,5 @@
 -- The replies to operations that change nothing and ask nothing, for the function that gives them.
-use Rattle.std.specs.Prelude.{◌<◌, ◌^◌, Bool, true, false, length, Option}
+use Rattle.std.specs.Prelude.{◌<◌, ◌^◌, Bool, true, false, not, length, Option}
 use Rattle.fuse_wire.specs.declared.errno.Errno.TheVariants.{ENOSYS}
 use Rattle.fuse_wire.specs.declared.reply.Reply.{Reply}
 use Rattle.fuse_wire.specs.declared.reply.Reply.TheVariants as replies
@@ -11,23 +11,28 @@ use Rattle.trace_mount.specs.Errnos.{errno_of_other}
 use Rattle.trace_mount.specs.Services.{Terms}
 use Rattle.trace_mount.specs.Told.{agree, check_access, get_attributes, look_up, open_folder, set_attributes}
 
--- an operation whose reply is told in one piece: it reads no file and no folder, and has a reply
-abbrev pub is_told : Operation → Bool
-is_told (operations.Read handle offset size flags) = false
-is_told (operations.ReadDir handle offset size) = false
-is_told operations.Forget = false
-is_told (operations.BatchForget count) = false
-is_told (operations.Interrupt unique) = false
-is_told _ = true
+-- an operation that may change something, and whose reply is told in one piece
+abbrev pub is_change : Operation → Bool
+is_change (operations.MkDir name) = true
+is_change (operations.RmDir name) = true
+is_change (operations.Open flags) = true
+is_change (operations.Write handle offset bytes) = true
+is_change (operations.Release handle) = true
+is_change (operations.Poll handle wakeup flags events) = true
+is_change _ = false
 
--- and that changes nothing
+-- one that may change something
+abbrev pub changes : Operation → Bool
+changes (operations.Read handle offset size flags) = true
+changes (operations.Interrupt unique) = true
+changes operation = is_change operation
+
+-- one that changes nothing, and whose reply is told in one piece: it reads no folder, and has a reply
 abbrev pub is_still : Operation → Bool
-is_still (operations.MkDir name) = false
-is_still (operations.RmDir name) = false
-is_still (operations.Open flags) = false
-is_still (operations.Write handle offset bytes) = false
-is_still (operations.Release handle) = false
-is_still operation = is_told operation
+is_still (operations.ReadDir handle offset size) = false
+is_still operations.Forget = false
+is_still (operations.BatchForget count) = false
+is_still operation = not (changes operation)
 
 abbrev pub still_reply : Terms → SceneSeen → Option Node → Operation → Reply
 still_reply g scene target (operations.Lookup name) = look_up g scene target name

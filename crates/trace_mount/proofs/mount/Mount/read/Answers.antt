@@ -3,22 +3,22 @@ use Rattle.fuse_wire.specs.declared.errno.Errno.TheVariants.{EACCES}
 use Rattle.fuse_wire.specs.declared.reply.Reply.TheVariants as replies
 use Rattle.mount_tree.specs.declared.file.FileKind.TheVariants as kinds
 use Rattle.trace_mount.specs.contracts.mount.Mount.{the_view}
-use Rattle.trace_mount.proofs.ReadLemmas.{closed-told, kind-told, plain-told}
+use Rattle.trace_mount.proofs.ReadLemmas.{closed-told, kind-told, plain-told, text-told}
 use Rattle.trace_mount.proofs.mount.Mount.read.Goals as goal
 
 pub returns-in_default-clause-told : goal.returns-in_default-clause-told
 returns-in_default-clause-told c =
     rw (← c.self.view_is) (λ past mounted.
-    closed-told past (the_view c.self.inside) c.self.inside.scene c.args.handle c.args.offset c.args.size c.args.unique c.tell_error.new.out.items mounted
+    closed-told past (the_view c.self.inside) c.args.read c.args.offset c.args.flags c.tell_error.new.out.items mounted
     c.in_default.ensures c.tell_error.ensures.bytes)
 
 pub returns-in-Inject-clause-told : goal.returns-in-Inject-clause-told
 returns-in-Inject-clause-told c =
     let is = rw c.file-file.ensures at c.in-Inject.ensures in
     rw (← c.self.view_is) (λ past mounted.
-    kind-told past (the_view c.self.inside) (the_view c.self.inside) c.self.inside.scene c.args.handle c.args.offset c.args.size c.in-Some.open_file.now
-    kinds.Inject c.self.inside.files c.args.unique c.tell_error-in-Inject.new.out.items c.in-Some.ensures is
-    (plain-told past (the_view c.self.inside) (replies.Error EACCES) c.args.unique c.tell_error-in-Inject.new.out.items mounted
+    kind-told past (the_view c.self.inside) (the_view c.self.inside) c.args.read c.args.offset c.args.flags c.in-Some.open_file.now
+    kinds.Inject c.tell_error-in-Inject.new.out.items c.in-Some.ensures is
+    (plain-told past (the_view c.self.inside) (replies.Error EACCES) c.args.read.unique c.tell_error-in-Inject.new.out.items mounted
     c.tell_error-in-Inject.ensures.bytes))
 
 pub returns-in-Pipe-clause-told : goal.returns-in-Pipe-clause-told
@@ -26,17 +26,18 @@ returns-in-Pipe-clause-told c =
     let is = rw c.file-file.ensures at c.in-Pipe.ensures in
     let told = rw (← c.self.view_is) at c.read_pipe.ensures.told in
     rw (← c.self.view_is) (λ past mounted.
-    kind-told past (the_view c.self.inside) c.read_pipe.new.self c.self.inside.scene c.args.handle c.args.offset c.args.size c.in-Some.open_file.now
-    kinds.Pipe c.self.inside.files c.args.unique c.read_pipe.new.out.items c.in-Some.ensures is
-    (told past c.in-Some.open_file.now mounted (sym c.in-Some.ensures) (sym c.owner-owner.ensures) (sym c.file-file.ensures)))
+    kind-told past (the_view c.self.inside) c.read_pipe.new.self c.args.read c.args.offset c.args.flags c.in-Some.open_file.now
+    kinds.Pipe c.read_pipe.new.out.items c.in-Some.ensures is
+    (told past c.in-Some.open_file.now mounted (sym c.in-Some.ensures) (sym c.owner-owner.ensures) (sym c.file-file.ensures)
+    (sym c.has_read-has_read.ensures)))
 
 pub returns-in-Text-clause-told : goal.returns-in-Text-clause-told
 returns-in-Text-clause-told c =
     let is = rw c.file-file.ensures at c.in-Text.ensures in
     let told = rw (← c.self.view_is) at c.read_text.ensures.told in
     rw (← c.self.view_is) (λ past mounted.
-    kind-told past (the_view c.self.inside) c.read_text.new.self c.self.inside.scene c.args.handle c.args.offset c.args.size c.in-Some.open_file.now
-    kinds.Text c.self.inside.files c.args.unique c.read_text.new.out.items c.in-Some.ensures is
+    text-told past (the_view c.self.inside) c.read_text.new.self c.args.read c.args.offset c.args.flags c.in-Some.open_file.now
+    kinds.Text c.read_text.new.out.items mounted c.in-Some.ensures is tt
     (told past c.in-Some.open_file.now mounted (sym c.in-Some.ensures) (sym c.owner-owner.ensures) (sym c.file-file.ensures)))
 
 pub returns-in-Trace-clause-told : goal.returns-in-Trace-clause-told
@@ -44,6 +45,6 @@ returns-in-Trace-clause-told c =
     let is = rw c.file-file.ensures at c.in-Trace.ensures in
     let told = rw (← c.self.view_is) at c.read_text-in-Trace.ensures.told in
     rw (← c.self.view_is) (λ past mounted.
-    kind-told past (the_view c.self.inside) c.read_text-in-Trace.new.self c.self.inside.scene c.args.handle c.args.offset c.args.size
-    c.in-Some.open_file.now kinds.Trace c.self.inside.files c.args.unique c.read_text-in-Trace.new.out.items c.in-Some.ensures is
+    text-told past (the_view c.self.inside) c.read_text-in-Trace.new.self c.args.read c.args.offset c.args.flags c.in-Some.open_file.now
+    kinds.Trace c.read_text-in-Trace.new.out.items mounted c.in-Some.ensures is tt
     (told past c.in-Some.open_file.now mounted (sym c.in-Some.ensures) (sym c.owner-owner.ensures) (sym c.file-file.ensures)))

@@ -13,8 +13,8 @@ returns-in-Ok-clause-told c = λ past mounted.
     (Ok c.in-Ok.answer) =
     rw (c.self.view_is, ← c.records_for.ensures) (c.in-Ok.ensures past mounted) in
     taken-told past old (the_view c.self.inside) old.scene c.args.handle c.args.size (nodes.File c.args.owner c.args.file) c.in-Ok.answer
-    c.text_in-text.result c.min.result c.keep_text.new.self c.args.unique c.tell_part.new.out.items asked c.text_in-text.ensures c.min.ensures
-    c.keep_text.ensures (rw c.as_bytes.ensures at c.tell_part.ensures.bytes)
+    c.text_in-text.result c.min.result c.keep_records.new.self c.args.unique c.tell_part.new.out.items asked c.text_in-text.ensures c.min.ensures
+    c.keep_records.ensures (rw c.as_bytes.ensures at c.tell_part.ensures.bytes)
 
 pub returns-in-Err-clause-told : goal.returns-in-Err-clause-told
 returns-in-Err-clause-told c = λ past mounted.

@@ -1,9 +1,12 @@
-use Rattle.trace_mount.proofs.ServeLemmas.{list-served, named}
+use Rattle.trace_mount.proofs.ServeLemmas.{acted, has-led, looked}
 use Rattle.trace_mount.proofs.mount.Mount.serve.Goals as goal
 
-pub returns-in-ReadDir-clause-served : goal.returns-in-ReadDir-clause-served
-returns-in-ReadDir-clause-served c = λ past mounted.
-    list-served past c.args.self.now c.args.request.now c.from_number-node.result c.in-ReadDir.handle c.in-ReadDir.offset c.in-ReadDir.size
-    c.read_folder.new.out.items mounted c.in-ReadDir.is
-    (named c.args.request.now.node c.from_number-node.result c.from_number-node.ensures.found c.from_number-node.ensures.none)
-    c.read_folder.ensures.bytes
+pub returns-then-not-changes-clause-served : goal.returns-then-not-changes-clause-served
+returns-then-not-changes-clause-served c = λ past mounted.
+    looked past c.args.self.now c.args.request.now c.look.new.out.items mounted
+    (c.look.ensures.served past (has-led past c.args.self.now mounted))
+
+pub returns-clause-served : goal.returns-clause-served
+returns-clause-served c = λ past mounted.
+    acted past c.args.self.now c.act.new.self c.look_for_owed.new.self c.args.request.now c.act.new.out.items
+    (c.act.ensures.served past (has-led past c.args.self.now mounted)) c.look_for_owed.ensures.rest c.look_for_owed.ensures.owes
