@@ -1,11 +1,11 @@
 -- Bytes cut into requests.
-use Rattle.std.proofs.Common.{◌≡◌, ℕ, ◌≤◌, List, [], ◌∷◌, ◌++◌, length, get_or, take, drop, map, Bool, Option, Some, None, refl, sym, ap, subst, ◌∙◌, arith, append_assoc, length-take}
+use Rattle.std.proofs.Common.{◌≡◌, ◌⊎◌, inl, inr, true, false, ℕ, ◌≤◌, List, [], ◌∷◌, ◌++◌, length, get_or, take, drop, Bool, Option, Some, None, refl, sym, ap, subst, ◌∙◌, arith, append_assoc, length-take}
 use Rattle.std.proofs.Math.ListN.{get_or-append}
 use Rattle.std.proofs.lemmas.List.{append-nil, take_at, drop_at}
-use Rattle.std.proofs.lemmas.List.Elements.{All-cons, All-head, All-tail, All-nil, All-map}
+use Rattle.std.proofs.lemmas.List.Elements.{All-cons, All-head, All-tail, All-nil}
 use Rattle.std.specs.List.{All, concat, flat_map}
 use Rattle.std.specs.Io.KnownBytes.{Consumes, IsAtEnd}
-use Rattle.fuse_serve.specs.Exchanges.{Exchange, AnswersAll}
+use Rattle.fuse_serve.specs.Exchanges.{AnswersAll, AreWhole, Exchange, IsNext, requests_in, with_request}
 use Rattle.fuse_serve.specs.Framing.{told_length, IsRequest, BeginsNoRequest}
 
 -- what follows a request changes nothing of the length that it tells
@@ -50,24 +50,44 @@ cut_one_way (a ∷ as') (b ∷ bs) left rest h k none none' e =
 pub none_in_none : BeginsNoRequest []
 none_in_none size request = let few : length (take {A = ℕ} size []) ≡ 0 = length-take {A = ℕ} size [] ∙ omega arith in omega (arith, request.header, few)
 
-joined : (exchanges : List Exchange) → flat_map (λ (one : Exchange). one.request) exchanges ≡ concat (map (λ (one : Exchange). one.request) exchanges)
-joined [] = refl
-joined (one ∷ more) = ap (λ (xs : List ℕ). one.request ++ xs) (joined more)
+with_joined : (request : List ℕ) (more : List (List ℕ)) → concat (with_request request more) ≡ request ++ concat more
+with_joined [] more = refl
+with_joined (byte ∷ bytes) more = refl
 
-pub all_are_served : (requests : List (List ℕ)) (exchanges : List Exchange) (new : Option (List ℕ)) → All IsRequest requests → All (λ (one : Exchange). IsRequest one.request) exchanges
+joined : (exchanges : List Exchange) → flat_map (λ (one : Exchange). one.request) exchanges ≡ concat (requests_in exchanges)
+joined [] = refl
+joined (one ∷ more) = ap (λ (xs : List ℕ). one.request ++ xs) (joined more) ∙ sym (with_joined one.request (requests_in more))
+
+with_whole : (request : List ℕ) (more : List (List ℕ)) → (request ≡ []) ⊎ IsRequest request → All IsRequest more → All IsRequest (with_request request more)
+with_whole [] more h rest = rest
+with_whole (byte ∷ bytes) more (inl h) rest = absurd (let no : byte ∷ bytes ≡ [] = h in cc)
+with_whole (byte ∷ bytes) more (inr h) rest = All-cons IsRequest (byte ∷ bytes) more h rest
+
+-- the requests of exchanges are whole
+pub requests_whole : (exchanges : List Exchange) → AreWhole exchanges → All IsRequest (requests_in exchanges)
+requests_whole [] h = All-nil IsRequest
+requests_whole (one ∷ more) h =
+    let P : Exchange → Type 0 = λ x. (x.request ≡ []) ⊎ IsRequest x.request in
+    with_whole one.request (requests_in more) (All-head P one more h) (requests_whole more (All-tail P one more h))
+
+pub all_are_served : (requests : List (List ℕ)) (exchanges : List Exchange) (new : Option (List ℕ)) → All IsRequest requests → AreWhole exchanges
     → Consumes (Some (concat requests)) new (flat_map (λ (one : Exchange). one.request) exchanges ++ []) → IsAtEnd new
-    → map (λ (one : Exchange). one.request) exchanges ≡ requests
+    → requests_in exchanges ≡ requests
 all_are_served requests exchanges None whole asked consumed end = absurd consumed
 all_are_served requests exchanges (Some xs) whole asked consumed end =
     let request : Exchange → List ℕ = λ one. one.request in
     let all = flat_map request exchanges ++ [] in
-    (cut_one_way (map request exchanges) requests [] [] (All-map IsRequest request exchanges asked) whole none_in_none none_in_none
+    (cut_one_way (requests_in exchanges) requests [] [] (requests_whole exchanges asked) whole none_in_none none_in_none
     (ap (λ (ys : List ℕ). ys ++ []) (sym (joined exchanges))
     ∙ sym (append-nil (concat requests) ∙ (consumed ∙ (ap (λ (ys : List ℕ). all ++ ys) end ∙ append-nil all))))).0
 
+next_whole : (owes : Bool) (request : List ℕ) → IsNext owes request → (request ≡ []) ⊎ IsRequest request
+next_whole true request h = inl h
+next_whole false request h = inr h
+
 -- what a server answered are whole requests
-pub asked_whole : {S : Type 0} (answers : S → List ℕ → S → List ℕ → Type 0) (ends : S → Bool) (before : S) (exchanges : List Exchange) (after : S)
-    → AnswersAll answers ends before exchanges after → All (λ (one : Exchange). IsRequest one.request) exchanges
-asked_whole answers ends before [] after h = All-nil (λ (one : Exchange). IsRequest one.request)
-asked_whole answers ends before (one ∷ more) after h =
-    All-cons (λ (x : Exchange). IsRequest x.request) one more h.1 (asked_whole answers ends h.3 more after h.5)
+pub asked_whole : {S : Type 0} (answers : S → List ℕ → S → List ℕ → Type 0) (ends owes : S → Bool) (before : S) (exchanges : List Exchange) (after : S)
+    → AnswersAll answers ends owes before exchanges after → AreWhole exchanges
+asked_whole answers ends owes before [] after h = All-nil (λ (one : Exchange). (one.request ≡ []) ⊎ IsRequest one.request)
+asked_whole answers ends owes before (one ∷ more) after h =
+    All-cons (λ (x : Exchange). (x.request ≡ []) ⊎ IsRequest x.request) one more (next_whole (owes before) one.request h.1) (asked_whole answers ends owes h.3 more after h.5)

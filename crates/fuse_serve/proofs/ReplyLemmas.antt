@@ -30,8 +30,8 @@ all_written (one ∷ more) h whole none =
     ap (λ (xs : List ℕ). xs ++ flat_map (λ (x : Exchange). x.written) more) first ∙ ap (λ (xs : List ℕ). one.reply ++ xs) rest
 
 -- of what a server answered, what was written goes by the reply's fate
-pub written_by_fate : {S : Type 0} (answers : S → List ℕ → S → List ℕ → Type 0) (ends : S → Bool) (before : S) (exchanges : List Exchange) (after : S)
-    → AnswersAll answers ends before exchanges after → All (λ (one : Exchange). IsWritten one.fate one.reply one.written) exchanges
-written_by_fate answers ends before [] after h = All-nil (λ (one : Exchange). IsWritten one.fate one.reply one.written)
-written_by_fate answers ends before (one ∷ more) after h =
-    All-cons (λ (x : Exchange). IsWritten x.fate x.reply x.written) one more h.2 (written_by_fate answers ends h.3 more after h.5)
+pub written_by_fate : {S : Type 0} (answers : S → List ℕ → S → List ℕ → Type 0) (ends owes : S → Bool) (before : S) (exchanges : List Exchange) (after : S)
+    → AnswersAll answers ends owes before exchanges after → All (λ (one : Exchange). IsWritten one.fate one.reply one.written) exchanges
+written_by_fate answers ends owes before [] after h = All-nil (λ (one : Exchange). IsWritten one.fate one.reply one.written)
+written_by_fate answers ends owes before (one ∷ more) after h =
+    All-cons (λ (x : Exchange). IsWritten x.fate x.reply x.written) one more h.2 (written_by_fate answers ends owes h.3 more after h.5)

@@ -1,5 +1,6 @@
 -- A service, turn by turn.
 use Rattle.std.proofs.Common.{◌≡◌, ℕ, ◌+◌, min, Bool, true, false, cond, List, [], ◌∷◌, ◌++◌, take, drop, Option, Err, inl, inr, refl, ap, sym, subst, ◌∙◌, arith, zero-add, append_assoc, take-append-drop}
+use Rattle.std.proofs.lemmas.Bool.{false≢true}
 use Rattle.std.proofs.lemmas.List.{append-nil}
 use Rattle.std.proofs.lemmas.List.Concat.{flat_map-append}
 use Rattle.std.proofs.lemmas.List.Elements.{All-nil, All-push}
@@ -8,8 +9,8 @@ use Rattle.std.specs.Io.KnownBytes.{Appends, Consumes}
 use Rattle.std.specs.List.{count_by, flat_map}
 use Rattle.fuse_serve.proofs.Transfers.{Appends_append, Appends_nothing, Consumes_append, Consumes_nothing}
 use Rattle.fuse_serve.specs.Counts.{most_calls, one_more, raised, HasRisenBy}
-use Rattle.fuse_serve.specs.Endings.{EndsAs, ReadsOn, StopsReading, WritesOn, StopsWriting}
-use Rattle.fuse_serve.specs.Exchanges.{Exchange, AnswersAll, HasServed, IsWritten, devices, is_dropped, is_sent}
+use Rattle.fuse_serve.specs.Endings.{EndsAs, IsWaiting, ReadsOn, StopsReading, WritesOn, StopsWriting}
+use Rattle.fuse_serve.specs.Exchanges.{Exchange, AnswersAll, HasServed, IsNext, IsWritten, devices, is_dropped, is_sent}
 use Rattle.fuse_serve.specs.Framing.{IsRequest, BeginsNoRequest}
 use Rattle.fuse_serve.specs.declared.call_log.CallLog.{CallLog}
 use Rattle.fuse_serve.specs.declared.fate.Fate.{Fate}
@@ -50,17 +51,26 @@ shifted bytes_of exchanges one waited waits e =
 
 -- ---- exchanges
 
-module _ {S : Type 0} (answers : S → List ℕ → S → List ℕ → Type 0) (ends : S → Bool) where
-  answers_more : (before : S) (exchanges : List Exchange) (now after : S) (one : Exchange) → AnswersAll answers ends before exchanges now → ends now ≡ false → IsRequest one.request
-      → IsWritten one.fate one.reply one.written → answers now one.request after one.reply → AnswersAll answers ends before (exchanges ++ one ∷ []) after
+-- what is owed comes next, or else a request
+pub owed_next : (owes : Bool) → owes ≡ true → IsNext owes []
+owed_next true h = refl
+owed_next false h = absurd (false≢true h)
+
+pub request_next : (owes : Bool) (request : List ℕ) → owes ≡ false → IsRequest request → IsNext owes request
+request_next true request h whole = absurd (false≢true (sym h))
+request_next false request h whole = whole
+
+module _ {S : Type 0} (answers : S → List ℕ → S → List ℕ → Type 0) (ends owes : S → Bool) where
+  answers_more : (before : S) (exchanges : List Exchange) (now after : S) (one : Exchange) → AnswersAll answers ends owes before exchanges now → ends now ≡ false
+      → IsNext (owes now) one.request → IsWritten one.fate one.reply one.written → answers now one.request after one.reply → AnswersAll answers ends owes before (exchanges ++ one ∷ []) after
   answers_more before [] now after one h going whole kept answered =
-      (subst (λ (s : S). ends s ≡ false) h going, whole, kept, after, subst (λ (s : S). answers s one.request after one.reply) h answered, refl)
+      (subst (λ (s : S). ends s ≡ false) h going, subst (λ (s : S). IsNext (owes s) one.request) h whole, kept, after, subst (λ (s : S). answers s one.request after one.reply) h answered, refl)
   answers_more before (first ∷ more) now after one h going whole kept answered =
       (h.0, h.1, h.2, h.3, h.4, answers_more h.3 more now after one h.5 going whole kept answered)
 
   -- nothing was read yet
   pub served_none : (before : S) (remaining contents : Option (List ℕ)) (reads writes : CallLog)
-      → HasServed answers ends before before (devices remaining reads contents writes) (devices remaining reads contents writes) [] []
+      → HasServed answers ends owes before before (devices remaining reads contents writes) (devices remaining reads contents writes) [] []
   served_none before remaining contents reads writes = record {
     read = Consumes_nothing remaining;
     answered = refl;
@@ -70,8 +80,8 @@ module _ {S : Type 0} (answers : S → List ℕ → S → List ℕ → Type 0) (
 
   -- some bytes were read
   pub served_read : (before now : S) (r₀ r r' c₀ c : Option (List ℕ)) (reads₀ reads reads' writes₀ writes : CallLog) (exchanges : List Exchange) (waited waits bytes : List ℕ)
-      → HasServed answers ends before now (devices r₀ reads₀ c₀ writes₀) (devices r reads c writes) exchanges waited → waits ≡ waited ++ bytes → Consumes r r' bytes
-      → HasServed answers ends before now (devices r₀ reads₀ c₀ writes₀) (devices r' reads' c writes) exchanges waits
+      → HasServed answers ends owes before now (devices r₀ reads₀ c₀ writes₀) (devices r reads c writes) exchanges waited → waits ≡ waited ++ bytes → Consumes r r' bytes
+      → HasServed answers ends owes before now (devices r₀ reads₀ c₀ writes₀) (devices r' reads' c writes) exchanges waits
   served_read before now r₀ r r' c₀ c reads₀ reads reads' writes₀ writes exchanges waited waits bytes h e q = record {
     read = let asked = flat_map (λ (one : Exchange). one.request) exchanges in
         subst (Consumes r₀ r') (append_assoc asked waited bytes ∙ ap (λ (xs : List ℕ). asked ++ xs) (sym e)) (Consumes_append r₀ r r' (asked ++ waited) bytes h.read q);
@@ -80,19 +90,22 @@ module _ {S : Type 0} (answers : S → List ℕ → S → List ℕ → Type 0) (
     sent = h.sent;
   }
 
-  -- a request was answered
-  pub served_more : (before now after : S) (r₀ r c₀ c c' : Option (List ℕ)) (reads₀ reads writes₀ writes writes' : CallLog) (exchanges : List Exchange) (waited waits : List ℕ) (size : ℕ)
-      (fate : Fate) (one : Exchange) → HasServed answers ends before now (devices r₀ reads₀ c₀ writes₀) (devices r reads c writes) exchanges waited → ends now ≡ false
-      → IsRequest (take size waited) → waits ≡ drop size waited → Answered answers now after c c' writes writes' (take size waited) fate one
-      → HasServed answers ends before after (devices r₀ reads₀ c₀ writes₀) (devices r reads c' writes') (exchanges ++ one ∷ []) waits
-  served_more before now after r₀ r c₀ c c' reads₀ reads writes₀ writes writes' exchanges waited waits size fate one h going whole e a = record {
-    read = subst (Consumes r₀ r) (shifted (λ (x : Exchange). x.request) exchanges one waited waits
-        (sym (take-append-drop size waited) ∙ (ap (λ (xs : List ℕ). xs ++ drop size waited) (sym a.asked) ∙ ap (λ (xs : List ℕ). one.request ++ xs) (sym e)))) h.read;
-    answered = answers_more before exchanges now after one h.answered going (subst IsRequest (sym a.asked) whole) a.kept a.answered;
+  -- a request was answered, or what was owed was told
+  pub served_more : (before now after : S) (r₀ r c₀ c c' : Option (List ℕ)) (reads₀ reads writes₀ writes writes' : CallLog) (exchanges : List Exchange) (waited waits request : List ℕ)
+      (fate : Fate) (one : Exchange) → HasServed answers ends owes before now (devices r₀ reads₀ c₀ writes₀) (devices r reads c writes) exchanges waited → ends now ≡ false
+      → IsNext (owes now) request → waited ≡ request ++ waits → Answered answers now after c c' writes writes' request fate one
+      → HasServed answers ends owes before after (devices r₀ reads₀ c₀ writes₀) (devices r reads c' writes') (exchanges ++ one ∷ []) waits
+  served_more before now after r₀ r c₀ c c' reads₀ reads writes₀ writes writes' exchanges waited waits request fate one h going whole e a = record {
+    read = subst (Consumes r₀ r) (shifted (λ (x : Exchange). x.request) exchanges one waited waits (e ∙ ap (λ (xs : List ℕ). xs ++ waits) (sym a.asked))) h.read;
+    answered = answers_more before exchanges now after one h.answered going (subst (IsNext (owes now)) (sym a.asked) whole) a.kept a.answered;
     written = subst (Appends c₀ c') (sym (more_bytes (λ (x : Exchange). x.written) exchanges one))
         (Appends_append c₀ c c' (flat_map (λ (x : Exchange). x.written) exchanges) one.written h.written a.written);
     sent = risen_more (λ (x : Exchange). is_sent x.fate x.reply) exchanges one writes₀.wholes writes.wholes writes'.wholes h.sent a.tallies.wholes;
   }
+
+-- the bytes that waited, without the request that they begin with
+pub without_first : (size : ℕ) (waited waits : List ℕ) → waits ≡ drop size waited → waited ≡ take size waited ++ waits
+without_first size waited waits e = sym (take-append-drop size waited) ∙ ap (λ (xs : List ℕ). take size waited ++ xs) (sym e)
 
 -- ---- writes
 
@@ -123,6 +136,9 @@ module _ {S : Type 0} (answers : S → List ℕ → S → List ℕ → Type 0) (
     fate = a.became ∙ cut;
     cut = a.cut cut;
     stops = elim a.tallies.stops [ inl p ↦ inl (p ∙ h.stops) | inr p ↦ inr (p.1 ∙ ap one_more h.stops) ];
+    no_entries = writes.no_entries;
+    dropped = h.dropped;
+    last_entry = a.tallies.last_entry (a.became ∙ cut);
   }
 
 -- ---- the end of the input, or a failed read
@@ -131,12 +147,12 @@ module _ {S : Type 0} (answers : S → List ℕ → S → List ℕ → Type 0) (
 stops_now : (first before after : CallLog) (left : List ℕ) → ReadsOn first before → StopsReading before after left → StopsReading first after left
 stops_now first before after left on h = record { stops = h.stops ∙ ap one_more on; offered = h.offered }
 
-pub stopped : (fault : Fault) (ends : Bool) (r₀ r c₀ c : Option (List ℕ)) (reads₀ before reads writes₀ writes : CallLog) (exchanges : List Exchange) (waited left : List ℕ)
-    → Received (Err fault) waited left before reads r → ReadsOn reads₀ before → WritesOn writes₀ writes exchanges → ends ≡ false → BeginsNoRequest waited
-    → EndsAs (Err fault) ends (devices r₀ reads₀ c₀ writes₀) (devices r reads c writes) exchanges left
-stopped Memory ends r₀ r c₀ c reads₀ before reads writes₀ writes exchanges waited left h on kept going none = absurd h
-stopped Unframed ends r₀ r c₀ c reads₀ before reads writes₀ writes exchanges waited left h on kept going none =
+pub stopped : (fault : Fault) (ends owes : Bool) (r₀ r c₀ c : Option (List ℕ)) (reads₀ before reads writes₀ writes : CallLog) (exchanges : List Exchange) (waited left : List ℕ)
+    → Received (Err fault) waited left before reads r → ReadsOn reads₀ before → WritesOn writes₀ writes exchanges → IsWaiting ends owes → BeginsNoRequest waited
+    → EndsAs (Err fault) ends owes (devices r₀ reads₀ c₀ writes₀) (devices r reads c writes) exchanges left
+stopped Memory ends owes r₀ r c₀ c reads₀ before reads writes₀ writes exchanges waited left h on kept going none = absurd h
+stopped Unframed ends owes r₀ r c₀ c reads₀ before reads writes₀ writes exchanges waited left h on kept going none =
     (going, kept, inr (h.1, subst BeginsNoRequest (sym h.0) none, stops_now reads₀ before reads left on h.2, h.3, h.4))
-stopped Read ends r₀ r c₀ c reads₀ before reads writes₀ writes exchanges waited left h on kept going none =
+stopped Read ends owes r₀ r c₀ c reads₀ before reads writes₀ writes exchanges waited left h on kept going none =
     (kept, inl (going, subst BeginsNoRequest (sym h.0) none, stops_now reads₀ before reads left on h.1, h.2))
-stopped Write ends r₀ r c₀ c reads₀ before reads writes₀ writes exchanges waited left h on kept going none = absurd h
+stopped Write ends owes r₀ r c₀ c reads₀ before reads writes₀ writes exchanges waited left h on kept going none = absurd h

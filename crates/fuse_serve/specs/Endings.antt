@@ -5,8 +5,9 @@ use Rattle.std.specs.List.{All}
 use Rattle.std.specs.declared.io.Error.{Error}
 use Rattle.fuse_serve.specs.CallLogs.{FailedFor}
 use Rattle.fuse_serve.specs.Causes.{cause_of}
-use Rattle.fuse_serve.specs.Counts.{most_calls, one_more, HasRisenBy}
+use Rattle.fuse_serve.specs.Counts.{most_calls, one_more, raised, HasRisenBy}
 use Rattle.fuse_serve.specs.Exchanges.{Exchange, Devices, is_dropped}
+use Rattle.fuse_serve.specs.Outcomes.{last_is_no_entry}
 use Rattle.fuse_serve.specs.Framing.{IsUnframed, BeginsNoRequest}
 use Rattle.fuse_serve.specs.declared.call_log.CallLog.{CallLog}
 use Rattle.fuse_serve.specs.declared.cause.Cause.{Cause}
@@ -55,7 +56,7 @@ abbrev pub IsCut : CallLog → List ℕ → Type 0
 IsCut writes written =
     (writes.last ≡ Some (Ok 0)) ⊎ ((error : Error) × (writes.last ≡ Some (Err error)) × CutsFor (cause_of error) writes written)
 
--- the last reply was cut by the last write, and no other
+-- the last reply was cut by the last write, and no other; but for that one, as many writes failed by ENOENT as replies were dropped
 pub record StopsWriting (old new : CallLog) (exchanges : List Exchange) : Type 0 where
   pub before : List Exchange
   pub last : Exchange
@@ -64,8 +65,15 @@ pub record StopsWriting (old new : CallLog) (exchanges : List Exchange) : Type 0
   pub fate : last.fate ≡ Cut
   pub cut : IsCut new last.written
   pub stops : (new.stops ≡ old.stops) ⊎ (new.stops ≡ one_more old.stops)
+  pub no_entries : ℕ
+  pub dropped : HasRisenBy (count_by (λ (one : Exchange). is_dropped one.fate one.reply) before) old.no_entries no_entries
+  pub last_entry : new.no_entries ≡ raised no_entries (last_is_no_entry new.last)
 
 -- ---- endings
+
+-- the server neither wants to end nor owes anything: the service waits for its next request
+abbrev pub IsWaiting : Bool → Bool → Type 0
+IsWaiting ends owes = (ends ≡ false) × (owes ≡ false)
 
 -- the input ended, or bytes came that can't be a request
 abbrev pub IsMisframed : Devices → Devices → List ℕ → Type 0
@@ -74,20 +82,20 @@ IsMisframed old new left =
     ⊎ ((left ≢ []) × BeginsNoRequest left × StopsReading old.reads new.reads left × (ended : Ended) × HasEnded ended new.reads new.remaining)
 
 -- what a fault says
-abbrev pub StopsFor : Fault → Bool → Devices → Devices → List Exchange → List ℕ → Type 0
-StopsFor Memory ends old new exchanges left = (exchanges ≡ []) × (left ≡ [])
-StopsFor Unframed ends old new exchanges left = (ends ≡ false) × WritesOn old.writes new.writes exchanges × IsMisframed old new left
-StopsFor Read ends old new exchanges left =
+abbrev pub StopsFor : Fault → Bool → Bool → Devices → Devices → List Exchange → List ℕ → Type 0
+StopsFor Memory ends owes old new exchanges left = (exchanges ≡ []) × (left ≡ [])
+StopsFor Unframed ends owes old new exchanges left = IsWaiting ends owes × WritesOn old.writes new.writes exchanges × IsMisframed old new left
+StopsFor Read ends owes old new exchanges left =
     WritesOn old.writes new.writes exchanges
-    × (((ends ≡ false) × BeginsNoRequest left × StopsReading old.reads new.reads left × FailedFor Other new.reads)
+    × ((IsWaiting ends owes × BeginsNoRequest left × StopsReading old.reads new.reads left × FailedFor Other new.reads)
     ⊎ ((most_calls ≤ new.reads.calls + length exchanges) × ReadsOn old.reads new.reads))
-StopsFor Write ends old new exchanges left = StopsWriting old.writes new.writes exchanges × ReadsOn old.reads new.reads
+StopsFor Write ends owes old new exchanges left = StopsWriting old.writes new.writes exchanges × ReadsOn old.reads new.reads
 
 -- what an ending says
-abbrev pub EndsAs : Result Ended Fault → Bool → Devices → Devices → List Exchange → List ℕ → Type 0
-EndsAs (Ok AtEnd) ends old new exchanges left =
-    (ends ≡ false) × (left ≡ []) × WritesOn old.writes new.writes exchanges × StopsReading old.reads new.reads left × HasEnded AtEnd new.reads new.remaining
-EndsAs (Ok Gone) ends old new exchanges left =
-    (ends ≡ false) × (left ≡ []) × WritesOn old.writes new.writes exchanges × StopsReading old.reads new.reads left × HasEnded Gone new.reads new.remaining
-EndsAs (Ok Asked) ends old new exchanges left = (ends ≡ true) × WritesOn old.writes new.writes exchanges × ReadsOn old.reads new.reads
-EndsAs (Err fault) ends old new exchanges left = StopsFor fault ends old new exchanges left
+abbrev pub EndsAs : Result Ended Fault → Bool → Bool → Devices → Devices → List Exchange → List ℕ → Type 0
+EndsAs (Ok AtEnd) ends owes old new exchanges left =
+    IsWaiting ends owes × (left ≡ []) × WritesOn old.writes new.writes exchanges × StopsReading old.reads new.reads left × HasEnded AtEnd new.reads new.remaining
+EndsAs (Ok Gone) ends owes old new exchanges left =
+    IsWaiting ends owes × (left ≡ []) × WritesOn old.writes new.writes exchanges × StopsReading old.reads new.reads left × HasEnded Gone new.reads new.remaining
+EndsAs (Ok Asked) ends owes old new exchanges left = (ends ≡ true) × WritesOn old.writes new.writes exchanges × ReadsOn old.reads new.reads
+EndsAs (Err fault) ends owes old new exchanges left = StopsFor fault ends owes old new exchanges left

@@ -1,6 +1,7 @@
--- Requests, their replies, and what was written of them.
-use Rattle.std.specs.Prelude.{◌≡◌, ◌≢◌, ℕ, nat_lt, Bool, true, false, List, [], ◌∷◌, ◌++◌, length, Option, count_by}
-use Rattle.std.specs.List.{flat_map}
+-- Requests, their replies, and what was written of them. A message that no request waits for at that moment, as the reply to an earlier one, is owed:
+-- it is an exchange whose request is empty.
+use Rattle.std.specs.Prelude.{◌≡◌, ◌≢◌, ◌⊎◌, ℕ, nat_lt, Bool, true, false, List, [], ◌∷◌, ◌++◌, length, Option, count_by}
+use Rattle.std.specs.List.{All, flat_map}
 use Rattle.std.specs.Io.KnownBytes.{Appends, Consumes}
 use Rattle.fuse_serve.specs.Counts.{HasRisenBy}
 use Rattle.fuse_serve.specs.Framing.{IsRequest}
@@ -8,7 +9,7 @@ use Rattle.fuse_serve.specs.declared.call_log.CallLog.{CallLog}
 use Rattle.fuse_serve.specs.declared.fate.Fate.{Fate}
 use Rattle.fuse_serve.specs.declared.fate.Fate.TheVariants.{Written, Dropped, Cut}
 
--- a request, its reply, what became of that, and the bytes of it that were written
+-- a request, none of what was owed; its reply, what became of that, and the bytes of it that were written
 pub record Exchange : Type 0 where
   pub request : List ℕ
   pub reply : List ℕ
@@ -21,12 +22,31 @@ IsWritten Written reply written = written ≡ reply
 IsWritten Dropped reply written = written ≡ []
 IsWritten Cut reply written = (rest : List ℕ) × (reply ≡ written ++ rest) × (rest ≢ [])
 
--- the server answered these requests, one after another, each once, and none once it wanted to end
-abbrev pub AnswersAll : {S : Type 0} → (S → List ℕ → S → List ℕ → Type 0) → (S → Bool) → S → List Exchange → S → Type 0
-AnswersAll answers ends before [] after = after ≡ before
-AnswersAll {S} answers ends before (one ∷ more) after =
-    (ends before ≡ false) × IsRequest one.request × IsWritten one.fate one.reply one.written
-    × (next : S) × answers before one.request next one.reply × AnswersAll answers ends next more after
+-- what comes next for a server that owes something, or doesn't: it tells what it owes, without a request, or else answers one
+abbrev pub IsNext : Bool → List ℕ → Type 0
+IsNext true request = request ≡ []
+IsNext false request = IsRequest request
+
+-- the server told or answered these, one after another, each once: what it owed before the next request, and nothing once it wanted to end
+abbrev pub AnswersAll : {S : Type 0} → (S → List ℕ → S → List ℕ → Type 0) → (S → Bool) → (S → Bool) → S → List Exchange → S → Type 0
+AnswersAll answers ends owes before [] after = after ≡ before
+AnswersAll {S} answers ends owes before (one ∷ more) after =
+    (ends before ≡ false) × IsNext (owes before) one.request × IsWritten one.fate one.reply one.written
+    × (next : S) × answers before one.request next one.reply × AnswersAll answers ends owes next more after
+
+-- a request, but for none, and more of them
+abbrev pub with_request : List ℕ → List (List ℕ) → List (List ℕ)
+with_request [] more = more
+with_request (byte ∷ bytes) more = (byte ∷ bytes) ∷ more
+
+-- the requests of the exchanges that have one
+abbrev pub requests_in : List Exchange → List (List ℕ)
+requests_in [] = []
+requests_in (one ∷ more) = with_request one.request (requests_in more)
+
+-- each is a whole request, or nothing
+abbrev pub AreWhole : List Exchange → Type 0
+AreWhole exchanges = All (λ (one : Exchange). (one.request ≡ []) ⊎ IsRequest one.request) exchanges
 
 -- the reply was dropped
 abbrev pub is_dropped : Fate → List ℕ → Bool
@@ -50,12 +70,12 @@ pub record Devices : Type 0 where
 abbrev pub devices : Option (List ℕ) → CallLog → Option (List ℕ) → CallLog → Devices
 devices remaining reads contents writes = record { remaining = remaining; reads = reads; contents = contents; writes = writes }
 
--- What was read are these requests, one after another, and then some bytes that are left; the server answered them, and what was written are the
+-- What was read are the requests, one after another, and then some bytes that are left; the server answered them, and what was written are the
 -- bytes of their replies that were written, one after another. Of a reply that was written whole, one write took all that was offered: the only
 -- one, if the device never takes less.
-pub record HasServed {S : Type 0} (answers : S → List ℕ → S → List ℕ → Type 0) (ends : S → Bool) (before after : S) (old new : Devices) (exchanges : List Exchange) (left : List ℕ) :
+pub record HasServed {S : Type 0} (answers : S → List ℕ → S → List ℕ → Type 0) (ends owes : S → Bool) (before after : S) (old new : Devices) (exchanges : List Exchange) (left : List ℕ) :
     Type 0 where
   pub read : Consumes old.remaining new.remaining (flat_map (λ (one : Exchange). one.request) exchanges ++ left)
-  pub answered : AnswersAll answers ends before exchanges after
+  pub answered : AnswersAll answers ends owes before exchanges after
   pub written : Appends old.contents new.contents (flat_map (λ (one : Exchange). one.written) exchanges)
   pub sent : HasRisenBy (count_by (λ (one : Exchange). is_sent one.fate one.reply) exchanges) old.writes.wholes new.writes.wholes

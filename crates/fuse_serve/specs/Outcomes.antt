@@ -1,5 +1,5 @@
 -- What a call of a device returned.
-use Rattle.std.specs.Prelude.{ℕ, ◌==◌, Bool, true, false, Result, Ok, Err}
+use Rattle.std.specs.Prelude.{ℕ, ◌==◌, Bool, true, false, Option, Some, None, Result, Ok, Err}
 use Rattle.std.specs.declared.io.Error.{Error}
 use Rattle.fuse_serve.specs.Causes.{cause_of}
 use Rattle.fuse_serve.specs.declared.cause.Cause.{Cause}
@@ -27,6 +27,11 @@ is_enoent Other = false
 abbrev pub is_no_entry : Result ℕ Error → Bool
 is_no_entry (Ok count) = false
 is_no_entry (Err error) = is_enoent (cause_of error)
+
+-- the last call, if there was one, failed by ENOENT
+abbrev pub last_is_no_entry : Option (Result ℕ Error) → Bool
+last_is_no_entry None = false
+last_is_no_entry (Some outcome) = is_no_entry outcome
 
 -- the call took all that it was offered
 abbrev pub is_whole : ℕ → Result ℕ Error → Bool

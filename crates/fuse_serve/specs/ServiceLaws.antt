@@ -1,8 +1,8 @@
 -- What the definitions of a service mean.
-use Rattle.std.specs.Prelude.{◌≡◌, ◌≢◌, ℕ, List, [], ◌++◌, map, Option, Some, count_by}
+use Rattle.std.specs.Prelude.{◌≡◌, ◌≢◌, ℕ, List, [], ◌++◌, Option, Some, count_by}
 use Rattle.std.specs.List.{All, concat, flat_map}
 use Rattle.std.specs.Io.KnownBytes.{Consumes, IsAtEnd}
-use Rattle.fuse_serve.specs.Exchanges.{Exchange, IsWritten, is_dropped}
+use Rattle.fuse_serve.specs.Exchanges.{AreWhole, Exchange, IsWritten, is_dropped, requests_in}
 use Rattle.fuse_serve.specs.declared.fate.Fate.TheVariants.{Cut}
 use Rattle.fuse_serve.specs.Framing.{IsRequest, BeginsNoRequest}
 
@@ -13,9 +13,9 @@ CutOneWay = (first second : List (List ℕ)) (left rest : List ℕ) → All IsRe
 
 -- if a reader has whole requests to give, and is at its end after the requests of these exchanges, then they are these requests
 abbrev pub AllAreServed : Type 0
-AllAreServed = (requests : List (List ℕ)) (exchanges : List Exchange) (new : Option (List ℕ)) → All IsRequest requests → All (λ (one : Exchange). IsRequest one.request) exchanges
+AllAreServed = (requests : List (List ℕ)) (exchanges : List Exchange) (new : Option (List ℕ)) → All IsRequest requests → AreWhole exchanges
     → Consumes (Some (concat requests)) new (flat_map (λ (one : Exchange). one.request) exchanges ++ []) → IsAtEnd new
-    → map (λ (one : Exchange). one.request) exchanges ≡ requests
+    → requests_in exchanges ≡ requests
 
 -- if no reply was dropped or cut, what was written are the replies, one after another
 abbrev pub AllAreWritten : Type 0

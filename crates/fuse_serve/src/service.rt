@@ -1,6 +1,6 @@
-//! The service: requests are read, answered and their replies written, one after another.
+//! The service: requests are read, answered and their replies written, one after another. What the server owes is told before its next request.
 
-ghost use Rattle.std.specs.Prelude.{◌≡◌, ◌≢◌, ◌<◌, ◌≤◌, ◌∷◌, ◌++◌, ℕ, List, [], Err, length, take, drop, vec_capacity, IfOk, IfErr, IfSome, OnOk};
+ghost use Rattle.std.specs.Prelude.{◌≡◌, ◌≢◌, ◌<◌, ◌≤◌, ◌∷◌, ◌++◌, ℕ, List, [], true, false, Err, length, take, drop, vec_capacity, IfOk, IfErr, IfSome, OnOk};
 ghost use Rattle.std.specs.Io.KnownBytes.{Appends, Consumes};
 ghost use Rattle.fuse_serve.specs.Counts.{one_more};
 ghost use Rattle.fuse_serve.specs.Endings.{EndsAs, HasEnded, IsCut};
@@ -52,6 +52,19 @@ fn receive<R: Incoming>(inbox: &mut Inbox, reader: &mut R) -> Result<Option<Ende
     }
 }
 
+/// Writes a message that the server owes.
+fn tell_next<S: Server, W: Outgoing>(server: &mut S, reply: &mut Vec<u8>, writer: &mut W) -> Fate
+    requires owes { S.owes server.old ≡ true }
+    requires room { MOST_BYTES ≤ vec_capacity reply.old }
+    ensures answered { (one : Exchange) × Answered S.answers server.old server.new (W.contents writer.old) (W.contents writer.new)
+        (W.log writer.old) (W.log writer.new) [] result one }
+    ensures room { MOST_BYTES ≤ vec_capacity reply.new }
+{
+    reply.clear();
+    server.tell_owed(reply);
+    deliver(writer, reply)
+}
+
 /// Answers the request that the inbox begins with, and writes the reply.
 fn answer_first<S: Server, W: Outgoing>(
     server: &mut S,
@@ -61,6 +74,7 @@ fn answer_first<S: Server, W: Outgoing>(
     writer: &mut W,
 ) -> Fate
     requires request { IsRequest (take size inbox.old) }
+    requires idle { S.owes server.old ≡ false }
     requires size { size ≤ length inbox.old }
     requires room { MOST_BYTES ≤ vec_capacity reply.old }
     ensures answered { (one : Exchange) × Answered S.answers server.old server.new (W.contents writer.old) (W.contents writer.new)
@@ -75,8 +89,8 @@ fn answer_first<S: Server, W: Outgoing>(
 }
 
 /// Serves: reads requests, answers each and writes its reply, until the input ends, the device is gone, the server wants to end, or a fault stops
-/// it. What was read are whole requests, one after another; the server answered each once, in this order, and the replies were written in this
-/// order, each by one write as far as the device takes it whole.
+/// it. What was read are whole requests, one after another; the server answered each once, in this order, after it told all that it owed. Its
+/// messages were written in this order, each by one write as far as the device takes it whole. While the service waits for a request nothing is owed.
 ///
 /// Memory is taken only for the two buffers, before the first read; what the server takes is its own. A fault `Read` or `Write` is also what
 /// 2^64 - 1 turns end with.
@@ -89,8 +103,8 @@ pub fn serve<S: Server, R: Incoming, W: Outgoing>(
     ensures service { let old = devices (R.remaining reader.old) (R.log reader.old) (W.contents writer.old) (W.log writer.old) in
         let new = devices (R.remaining reader.new) (R.log reader.new) (W.contents writer.new) (W.log writer.new) in
         (exchanges : List Exchange) × (left : List ℕ)
-        × HasServed S.answers S.ends server.old server.new old new exchanges left
-        × EndsAs result (S.ends server.new) old new exchanges left }
+        × HasServed S.answers S.ends S.owes server.old server.new old new exchanges left
+        × EndsAs result (S.ends server.new) (S.owes server.new) old new exchanges left }
     ensures memory { result ≡ Err Fault.Memory
         → (server.new ≡ server.old) × (reader.new ≡ reader.old) × (writer.new ≡ writer.old) }
 {
@@ -100,9 +114,12 @@ pub fn serve<S: Server, R: Incoming, W: Outgoing>(
         if server.has_ended() {
             return Ok(Ended::Asked);
         }
-        if let Some(size) = first_request(inbox.waiting())? {
-            let fate = answer_first(server, &mut inbox, size, &mut reply, writer);
-            if fate == Fate::Cut {
+        if server.owes() {
+            if tell_next(server, &mut reply, writer) == Fate::Cut {
+                return Err(Fault::Write);
+            }
+        } else if let Some(size) = first_request(inbox.waiting())? {
+            if answer_first(server, &mut inbox, size, &mut reply, writer) == Fate::Cut {
                 return Err(Fault::Write);
             }
         } else if let Some(ended) = receive(&mut inbox, reader)? {

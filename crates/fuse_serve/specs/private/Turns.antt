@@ -5,6 +5,7 @@ use Rattle.fuse_serve.specs.CallLogs.{FailedFor}
 use Rattle.fuse_serve.specs.Counts.{one_more, raised}
 use Rattle.fuse_serve.specs.Endings.{HasEnded, IsCut, ReadsOn, StopsReading}
 use Rattle.fuse_serve.specs.Exchanges.{Exchange, IsWritten, is_dropped, is_sent}
+use Rattle.fuse_serve.specs.Outcomes.{last_is_no_entry}
 use Rattle.fuse_serve.specs.declared.call_log.CallLog.{CallLog}
 use Rattle.fuse_serve.specs.declared.cause.Cause.TheVariants.{Other}
 use Rattle.fuse_serve.specs.declared.fate.Fate.{Fate}
@@ -27,9 +28,10 @@ Received (Err Write) old new before after remaining = ⊥
 pub record Tallies (fate : Fate) (reply : List ℕ) (before after : CallLog) : Type 0 where
   pub stops : (after.stops ≡ before.stops) ⊎ ((fate ≡ Cut) × (after.stops ≡ one_more before.stops))
   pub no_entries : fate ≢ Cut → after.no_entries ≡ raised before.no_entries (is_dropped fate reply)
+  pub last_entry : fate ≡ Cut → after.no_entries ≡ raised before.no_entries (last_is_no_entry after.last)
   pub wholes : after.wholes ≡ raised before.wholes (is_sent fate reply)
 
--- the server answered this request, and this became of the reply
+-- the server answered this request, or told what it owed if it is empty, and this became of the reply
 pub record Answered {S : Type 0} (answers : S → List ℕ → S → List ℕ → Type 0) (before after : S) (contents contents' : Option (List ℕ)) (writes writes' : CallLog)
     (request : List ℕ) (fate : Fate) (one : Exchange) : Type 0 where
   pub asked : one.request ≡ request

@@ -10,7 +10,7 @@ invariant-loop g l =
     let writer = g.W.Outgoing in
     (exchanges : List Exchange)
     × record {
-      served : HasServed server.answers server.ends l.fn.server l.server
+      served : HasServed server.answers server.ends server.owes l.fn.server l.server
           (devices (reader.remaining l.fn.reader) (reader.log l.fn.reader) (writer.contents l.fn.writer) (writer.log l.fn.writer))
           (devices (reader.remaining l.reader) (reader.log l.reader) (writer.contents l.writer) (writer.log l.writer)) exchanges l.inbox;
       reads : ReadsOn (reader.log l.fn.reader) (reader.log l.reader);
