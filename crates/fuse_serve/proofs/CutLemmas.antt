@@ -81,7 +81,7 @@ all_are_served requests exchanges (Some xs) whole asked consumed end =
     (ap (λ (ys : List ℕ). ys ++ []) (sym (joined exchanges))
     ∙ sym (append-nil (concat requests) ∙ (consumed ∙ (ap (λ (ys : List ℕ). all ++ ys) end ∙ append-nil all))))).0
 
-next_whole : (owes : Bool) (request : List ℕ) → IsNext owes request → (request ≡ []) ⊎ IsRequest request
+pub next_whole : (owes : Bool) (request : List ℕ) → IsNext owes request → (request ≡ []) ⊎ IsRequest request
 next_whole true request h = inl h
 next_whole false request h = inr h
 

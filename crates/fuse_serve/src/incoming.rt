@@ -3,10 +3,10 @@
 ghost use Rattle.std.specs.Prelude.{◌≡◌, ℕ, List, Option, length};
 ghost use Rattle.std.specs.Io.{ReadsAtMost};
 ghost use Rattle.std.specs.Io.KnownBytes.{ReadConsumes};
-ghost use Rattle.fuse_serve.specs.CallLogs.{logged, no_calls};
+ghost use Rattle.fuse_serve.specs.CallLogs.{logged};
 ghost use Rattle.fuse_serve.specs.declared.call_log.CallLog.{CallLog};
 
-use crate::call_log::CallLog;
+use crate::logged::Logged;
 use std::io;
 use std::io::Read;
 
@@ -25,27 +25,7 @@ pub trait Incoming {
         ensures log { log self.new ≡ logged (log self.old) (length buf.old) result };
 }
 
-/// A reader of std, and what is known of its calls.
-#[derive(Drop)]
-pub struct Reader<R> {
-    pub device: R,
-    pub log: CallLog,
-}
-
-impl<R: Read> Reader<R> {
-    /// The reader, before its first call.
-    pub fn new(device: R) -> Reader<R>
-        ensures device { result.device ≡ device }
-        ensures log { result.log ≡ no_calls }
-    {
-        Reader {
-            device,
-            log: CallLog::new(),
-        }
-    }
-}
-
-impl<R: Read> Incoming for Reader<R> {
+impl<R: Read> Incoming for Logged<R> {
     ghost remaining = { λ reader. R.remaining reader.device };
 
     ghost log = { λ reader. reader.log };

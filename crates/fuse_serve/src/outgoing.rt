@@ -3,10 +3,10 @@
 ghost use Rattle.std.specs.Prelude.{◌≡◌, ℕ, List, Option, length};
 ghost use Rattle.std.specs.Io.{WritesAtMost};
 ghost use Rattle.std.specs.Io.KnownBytes.{WriteAppends};
-ghost use Rattle.fuse_serve.specs.CallLogs.{logged, no_calls};
+ghost use Rattle.fuse_serve.specs.CallLogs.{logged};
 ghost use Rattle.fuse_serve.specs.declared.call_log.CallLog.{CallLog};
 
-use crate::call_log::CallLog;
+use crate::logged::Logged;
 use std::io;
 use std::io::Write;
 
@@ -25,27 +25,7 @@ pub trait Outgoing {
         ensures log { log self.new ≡ logged (log self.old) (length buf.now) result };
 }
 
-/// A writer of std, and what is known of its calls.
-#[derive(Drop)]
-pub struct Writer<W> {
-    pub device: W,
-    pub log: CallLog,
-}
-
-impl<W: Write> Writer<W> {
-    /// The writer, before its first call.
-    pub fn new(device: W) -> Writer<W>
-        ensures device { result.device ≡ device }
-        ensures log { result.log ≡ no_calls }
-    {
-        Writer {
-            device,
-            log: CallLog::new(),
-        }
-    }
-}
-
-impl<W: Write> Outgoing for Writer<W> {
+impl<W: Write> Outgoing for Logged<W> {
     ghost contents = { λ writer. W.contents writer.device };
 
     ghost log = { λ writer. writer.log };

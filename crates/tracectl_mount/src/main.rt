@@ -5,7 +5,7 @@ mod help;
 mod stop;
 mod words;
 
-use fuse_serve::{Reader, Writer};
+use fuse_serve::Logged;
 use mount_service::serve_tracer;
 use std::process::ExitCode;
 use stop::{Stop, tell};
@@ -15,8 +15,8 @@ use words::{Words, words_of};
 fn run(rt: &HostRuntime) -> Result<(), Stop> {
     let words = words_of(rt)?;
     let Words { config, uid, gid } = Words::read(rt, &words)?;
-    let mut reader = Reader::new(rt.stdin());
-    let mut writer = Writer::new(rt.stdout());
+    let mut reader = Logged::new(rt.stdin());
+    let mut writer = Logged::new(rt.stdout());
     match serve_tracer(rt.alloc(), config, uid, gid, &mut reader, &mut writer) {
         Ok(_) => Ok(()),
         Err(failure) => Err(Stop::Failed(failure)),
