@@ -24,7 +24,7 @@ wholes_more before now after rest left reply count some within fits is p q = gri
 pub rest_some : (xs : List ℕ) → 0 < length xs → xs ≡ [] → ⊥
 rest_some xs h e = omega (arith, h, ap length e)
 
-same : (a b c : Option (List ℕ)) (front : List ℕ) → Appends a b front → Appends b c [] → Appends a c front
+pub same : (a b c : Option (List ℕ)) (front : List ℕ) → Appends a b front → Appends b c [] → Appends a c front
 same a b c front p q = subst (Appends a c) (append-nil front) (Appends_append a b c front [] p q)
 
 module _ (is_begun : Bool) (reply front rest : List ℕ) (split : reply ≡ front ++ rest) (begun : is_begun ≡ ltb (length rest) (length reply)) where

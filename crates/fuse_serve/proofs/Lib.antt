@@ -1,6 +1,7 @@
 pub mod FramingLemmas
 pub mod InboxLemmas
 pub mod Transfers
+pub mod OfferLemmas
 pub mod Delivering
 pub mod Serving
 pub mod CutLemmas

@@ -1,6 +1,6 @@
 -- Requests, their replies, and what was written of them. A message that no request waits for at that moment, as the reply to an earlier one, is owed:
 -- it is an exchange whose request is empty.
-use Rattle.std.specs.Prelude.{◌≡◌, ◌≢◌, ◌⊎◌, ℕ, nat_lt, Bool, true, false, List, [], ◌∷◌, ◌++◌, length, Option, count_by}
+use Rattle.std.specs.Prelude.{◌≡◌, ◌≢◌, ◌⊎◌, ℕ, nat_lt, Bool, true, false, List, [], ◌∷◌, ◌++◌, length, Option, Some, None, count_by}
 use Rattle.std.specs.List.{All, flat_map}
 use Rattle.std.specs.Io.KnownBytes.{Appends, Consumes}
 use Rattle.fuse_serve.specs.Counts.{HasRisenBy}
@@ -9,18 +9,37 @@ use Rattle.fuse_serve.specs.declared.call_log.CallLog.{CallLog}
 use Rattle.fuse_serve.specs.declared.fate.Fate.{Fate}
 use Rattle.fuse_serve.specs.declared.fate.Fate.TheVariants.{Written, Dropped, Cut}
 
--- a request, none of what was owed; its reply, what became of that, and the bytes of it that were written
+-- a request, none of what was owed; its reply, what became of that, the bytes of it that were written, and what each of the writes was offered
 pub record Exchange : Type 0 where
   pub request : List ℕ
   pub reply : List ℕ
   pub fate : Fate
   pub written : List ℕ
+  pub offers : List (List ℕ)
 
 -- with this fate these bytes of a reply were written: all, none, or some of its first ones
 abbrev pub IsWritten : Fate → List ℕ → List ℕ → Type 0
 IsWritten Written reply written = written ≡ reply
 IsWritten Dropped reply written = written ≡ []
 IsWritten Cut reply written = (rest : List ℕ) × (reply ≡ written ++ rest) × (rest ≢ [])
+
+-- what is left of a reply
+pub record IsRestOf (reply rest : List ℕ) : Type 0 where
+  pub some : rest ≢ []
+  pub front : List ℕ
+  pub are : reply ≡ front ++ rest
+
+-- The writes of a reply were offered these bytes: the first, if the reply has bytes, all of it, so that it is one write if the device takes it whole;
+-- each other what is left of it. No write is offered bytes of two replies.
+abbrev pub AreOffers : List ℕ → List (List ℕ) → Type 0
+AreOffers reply [] = reply ≡ []
+AreOffers reply (first ∷ more) = (first ≡ reply) × IsRestOf reply first × All (IsRestOf reply) more
+
+-- what the writes of a device were offered, if it is known, has grown by these
+abbrev pub HasOffered : Option (List (List ℕ)) → Option (List (List ℕ)) → List (List ℕ) → Type 0
+HasOffered None new more = Unit {0}
+HasOffered (Some old) None more = ⊥
+HasOffered (Some old) (Some new) more = new ≡ old ++ more
 
 -- what comes next for a server that owes something, or doesn't: it tells what it owes, without a request, or else answers one
 abbrev pub IsNext : Bool → List ℕ → Type 0
@@ -60,15 +79,18 @@ is_sent Written reply = nat_lt 0 (length reply)
 is_sent Dropped reply = false
 is_sent Cut reply = false
 
--- what is seen of both devices: the bytes that the reader will give and that the writer holds, if known, and what is known of their calls
+-- what is seen of both devices: the bytes that the reader will give and that the writer holds, and what its writes were offered, if known; and what is
+-- known of their calls
 pub record Devices : Type 0 where
   pub remaining : Option (List ℕ)
   pub reads : CallLog
   pub contents : Option (List ℕ)
+  pub offers : Option (List (List ℕ))
   pub writes : CallLog
 
-abbrev pub devices : Option (List ℕ) → CallLog → Option (List ℕ) → CallLog → Devices
-devices remaining reads contents writes = record { remaining = remaining; reads = reads; contents = contents; writes = writes }
+abbrev pub devices : Option (List ℕ) → CallLog → Option (List ℕ) → Option (List (List ℕ)) → CallLog → Devices
+devices remaining reads contents offers writes =
+    record { remaining = remaining; reads = reads; contents = contents; offers = offers; writes = writes }
 
 -- What was read are the requests, one after another, and then some bytes that are left; the server answered them, and what was written are the
 -- bytes of their replies that were written, one after another. Of a reply that was written whole, one write took all that was offered: the only
@@ -78,4 +100,6 @@ pub record HasServed {S : Type 0} (answers : S → List ℕ → S → List ℕ �
   pub read : Consumes old.remaining new.remaining (flat_map (λ (one : Exchange). one.request) exchanges ++ left)
   pub answered : AnswersAll answers ends owes before exchanges after
   pub written : Appends old.contents new.contents (flat_map (λ (one : Exchange). one.written) exchanges)
+  pub offered : HasOffered old.offers new.offers (flat_map (λ (one : Exchange). one.offers) exchanges)
+  pub first_whole : All (λ (one : Exchange). AreOffers one.reply one.offers) exchanges
   pub sent : HasRisenBy (count_by (λ (one : Exchange). is_sent one.fate one.reply) exchanges) old.writes.wholes new.writes.wholes

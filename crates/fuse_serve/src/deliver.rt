@@ -1,10 +1,10 @@
 //! Replies written to a device.
 
-ghost use Rattle.std.specs.Prelude.{◌≡◌, ◌<◌, ℕ, List, length};
+ghost use Rattle.std.specs.Prelude.{◌≡◌, ◌<◌, ◌∷◌, ℕ, List, [], length};
 ghost use Rattle.std.specs.Io.KnownBytes.{Appends};
 ghost use Rattle.fuse_serve.specs.Counts.{one_more};
 ghost use Rattle.fuse_serve.specs.Endings.{IsCut};
-ghost use Rattle.fuse_serve.specs.Exchanges.{IsWritten};
+ghost use Rattle.fuse_serve.specs.Exchanges.{AreOffers, HasOffered, IsWritten};
 ghost use Rattle.fuse_serve.specs.private.Steps.{Does};
 ghost use Rattle.fuse_serve.specs.private.Turns.{Tallies};
 
@@ -27,6 +27,7 @@ fn write_some<W: Outgoing>(writer: &mut W, rest: &[u8], is_begun: bool) -> Step
     requires { 0 < length rest.now }
     ensures does { Does result is_begun rest.now (W.contents writer.old) (W.contents writer.new)
         (W.log writer.old) (W.log writer.new) }
+    ensures offered { HasOffered (W.offers writer.old) (W.offers writer.new) (rest.now ∷ []) }
     ensures calls { (W.log writer.new).calls ≡ one_more (W.log writer.old).calls }
 {
     match writer.write(rest) {
@@ -46,6 +47,7 @@ pub(crate) fn deliver<W: Outgoing>(writer: &mut W, reply: &[u8]) -> Fate
     ensures written { (written : List ℕ) × IsWritten result reply.now written
         × Appends (W.contents writer.old) (W.contents writer.new) written
         × (result ≡ Fate.Cut → IsCut (W.log writer.new) written) }
+    ensures offered { (offers : List (List ℕ)) × AreOffers reply.now offers × HasOffered (W.offers writer.old) (W.offers writer.new) offers }
     ensures tallies { Tallies result reply.now (W.log writer.old) (W.log writer.new) }
 {
     let mut rest = reply;

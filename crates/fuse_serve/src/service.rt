@@ -57,7 +57,7 @@ fn tell_next<S: Server, W: Outgoing>(server: &mut S, reply: &mut Vec<u8>, writer
     requires owes { S.owes server.old ≡ true }
     requires room { MOST_BYTES ≤ vec_capacity reply.old }
     ensures answered { (one : Exchange) × Answered S.answers server.old server.new (W.contents writer.old) (W.contents writer.new)
-        (W.log writer.old) (W.log writer.new) [] result one }
+        (W.offers writer.old) (W.offers writer.new) (W.log writer.old) (W.log writer.new) [] result one }
     ensures room { MOST_BYTES ≤ vec_capacity reply.new }
 {
     reply.clear();
@@ -78,7 +78,7 @@ fn answer_first<S: Server, W: Outgoing>(
     requires size { size ≤ length inbox.old }
     requires room { MOST_BYTES ≤ vec_capacity reply.old }
     ensures answered { (one : Exchange) × Answered S.answers server.old server.new (W.contents writer.old) (W.contents writer.new)
-        (W.log writer.old) (W.log writer.new) (take size inbox.old) result one }
+        (W.offers writer.old) (W.offers writer.new) (W.log writer.old) (W.log writer.new) (take size inbox.old) result one }
     ensures rest { inbox.new ≡ drop size inbox.old }
     ensures room { MOST_BYTES ≤ vec_capacity reply.new }
 {
@@ -100,8 +100,8 @@ pub fn serve<S: Server, R: Incoming, W: Outgoing>(
     reader: &mut R,
     writer: &mut W,
 ) -> Result<Ended, Fault>
-    ensures service { let old = devices (R.remaining reader.old) (R.log reader.old) (W.contents writer.old) (W.log writer.old) in
-        let new = devices (R.remaining reader.new) (R.log reader.new) (W.contents writer.new) (W.log writer.new) in
+    ensures service { let old = devices (R.remaining reader.old) (R.log reader.old) (W.contents writer.old) (W.offers writer.old) (W.log writer.old) in
+        let new = devices (R.remaining reader.new) (R.log reader.new) (W.contents writer.new) (W.offers writer.new) (W.log writer.new) in
         (exchanges : List Exchange) × (left : List ℕ)
         × HasServed S.answers S.ends S.owes server.old server.new old new exchanges left
         × EndsAs result (S.ends server.new) (S.owes server.new) old new exchanges left }

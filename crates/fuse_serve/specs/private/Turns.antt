@@ -4,7 +4,7 @@ use Rattle.std.specs.Io.KnownBytes.{Appends}
 use Rattle.fuse_serve.specs.CallLogs.{FailedFor}
 use Rattle.fuse_serve.specs.Counts.{one_more, raised}
 use Rattle.fuse_serve.specs.Endings.{HasEnded, IsCut, ReadsOn, StopsReading}
-use Rattle.fuse_serve.specs.Exchanges.{Exchange, IsWritten, is_dropped, is_sent}
+use Rattle.fuse_serve.specs.Exchanges.{AreOffers, Exchange, HasOffered, IsWritten, is_dropped, is_sent}
 use Rattle.fuse_serve.specs.Outcomes.{last_is_no_entry}
 use Rattle.fuse_serve.specs.declared.call_log.CallLog.{CallLog}
 use Rattle.fuse_serve.specs.declared.cause.Cause.TheVariants.{Other}
@@ -32,12 +32,14 @@ pub record Tallies (fate : Fate) (reply : List ℕ) (before after : CallLog) : T
   pub wholes : after.wholes ≡ raised before.wholes (is_sent fate reply)
 
 -- the server answered this request, or told what it owed if it is empty, and this became of the reply
-pub record Answered {S : Type 0} (answers : S → List ℕ → S → List ℕ → Type 0) (before after : S) (contents contents' : Option (List ℕ)) (writes writes' : CallLog)
+pub record Answered {S : Type 0} (answers : S → List ℕ → S → List ℕ → Type 0) (before after : S) (contents contents' : Option (List ℕ)) (offers offers' : Option (List (List ℕ))) (writes writes' : CallLog)
     (request : List ℕ) (fate : Fate) (one : Exchange) : Type 0 where
   pub asked : one.request ≡ request
   pub became : one.fate ≡ fate
   pub answered : answers before one.request after one.reply
   pub kept : IsWritten one.fate one.reply one.written
   pub written : Appends contents contents' one.written
+  pub offered : HasOffered offers offers' one.offers
+  pub first_whole : AreOffers one.reply one.offers
   pub tallies : Tallies one.fate one.reply writes writes'
   pub cut : fate ≡ Cut → IsCut writes' one.written

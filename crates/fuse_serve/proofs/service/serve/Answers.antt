@@ -14,7 +14,7 @@ returns-in_err-inbox-clause-service g c =
       [],
       [],
       served_none server.answers server.ends server.owes c.args.server.now (reader.remaining c.args.reader.now) (writer.contents c.args.writer.now)
-          (reader.log c.args.reader.now) (writer.log c.args.writer.now),
+          (writer.offers c.args.writer.now) (reader.log c.args.reader.now) (writer.log c.args.writer.now),
       rw (p.1, p.2) (refl, refl),
     )
 
@@ -27,7 +27,7 @@ returns-in_err-reply-clause-service g c =
       [],
       [],
       served_none server.answers server.ends server.owes c.args.server.now (reader.remaining c.args.reader.now) (writer.contents c.args.writer.now)
-          (reader.log c.args.reader.now) (writer.log c.args.writer.now),
+          (writer.offers c.args.writer.now) (reader.log c.args.reader.now) (writer.log c.args.writer.now),
       rw (p.1, p.2) (refl, refl),
     )
 
@@ -39,7 +39,7 @@ loop-init g c =
       [],
       record {
         served = rw c.in_ok-inbox.ensures (served_none server.answers server.ends server.owes c.args.server.now (reader.remaining c.args.reader.now)
-            (writer.contents c.args.writer.now) (reader.log c.args.reader.now) (writer.log c.args.writer.now));
+            (writer.contents c.args.writer.now) (writer.offers c.args.writer.now) (reader.log c.args.reader.now) (writer.log c.args.writer.now));
         reads = refl;
         writes = writes_none (writer.log c.args.writer.now);
         turns = omega arith;
@@ -57,11 +57,11 @@ returns-then-eq-clause-service g c =
       kept.0 ++ one.0 ∷ [],
       c.loop.inbox,
       served_more server.answers server.ends server.owes c.args.server.now c.loop.server c.tell_next.new.server (reader.remaining c.args.reader.now) (reader.remaining c.loop.reader)
-          (writer.contents c.args.writer.now) (writer.contents c.loop.writer) (writer.contents c.tell_next.new.writer) (reader.log c.args.reader.now) (reader.log c.loop.reader)
+          (writer.contents c.args.writer.now) (writer.contents c.loop.writer) (writer.contents c.tell_next.new.writer) (writer.offers c.args.writer.now) (writer.offers c.loop.writer) (writer.offers c.tell_next.new.writer) (reader.log c.args.reader.now) (reader.log c.loop.reader)
           (writer.log c.args.writer.now) (writer.log c.loop.writer) (writer.log c.tell_next.new.writer) kept.0 c.loop.inbox c.loop.inbox []
           c.tell_next.result one.0 kept.1.served (sym c.has_ended.ensures ∙ c.if-has_ended.false) (owed_next (server.owes c.loop.server) (sym c.owes.ensures ∙ c.if-owes.true)) refl one.1,
       (
-        writes_cut server.answers c.loop.server c.tell_next.new.server (writer.contents c.loop.writer) (writer.contents c.tell_next.new.writer)
+        writes_cut server.answers c.loop.server c.tell_next.new.server (writer.contents c.loop.writer) (writer.contents c.tell_next.new.writer) (writer.offers c.loop.writer) (writer.offers c.tell_next.new.writer)
             (writer.log c.args.writer.now) (writer.log c.loop.writer) (writer.log c.tell_next.new.writer) [] c.tell_next.result one.0 one.1 kept.0
             kept.1.writes (search rules),
         kept.1.reads,
@@ -80,13 +80,13 @@ returns-then-eq-2-clause-service g c =
       kept.0 ++ one.0 ∷ [],
       c.answer_first.new.inbox,
       served_more server.answers server.ends server.owes c.args.server.now c.loop.server c.answer_first.new.server (reader.remaining c.args.reader.now) (reader.remaining c.loop.reader)
-          (writer.contents c.args.writer.now) (writer.contents c.loop.writer) (writer.contents c.answer_first.new.writer) (reader.log c.args.reader.now) (reader.log c.loop.reader)
+          (writer.contents c.args.writer.now) (writer.contents c.loop.writer) (writer.contents c.answer_first.new.writer) (writer.offers c.args.writer.now) (writer.offers c.loop.writer) (writer.offers c.answer_first.new.writer) (reader.log c.args.reader.now) (reader.log c.loop.reader)
           (writer.log c.args.writer.now) (writer.log c.loop.writer) (writer.log c.answer_first.new.writer) kept.0 c.loop.inbox c.answer_first.new.inbox (take c.in-Some.size c.loop.inbox)
           c.answer_first.result one.0 kept.1.served (sym c.has_ended.ensures ∙ c.if-has_ended.false)
           (request_next (server.owes c.loop.server) (take c.in-Some.size c.loop.inbox) (sym c.owes.ensures ∙ c.if-owes.false) whole)
           (without_first c.in-Some.size c.loop.inbox c.answer_first.new.inbox c.answer_first.ensures.rest) one.1,
       (
-        writes_cut server.answers c.loop.server c.answer_first.new.server (writer.contents c.loop.writer) (writer.contents c.answer_first.new.writer)
+        writes_cut server.answers c.loop.server c.answer_first.new.server (writer.contents c.loop.writer) (writer.contents c.answer_first.new.writer) (writer.offers c.loop.writer) (writer.offers c.answer_first.new.writer)
             (writer.log c.args.writer.now) (writer.log c.loop.writer) (writer.log c.answer_first.new.writer) (take c.in-Some.size c.loop.inbox) c.answer_first.result one.0 one.1 kept.0
             kept.1.writes (search rules),
         kept.1.reads,
@@ -105,10 +105,10 @@ returns-in_err-ended-clause-service g c =
       kept.0,
       c.receive.new.inbox,
       served_read server.answers server.ends server.owes c.args.server.now c.loop.server (reader.remaining c.args.reader.now) (reader.remaining c.loop.reader)
-          (reader.remaining c.receive.new.reader) (writer.contents c.args.writer.now) (writer.contents c.loop.writer) (reader.log c.args.reader.now) (reader.log c.loop.reader)
+          (reader.remaining c.receive.new.reader) (writer.contents c.args.writer.now) (writer.contents c.loop.writer) (writer.offers c.args.writer.now) (writer.offers c.loop.writer) (reader.log c.args.reader.now) (reader.log c.loop.reader)
           (reader.log c.receive.new.reader) (writer.log c.args.writer.now) (writer.log c.loop.writer) kept.0 c.loop.inbox c.receive.new.inbox came.0 kept.1.served came.1 came.2,
       rw (p.1, p.2) (stopped c.in_err-ended.field-0.0 (server.ends c.loop.server) (server.owes c.loop.server) (reader.remaining c.args.reader.now) (reader.remaining c.receive.new.reader) (writer.contents c.args.writer.now)
-          (writer.contents c.loop.writer) (reader.log c.args.reader.now) (reader.log c.loop.reader) (reader.log c.receive.new.reader) (writer.log c.args.writer.now) (writer.log c.loop.writer)
+          (writer.contents c.loop.writer) (writer.offers c.args.writer.now) (writer.offers c.loop.writer) (reader.log c.args.reader.now) (reader.log c.loop.reader) (reader.log c.receive.new.reader) (writer.log c.args.writer.now) (writer.log c.loop.writer)
           kept.0 c.loop.inbox c.receive.new.inbox c.in_err-ended.ensures.received kept.1.reads kept.1.writes
           (sym c.has_ended.ensures ∙ c.if-has_ended.false, sym c.owes.ensures ∙ c.if-owes.false) none),
     )
@@ -126,11 +126,11 @@ loop-preserved g c =
             kept.0 ++ one.0 ∷ [],
             record {
               served = served_more server.answers server.ends server.owes c.args.server.now c.loop.server w.tell_next.new.server (reader.remaining c.args.reader.now) (reader.remaining c.loop.reader)
-                  (writer.contents c.args.writer.now) (writer.contents c.loop.writer) (writer.contents w.tell_next.new.writer) (reader.log c.args.reader.now) (reader.log c.loop.reader)
+                  (writer.contents c.args.writer.now) (writer.contents c.loop.writer) (writer.contents w.tell_next.new.writer) (writer.offers c.args.writer.now) (writer.offers c.loop.writer) (writer.offers w.tell_next.new.writer) (reader.log c.args.reader.now) (reader.log c.loop.reader)
                   (writer.log c.args.writer.now) (writer.log c.loop.writer) (writer.log w.tell_next.new.writer) kept.0 c.loop.inbox c.loop.inbox []
                   w.tell_next.result one.0 kept.1.served (sym c.has_ended.ensures ∙ c.if-has_ended.false) (owed_next (server.owes c.loop.server) (sym c.owes.ensures ∙ w.if-owes.true)) refl one.1;
               reads = kept.1.reads;
-              writes = writes_more server.answers c.loop.server w.tell_next.new.server (writer.contents c.loop.writer) (writer.contents w.tell_next.new.writer)
+              writes = writes_more server.answers c.loop.server w.tell_next.new.server (writer.contents c.loop.writer) (writer.contents w.tell_next.new.writer) (writer.offers c.loop.writer) (writer.offers w.tell_next.new.writer)
                   (writer.log c.args.writer.now) (writer.log c.loop.writer) (writer.log w.tell_next.new.writer) [] w.tell_next.result one.0 one.1
                   kept.0 kept.1.writes (search rules);
               turns = omega (arith, kept.1.turns, length-append kept.0 (one.0 ∷ []));
@@ -145,13 +145,13 @@ loop-preserved g c =
             kept.0 ++ one.0 ∷ [],
             record {
               served = served_more server.answers server.ends server.owes c.args.server.now c.loop.server w.answer_first.new.server (reader.remaining c.args.reader.now) (reader.remaining c.loop.reader)
-                  (writer.contents c.args.writer.now) (writer.contents c.loop.writer) (writer.contents w.answer_first.new.writer) (reader.log c.args.reader.now) (reader.log c.loop.reader)
+                  (writer.contents c.args.writer.now) (writer.contents c.loop.writer) (writer.contents w.answer_first.new.writer) (writer.offers c.args.writer.now) (writer.offers c.loop.writer) (writer.offers w.answer_first.new.writer) (reader.log c.args.reader.now) (reader.log c.loop.reader)
                   (writer.log c.args.writer.now) (writer.log c.loop.writer) (writer.log w.answer_first.new.writer) kept.0 c.loop.inbox w.answer_first.new.inbox (take w.in-Some.size c.loop.inbox)
                   w.answer_first.result one.0 kept.1.served (sym c.has_ended.ensures ∙ c.if-has_ended.false)
                   (request_next (server.owes c.loop.server) (take w.in-Some.size c.loop.inbox) (sym c.owes.ensures ∙ w.if-owes.false) whole)
                   (without_first w.in-Some.size c.loop.inbox w.answer_first.new.inbox w.answer_first.ensures.rest) one.1;
               reads = kept.1.reads;
-              writes = writes_more server.answers c.loop.server w.answer_first.new.server (writer.contents c.loop.writer) (writer.contents w.answer_first.new.writer)
+              writes = writes_more server.answers c.loop.server w.answer_first.new.server (writer.contents c.loop.writer) (writer.contents w.answer_first.new.writer) (writer.offers c.loop.writer) (writer.offers w.answer_first.new.writer)
                   (writer.log c.args.writer.now) (writer.log c.loop.writer) (writer.log w.answer_first.new.writer) (take w.in-Some.size c.loop.inbox) w.answer_first.result one.0 one.1
                   kept.0 kept.1.writes (search rules);
               turns = omega (arith, kept.1.turns, length-append kept.0 (one.0 ∷ []));
@@ -164,7 +164,7 @@ loop-preserved g c =
             kept.0,
             record {
               served = served_read server.answers server.ends server.owes c.args.server.now c.loop.server (reader.remaining c.args.reader.now) (reader.remaining c.loop.reader)
-                  (reader.remaining w.receive.new.reader) (writer.contents c.args.writer.now) (writer.contents c.loop.writer) (reader.log c.args.reader.now) (reader.log c.loop.reader)
+                  (reader.remaining w.receive.new.reader) (writer.contents c.args.writer.now) (writer.contents c.loop.writer) (writer.offers c.args.writer.now) (writer.offers c.loop.writer) (reader.log c.args.reader.now) (reader.log c.loop.reader)
                   (reader.log w.receive.new.reader) (writer.log c.args.writer.now) (writer.log c.loop.writer) kept.0 c.loop.inbox w.receive.new.inbox came.0 kept.1.served came.1 came.2;
               reads = (rw w.in_default-2.is at w.in_ok-ended.ensures.received) ∙ kept.1.reads;
               writes = kept.1.writes;

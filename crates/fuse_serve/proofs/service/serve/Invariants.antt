@@ -11,8 +11,8 @@ invariant-loop g l =
     (exchanges : List Exchange)
     × record {
       served : HasServed server.answers server.ends server.owes l.fn.server l.server
-          (devices (reader.remaining l.fn.reader) (reader.log l.fn.reader) (writer.contents l.fn.writer) (writer.log l.fn.writer))
-          (devices (reader.remaining l.reader) (reader.log l.reader) (writer.contents l.writer) (writer.log l.writer)) exchanges l.inbox;
+          (devices (reader.remaining l.fn.reader) (reader.log l.fn.reader) (writer.contents l.fn.writer) (writer.offers l.fn.writer) (writer.log l.fn.writer))
+          (devices (reader.remaining l.reader) (reader.log l.reader) (writer.contents l.writer) (writer.offers l.writer) (writer.log l.writer)) exchanges l.inbox;
       reads : ReadsOn (reader.log l.fn.reader) (reader.log l.reader);
       writes : WritesOn (writer.log l.fn.writer) (writer.log l.writer) exchanges;
       turns : l.counter ≤ (reader.log l.reader).calls + length exchanges;
