@@ -1,5 +1,5 @@
 -- What the writes of replies were offered.
-use Rattle.std.proofs.Common.{◌≡◌, ℕ, List, [], ◌∷◌, ◌++◌, Option, Some, None, refl, sym, ap, ◌∙◌, append_assoc}
+use Rattle.std.proofs.Common.{◌≡◌, ℕ, List, [], ◌∷◌, ◌++◌, Option, Some, None, sym, ap, ◌∙◌, append_assoc}
 use Rattle.std.proofs.lemmas.List.{append-nil}
 use Rattle.std.proofs.lemmas.List.Elements.{All-nil, All-push}
 use Rattle.fuse_serve.specs.Exchanges.{AreOffers, HasOffered, IsRestOf}
@@ -14,10 +14,6 @@ HasOffered_append (Some us) (Some bs) (Some cs) xs ys p q = q ∙ (ap (λ (front
 pub HasOffered_nothing : (a : Option (List (List ℕ))) → HasOffered a a []
 HasOffered_nothing None = tt
 HasOffered_nothing (Some us) = sym (append-nil us)
-
--- before the first write
-pub none_offered : (reply : List ℕ) (a : Option (List (List ℕ))) → IsOffering reply reply a a
-none_offered reply a = record { offers = []; are = refl; known = HasOffered_nothing a }
 
 -- one more write was offered what was left
 more_are : (reply front rest : List ℕ) (offers : List (List ℕ)) → (rest ≡ [] → ⊥) → reply ≡ front ++ rest → AreFirstOffers reply rest offers
@@ -43,12 +39,3 @@ goes_on reply front rest left a b c some split h last = record {
   are = first_are reply left rest h.offers [] (more_are reply front rest h.offers some split h.are);
   known = HasOffered_append a b c h.offers (rest ∷ []) h.known last;
 }
-
--- nothing is left
-pub all_offered : (reply rest : List ℕ) (a b : Option (List (List ℕ))) → rest ≡ [] → IsOffering reply rest a b
-    → (offers : List (List ℕ)) × AreOffers reply offers × HasOffered a b offers
-all_offered reply rest a b none h = (h.offers, all_are h.offers h.are, h.known)
-  where
-    all_are : (offers : List (List ℕ)) → AreFirstOffers reply rest offers → AreOffers reply offers
-    all_are [] are = sym are ∙ none
-    all_are (first ∷ more) are = are
