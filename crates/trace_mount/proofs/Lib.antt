@@ -10,6 +10,9 @@ pub mod WriteLemmas
 pub mod ServeLemmas
 pub mod OwedLemmas
 pub mod PartLaws
+pub mod NewEvents
+pub mod DoneLemmas
+pub mod ShownLemmas
 pub mod TimesLemmas
 pub mod AnsweredOnce
 pub mod WaitLaws

@@ -58,7 +58,7 @@ nothing_left_is_all sizes size offset text some nothing =
     all-given given (drop offset text) (reads_go_on sizes offset text)
     (sym (drop-plus offset (length given) text) ∙ none-left (min size most_data) (drop (offset + length given) text) many nothing)
 
-text-kept : (files : List (Option OpenSeen)) (handle : ℕ) (text : List ℕ) (file : OpenSeen) → file_at handle files ≡ Some file
+pub text-kept : (files : List (Option OpenSeen)) (handle : ℕ) (text : List ℕ) (file : OpenSeen) → file_at handle files ≡ Some file
     → text_at handle (with_text text handle files) ≡ Some text
 text-kept [] zero text file there = absurd (let no : None ≡ Some file = there in cc)
 text-kept [] (suc handle) text file there = absurd (let no : None ≡ Some file = there in cc)

@@ -2,6 +2,7 @@
 
 ghost use Rattle.trace_mount.specs.MountLaws.{FirstTextIsKept, NothingLeftIsAll, ReadsGiveParts, ReadsGoOn, StepsDoOneCommandAtMost};
 ghost use Rattle.trace_mount.specs.ParkedLaws.{ClosedReadsTakeNothing, InterruptedReadsTakeNothing, InterruptingAsksNothing, NoReadWaitsForWhatIsThere, NothingIsOwedToRequests, OldestIsAnsweredFirst, ReadsAreAnsweredOnce, TakenTextIsGivenOrKept, TellingDoesOneCommandAtMost, WaitingAsksNothing};
+ghost use Rattle.trace_mount.specs.StatsLaws.{LaterReadsGoOn, PastsAreDone, ReadsShowThePast, StatsShowThePast};
 
 /// Reads of a file that go on one after another give together one part of the text that the first of them made, and so from the beginning on what
 /// one read gives.
@@ -43,4 +44,17 @@ pub fn no_read_waits_for_what_is_there()
 /// Of the parked reads that wait no more the oldest is answered first.
 pub fn oldest_is_answered_first()
     ensures { OldestIsAnsweredFirst }
+{}
+
+/// Whatever was served, the commands that the tracer did were done, one after another, so that what is proved of histories holds of them.
+pub fn pasts_are_done()
+    ensures { PastsAreDone }
+{}
+
+/// A read of a file from its beginning, whatever was served before it, shows what the file shows after the commands that were done by then; of `stats`
+/// these are the counts that are defined over them. Later reads go on in that text.
+pub fn reads_show_the_past()
+    ensures files { ReadsShowThePast }
+    ensures stats { StatsShowThePast }
+    ensures later { LaterReadsGoOn }
 {}

@@ -1,0 +1,174 @@
+-- What reads of a file show.
+use Rattle.std.proofs.Common.{◌≡◌, ℕ, Bool, true, false, if◌then◌else◌, List, Option, Some, None, Result, Ok, Err, refl, sym, ap, subst, ◌∙◌}
+use Rattle.std.proofs.lemmas.Bool.{false≢true}
+use Rattle.std.specs.Option.{option_map}
+use Rattle.fuse_wire.specs.declared.reply.Reply.{Reply}
+use Rattle.trace_command.specs.Configs.{IsInRange}
+use Rattle.trace_command.specs.Paths as paths
+use Rattle.trace_command.specs.Paths.{address_of}
+use Rattle.trace_command.specs.Requests.{Request, ReadFile}
+use Rattle.trace_command.specs.declared.command.Config.{Config}
+use Rattle.trace_command.specs.declared.command.Reply.{Reply as Answer}
+use Rattle.trace_command.specs.declared.command.Reply.TheVariants as answers
+use Rattle.trace_command.specs.declared.file_name.CpuFile.TheVariants as per_cpu
+use Rattle.trace_command.specs.declared.file_name.TopFile.TheVariants as top
+use Rattle.trace_command.specs.declared.refusal.Refusal.{Refusal}
+use Rattle.trace_command.specs.declared.refusal.Refusal.TheVariants as refusal
+use Rattle.trace_history.specs.History.{answer_with_room, file_answer, instance_answer, missing, read_answer, text_of, unless_refused, whole_text}
+use Rattle.trace_history.specs.Settings.{is_there as instance_is_there}
+use Rattle.mount_tree.proofs.AddressLaws.{path-address}
+use Rattle.mount_tree.proofs.SoundLemmas.{scene-sound}
+use Rattle.mount_tree.specs.Children.{is_there}
+use Rattle.mount_tree.specs.FileKinds.{kind_of_file}
+use Rattle.mount_tree.specs.NodePaths.{file_meant}
+use Rattle.mount_tree.specs.Scenes.{SceneSeen, event_name}
+use Rattle.mount_tree.specs.declared.file.File.{File}
+use Rattle.mount_tree.specs.declared.file.File.TheVariants as files
+use Rattle.mount_tree.specs.declared.file.FileKind.{FileKind}
+use Rattle.mount_tree.specs.declared.file.FileKind.TheVariants as kinds
+use Rattle.trace_mount.proofs.DoneLemmas.{events-are, had-room, pasts_are_done}
+use Rattle.trace_mount.proofs.PartLaws.{text-kept}
+use Rattle.trace_mount.specs.Errnos.{errno_of}
+use Rattle.trace_mount.specs.Mounted.{Does, bytes_of_reply}
+use Rattle.trace_mount.specs.Served.{Step, read_anew, read_file, read_kind, read_of, read_text, text_in}
+use Rattle.trace_mount.specs.Services.{OpenSeen, Service, Terms, file_at, node_of, read_of_pipe, scene_of}
+use Rattle.trace_mount.specs.declared.parked.Parked.{Parked}
+use Rattle.trace_mount.specs.StatsLaws.{LaterReadsGoOn, ReadsAnew, Shown, Refused, ReadsShowThePast, StatsShowThePast, WasDone, instance_of, is_text}
+
+-- ---- answers
+
+-- a file that is no pipe, as it is meant by a node that is none
+abbrev is_whole : paths.File → Bool
+is_whole (paths.OfInstance top.TracePipe) = false
+is_whole (paths.OfCpu cpu per_cpu.TracePipe) = false
+is_whole _ = true
+
+some-file : (found meant : paths.File) → is_whole found ≡ true → Some found ≡ Some meant → is_whole meant ≡ true
+some-file found meant whole is = let same : found ≡ meant = cc in subst (λ (f : paths.File). is_whole f ≡ true) same whole
+
+meant-whole : (scene : SceneSeen) (file : File) (meant : paths.File) → is_text (kind_of_file file) ≡ true → file_meant scene file ≡ Some meant → is_whole meant ≡ true
+meant-whole scene files.SyntheticEvents meant text is = some-file paths.SyntheticEvents meant refl is
+meant-whole scene (files.OfInstance top.Trace) meant text is = some-file (paths.OfInstance top.Trace) meant refl is
+meant-whole scene (files.OfInstance top.TracePipe) meant text is = absurd (false≢true text)
+meant-whole scene (files.OfInstance top.Overwrite) meant text is = some-file (paths.OfInstance top.Overwrite) meant refl is
+meant-whole scene (files.OfInstance top.TraceOptions) meant text is = some-file (paths.OfInstance top.TraceOptions) meant refl is
+meant-whole scene (files.OfInstance top.TracingOn) meant text is = some-file (paths.OfInstance top.TracingOn) meant refl is
+meant-whole scene (files.OfInstance top.Snapshot) meant text is = some-file (paths.OfInstance top.Snapshot) meant refl is
+meant-whole scene (files.OfInstance top.EventsEnable) meant text is = some-file (paths.OfInstance top.EventsEnable) meant refl is
+meant-whole scene (files.OfInstance top.EventsFilter) meant text is = some-file (paths.OfInstance top.EventsFilter) meant refl is
+meant-whole scene files.SystemEnable meant text is = some-file (paths.OfInstance top.EventsEnable) meant refl is
+meant-whole scene (files.OfCpu cpu per_cpu.Trace) meant text is = some-file (paths.OfCpu cpu per_cpu.Trace) meant refl is
+meant-whole scene (files.OfCpu cpu per_cpu.TracePipe) meant text is = absurd (false≢true text)
+meant-whole scene (files.OfCpu cpu per_cpu.Stats) meant text is = some-file (paths.OfCpu cpu per_cpu.Stats) meant refl is
+meant-whole scene (files.OfEvent event file) meant text is = by (event_name event scene.events) is
+  where
+    by : (name : Option (List ℕ)) → option_map (λ (n : List ℕ). paths.OfEvent n file) name ≡ Some meant → is_whole meant ≡ true
+    by None e = absurd (let no : None ≡ Some meant = e in cc)
+    by (Some name) e = some-file (paths.OfEvent name file) meant refl e
+meant-whole scene (files.Inject event) meant text is = absurd (false≢true text)
+
+given : (text : List ℕ) (answer : Answer) → whole_text None text ≡ Ok answer → text_in answer ≡ text
+given text answer is = let same : answers.Text text ≡ answer = cc in ap text_in (sym same)
+
+-- the answer to a read of a whole file is its text
+read-shows : (g : Config) (instance : Option (List ℕ)) (past : List Request) (meant : paths.File) (answer : Answer) → is_whole meant ≡ true
+    → read_answer g instance past None meant ≡ Ok answer → text_in answer ≡ text_of g instance past meant
+read-shows g instance past paths.SyntheticEvents answer whole is = given _ answer is
+read-shows g instance past (paths.OfInstance top.Trace) answer whole is = given _ answer is
+read-shows g instance past (paths.OfInstance top.TracePipe) answer whole is = absurd (false≢true whole)
+read-shows g instance past (paths.OfInstance top.Overwrite) answer whole is = given _ answer is
+read-shows g instance past (paths.OfInstance top.TraceOptions) answer whole is = given _ answer is
+read-shows g instance past (paths.OfInstance top.TracingOn) answer whole is = given _ answer is
+read-shows g instance past (paths.OfInstance top.Snapshot) answer whole is = given _ answer is
+read-shows g instance past (paths.OfInstance top.EventsEnable) answer whole is = given _ answer is
+read-shows g instance past (paths.OfInstance top.EventsFilter) answer whole is = absurd (let no : Err refusal.NotReadable ≡ Ok answer = is in cc)
+read-shows g instance past (paths.OfCpu cpu per_cpu.Trace) answer whole is = given _ answer is
+read-shows g instance past (paths.OfCpu cpu per_cpu.TracePipe) answer whole is = absurd (false≢true whole)
+read-shows g instance past (paths.OfCpu cpu per_cpu.Stats) answer whole is = given _ answer is
+read-shows g instance past (paths.OfEvent event file) answer whole is = given _ answer is
+
+there-answered : (instance : Option (List ℕ)) (past : List Request) (r : Result Answer Refusal) (answer : Answer) → instance_answer instance past r ≡ Ok answer
+    → r ≡ Ok answer
+there-answered instance past r answer is = by (instance_is_there instance past) is
+  where
+    by : (there : Bool) → (if there then r else Err refusal.NoSuchInstance) ≡ Ok answer → r ≡ Ok answer
+    by true h = h
+    by false h = absurd (let no : Err refusal.NoSuchInstance ≡ Ok answer = h in cc)
+
+unrefused : (missed : Option Refusal) (r : Result Answer Refusal) (answer : Answer) → unless_refused missed r ≡ Ok answer → r ≡ Ok answer
+unrefused None r answer h = h
+unrefused (Some missing) r answer h = absurd (let no : Err missing ≡ Ok answer = h in cc)
+
+-- a read that was done shows the file's text
+done-shows : (g : Config) (instance : Option (List ℕ)) (past : List Request) (meant : paths.File) (answer : Answer) → is_whole meant ≡ true
+    → answer_with_room g past (ReadFile instance (Some meant) None) ≡ Ok answer → text_in answer ≡ text_of g instance past meant
+done-shows g instance past meant answer whole is =
+    let found = there-answered instance past (file_answer g past (read_answer g instance past None) (Some meant)) answer is in
+    read-shows g instance past meant answer whole (unrefused (missing g past meant) (read_answer g instance past None meant) answer found)
+
+-- ---- steps
+
+-- the command of a read of a file that is there
+asked-is : (g : Terms) (s : Service) (file : OpenSeen) (meant : paths.File) → IsInRange g.config → WasDone g s.past
+    → is_there (scene_of g s) (node_of file) ≡ true → file_meant (scene_of g s) file.file ≡ Some meant
+    → read_of (scene_of g s) (node_of file) None ≡ ReadFile (instance_of g s file) (Some meant) None
+asked-is g s file meant ranges was there is =
+    let sound = scene-sound g.config s.past ranges.few_cpus was.done (events-are g.config s.past was.done) in
+    ap (λ (a : paths.Address). ReadFile a.instance a.file None) (path-address (scene_of g s) file.owner file.file sound there)
+    ∙ ap (λ (f : Option paths.File). ReadFile (instance_of g s file) f None) is
+
+-- a file that is shown whole
+kind-reads : (g : Terms) (s : Service) (read : Parked) (offset flags : ℕ) (file : OpenSeen) (kind : FileKind) → is_text kind ≡ true
+    → read_kind g s read offset flags file kind ≡ read_text (scene_of g s) read.handle offset read.size file s.files
+kind-reads g s read offset flags file kinds.Text is = refl
+kind-reads g s read offset flags file kinds.Trace is = refl
+kind-reads g s read offset flags file kinds.Pipe is = absurd (false≢true is)
+kind-reads g s read offset flags file kinds.Inject is = absurd (false≢true is)
+
+file-reads : (g : Terms) (s : Service) (read : Parked) (offset flags : ℕ) (file : OpenSeen) (there : Option OpenSeen) → there ≡ Some file
+    → is_text (kind_of_file file.file) ≡ true
+    → read_file g s read offset flags there ≡ read_text (scene_of g s) read.handle offset read.size file s.files
+file-reads g s read offset flags file None e text = absurd (let no : None ≡ Some file = e in cc)
+file-reads g s read offset flags file (Some found) e text =
+    let same : found ≡ file = cc in
+    ap (λ (f : OpenSeen). read_file g s read offset flags (Some f)) same ∙ kind-reads g s read offset flags file (kind_of_file file.file) text
+
+-- what a read at the beginning came to
+anew : (g : Terms) (before after : Service) (unique handle size : ℕ) (file : OpenSeen) (meant : paths.File) (reply : Option Reply) (bytes : List ℕ)
+    → IsInRange g.config → WasDone g before.past → file_at handle before.files ≡ Some file → is_text (kind_of_file file.file) ≡ true
+    → is_there (scene_of g before) (node_of file) ≡ true → file_meant (scene_of g before) file.file ≡ Some meant
+    → bytes ≡ bytes_of_reply unique reply → Does g before (read_anew (scene_of g before) handle 0 size (node_of file) before.files) reply after
+    → ReadsAnew before unique handle size (text_of g.config (instance_of g before file) before.past meant) bytes after
+anew g before after unique handle size file meant reply bytes ranges was opened text there means told (Err refused, answered, replied, is) =
+    Refused (errno_of refused) (told ∙ ap (bytes_of_reply unique) replied) is
+anew g before after unique handle size file meant reply bytes ranges was opened text there means told (Ok answer, answered, replied, is) =
+    let command = read_of (scene_of g before) (node_of file) None in
+    let done = had-room g.config before.past command answer answered in
+    let shows : text_in answer ≡ text_of g.config (instance_of g before file) before.past meant =
+    done-shows g.config (instance_of g before file) before.past meant answer (meant-whole (scene_of g before) file.file meant text means)
+    (ap (answer_with_room g.config before.past) (sym (asked-is g before file meant ranges was there means)) ∙ done.0) in
+    subst (λ (shown : List ℕ). ReadsAnew before unique handle size shown bytes after) shows (Shown (record {
+      request = command;
+      told = told ∙ ap (bytes_of_reply unique) replied;
+      now = is;
+      kept = rw is (text-kept before.files handle (text_in answer) file opened);
+    }))
+
+pub reads_show_the_past : ReadsShowThePast
+reads_show_the_past g requests messages before after request bytes handle size flags file meant ranges served is asks opened text there means =
+    let was = pasts_are_done g requests messages before served in
+    let step = file-reads g before (read_of_pipe request.unique handle size) 0 flags file (file_at handle before.files) opened text in
+    anew g before after request.unique handle size file meant is.reply bytes ranges was opened text there means is.told
+    (subst (λ (s : Step). Does g before s is.reply after) step (rw asks at is.does))
+
+pub stats_show_the_past : StatsShowThePast
+stats_show_the_past g requests messages before after request bytes handle size flags cpu file ranges served is asks opened stats there =
+    reads_show_the_past g requests messages before after request bytes handle size flags file (paths.OfCpu cpu per_cpu.Stats) ranges served is asks opened
+    (ap (λ (f : File). is_text (kind_of_file f)) stats) there (ap (file_meant (scene_of g before)) stats)
+
+pub later_reads_go_on : LaterReadsGoOn
+later_reads_go_on g before after request bytes handle offset size flags file text is asks later opened whole keeps =
+    let step = file-reads g before (read_of_pipe request.unique handle size) offset flags file (file_at handle before.files) opened whole in
+    let does = subst (λ (s : Step). Does g before s is.reply after) step (rw asks at is.does) in
+    let did = rw (later, keeps) at does in
+    (is.told ∙ ap (bytes_of_reply request.unique) did.0, did.1)

@@ -1,0 +1,91 @@
+-- What reads of a mounted tracer's files show, by the commands that were done when the read at offset 0 was served. Theorems that speak of no program.
+use Rattle.std.specs.Prelude.{◌≡◌, ℕ, ◌==◌, ◌≤◌, Bool, true, false, List, [], ◌∷◌, length, Option, Some}
+use Rattle.fuse_wire.specs.Replies.{reply_bytes}
+use Rattle.fuse_wire.specs.declared.errno.Errno.{Errno}
+use Rattle.fuse_wire.specs.declared.reply.Reply.TheVariants as replies
+use Rattle.fuse_wire.specs.declared.request.Operation.TheVariants as operations
+use Rattle.fuse_wire.specs.declared.request.Request.{Request as Asked}
+use Rattle.trace_command.specs.Configs.{IsInRange}
+use Rattle.trace_command.specs.Paths as paths
+use Rattle.trace_command.specs.Requests.{Request}
+use Rattle.trace_command.specs.declared.file_name.CpuFile.TheVariants as per_cpu
+use Rattle.trace_history.specs.FileTexts.{cpu_stats_text}
+use Rattle.trace_history.specs.History.{text_of}
+use Rattle.trace_history.specs.Pasts.{AreDone}
+use Rattle.trace_live.specs.Lives.{most_done}
+use Rattle.mount_tree.specs.Children.{is_there}
+use Rattle.mount_tree.specs.FileKinds.{kind_of_file}
+use Rattle.mount_tree.specs.NodePaths.{file_meant, owner_name}
+use Rattle.mount_tree.specs.declared.file.File.TheVariants as files
+use Rattle.mount_tree.specs.declared.file.FileKind.{FileKind}
+use Rattle.mount_tree.specs.declared.file.FileKind.TheVariants as kinds
+use Rattle.trace_mount.specs.Mounted.{IsServed, Serves}
+use Rattle.trace_mount.specs.Served.{part_of}
+use Rattle.trace_mount.specs.Services.{OpenSeen, Service, Terms, file_at, node_of, scene_of, text_at, with_text}
+
+-- ---- what was served was done
+
+-- a tracer that was just mounted: no command was done, no file is open, and no read waits
+abbrev pub just_mounted : Service
+just_mounted = record { past = []; files = []; parked = [] }
+
+-- each of these commands was done after those before it, and they are no more than a tracer does that keeps no history
+pub record WasDone (g : Terms) (past : List Request) : Type 0 where
+  pub done : AreDone g.config past
+  pub few : length past ≤ most_done
+
+-- whatever a mounted tracer served, its past is a list of such commands, so that what is proved of histories holds of it
+abbrev pub PastsAreDone : Type 0
+PastsAreDone = (g : Terms) (requests messages : List (List ℕ)) (after : Service) → Serves g just_mounted requests messages after → WasDone g after.past
+
+-- ---- reads
+
+-- a file that reads show whole: no pipe, and not `inject`
+abbrev pub is_text : FileKind → Bool
+is_text kinds.Text = true
+is_text kinds.Trace = true
+is_text kinds.Pipe = false
+is_text kinds.Inject = false
+
+-- the instance whose file was opened
+abbrev pub instance_of : Terms → Service → OpenSeen → Option (List ℕ)
+instance_of g s file = owner_name (scene_of g s) file.owner
+
+-- the read was one command, and gives the beginning of this text, which the open file keeps; nothing else has changed
+pub record GivesText (before : Service) (unique handle size : ℕ) (text bytes : List ℕ) (after : Service) : Type 0 where
+  pub request : Request
+  pub told : bytes ≡ reply_bytes unique (replies.Data (part_of 0 size text))
+  pub now : after ≡ record before { past = request ∷ before.past; files = with_text text handle before.files }
+  pub kept : text_at handle after.files ≡ Some text
+
+-- or it was refused, and nothing has changed
+pub data ReadsAnew (before : Service) (unique handle size : ℕ) (text bytes : List ℕ) (after : Service) : Type 0 where
+  Shown : GivesText before unique handle size text bytes after → ReadsAnew before unique handle size text bytes after
+  Refused : (errno : Errno) → bytes ≡ reply_bytes unique (replies.Error errno) → after ≡ before → ReadsAnew before unique handle size text bytes after
+
+-- A READ at offset 0, whatever was served before it: the text is what the file shows after the commands that were done by then.
+abbrev pub ReadsShowThePast : Type 0
+ReadsShowThePast =
+    (g : Terms) (requests messages : List (List ℕ)) (before after : Service) (request : Asked) (bytes : List ℕ) (handle size flags : ℕ) (file : OpenSeen) (meant : paths.File)
+    → IsInRange g.config → Serves g just_mounted requests messages before → IsServed g before request bytes after
+    → request.operation ≡ operations.Read handle 0 size flags → file_at handle before.files ≡ Some file → is_text (kind_of_file file.file) ≡ true
+    → is_there (scene_of g before) (node_of file) ≡ true → file_meant (scene_of g before) file.file ≡ Some meant
+    → ReadsAnew before request.unique handle size (text_of g.config (instance_of g before file) before.past meant) bytes after
+
+-- Of `stats` this is the text of the numbers that trace_history counts of the commands that were done by then: what the CPU's ring of that instance
+-- keeps, what it overwrote, dropped and gave, and the clock.
+abbrev pub StatsShowThePast : Type 0
+StatsShowThePast =
+    (g : Terms) (requests messages : List (List ℕ)) (before after : Service) (request : Asked) (bytes : List ℕ) (handle size flags cpu : ℕ) (file : OpenSeen)
+    → IsInRange g.config → Serves g just_mounted requests messages before → IsServed g before request bytes after
+    → request.operation ≡ operations.Read handle 0 size flags → file_at handle before.files ≡ Some file → file.file ≡ files.OfCpu cpu per_cpu.Stats
+    → is_there (scene_of g before) (node_of file) ≡ true
+    → ReadsAnew before request.unique handle size (cpu_stats_text g.config (instance_of g before file) before.past cpu) bytes after
+
+-- a READ at a later offset goes on in the text that the open file keeps, and changes nothing
+abbrev pub LaterReadsGoOn : Type 0
+LaterReadsGoOn =
+    (g : Terms) (before after : Service) (request : Asked) (bytes : List ℕ) (handle offset size flags : ℕ) (file : OpenSeen) (text : List ℕ)
+    → IsServed g before request bytes after → request.operation ≡ operations.Read handle offset size flags → (offset == 0) ≡ false
+    → file_at handle before.files ≡ Some file → is_text (kind_of_file file.file) ≡ true → file.text ≡ Some text
+    → (bytes ≡ reply_bytes request.unique (replies.Data (part_of offset size text))) × (after ≡ before)
