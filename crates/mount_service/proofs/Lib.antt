@@ -1,2 +1,3 @@
 pub mod ServiceLemmas
 pub mod KnownBytes
+pub mod RecordLemmas

@@ -1,3 +1,4 @@
 pub mod TracerServices
 pub mod TracerLaws
+pub mod RecordLaws
 pub mod private

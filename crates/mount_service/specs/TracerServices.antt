@@ -1,12 +1,12 @@
--- What a service of a mounted tracer comes to: requests that were read, each with its reply as trace_mount defines it, and what was written.
-use Rattle.std.specs.Prelude.{◌≡◌, ℕ, ◌==◌, ◌&&◌, Bool, true, List, [], ◌∷◌, ◌++◌, length, drop, map, Result, Ok, Err, count_by}
+-- What a service of a mounted tracer comes to: requests that were read, each with its reply as trace_mount defines it, what was told in between, as
+-- the replies of reads that waited, and what was written.
+use Rattle.std.specs.Prelude.{◌≡◌, ℕ, ◌==◌, ◌&&◌, Bool, true, is_some, List, [], ◌∷◌, ◌++◌, length, drop, map, Result, Ok, Err, count_by}
 use Rattle.std.specs.Int.{w32, from_le_bytes}
 use Rattle.std.specs.Io.KnownBytes.{Appends, Consumes}
 use Rattle.std.specs.List.{All, flat_map, list_any}
 use Rattle.fuse_serve.specs.Counts.{HasRisenBy}
 use Rattle.fuse_serve.specs.Endings.{EndsAs}
-use Rattle.fuse_serve.specs.Exchanges.{Devices, Exchange, IsWritten, is_sent}
-use Rattle.fuse_serve.specs.Framing.{IsRequest}
+use Rattle.fuse_serve.specs.Exchanges.{AreOffers, AreWhole, Devices, Exchange, HasOffered, IsWritten, is_sent}
 use Rattle.fuse_serve.specs.declared.fault.Ended.{Ended}
 use Rattle.fuse_serve.specs.declared.fault.Fault.{Fault}
 use Rattle.fuse_serve.specs.declared.fault.Fault.TheVariants as faults
@@ -15,7 +15,9 @@ use Rattle.mount_service.specs.declared.failure.Failure.TheVariants.{BadValue, S
 use Rattle.trace_command.specs.declared.refusal.Refusal.{Refusal}
 use Rattle.trace_command.specs.declared.refusal.Refusal.TheVariants as refusals
 use Rattle.trace_mount.specs.Mounted.{Serves}
+use Rattle.trace_mount.specs.Owed.{owed}
 use Rattle.trace_mount.specs.Services.{Service, Terms}
+use Rattle.trace_mount.specs.StatsLaws.{just_mounted}
 
 -- what a tracer that can't be made is told as
 abbrev pub failure_of : Refusal → Failure
@@ -38,26 +40,29 @@ StopsAtDestroy (one ∷ more) = (is_destroy one.request ≡ true → more ≡ []
 abbrev pub has_destroy : List Exchange → Bool
 has_destroy exchanges = list_any (λ (one : Exchange). is_destroy one.request) exchanges
 
--- a tracer that was just mounted: no command was done, and no file is open
-abbrev pub just_mounted : Service
-just_mounted = record { past = []; files = [] }
-
--- What was read are these requests, one after another, each whole, and then some bytes that are left. The tracer, just mounted, served them so, and
--- what was written are the bytes of their replies that were written, one after another.
+-- What was read are the requests of the exchanges that have one, one after another, each whole, and then some bytes that are left. The tracer, just
+-- mounted, served the exchanges so: where one has no request, what was owed was told, all of it before the next request was answered. What was written
+-- are the bytes of their replies that were written, one after another, each reply offered whole at first.
 pub record IsServing (g : Terms) (old new : Devices) (exchanges : List Exchange) (left : List ℕ) (after : Service) : Type 0 where
   pub read : Consumes old.remaining new.remaining (flat_map (λ (one : Exchange). one.request) exchanges ++ left)
-  pub whole : All (λ (one : Exchange). IsRequest one.request) exchanges
+  pub whole : AreWhole exchanges
   pub served : Serves g just_mounted (map (λ (one : Exchange). one.request) exchanges) (map (λ (one : Exchange). one.reply) exchanges) after
   pub stops : StopsAtDestroy exchanges
   pub kept : All (λ (one : Exchange). IsWritten one.fate one.reply one.written) exchanges
   pub written : Appends old.contents new.contents (flat_map (λ (one : Exchange). one.written) exchanges)
+  pub offered : HasOffered old.offers new.offers (flat_map (λ (one : Exchange). one.offers) exchanges)
+  pub first_whole : All (λ (one : Exchange). AreOffers one.reply one.offers) exchanges
   pub sent : HasRisenBy (count_by (λ (one : Exchange). is_sent one.fate one.reply) exchanges) old.writes.wholes new.writes.wholes
+
+-- something is owed
+abbrev pub owes_after : Terms → Service → Bool
+owes_after g after = is_some (owed g after)
 
 -- there are such exchanges, and the service ended as it is said
 abbrev pub IsServed : Terms → Result Ended Fault → Devices → Devices → Type 0
 IsServed g result old new =
     (exchanges : List Exchange) × (left : List ℕ) × (after : Service) × IsServing g old new exchanges left after
-    × EndsAs result (has_destroy exchanges) old new exchanges left
+    × EndsAs result (has_destroy exchanges) (owes_after g after) old new exchanges left
 
 -- likewise, if it began
 abbrev pub HasBeenServed : Terms → Result Ended Failure → Devices → Devices → Type 0

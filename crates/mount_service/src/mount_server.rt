@@ -51,12 +51,22 @@ impl Server for MountServer {
 
     ghost ends = { λ server. server.is_destroyed };
 
+    ghost owes = { λ server. server.mount.owes };
+
     fn answer(&mut self, request: &[u8], reply: &mut Vec<u8>) {
         self.mount.answer(request, reply);
         self.is_destroyed = is_destroy(request);
     }
 
+    fn tell_owed(&mut self, reply: &mut Vec<u8>) {
+        self.mount.tell_owed(reply);
+    }
+
     fn has_ended(&self) -> bool {
         self.is_destroyed
+    }
+
+    fn owes(&self) -> bool {
+        self.mount.owes()
     }
 }

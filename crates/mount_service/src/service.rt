@@ -13,7 +13,8 @@ use trace_command::Config;
 use trace_mount::Mount;
 
 /// Mounts a tracer and serves it: reads requests, does each and writes its reply, until the input ends, the device is gone, a DESTROY was answered,
-/// or a fault stops it. The files are this user's and this group's.
+/// or a fault stops it. What is owed, as the reply of a read that waited, is written before the next request is done. The files are this user's and
+/// this group's.
 pub fn serve_tracer<R: Incoming, W: Outgoing>(
     alloc: Global,
     config: Config,
@@ -23,8 +24,8 @@ pub fn serve_tracer<R: Incoming, W: Outgoing>(
     writer: &mut W,
 ) -> Result<Ended, Failure>
     ensures service { HasBeenServed (record { config = config; uid = uid; gid = gid }) result
-        (devices (R.remaining reader.old) (R.log reader.old) (W.contents writer.old) (W.log writer.old))
-        (devices (R.remaining reader.new) (R.log reader.new) (W.contents writer.new) (W.log writer.new)) }
+        (devices (R.remaining reader.old) (R.log reader.old) (W.contents writer.old) (W.offers writer.old) (W.log writer.old))
+        (devices (R.remaining reader.new) (R.log reader.new) (W.contents writer.new) (W.offers writer.new) (W.log writer.new)) }
     ensures out_of_range { ¬ IsInRange config → result ≡ Err Failure.BadValue }
     ensures bad_value { result ≡ Err Failure.BadValue
         → ¬ IsInRange config × (reader.new ≡ reader.old) × (writer.new ≡ writer.old) }

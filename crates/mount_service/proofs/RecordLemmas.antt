@@ -1,0 +1,47 @@
+-- Records of a mounted tracer are accounted for.
+use Rattle.std.proofs.Common.{◌≡◌, ℕ, ◌<◌, nat_lt, ◌&&◌, Bool, true, false, List, refl, sym, ap, subst, ◌∙◌, ltb-true}
+use Rattle.std.proofs.lemmas.Bool.{false≢true}
+use Rattle.history_laws.specs.AccountedFor.{EmissionsAreAccountedFor, ShownCountsAccountForEmissions}
+use Rattle.trace_command.specs.declared.file_name.CpuFile.TheVariants as per_cpu
+use Rattle.trace_history.specs.FileTexts.{cpu_stats_text}
+use Rattle.trace_history.specs.Settings.{now_of}
+use Rattle.trace_text.specs.StatsText.{stats_text}
+use Rattle.mount_tree.specs.Children.{is_there, owner_is_there}
+use Rattle.mount_tree.specs.declared.file.File.{File}
+use Rattle.mount_tree.specs.declared.file.File.TheVariants as files
+use Rattle.mount_tree.specs.declared.node.Node.TheVariants as nodes
+use Rattle.mount_service.specs.RecordLaws.{ServicesAreAccountedFor, StatsTellAllRecords, live_stats}
+use Rattle.trace_mount.specs.Services.{OpenSeen, Service, Terms, node_of, scene_of}
+use Rattle.trace_mount.specs.StatsLaws.{PastsAreDone, ReadsAnew, StatsShowThePast, instance_of}
+
+pub accounted_for : EmissionsAreAccountedFor → PastsAreDone → ServicesAreAccountedFor
+accounted_for all pasts g old new exchanges left after serving = record {
+  done = (pasts g _ _ after serving.served).done;
+  records = λ instance cpu within unemptied. all g.config after.past instance cpu within unemptied;
+}
+
+and_second : (a b : Bool) → (a && b) ≡ true → b ≡ true
+and_second true b h = h
+and_second false b h = absurd (false≢true h)
+
+-- a CPU whose file is there
+cpu-there : (g : Terms) (s : Service) (file : OpenSeen) (cpu : ℕ) → file.file ≡ files.OfCpu cpu per_cpu.Stats → is_there (scene_of g s) (node_of file) ≡ true
+    → cpu < g.config.cpus
+cpu-there g s file cpu is there =
+    let scene = scene_of g s in
+    let at : is_there scene (nodes.File file.owner (files.OfCpu cpu per_cpu.Stats)) ≡ true =
+    ap (λ (f : File). is_there scene (nodes.File file.owner f)) (sym is) ∙ there in
+    ltb-true cpu g.config.cpus (and_second (owner_is_there scene file.owner) (nat_lt cpu g.config.cpus) at)
+
+stats-are : (g : Terms) (s : Service) (file : OpenSeen) (cpu : ℕ)
+    → cpu_stats_text g.config (instance_of g s file) s.past cpu ≡ stats_text (live_stats g (instance_of g s file) cpu s.past) (now_of s.past)
+unfolding cpu_stats_text
+stats-are g s file cpu = refl
+
+pub tell_all : ShownCountsAccountForEmissions → StatsShowThePast → StatsTellAllRecords
+tell_all shown stats g requests messages before after request bytes handle size flags cpu file ranges served is asks opened is_stats there unemptied unexchanged = (
+  live_stats g (instance_of g before file) cpu before.past,
+  subst (λ (text : List ℕ). ReadsAnew before request.unique handle size text bytes after) (stats-are g before file cpu)
+      (stats g requests messages before after request bytes handle size flags cpu file ranges served is asks opened is_stats there),
+  shown g.config before.past (instance_of g before file) cpu (cpu-there g before file cpu is_stats there) unemptied unexchanged,
+)
