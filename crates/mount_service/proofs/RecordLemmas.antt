@@ -2,6 +2,7 @@
 use Rattle.std.proofs.Common.{◌≡◌, ℕ, ◌<◌, nat_lt, ◌&&◌, Bool, true, false, List, refl, sym, ap, subst, ◌∙◌, ltb-true}
 use Rattle.std.proofs.lemmas.Bool.{false≢true}
 use Rattle.history_laws.specs.AccountedFor.{EmissionsAreAccountedFor, ShownCountsAccountForEmissions}
+use Rattle.trace_command.specs.Paths as paths
 use Rattle.trace_command.specs.declared.file_name.CpuFile.TheVariants as per_cpu
 use Rattle.trace_history.specs.FileTexts.{cpu_stats_text}
 use Rattle.trace_history.specs.Settings.{now_of}
@@ -12,7 +13,7 @@ use Rattle.mount_tree.specs.declared.file.File.TheVariants as files
 use Rattle.mount_tree.specs.declared.node.Node.TheVariants as nodes
 use Rattle.mount_service.specs.RecordLaws.{ServicesAreAccountedFor, StatsTellAllRecords, live_stats}
 use Rattle.trace_mount.specs.Services.{OpenSeen, Service, Terms, node_of, scene_of}
-use Rattle.trace_mount.specs.StatsLaws.{PastsAreDone, ReadsAnew, StatsShowThePast, instance_of}
+use Rattle.trace_mount.specs.PastLaws.{PastsAreDone, ReadsAnew, StatsShowThePast, instance_of, read_whole}
 
 pub accounted_for : EmissionsAreAccountedFor → PastsAreDone → ServicesAreAccountedFor
 accounted_for all pasts g old new exchanges left after serving = record {
@@ -41,7 +42,7 @@ stats-are g s file cpu = refl
 pub tell_all : ShownCountsAccountForEmissions → StatsShowThePast → StatsTellAllRecords
 tell_all shown stats g requests messages before after request bytes handle size flags cpu file ranges served is asks opened is_stats there unemptied unexchanged = (
   live_stats g (instance_of g before file) cpu before.past,
-  subst (λ (text : List ℕ). ReadsAnew before request.unique handle size text bytes after) (stats-are g before file cpu)
+  subst (λ (text : List ℕ). ReadsAnew before (read_whole (instance_of g before file) (paths.OfCpu cpu per_cpu.Stats)) request.unique handle size text bytes after) (stats-are g before file cpu)
       (stats g requests messages before after request bytes handle size flags cpu file ranges served is asks opened is_stats there),
   shown g.config before.past (instance_of g before file) cpu (cpu-there g before file cpu is_stats there) unemptied unexchanged,
 )

@@ -20,7 +20,7 @@ use Rattle.trace_command.specs.declared.refusal.Refusal.{Refusal}
 use Rattle.trace_command.specs.declared.refusal.Refusal.TheVariants as refusals
 use Rattle.trace_mount.specs.Mounted.{IsExchanged, IsMounted, MountSeen, Serves, service_of, terms_of}
 use Rattle.trace_mount.specs.Services.{Service, Terms}
-use Rattle.trace_mount.specs.StatsLaws.{just_mounted}
+use Rattle.trace_mount.specs.PastLaws.{just_mounted}
 
 abbrev pub ends : MountServer → Bool
 ends server = server.is_destroyed

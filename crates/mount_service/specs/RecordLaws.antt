@@ -7,6 +7,7 @@ use Rattle.history_laws.specs.AccountedFor.{counted, recorded_count, was_emptied
 use Rattle.page_ring.specs.declared.rings.RingStats.{RingStats}
 use Rattle.trace_buffer.specs.Families.{cpu_stats}
 use Rattle.trace_command.specs.Configs.{IsInRange}
+use Rattle.trace_command.specs.Paths as paths
 use Rattle.trace_command.specs.Requests.{Request}
 use Rattle.trace_command.specs.declared.file_name.CpuFile.TheVariants as per_cpu
 use Rattle.trace_history.specs.Pasts.{AreDone}
@@ -19,7 +20,7 @@ use Rattle.mount_tree.specs.declared.file.File.TheVariants as files
 use Rattle.mount_service.specs.TracerServices.{IsServing}
 use Rattle.trace_mount.specs.Mounted.{IsServed, Serves}
 use Rattle.trace_mount.specs.Services.{OpenSeen, Service, Terms, file_at, node_of, scene_of}
-use Rattle.trace_mount.specs.StatsLaws.{ReadsAnew, instance_of, just_mounted}
+use Rattle.trace_mount.specs.PastLaws.{ReadsAnew, instance_of, just_mounted, read_whole}
 
 -- the counts of a CPU's ring of the side that is live, and of the other side's
 abbrev pub live_stats : Terms → Option (List ℕ) → ℕ → List Request → RingStats
@@ -49,5 +50,6 @@ StatsTellAllRecords =
     → request.operation ≡ operations.Read handle 0 size flags → file_at handle before.files ≡ Some file → file.file ≡ files.OfCpu cpu per_cpu.Stats
     → is_there (scene_of g before) (node_of file) ≡ true → was_emptied (instance_of g before file) cpu before.past ≡ false
     → exchange_count (instance_of g before file) before.past ≡ 0
-    → (stats : RingStats) × ReadsAnew before request.unique handle size (stats_text stats (now_of before.past)) bytes after
+    → (stats : RingStats)
+    × ReadsAnew before (read_whole (instance_of g before file) (paths.OfCpu cpu per_cpu.Stats)) request.unique handle size (stats_text stats (now_of before.past)) bytes after
     × (counted stats ≡ recorded_count (instance_of g before file) cpu before.past)

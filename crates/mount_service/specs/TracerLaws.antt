@@ -8,7 +8,7 @@ use Rattle.fuse_serve.specs.declared.fault.Ended.TheVariants.{AtEnd}
 use Rattle.mount_service.specs.TracerServices.{IsServing, has_destroy, owes_after}
 use Rattle.trace_mount.specs.Mounted.{Serves}
 use Rattle.trace_mount.specs.Services.{Service, Terms}
-use Rattle.trace_mount.specs.StatsLaws.{just_mounted}
+use Rattle.trace_mount.specs.PastLaws.{just_mounted}
 
 -- If a reader has whole requests to give, and the service found its end, then a tracer that was just mounted served exactly these, and told in between
 -- what it owed; and a writer to which no write failed by ENOENT got exactly the replies and what was owed.

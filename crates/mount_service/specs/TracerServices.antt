@@ -17,7 +17,7 @@ use Rattle.trace_command.specs.declared.refusal.Refusal.TheVariants as refusals
 use Rattle.trace_mount.specs.Mounted.{Serves}
 use Rattle.trace_mount.specs.Owed.{owed}
 use Rattle.trace_mount.specs.Services.{Service, Terms}
-use Rattle.trace_mount.specs.StatsLaws.{just_mounted}
+use Rattle.trace_mount.specs.PastLaws.{just_mounted}
 
 -- what a tracer that can't be made is told as
 abbrev pub failure_of : Refusal → Failure

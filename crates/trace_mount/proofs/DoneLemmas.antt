@@ -17,7 +17,7 @@ use Rattle.trace_mount.specs.Mounted.{AreServed, Right, Wrong, Unframed, Does, I
 use Rattle.trace_mount.specs.Owed.{Owed, ReplyAt, WakeupAt, owed}
 use Rattle.trace_mount.specs.Served.{Step, Plain, Takes, Asks, Parks, Interrupts}
 use Rattle.trace_mount.specs.Services.{Service, Terms}
-use Rattle.trace_mount.specs.StatsLaws.{PastsAreDone, WasDone}
+use Rattle.trace_mount.specs.PastLaws.{PastsAreDone, WasDone}
 
 -- ---- answers
 

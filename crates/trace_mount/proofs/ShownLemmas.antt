@@ -1,12 +1,12 @@
 -- What reads of a file show.
-use Rattle.std.proofs.Common.{◌≡◌, ℕ, Bool, true, false, if◌then◌else◌, List, Option, Some, None, Result, Ok, Err, refl, sym, ap, subst, ◌∙◌}
+use Rattle.std.proofs.Common.{◌≡◌, ℕ, Bool, true, false, not, if◌then◌else◌, List, length, Option, Some, None, Result, Ok, Err, refl, sym, ap, subst, ◌∙◌}
 use Rattle.std.proofs.lemmas.Bool.{false≢true}
 use Rattle.std.specs.Option.{option_map}
 use Rattle.fuse_wire.specs.declared.reply.Reply.{Reply}
 use Rattle.trace_command.specs.Configs.{IsInRange}
 use Rattle.trace_command.specs.Paths as paths
 use Rattle.trace_command.specs.Paths.{address_of}
-use Rattle.trace_command.specs.Requests.{Request, ReadFile}
+use Rattle.trace_command.specs.Requests.{Request, ReadFile, WriteFile}
 use Rattle.trace_command.specs.declared.command.Config.{Config}
 use Rattle.trace_command.specs.declared.command.Reply.{Reply as Answer}
 use Rattle.trace_command.specs.declared.command.Reply.TheVariants as answers
@@ -20,7 +20,7 @@ use Rattle.mount_tree.proofs.AddressLaws.{path-address}
 use Rattle.mount_tree.proofs.SoundLemmas.{scene-sound}
 use Rattle.mount_tree.specs.Children.{is_there}
 use Rattle.mount_tree.specs.FileKinds.{kind_of_file}
-use Rattle.mount_tree.specs.NodePaths.{file_meant}
+use Rattle.mount_tree.specs.NodePaths.{file_meant, path_of}
 use Rattle.mount_tree.specs.Scenes.{SceneSeen, event_name}
 use Rattle.mount_tree.specs.declared.file.File.{File}
 use Rattle.mount_tree.specs.declared.file.File.TheVariants as files
@@ -30,10 +30,10 @@ use Rattle.trace_mount.proofs.DoneLemmas.{events-are, had-room, pasts_are_done}
 use Rattle.trace_mount.proofs.PartLaws.{text-kept}
 use Rattle.trace_mount.specs.Errnos.{errno_of}
 use Rattle.trace_mount.specs.Mounted.{Does, bytes_of_reply}
-use Rattle.trace_mount.specs.Served.{Step, read_anew, read_file, read_kind, read_of, read_text, text_in}
+use Rattle.trace_mount.specs.Served.{Asks, Step, read_anew, read_file, read_kind, read_of, read_text, text_in, without_newline, write_file, write_kind, write_of, write_text, written}
 use Rattle.trace_mount.specs.Services.{OpenSeen, Service, Terms, file_at, node_of, read_of_pipe, scene_of}
 use Rattle.trace_mount.specs.declared.parked.Parked.{Parked}
-use Rattle.trace_mount.specs.StatsLaws.{LaterReadsGoOn, ReadsAnew, Shown, Refused, ReadsShowThePast, StatsShowThePast, WasDone, instance_of, is_text}
+use Rattle.trace_mount.specs.PastLaws.{IsDone, IsNotDone, LaterReadsGoOn, NotShown, ReadsAnew, Shown, ReadsShowThePast, StatsShowThePast, WasDone, WritesAreCommands, WritesOnce, instance_of, is_file, is_text, read_whole, write_once}
 
 -- ---- answers
 
@@ -108,14 +108,27 @@ done-shows g instance past meant answer whole is =
 
 -- ---- steps
 
+-- the file that the path of an open file names, if it is there
+address-is : (g : Terms) (s : Service) (file : OpenSeen) (meant : paths.File) → IsInRange g.config → WasDone g s.past
+    → is_there (scene_of g s) (node_of file) ≡ true → file_meant (scene_of g s) file.file ≡ Some meant
+    → address_of (path_of (scene_of g s) (node_of file)) ≡ record { instance = instance_of g s file; file = Some meant }
+address-is g s file meant ranges was there is =
+    let sound = scene-sound g.config s.past ranges.few_cpus was.done (events-are g.config s.past was.done) in
+    path-address (scene_of g s) file.owner file.file sound there ∙ ap (λ (f : Option paths.File). record { instance = instance_of g s file; file = f }) is
+
 -- the command of a read of a file that is there
 asked-is : (g : Terms) (s : Service) (file : OpenSeen) (meant : paths.File) → IsInRange g.config → WasDone g s.past
     → is_there (scene_of g s) (node_of file) ≡ true → file_meant (scene_of g s) file.file ≡ Some meant
-    → read_of (scene_of g s) (node_of file) None ≡ ReadFile (instance_of g s file) (Some meant) None
+    → read_of (scene_of g s) (node_of file) None ≡ read_whole (instance_of g s file) meant
 asked-is g s file meant ranges was there is =
-    let sound = scene-sound g.config s.past ranges.few_cpus was.done (events-are g.config s.past was.done) in
-    ap (λ (a : paths.Address). ReadFile a.instance a.file None) (path-address (scene_of g s) file.owner file.file sound there)
-    ∙ ap (λ (f : Option paths.File). ReadFile (instance_of g s file) f None) is
+    ap (λ (a : paths.Address). ReadFile a.instance a.file None) (address-is g s file meant ranges was there is)
+
+-- and of a write to it
+write-is : (g : Terms) (s : Service) (file : OpenSeen) (meant : paths.File) (append : Bool) (text : List ℕ) → IsInRange g.config → WasDone g s.past
+    → is_there (scene_of g s) (node_of file) ≡ true → file_meant (scene_of g s) file.file ≡ Some meant
+    → write_of (scene_of g s) (node_of file) append text ≡ write_once (instance_of g s file) meant append text
+write-is g s file meant append text ranges was there is =
+    ap (λ (a : paths.Address). WriteFile a.instance a.file append text) (address-is g s file meant ranges was there is)
 
 -- a file that is shown whole
 kind-reads : (g : Terms) (s : Service) (read : Parked) (offset flags : ℕ) (file : OpenSeen) (kind : FileKind) → is_text kind ≡ true
@@ -138,21 +151,22 @@ anew : (g : Terms) (before after : Service) (unique handle size : ℕ) (file : O
     → IsInRange g.config → WasDone g before.past → file_at handle before.files ≡ Some file → is_text (kind_of_file file.file) ≡ true
     → is_there (scene_of g before) (node_of file) ≡ true → file_meant (scene_of g before) file.file ≡ Some meant
     → bytes ≡ bytes_of_reply unique reply → Does g before (read_anew (scene_of g before) handle 0 size (node_of file) before.files) reply after
-    → ReadsAnew before unique handle size (text_of g.config (instance_of g before file) before.past meant) bytes after
+    → ReadsAnew before (read_whole (instance_of g before file) meant) unique handle size (text_of g.config (instance_of g before file) before.past meant) bytes after
 anew g before after unique handle size file meant reply bytes ranges was opened text there means told (Err refused, answered, replied, is) =
-    Refused (errno_of refused) (told ∙ ap (bytes_of_reply unique) replied) is
+    NotShown (record { errno = errno_of refused; told = told ∙ ap (bytes_of_reply unique) replied; now = is })
 anew g before after unique handle size file meant reply bytes ranges was opened text there means told (Ok answer, answered, replied, is) =
     let command = read_of (scene_of g before) (node_of file) None in
+    let same = asked-is g before file meant ranges was there means in
     let done = had-room g.config before.past command answer answered in
     let shows : text_in answer ≡ text_of g.config (instance_of g before file) before.past meant =
     done-shows g.config (instance_of g before file) before.past meant answer (meant-whole (scene_of g before) file.file meant text means)
-    (ap (answer_with_room g.config before.past) (sym (asked-is g before file meant ranges was there means)) ∙ done.0) in
-    subst (λ (shown : List ℕ). ReadsAnew before unique handle size shown bytes after) shows (Shown (record {
-      request = command;
+    (ap (answer_with_room g.config before.past) (sym same) ∙ done.0) in
+    subst (λ (asked : Request). ReadsAnew before asked unique handle size (text_of g.config (instance_of g before file) before.past meant) bytes after) same
+    (subst (λ (shown : List ℕ). ReadsAnew before command unique handle size shown bytes after) shows (Shown (record {
       told = told ∙ ap (bytes_of_reply unique) replied;
       now = is;
       kept = rw is (text-kept before.files handle (text_in answer) file opened);
-    }))
+    })))
 
 pub reads_show_the_past : ReadsShowThePast
 reads_show_the_past g requests messages before after request bytes handle size flags file meant ranges served is asks opened text there means =
@@ -172,3 +186,40 @@ later_reads_go_on g before after request bytes handle offset size flags file tex
     let does = subst (λ (s : Step). Does g before s is.reply after) step (rw asks at is.does) in
     let did = rw (later, keeps) at does in
     (is.told ∙ ap (bytes_of_reply request.unique) did.0, did.1)
+
+-- ---- writes
+
+-- a file that is not `inject`
+kind-writes : (g : Terms) (s : Service) (handle pid : ℕ) (bytes : List ℕ) (own : OpenSeen) (file : File) → is_file (kind_of_file file) ≡ true
+    → write_kind g s handle pid bytes own file ≡ write_text (scene_of g s) handle (node_of own) (not own.starts_over) bytes s.files
+kind-writes g s handle pid bytes own files.SyntheticEvents is = refl
+kind-writes g s handle pid bytes own (files.OfInstance file) is = refl
+kind-writes g s handle pid bytes own files.SystemEnable is = refl
+kind-writes g s handle pid bytes own (files.OfCpu cpu file) is = refl
+kind-writes g s handle pid bytes own (files.OfEvent event file) is = refl
+kind-writes g s handle pid bytes own (files.Inject event) is = absurd (false≢true is)
+
+file-writes : (g : Terms) (s : Service) (handle pid : ℕ) (bytes : List ℕ) (own : OpenSeen) (there : Option OpenSeen) → there ≡ Some own
+    → is_file (kind_of_file own.file) ≡ true
+    → write_file g s handle pid bytes there ≡ write_text (scene_of g s) handle (node_of own) (not own.starts_over) bytes s.files
+file-writes g s handle pid bytes own None e is = absurd (let no : None ≡ Some own = e in cc)
+file-writes g s handle pid bytes own (Some found) e is =
+    let same : found ≡ own = cc in
+    ap (λ (f : OpenSeen). write_file g s handle pid bytes (Some f)) same ∙ kind-writes g s handle pid bytes own own.file is
+
+once : (g : Terms) (before after : Service) (unique handle : ℕ) (own : List ℕ) (command asked : Request) (reply : Option Reply) (bytes : List ℕ)
+    → command ≡ asked → bytes ≡ bytes_of_reply unique reply → Does g before (Asks command (written handle (length own) before.files)) reply after
+    → WritesOnce before asked unique handle (length own) bytes after
+once g before after unique handle own command asked reply bytes same told (Err refused, answered, replied, is) =
+    IsNotDone (record { errno = errno_of refused; told = told ∙ ap (bytes_of_reply unique) replied; now = is })
+once g before after unique handle own command asked reply bytes same told (Ok answer, answered, replied, is) =
+    subst (λ (c : Request). WritesOnce before c unique handle (length own) bytes after) same
+    (IsDone (record { told = told ∙ ap (bytes_of_reply unique) replied; now = is }))
+
+pub writes_are_commands : WritesAreCommands
+writes_are_commands g requests messages before after request bytes handle offset own file meant ranges served is asks opened kind there means =
+    let was = pasts_are_done g requests messages before served in
+    let step = file-writes g before handle request.pid own file (file_at handle before.files) opened kind in
+    once g before after request.unique handle own _ _ is.reply bytes
+    (write-is g before file meant (not file.starts_over) (without_newline own) ranges was there means) is.told
+    (subst (λ (s : Step). Does g before s is.reply after) step (rw asks at is.does))

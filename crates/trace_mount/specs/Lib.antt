@@ -8,5 +8,5 @@ pub mod Owed
 pub mod Mounted
 pub mod MountLaws
 pub mod ParkedLaws
-pub mod StatsLaws
+pub mod PastLaws
 pub mod private

@@ -2,7 +2,7 @@
 
 ghost use Rattle.trace_mount.specs.MountLaws.{FirstTextIsKept, NothingLeftIsAll, ReadsGiveParts, ReadsGoOn, StepsDoOneCommandAtMost};
 ghost use Rattle.trace_mount.specs.ParkedLaws.{ClosedReadsTakeNothing, InterruptedReadsTakeNothing, InterruptingAsksNothing, NoReadWaitsForWhatIsThere, NothingIsOwedToRequests, OldestIsAnsweredFirst, ReadsAreAnsweredOnce, TakenTextIsGivenOrKept, TellingDoesOneCommandAtMost, WaitingAsksNothing};
-ghost use Rattle.trace_mount.specs.StatsLaws.{LaterReadsGoOn, PastsAreDone, ReadsShowThePast, StatsShowThePast};
+ghost use Rattle.trace_mount.specs.PastLaws.{LaterReadsGoOn, PastsAreDone, ReadsShowThePast, StatsShowThePast, WritesAreCommands};
 
 /// Reads of a file that go on one after another give together one part of the text that the first of them made, and so from the beginning on what
 /// one read gives.
@@ -57,4 +57,9 @@ pub fn reads_show_the_past()
     ensures files { ReadsShowThePast }
     ensures stats { StatsShowThePast }
     ensures later { LaterReadsGoOn }
+{}
+
+/// A write to a file that is not `inject` is one command, of what came without a last newline, or is refused with nothing changed.
+pub fn writes_are_commands()
+    ensures { WritesAreCommands }
 {}

@@ -1,5 +1,5 @@
--- What reads of a mounted tracer's files show, by the commands that were done when the read at offset 0 was served. Theorems that speak of no program.
-use Rattle.std.specs.Prelude.{◌≡◌, ℕ, ◌==◌, ◌≤◌, Bool, true, false, List, [], ◌∷◌, length, Option, Some}
+-- What a mounted tracer did, whatever it served, and what reads of its files show of that. Theorems that speak of no program.
+use Rattle.std.specs.Prelude.{◌≡◌, ℕ, ◌==◌, ◌≤◌, Bool, true, false, not, List, [], ◌∷◌, length, Option, Some, None}
 use Rattle.fuse_wire.specs.Replies.{reply_bytes}
 use Rattle.fuse_wire.specs.declared.errno.Errno.{Errno}
 use Rattle.fuse_wire.specs.declared.reply.Reply.TheVariants as replies
@@ -7,7 +7,7 @@ use Rattle.fuse_wire.specs.declared.request.Operation.TheVariants as operations
 use Rattle.fuse_wire.specs.declared.request.Request.{Request as Asked}
 use Rattle.trace_command.specs.Configs.{IsInRange}
 use Rattle.trace_command.specs.Paths as paths
-use Rattle.trace_command.specs.Requests.{Request}
+use Rattle.trace_command.specs.Requests.{Request, ReadFile, WriteFile}
 use Rattle.trace_command.specs.declared.file_name.CpuFile.TheVariants as per_cpu
 use Rattle.trace_history.specs.FileTexts.{cpu_stats_text}
 use Rattle.trace_history.specs.History.{text_of}
@@ -20,8 +20,8 @@ use Rattle.mount_tree.specs.declared.file.File.TheVariants as files
 use Rattle.mount_tree.specs.declared.file.FileKind.{FileKind}
 use Rattle.mount_tree.specs.declared.file.FileKind.TheVariants as kinds
 use Rattle.trace_mount.specs.Mounted.{IsServed, Serves}
-use Rattle.trace_mount.specs.Served.{part_of}
-use Rattle.trace_mount.specs.Services.{OpenSeen, Service, Terms, file_at, node_of, scene_of, text_at, with_text}
+use Rattle.trace_mount.specs.Served.{part_of, without_newline}
+use Rattle.trace_mount.specs.Services.{OpenSeen, Service, Terms, file_at, node_of, scene_of, text_at, with_text, with_write}
 
 -- ---- what was served was done
 
@@ -51,17 +51,29 @@ is_text kinds.Inject = false
 abbrev pub instance_of : Terms → Service → OpenSeen → Option (List ℕ)
 instance_of g s file = owner_name (scene_of g s) file.owner
 
--- the read was one command, and gives the beginning of this text, which the open file keeps; nothing else has changed
-pub record GivesText (before : Service) (unique handle size : ℕ) (text bytes : List ℕ) (after : Service) : Type 0 where
-  pub request : Request
+-- the command that reads a file of an instance whole, and the one that writes to it
+abbrev pub read_whole : Option (List ℕ) → paths.File → Request
+read_whole instance file = ReadFile instance (Some file) None
+
+abbrev pub write_once : Option (List ℕ) → paths.File → Bool → List ℕ → Request
+write_once instance file append text = WriteFile instance (Some file) append text
+
+-- a request was refused, and nothing has changed
+pub record IsRefused (before : Service) (unique : ℕ) (bytes : List ℕ) (after : Service) : Type 0 where
+  pub errno : Errno
+  pub told : bytes ≡ reply_bytes unique (replies.Error errno)
+  pub now : after ≡ before
+
+-- a read was this one command, and gives the beginning of this text, which the open file keeps; nothing else has changed
+pub record GivesText (before : Service) (command : Request) (unique handle size : ℕ) (text bytes : List ℕ) (after : Service) : Type 0 where
   pub told : bytes ≡ reply_bytes unique (replies.Data (part_of 0 size text))
-  pub now : after ≡ record before { past = request ∷ before.past; files = with_text text handle before.files }
+  pub now : after ≡ record before { past = command ∷ before.past; files = with_text text handle before.files }
   pub kept : text_at handle after.files ≡ Some text
 
--- or it was refused, and nothing has changed
-pub data ReadsAnew (before : Service) (unique handle size : ℕ) (text bytes : List ℕ) (after : Service) : Type 0 where
-  Shown : GivesText before unique handle size text bytes after → ReadsAnew before unique handle size text bytes after
-  Refused : (errno : Errno) → bytes ≡ reply_bytes unique (replies.Error errno) → after ≡ before → ReadsAnew before unique handle size text bytes after
+-- or it was refused
+pub data ReadsAnew (before : Service) (command : Request) (unique handle size : ℕ) (text bytes : List ℕ) (after : Service) : Type 0 where
+  Shown : GivesText before command unique handle size text bytes after → ReadsAnew before command unique handle size text bytes after
+  NotShown : IsRefused before unique bytes after → ReadsAnew before command unique handle size text bytes after
 
 -- A READ at offset 0, whatever was served before it: the text is what the file shows after the commands that were done by then.
 abbrev pub ReadsShowThePast : Type 0
@@ -70,7 +82,8 @@ ReadsShowThePast =
     → IsInRange g.config → Serves g just_mounted requests messages before → IsServed g before request bytes after
     → request.operation ≡ operations.Read handle 0 size flags → file_at handle before.files ≡ Some file → is_text (kind_of_file file.file) ≡ true
     → is_there (scene_of g before) (node_of file) ≡ true → file_meant (scene_of g before) file.file ≡ Some meant
-    → ReadsAnew before request.unique handle size (text_of g.config (instance_of g before file) before.past meant) bytes after
+    → ReadsAnew before (read_whole (instance_of g before file) meant) request.unique handle size (text_of g.config (instance_of g before file) before.past meant) bytes
+    after
 
 -- Of `stats` this is the text of the numbers that trace_history counts of the commands that were done by then: what the CPU's ring of that instance
 -- keeps, what it overwrote, dropped and gave, and the clock.
@@ -80,7 +93,8 @@ StatsShowThePast =
     → IsInRange g.config → Serves g just_mounted requests messages before → IsServed g before request bytes after
     → request.operation ≡ operations.Read handle 0 size flags → file_at handle before.files ≡ Some file → file.file ≡ files.OfCpu cpu per_cpu.Stats
     → is_there (scene_of g before) (node_of file) ≡ true
-    → ReadsAnew before request.unique handle size (cpu_stats_text g.config (instance_of g before file) before.past cpu) bytes after
+    → ReadsAnew before (read_whole (instance_of g before file) (paths.OfCpu cpu per_cpu.Stats)) request.unique handle size
+    (cpu_stats_text g.config (instance_of g before file) before.past cpu) bytes after
 
 -- a READ at a later offset goes on in the text that the open file keeps, and changes nothing
 abbrev pub LaterReadsGoOn : Type 0
@@ -89,3 +103,30 @@ LaterReadsGoOn =
     → IsServed g before request bytes after → request.operation ≡ operations.Read handle offset size flags → (offset == 0) ≡ false
     → file_at handle before.files ≡ Some file → is_text (kind_of_file file.file) ≡ true → file.text ≡ Some text
     → (bytes ≡ reply_bytes request.unique (replies.Data (part_of offset size text))) × (after ≡ before)
+
+-- ---- writes
+
+-- a file that is not `inject`, whose writes are emissions
+abbrev pub is_file : FileKind → Bool
+is_file kinds.Inject = false
+is_file _ = true
+
+-- a write was this one command, and all of it was written; of the open files only this one has changed, which was written to
+pub record IsWrittenOnce (before : Service) (command : Request) (unique handle size : ℕ) (bytes : List ℕ) (after : Service) : Type 0 where
+  pub told : bytes ≡ reply_bytes unique (replies.Written size)
+  pub now : after ≡ record before { past = command ∷ before.past; files = with_write handle before.files }
+
+-- or it was refused
+pub data WritesOnce (before : Service) (command : Request) (unique handle size : ℕ) (bytes : List ℕ) (after : Service) : Type 0 where
+  IsDone : IsWrittenOnce before command unique handle size bytes after → WritesOnce before command unique handle size bytes after
+  IsNotDone : IsRefused before unique bytes after → WritesOnce before command unique handle size bytes after
+
+-- A WRITE, whatever was served before it: a command that writes what came, without a last newline, to that file of that instance: by `>` if the file
+-- was opened to be emptied and nothing was written to it yet, else by `>>`.
+abbrev pub WritesAreCommands : Type 0
+WritesAreCommands =
+    (g : Terms) (requests messages : List (List ℕ)) (before after : Service) (request : Asked) (bytes : List ℕ) (handle offset : ℕ) (own : List ℕ) (file : OpenSeen) (meant : paths.File)
+    → IsInRange g.config → Serves g just_mounted requests messages before → IsServed g before request bytes after
+    → request.operation ≡ operations.Write handle offset own → file_at handle before.files ≡ Some file → is_file (kind_of_file file.file) ≡ true
+    → is_there (scene_of g before) (node_of file) ≡ true → file_meant (scene_of g before) file.file ≡ Some meant
+    → WritesOnce before (write_once (instance_of g before file) meant (not file.starts_over) (without_newline own)) request.unique handle (length own) bytes after
