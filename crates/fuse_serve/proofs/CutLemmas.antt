@@ -5,7 +5,7 @@ use Rattle.std.proofs.lemmas.List.{append-nil, take_at, drop_at}
 use Rattle.std.proofs.lemmas.List.Elements.{All-cons, All-head, All-tail, All-nil}
 use Rattle.std.specs.List.{All, concat, flat_map}
 use Rattle.std.specs.Io.KnownBytes.{Consumes, IsAtEnd}
-use Rattle.fuse_serve.specs.Exchanges.{AnswersAll, AreWhole, Exchange, IsNext, requests_in, with_request}
+use Rattle.fuse_serve.specs.Exchanges.{AnswersAll, AreWhole, Exchange, IsNext, requests_in, with_bytes}
 use Rattle.fuse_serve.specs.Framing.{told_length, IsRequest, BeginsNoRequest}
 
 -- what follows a request changes nothing of the length that it tells
@@ -50,7 +50,7 @@ cut_one_way (a ∷ as') (b ∷ bs) left rest h k none none' e =
 pub none_in_none : BeginsNoRequest []
 none_in_none size request = let few : length (take {A = ℕ} size []) ≡ 0 = length-take {A = ℕ} size [] ∙ omega arith in omega (arith, request.header, few)
 
-with_joined : (request : List ℕ) (more : List (List ℕ)) → concat (with_request request more) ≡ request ++ concat more
+with_joined : (request : List ℕ) (more : List (List ℕ)) → concat (with_bytes request more) ≡ request ++ concat more
 with_joined [] more = refl
 with_joined (byte ∷ bytes) more = refl
 
@@ -58,7 +58,7 @@ joined : (exchanges : List Exchange) → flat_map (λ (one : Exchange). one.requ
 joined [] = refl
 joined (one ∷ more) = ap (λ (xs : List ℕ). one.request ++ xs) (joined more) ∙ sym (with_joined one.request (requests_in more))
 
-with_whole : (request : List ℕ) (more : List (List ℕ)) → (request ≡ []) ⊎ IsRequest request → All IsRequest more → All IsRequest (with_request request more)
+with_whole : (request : List ℕ) (more : List (List ℕ)) → (request ≡ []) ⊎ IsRequest request → All IsRequest more → All IsRequest (with_bytes request more)
 with_whole [] more h rest = rest
 with_whole (byte ∷ bytes) more (inl h) rest = absurd (let no : byte ∷ bytes ≡ [] = h in cc)
 with_whole (byte ∷ bytes) more (inr h) rest = All-cons IsRequest (byte ∷ bytes) more h rest

@@ -1,8 +1,10 @@
 -- What the writes of replies were offered.
-use Rattle.std.proofs.Common.{◌≡◌, ℕ, List, [], ◌∷◌, ◌++◌, Option, Some, None, sym, ap, ◌∙◌, append_assoc}
+use Rattle.std.proofs.Common.{◌≡◌, ℕ, ◌+◌, ◌≤◌, List, [], ◌∷◌, ◌++◌, length, Option, Some, None, refl, sym, ap, ◌∙◌, arith, append_assoc, length-append}
 use Rattle.std.proofs.lemmas.List.{append-nil}
-use Rattle.std.proofs.lemmas.List.Elements.{All-nil, All-push}
-use Rattle.fuse_serve.specs.Exchanges.{AreOffers, HasOffered, IsRestOf}
+use Rattle.std.proofs.lemmas.List.Elements.{All-head, All-nil, All-push, All-tail}
+use Rattle.std.specs.List.{All, flat_map}
+use Rattle.fuse_serve.specs.Exchanges.{AreOffers, Exchange, HasOffered, IsRestOf, replies_in, with_bytes}
+use Rattle.fuse_serve.specs.ServiceLaws.{OneWriteEach}
 use Rattle.fuse_serve.specs.private.Offering.{AreFirstOffers, IsOffering}
 
 pub HasOffered_append : (a b c : Option (List (List ℕ))) (xs ys : List (List ℕ)) → HasOffered a b xs → HasOffered b c ys → HasOffered a c (xs ++ ys)
@@ -39,3 +41,49 @@ goes_on reply front rest left a b c some split h last = record {
   are = first_are reply left rest h.offers [] (more_are reply front rest h.offers some split h.are);
   known = HasOffered_append a b c h.offers (rest ∷ []) h.known last;
 }
+
+-- ---- one write each
+
+-- a reply with bytes has a write at least
+one_at_least : (reply : List ℕ) (offers : List (List ℕ)) (more : List (List ℕ)) → AreOffers reply offers → length (with_bytes reply more) ≤ length offers + length more
+one_at_least [] offers more are = omega arith
+one_at_least (byte ∷ bytes) [] more are = absurd (let no : byte ∷ bytes ≡ [] = are in cc)
+one_at_least (byte ∷ bytes) (first ∷ rest) more are = omega arith
+
+all_at_least : (exchanges : List Exchange) → All (λ (one : Exchange). AreOffers one.reply one.offers) exchanges
+    → length (replies_in exchanges) ≤ length (flat_map (λ (one : Exchange). one.offers) exchanges)
+all_at_least [] h = omega arith
+all_at_least (one ∷ more) h =
+    let P : Exchange → Type 0 = λ x. AreOffers x.reply x.offers in
+    let offers : Exchange → List (List ℕ) = λ x. x.offers in
+    let rest : length (replies_in more) ≤ length (flat_map offers more) = all_at_least more (All-tail P one more h) in
+    omega (arith, rest, one_at_least one.reply one.offers (replies_in more) (All-head P one more h), length-append one.offers (flat_map offers more))
+
+with_more : (reply : List ℕ) (more : List (List ℕ)) → length (with_bytes reply more) ≤ 1 + length more
+with_more [] more = omega arith
+with_more (byte ∷ bytes) more = omega arith
+
+-- and if it has no more, that is offered all of it
+just_one : (reply : List ℕ) (offers more : List (List ℕ)) → AreOffers reply offers → length offers + length more ≤ length (with_bytes reply more)
+    → offers ++ more ≡ with_bytes reply more
+just_one [] [] more are few = refl
+just_one (byte ∷ bytes) [] more are few = absurd (let no : byte ∷ bytes ≡ [] = are in cc)
+just_one [] (first ∷ rest) more are few = absurd (omega (arith, few))
+just_one (byte ∷ bytes) (first ∷ []) more are few = ap (λ (x : List ℕ). x ∷ more) are.0
+just_one (byte ∷ bytes) (first ∷ second ∷ rest) more are few = absurd (omega (arith, few))
+
+pub one_write_each : OneWriteEach
+one_write_each [] h few = refl
+one_write_each (one ∷ more) h few =
+    let P : Exchange → Type 0 = λ x. AreOffers x.reply x.offers in
+    let offers : Exchange → List (List ℕ) = λ x. x.offers in
+    let first = All-head P one more h in
+    let rest = All-tail P one more h in
+    let sum = length-append one.offers (flat_map offers more) in
+    let least : length (replies_in more) ≤ length (flat_map offers more) = all_at_least more rest in
+    let here = one_at_least one.reply one.offers (replies_in more) first in
+    let later : flat_map offers more ≡ replies_in more =
+    one_write_each more rest (omega (arith, few, sum, here, with_more one.reply (replies_in more))) in
+    let same : length (flat_map offers more) ≡ length (replies_in more) = ap length later in
+    ap (λ (l : List (List ℕ)). one.offers ++ l) later
+    ∙ just_one one.reply one.offers (replies_in more) first (omega (arith, few, sum, same))

@@ -53,15 +53,20 @@ AnswersAll {S} answers ends owes before (one ∷ more) after =
     (ends before ≡ false) × IsNext (owes before) one.request × IsWritten one.fate one.reply one.written
     × (next : S) × answers before one.request next one.reply × AnswersAll answers ends owes next more after
 
--- a request, but for none, and more of them
-abbrev pub with_request : List ℕ → List (List ℕ) → List (List ℕ)
-with_request [] more = more
-with_request (byte ∷ bytes) more = (byte ∷ bytes) ∷ more
+-- these bytes, but for none, and more
+abbrev pub with_bytes : List ℕ → List (List ℕ) → List (List ℕ)
+with_bytes [] more = more
+with_bytes (byte ∷ bytes) more = (byte ∷ bytes) ∷ more
 
 -- the requests of the exchanges that have one
 abbrev pub requests_in : List Exchange → List (List ℕ)
 requests_in [] = []
-requests_in (one ∷ more) = with_request one.request (requests_in more)
+requests_in (one ∷ more) = with_bytes one.request (requests_in more)
+
+-- the replies that have bytes
+abbrev pub replies_in : List Exchange → List (List ℕ)
+replies_in [] = []
+replies_in (one ∷ more) = with_bytes one.reply (replies_in more)
 
 -- each is a whole request, or nothing
 abbrev pub AreWhole : List Exchange → Type 0

@@ -1,8 +1,8 @@
 -- What the definitions of a service mean.
-use Rattle.std.specs.Prelude.{◌≡◌, ◌≢◌, ℕ, List, [], ◌++◌, Option, Some, count_by}
+use Rattle.std.specs.Prelude.{◌≡◌, ◌≢◌, ◌≤◌, ℕ, length, List, [], ◌++◌, Option, Some, count_by}
 use Rattle.std.specs.List.{All, concat, flat_map}
 use Rattle.std.specs.Io.KnownBytes.{Consumes, IsAtEnd}
-use Rattle.fuse_serve.specs.Exchanges.{AreWhole, Exchange, IsWritten, is_dropped, requests_in}
+use Rattle.fuse_serve.specs.Exchanges.{AreOffers, AreWhole, Exchange, IsWritten, is_dropped, replies_in, requests_in}
 use Rattle.fuse_serve.specs.declared.fate.Fate.TheVariants.{Cut}
 use Rattle.fuse_serve.specs.Framing.{IsRequest, BeginsNoRequest}
 
@@ -22,3 +22,9 @@ abbrev pub AllAreWritten : Type 0
 AllAreWritten = (exchanges : List Exchange) → All (λ (one : Exchange). IsWritten one.fate one.reply one.written) exchanges → All (λ (one : Exchange). one.fate ≢ Cut) exchanges
     → count_by (λ (one : Exchange). is_dropped one.fate one.reply) exchanges ≡ 0
     → flat_map (λ (one : Exchange). one.written) exchanges ≡ flat_map (λ (one : Exchange). one.reply) exchanges
+
+-- if there were no more writes than replies with bytes, each of these was one write, which was offered all of it
+abbrev pub OneWriteEach : Type 0
+OneWriteEach = (exchanges : List Exchange) → All (λ (one : Exchange). AreOffers one.reply one.offers) exchanges
+    → length (flat_map (λ (one : Exchange). one.offers) exchanges) ≤ length (replies_in exchanges)
+    → flat_map (λ (one : Exchange). one.offers) exchanges ≡ replies_in exchanges
