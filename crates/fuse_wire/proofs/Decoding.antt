@@ -3,7 +3,7 @@ use Rattle.std.proofs.Common.{◌≡◌, ℕ, ◌-◌, ◌≤◌, true, List, []
 use Rattle.std.proofs.lemmas.List.{same_from_push, take_rest}
 use Rattle.std.proofs.lemmas.Option.{none-some}
 use Rattle.fuse_wire.specs.Parts.{Ignored, Name, IsName, Are}
-use Rattle.fuse_wire.specs.Requests.{opcode_of, HasOwnOpcode, body}
+use Rattle.fuse_wire.specs.Requests.{body}
 use Rattle.fuse_wire.specs.private.Answers.{IsBody, Decodes, ReadsName}
 use Rattle.fuse_wire.specs.declared.request.Operation.{Operation}
 use Rattle.fuse_wire.proofs.Opcodes.{operation_at, operation_is, after_ignored}

@@ -1,10 +1,9 @@
 -- A request's header and its body.
-use Rattle.std.proofs.Common.{◌≡◌, ℕ, ◌-◌, ◌≤◌, List, [], ◌∷◌, ◌++◌, length, take, drop, Option, Some, None, Result, Ok, Err, refl, sym, ap, subst, ◌∙◌, arith}
-use Rattle.std.specs.Int.{w32, w64}
+use Rattle.std.proofs.Common.{◌≡◌, ℕ, ◌-◌, ◌≤◌, List, ◌∷◌, length, take, drop, Option, Some, None, refl, sym, subst, ◌∙◌, arith}
 use Rattle.std.proofs.lemmas.List.{take_rest}
 use Rattle.std.proofs.lemmas.Option.{same_Some, none-some}
-use Rattle.fuse_wire.specs.Parts.{Part, U32, U64, Ignored, Anything, IsPart, Are}
-use Rattle.fuse_wire.specs.Requests.{opcode_of, HasOwnOpcode, body, in_header, IsRequest, IsFramed}
+use Rattle.fuse_wire.specs.Parts.{Part, U32, U64, Anything, IsPart, Are}
+use Rattle.fuse_wire.specs.Requests.{opcode_of, body, IsRequest, IsFramed}
 use Rattle.fuse_wire.specs.private.Answers.{IsBody, Decodes, HasFrame}
 use Rattle.fuse_wire.specs.declared.request.Operation.{Operation}
 use Rattle.fuse_wire.specs.declared.request.Request.{Request}

@@ -1,11 +1,11 @@
 -- A body is of one operation of its opcode: the one whose fields lie in it.
-use Rattle.std.proofs.Common.{◌≡◌, ℕ, ◌+◌, ◌-◌, Bool, true, false, eqb, List, [], ◌∷◌, ◌++◌, length, take, drop, refl, sym, ap, subst, ◌∙◌, arith, length-append}
+use Rattle.std.proofs.Common.{◌≡◌, ℕ, ◌+◌, ◌-◌, false, List, [], ◌∷◌, ◌++◌, length, take, drop, refl, sym, ap, subst, ◌∙◌, arith, length-append}
 use Rattle.std.specs.Prelude.{if◌then◌else◌, ◌==◌}
 use Rattle.std.specs.Int.{w32, w64}
 use Rattle.std.specs.List.{list_any}
 use Rattle.std.proofs.lemmas.Bool.{or_from, ne_eqb}
 use Rattle.std.proofs.lemmas.List.{take_at, drop-drop}
-use Rattle.fuse_wire.specs.Parts.{Part, U32, U64, Ignored, Name, Bytes, Anything, IsPart, Are}
+use Rattle.fuse_wire.specs.Parts.{Part, U32, U64, Ignored, Name, Bytes, Are}
 use Rattle.fuse_wire.specs.Requests.{opcode_of, is_known, HasOwnOpcode, body}
 use Rattle.fuse_wire.specs.declared.request.Operation.{Operation}
 use Rattle.fuse_wire.specs.declared.request.Operation.TheVariants.{Lookup, Forget, GetAttr, SetAttr, MkDir, RmDir, Open, Read, Write, StatFs, Release, Fsync, GetXAttr, ListXAttr, Flush, Init, OpenDir, ReadDir, ReleaseDir, Access, Interrupt, Destroy, Poll, BatchForget, Other}

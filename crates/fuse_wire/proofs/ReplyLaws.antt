@@ -1,17 +1,17 @@
 -- Replies tell their length, and what they are.
-use Rattle.std.proofs.Common.{◌≡◌, ℕ, ◌+◌, ◌-◌, ◌<◌, ◌≤◌, ◌^◌, List, [], ◌∷◌, ◌++◌, length, take, drop, refl, sym, ap, subst, ◌∙◌, arith, append_assoc, length-append}
+use Rattle.std.proofs.Common.{◌≡◌, ℕ, ◌+◌, ◌<◌, ◌^◌, List, [], ◌∷◌, ◌++◌, length, take, drop, refl, sym, ap, subst, ◌∙◌, arith, append_assoc, length-append}
 use Rattle.std.specs.Int.{w32, w64}
 use Rattle.std.proofs.lemmas.List.{take_at, append-nil}
-use Rattle.fuse_wire.specs.Parts.{Part, U32, U64, Ignored, Bytes, Are, nothing, followed, number_bytes, bytes_of}
-use Rattle.fuse_wire.specs.Replies.{errno_number, error_of, reply_body, out_header, message, reply_bytes}
-use Rattle.fuse_wire.specs.Laws.{AreAlike, RepliesTellTheirLength, RepliesDiffer}
+use Rattle.fuse_wire.specs.Parts.{U32, U64, Ignored, Bytes, Are, nothing, followed, number_bytes, bytes_of}
+use Rattle.fuse_wire.specs.Replies.{errno_number, error_of, reply_body, out_header, message}
+use Rattle.fuse_wire.specs.Laws.{RepliesTellTheirLength, RepliesDiffer}
 use Rattle.fuse_wire.specs.declared.errno.Errno.{Errno}
 use Rattle.fuse_wire.specs.declared.errno.Errno.TheVariants.{EPERM, ENOENT, EINTR, EIO, ENXIO, E2BIG, EBADF, EAGAIN, ENOMEM, EACCES, EBUSY, EEXIST, ENODEV, ENOTDIR, EISDIR, EINVAL, ENOSPC, ENOSYS, ENOTEMPTY, EPROTO}
 use Rattle.fuse_wire.specs.declared.reply.Reply.{Reply}
 use Rattle.fuse_wire.specs.declared.reply.Reply.TheVariants as replies
 use Rattle.fuse_wire.proofs.NumberLemmas.{length-number_32}
 use Rattle.fuse_wire.proofs.PartLemmas.{length-bytes_of, only_part}
-use Rattle.fuse_wire.proofs.Opcodes.{first_32, first_64, number_at, long_at, after_ignored}
+use Rattle.fuse_wire.proofs.Opcodes.{number_at, long_at, after_ignored}
 
 -- a message, its header's numbers one by one
 split : (error unique : ℕ) (body : List ℕ) → message error unique body ≡ number_bytes w32 (16 + length body) ++ (number_bytes w32 error ++ (number_bytes w64 unique ++ body))

@@ -1,8 +1,8 @@
 -- Requests have bytes, and no bytes are two.
 use Rattle.std.proofs.Common.{◌≡◌, ℕ, ◌+◌, List, [], ◌∷◌, ◌++◌, length, drop, refl, sym, ap, subst, ◌∙◌, arith}
 use Rattle.std.proofs.lemmas.List.{length-replicate}
-use Rattle.fuse_wire.specs.Parts.{Part, U16, U32, U64, Ignored, Name, Bytes, Anything, Are, nothing, followed, part_bytes, bytes_of}
-use Rattle.fuse_wire.specs.Requests.{opcode_of, HasOwnOpcode, body, in_header, IsRequest}
+use Rattle.fuse_wire.specs.Parts.{Part, U16, U32, U64, Ignored, Name, Bytes, Anything, Are, nothing, followed, bytes_of}
+use Rattle.fuse_wire.specs.Requests.{opcode_of, body, in_header, IsRequest}
 use Rattle.fuse_wire.specs.Laws.{AreWritable, parts_of, RequestsHaveBytes, RequestsDiffer}
 use Rattle.fuse_wire.specs.declared.request.Request.{Request}
 use Rattle.fuse_wire.proofs.PartLemmas.{length-bytes_of}

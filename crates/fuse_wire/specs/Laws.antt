@@ -3,7 +3,7 @@ use Rattle.std.specs.Prelude.{◌≡◌, ℕ, ◌+◌, ◌<◌, ◌^◌, List, [
 use Rattle.std.specs.Int.{w32}
 use Rattle.fuse_wire.specs.Parts.{Part, U16, U32, U64, Ignored, Name, Bytes, Anything, IsName, number_bytes, bytes_of}
 use Rattle.fuse_wire.specs.Requests.{opcode_of, HasOwnOpcode, body, in_header, IsRequest}
-use Rattle.fuse_wire.specs.Replies.{reply_body, error_of, reply_bytes, IsSendable}
+use Rattle.fuse_wire.specs.Replies.{reply_body, error_of, reply_bytes}
 use Rattle.fuse_wire.specs.declared.request.Request.{Request}
 use Rattle.fuse_wire.specs.declared.reply.Reply.{Reply}
 use Rattle.fuse_wire.specs.declared.reply.Reply.TheVariants as replies

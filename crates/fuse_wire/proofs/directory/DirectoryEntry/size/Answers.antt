@@ -1,4 +1,4 @@
-use Rattle.std.proofs.Common.{◌≡◌, ℕ, List, length, ap, ◌∙◌, arith}
+use Rattle.std.proofs.Common.{◌≡◌, length, ap, ◌∙◌, arith}
 use Rattle.fuse_wire.specs.Alignment.{padding}
 use Rattle.fuse_wire.specs.Directories.{dirent}
 use Rattle.fuse_wire.proofs.PartLemmas.{length-bytes_of}
