@@ -65,7 +65,7 @@ meant-whole scene (files.OfEvent event file) meant text is = by (event_name even
     by : (name : Option (List ℕ)) → option_map (λ (n : List ℕ). paths.OfEvent n file) name ≡ Some meant → is_whole meant ≡ true
     by None e = absurd (let no : None ≡ Some meant = e in cc)
     by (Some name) e = some-file (paths.OfEvent name file) meant refl e
-meant-whole scene (files.Inject event) meant text is = absurd (false≢true text)
+meant-whole scene _ meant text is = absurd (false≢true text)
 
 given : (text : List ℕ) (answer : Answer) → whole_text None text ≡ Ok answer → text_in answer ≡ text
 given text answer is = let same : answers.Text text ≡ answer = cc in ap text_in (sym same)
@@ -135,8 +135,7 @@ kind-reads : (g : Terms) (s : Service) (read : Parked) (offset flags : ℕ) (fil
     → read_kind g s read offset flags file kind ≡ read_text (scene_of g s) read.handle offset read.size file s.files
 kind-reads g s read offset flags file kinds.Text is = refl
 kind-reads g s read offset flags file kinds.Trace is = refl
-kind-reads g s read offset flags file kinds.Pipe is = absurd (false≢true is)
-kind-reads g s read offset flags file kinds.Inject is = absurd (false≢true is)
+kind-reads g s read offset flags file _ is = absurd (false≢true is)
 
 file-reads : (g : Terms) (s : Service) (read : Parked) (offset flags : ℕ) (file : OpenSeen) (there : Option OpenSeen) → there ≡ Some file
     → is_text (kind_of_file file.file) ≡ true
@@ -197,7 +196,7 @@ kind-writes g s handle pid bytes own (files.OfInstance file) is = refl
 kind-writes g s handle pid bytes own files.SystemEnable is = refl
 kind-writes g s handle pid bytes own (files.OfCpu cpu file) is = refl
 kind-writes g s handle pid bytes own (files.OfEvent event file) is = refl
-kind-writes g s handle pid bytes own (files.Inject event) is = absurd (false≢true is)
+kind-writes g s handle pid bytes own _ is = absurd (false≢true is)
 
 file-writes : (g : Terms) (s : Service) (handle pid : ℕ) (bytes : List ℕ) (own : OpenSeen) (there : Option OpenSeen) → there ≡ Some own
     → is_file (kind_of_file own.file) ≡ true

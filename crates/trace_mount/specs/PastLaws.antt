@@ -44,8 +44,7 @@ PastsAreDone = (g : Terms) (requests messages : List (List ℕ)) (after : Servic
 abbrev pub is_text : FileKind → Bool
 is_text kinds.Text = true
 is_text kinds.Trace = true
-is_text kinds.Pipe = false
-is_text kinds.Inject = false
+is_text _ = false
 
 -- the instance whose file was opened
 abbrev pub instance_of : Terms → Service → OpenSeen → Option (List ℕ)
@@ -106,10 +105,12 @@ LaterReadsGoOn =
 
 -- ---- writes
 
--- a file that is not `inject`, whose writes are emissions
+-- a file that commands can write: not `inject`, whose writes are emissions
 abbrev pub is_file : FileKind → Bool
-is_file kinds.Inject = false
-is_file _ = true
+is_file kinds.Text = true
+is_file kinds.Trace = true
+is_file kinds.Pipe = true
+is_file _ = false
 
 -- a write was this one command, and all of it was written; of the open files only this one has changed, which was written to
 pub record IsWrittenOnce (before : Service) (command : Request) (unique handle size : ℕ) (bytes : List ℕ) (after : Service) : Type 0 where
