@@ -1,0 +1,38 @@
+# What a session begins with: two events on two CPUs, and words that show what a client does.
+cd /sys/kernel/tracing || exit
+readonly TICK=events/synthetic/tick TOCK=events/synthetic/tock CPUS=2
+
+# Processes have other numbers in each run.
+mask() {
+  sed -E "s/^ *[0-9]+ \[/PID [/; s/-P $$\$/-P SHELL/; s/==$$\)/==SHELL)/"
+}
+
+# run COMMAND ..: its output, and its status if that is not 0.
+run() {
+  printf '$ %s\n' "$*" | mask
+  { "$@" < /dev/null 2>&1 && echo "status 0"; echo "status $?"; } | sed -n '/^status 0$/q; p' | mask
+}
+
+# The texts of files.
+show() {
+  local file
+  for file in "$@"; do
+    printf -- '-- %s\n' "${file#"$ROOM/"}"
+    mask < "$file"
+  done
+}
+
+# event CPU EVENT FIELDS: an event, by a process that is on this CPU.
+event() {
+  local status=9
+  while [ "$status" -eq 9 ]; do
+    (
+      ((BASHPID % CPUS == $1)) || exit 9
+      echo "$3" > "events/synthetic/$2/inject"
+    )
+    status=$?
+  done
+}
+
+echo 'tick u64 n; char who[8]' > synthetic_events
+echo 'tock s32 d' >> synthetic_events
