@@ -126,18 +126,33 @@ class Server:
         self.ask(RELEASE, node, struct.pack("<QIIQ", handle, 0, 0, 0))
 
     def cat(self, path, size=65536):
-        """The text of a file, read in pieces of this size to its end."""
+        """The text of a file, read in pieces of this size to its end, or of a pipe until nothing waits."""
         node = self.lookup(path)
-        handle = self.open(node, os.O_RDONLY)
+        handle = self.open(node, os.O_RDONLY | os.O_NONBLOCK)
         text = b""
         try:
-            while True:
-                more = self.read_at(node, handle, len(text), size)
+            while more := self.read_at(node, handle, len(text), size, os.O_NONBLOCK):
                 text += more
-                if not more:
-                    return text
+        except Refused as refused:
+            if refused.number != errno.EAGAIN:
+                raise
         finally:
             self.close(node, handle)
+        return text
+
+    def park(self, node, handle, size=65536):
+        """The number of a read that is to wait: its reply comes after that of a later request."""
+        self.unique += 2
+        self.send(request(READ, self.unique, node, struct.pack("<QQIIQII", handle, 0, size, 0, 0, 0, 0)))
+        return self.unique
+
+    def interrupt(self, unique):
+        """What a kernel sends of a call that was given up; it has no reply of its own."""
+        self.send(request(INTERRUPT, unique + 1, 0, struct.pack("<Q", unique)))
+
+    def poll(self, node, handle, number=1, flags=1):
+        """The events that a POLL tells. By flags of 1 a message is wanted, with this number, once there are some."""
+        return struct.unpack_from("<I", self.ask(POLL, node, struct.pack("<QQII", handle, number, flags, 0x41)))[0]
 
     def echo(self, text, path, append=False, pid=None):
         """`echo TEXT > PATH`, or with `>>`."""
