@@ -34,5 +34,14 @@ event() {
   done
 }
 
+# Waits until a process waits in a read: of its system calls read is number 0.
+until_it_reads() {
+  local i
+  for i in $(seq 100); do
+    [[ $(cat "/proc/$1/syscall") != 0\ * ]] || break
+    sleep 0.02
+  done
+}
+
 echo 'tick u64 n; char who[8]' > synthetic_events
 echo 'tock s32 d' >> synthetic_events
