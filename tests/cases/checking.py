@@ -34,7 +34,7 @@ def checked(words, commands, settings=(), by=None):
 
 
 def check_cases():
-    counts = {"tests/program": 20, "tests/threads": 3, "tests/allocations": 10, "tests/tried": 29, "tests/planted": 5, "tests/archive": 1, "tests/unproved": 7, "tests/library": 4, "tests/mount": 2, "tests/mounted": 6}
+    counts = {"tests/program": 20, "tests/threads": 3, "tests/allocations": 10, "tests/tried": 29, "tests/planted": 5, "tests/archive": 1, "tests/unproved": 7, "tests/library": 4, "tests/mount": 2, "tests/mounted": 6, "tests/clients": 8, "tests/watch": 9}
     tests = {name: CHECKED % (name, count, 0, 0) for name, count in counts.items()}
     whole = dict(tests, rt=CHECKED % ("rt", 100, 0, 0))
 
@@ -60,18 +60,18 @@ def check_cases():
     telling = "echo \"rt: $(cut -d: -f1 crates.txt | tr '\\n' ' ')proved\"\necho '100 passed, 0 failed'"
     ahead = [" min: %s proved\n" % crates for crates in ("trace_lex", "trace_snapshot ticket_lock fuse_wire fuse_serve", "trace_text", "tracectl", " ".join(CRATES))]
     return [
-        case("all of it", [], whole, each, 0, jobs, last=b"\n182 passed, 0 failed\n"),
-        case("all of it, and rt shares the processors", [], whole, ["rt ci RT_JOBS= "], 0, last=b"\n182 passed, 0 failed\n"),
-        case("all of it, and the chain is proved ahead", [], dict(tests, rt=telling, awk="echo 20000000"), ahead, 0, last=b"\n182 passed, 0 failed\n"),
-        case("all of it, and little of its memory is free", [], dict(tests, rt=telling, awk="echo 9000000"), ahead[-1:], 0, last=b"\n182 passed, 0 failed\n"),
-        case("by a link, with a CDPATH and a TMPDIR that isn't there", [], whole, each, 0, elsewhere, "link", last=b"\n182 passed, 0 failed\n"),
-        case("by a relative path, likewise", [], whole, each, 0, elsewhere, "relative", last=b"\n182 passed, 0 failed\n"),
-        case("a test that fails", [], dict(whole, **{"tests/threads": CHECKED % ("", 2, 1, 1)}), [], 1, jobs, last=b"\n181 passed, 1 failed\n"),
-        case("a gate that fails by its status alone", [], dict(whole, rt=CHECKED % ("rt", 100, 0, 1)), [], 1, jobs, last=b"\n182 passed, 1 failed\n"),
-        case("a test that prints no counts", [], dict(whole, **{"tests/program": "echo nothing"}), [], 1, jobs, last=b"\n162 passed, 1 failed\n"),
-        case("quickly, with a proved program", ["--quick"], proved, ["/crates/tracectl/out/tracectl\n"], 0, last=b"\n45 passed, 0 failed (the programs are proved)\n"),
-        case("quickly, with an unproved program", ["--quick"], compiled, ["/tracectl-unproved\n"], 0, stderr=None, last=b"\n45 passed, 0 failed " + unproved.encode()),
-        case("quickly, with one proved program", ["--quick"], half, ["/out/tracectl\n"], 0, stderr=None, last=b"\n45 passed, 0 failed (one of the two programs is not proved)\n"),
+        case("all of it", [], whole, each, 0, jobs, last=b"\n199 passed, 0 failed\n"),
+        case("all of it, and rt shares the processors", [], whole, ["rt ci RT_JOBS= "], 0, last=b"\n199 passed, 0 failed\n"),
+        case("all of it, and the chain is proved ahead", [], dict(tests, rt=telling, awk="echo 20000000"), ahead, 0, last=b"\n199 passed, 0 failed\n"),
+        case("all of it, and little of its memory is free", [], dict(tests, rt=telling, awk="echo 9000000"), ahead[-1:], 0, last=b"\n199 passed, 0 failed\n"),
+        case("by a link, with a CDPATH and a TMPDIR that isn't there", [], whole, each, 0, elsewhere, "link", last=b"\n199 passed, 0 failed\n"),
+        case("by a relative path, likewise", [], whole, each, 0, elsewhere, "relative", last=b"\n199 passed, 0 failed\n"),
+        case("a test that fails", [], dict(whole, **{"tests/threads": CHECKED % ("", 2, 1, 1)}), [], 1, jobs, last=b"\n198 passed, 1 failed\n"),
+        case("a gate that fails by its status alone", [], dict(whole, rt=CHECKED % ("rt", 100, 0, 1)), [], 1, jobs, last=b"\n199 passed, 1 failed\n"),
+        case("a test that prints no counts", [], dict(whole, **{"tests/program": "echo nothing"}), [], 1, jobs, last=b"\n179 passed, 1 failed\n"),
+        case("quickly, with a proved program", ["--quick"], proved, ["/crates/tracectl/out/tracectl\n"], 0, last=b"\n62 passed, 0 failed (the programs are proved)\n"),
+        case("quickly, with an unproved program", ["--quick"], compiled, ["/tracectl-unproved\n"], 0, stderr=None, last=b"\n62 passed, 0 failed " + unproved.encode()),
+        case("quickly, with one proved program", ["--quick"], half, ["/out/tracectl\n"], 0, stderr=None, last=b"\n62 passed, 0 failed (one of the two programs is not proved)\n"),
         case("quickly, and it can't be compiled", ["--quick"], dict(whole, **{"tools/unproved.py": "exit 1"}), [], 1, stderr=None, last=b"0 passed, 1 failed\n"),
         case("quickly, with nothing to compile by", ["--quick"], tests, [], 2, stderr=no_rt, last=b""),
         case("planted bugs of two crates", ["--planted", "page_ring", "trace_hist"], whole, ["tests/planted page_ring trace_hist RT_JOBS=1"], 0),
