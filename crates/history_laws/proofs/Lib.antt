@@ -11,6 +11,6 @@ pub mod RisingReads
 pub mod SingleReads
 pub mod JoinedTakes
 pub mod PartedReads
-pub mod DistinctRows
-pub mod GroupedSums
-pub mod TiedRows
+pub mod CpuSums
+pub mod MergedReads
+pub mod PipeOrder

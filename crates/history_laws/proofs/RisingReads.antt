@@ -144,7 +144,7 @@ side-after consumed g entry before instance side cpu in_range legal was =
     by_life true new = by_made new (side == live_side instance past)
     by_life false alive = by_side alive (side == live_side instance past) refl
 
-side-rises : AreConsumed → (g : Config) (entries : List Entry) (instance : Option (List ℕ)) (side cpu : ℕ) → IsInRange g → IsLegalNewestFirst g entries
+pub side-rises : AreConsumed → (g : Config) (entries : List Entry) (instance : Option (List ℕ)) (side cpu : ℕ) → IsInRange g → IsLegalNewestFirst g entries
     → let past = requests_of entries in
     Rises 0 (now_of past) (map read_time (read_from_side g instance side cpu past) ++ ring_times g cpu (rings_of_side g instance side past))
 side-rises consumed g [] instance side cpu in_range legal = subst (Rises 0 0) (sym (new-times g cpu)) tt

@@ -24,7 +24,7 @@ pub rises-higher : (low high more : ℕ) (ts : List ℕ) → high ≤ more → R
 rises-higher low high more [] le h = tt
 rises-higher low high more (t ∷ ts) le h = let k : t ≤ high = h.1 in (h.0, omega (arith, k, le), rises-higher t high more ts le h.2)
 
-rises-lower : (low less high : ℕ) (ts : List ℕ) → less ≤ low → Rises low high ts → Rises less high ts
+pub rises-lower : (low less high : ℕ) (ts : List ℕ) → less ≤ low → Rises low high ts → Rises less high ts
 rises-lower low less high [] le h = tt
 rises-lower low less high (t ∷ ts) le h = let k : low < t = h.0 in (omega (arith, k, le), h.1, h.2)
 

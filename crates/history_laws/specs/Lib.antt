@@ -2,4 +2,5 @@ pub mod AccountedFor
 pub mod ReadsInParts
 pub mod ReadOnce
 pub mod RingTotals
-pub mod GroupedRows
+pub mod CpuSums
+pub mod OneOrder

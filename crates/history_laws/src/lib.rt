@@ -1,5 +1,5 @@
 //! What histories come to, in a user's own words. It is all in `specs/`; the code here does nothing but name theorems.
 #![tactic(auto)]
 
-pub mod groups;
+pub mod files;
 pub mod laws;

@@ -1,0 +1,58 @@
+-- `trace` and `trace_pipe` show one order (ftrace.rst, "The File System"). The newest entry comes first.
+use Rattle.std.specs.Prelude.{◌≡◌, ◌<◌, ℕ, List, ◌++◌, map, take, Option, Some, None}
+use Rattle.std.specs.List.{AllPairs, flat_map}
+use Rattle.trace_record.specs.Record.{timestamp}
+use Rattle.page_ring.specs.Account.{Reading}
+use Rattle.trace_buffer.specs.Families.{CpuReading, on_cpu}
+use Rattle.trace_buffer.specs.Orders.{merged}
+use Rattle.trace_text.specs.BufferText.{reading_line, taken_lines}
+use Rattle.trace_command.specs.Configs.{IsInRange}
+use Rattle.trace_command.specs.Requests.{Request}
+use Rattle.trace_command.specs.declared.command.Config.{Config}
+use Rattle.trace_command.specs.declared.command.Entry.{Entry}
+use Rattle.trace_history.specs.FileTexts.{shown_pipe, shown_trace}
+use Rattle.trace_history.specs.History.{requests_of, IsLegalNewestFirst}
+use Rattle.trace_history.specs.Laws.{kept_readings, spare_readings, those_of}
+use Rattle.trace_history.specs.Rings.{pipe_read, rings}
+use Rattle.trace_history.specs.Settings.{declared_events}
+
+-- the timestamps of records rise strictly
+abbrev pub TimesRise : List Reading → Type 0
+TimesRise records = AllPairs (λ earlier later. timestamp earlier.rec < timestamp later.rec) records
+
+-- in a legal history those that a ring keeps do, on either side
+abbrev pub KeptTimesRise : Type 0
+KeptTimesRise =
+    (g : Config) (entries : List Entry) (instance : Option (List ℕ)) (cpu : ℕ) → IsInRange g → IsLegalNewestFirst g entries
+    → TimesRise (kept_readings g instance cpu (requests_of entries)) × TimesRise (spare_readings g instance cpu (requests_of entries))
+
+-- the records that `trace` shows
+abbrev pub trace_records : Config → Option (List ℕ) → List Request → List CpuReading
+trace_records g instance past = merged g.pages g.page_bytes (rings g instance past)
+
+-- `cat trace_pipe` takes them, in the same order; a read with a limit takes the first of them
+pub record ReadsTheTrace (g : Config) (past : List Request) (instance : Option (List ℕ)) : Type 0 where
+  pub whole : (pipe_read g None (rings g instance past)).taken ≡ trace_records g instance past
+  pub first : (limit : ℕ) → (pipe_read g (Some limit) (rings g instance past)).taken ≡ take limit (trace_records g instance past)
+
+abbrev pub PipesReadTheTrace : Type 0
+PipesReadTheTrace =
+    (g : Config) (entries : List Entry) (instance : Option (List ℕ)) → IsInRange g → IsLegalNewestFirst g entries
+    → ReadsTheTrace g (requests_of entries) instance
+
+-- so the texts have lines of the same records: those of `trace` follow its head, and those of `trace_pipe` have the lines of lost records among them
+pub record ShowsOneOrder (g : Config) (past : List Request) (instance : Option (List ℕ)) : Type 0 where
+  pub head : List ℕ
+  pub trace : shown_trace g instance past None ≡ head ++ flat_map (reading_line (declared_events past)) (trace_records g instance past)
+  pub pipe : shown_pipe g instance past None ≡ flat_map (taken_lines (declared_events past)) (trace_records g instance past)
+
+abbrev pub TraceAndPipeShowOneOrder : Type 0
+TraceAndPipeShowOneOrder =
+    (g : Config) (entries : List Entry) (instance : Option (List ℕ)) → IsInRange g → IsLegalNewestFirst g entries
+    → ShowsOneOrder g (requests_of entries) instance
+
+-- and those of one CPU are in the order of its ring, as its own files show them
+abbrev pub EachCpuKeepsItsOrder : Type 0
+EachCpuKeepsItsOrder =
+    (g : Config) (entries : List Entry) (instance : Option (List ℕ)) (cpu : ℕ) → IsInRange g → IsLegalNewestFirst g entries
+    → those_of cpu (trace_records g instance (requests_of entries)) ≡ map (on_cpu cpu) (kept_readings g instance cpu (requests_of entries))

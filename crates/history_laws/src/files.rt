@@ -1,0 +1,28 @@
+//! What the files of instances show, taken together. Each function does nothing: its contract is a theorem.
+
+ghost use Rattle.history_laws.specs.CpuSums.{ShownAreAllEntries, WaitingAreAllEntries, HeadHasTheSums, CpuHeadHasItsCounts, SnapshotHeadHasTheSums};
+ghost use Rattle.history_laws.specs.OneOrder.{KeptTimesRise, PipesReadTheTrace, TraceAndPipeShowOneOrder, EachCpuKeepsItsOrder};
+
+/// The whole is the sum of the CPUs. `trace` shows as many records as the CPUs' `entries` are together, and as many wait in the pipe of all CPUs. Its
+/// head has the sums of what the CPUs' `stats` show, and so has that of `snapshot`, of the other side; the head of a CPU's `trace` has what the CPU's
+/// own `stats` shows.
+pub fn the_whole_is_the_sum()
+    ensures shown { ShownAreAllEntries }
+    ensures waiting { WaitingAreAllEntries }
+    ensures head { HeadHasTheSums }
+    ensures cpu { CpuHeadHasItsCounts }
+    ensures snapshot { SnapshotHeadHasTheSums }
+{}
+
+/// `trace` and `trace_pipe` show one order. In a legal history with a configuration in range the timestamps that a ring keeps rise strictly, on either
+/// side; `cat trace_pipe` takes the records that `cat trace` shows, in the same order, and a read with a limit the first of them; and those of a CPU are
+/// in the order of its ring.
+pub fn trace_and_pipe_show_one_order()
+    ensures rise { KeptTimesRise }
+    ensures reads { PipesReadTheTrace }
+    ensures texts { TraceAndPipeShowOneOrder }
+    ensures cpus { EachCpuKeepsItsOrder }
+{
+    page_ring::laws::least_is_read();
+    trace_history::laws::pipe_reads_consume_what_they_show();
+}
