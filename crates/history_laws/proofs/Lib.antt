@@ -14,3 +14,4 @@ pub mod PartedReads
 pub mod CpuSums
 pub mod MergedReads
 pub mod PipeOrder
+pub mod TriggerConditions

@@ -4,3 +4,4 @@ pub mod ReadOnce
 pub mod RingTotals
 pub mod CpuSums
 pub mod OneOrder
+pub mod TriggerTrees

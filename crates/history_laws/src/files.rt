@@ -2,6 +2,7 @@
 
 ghost use Rattle.history_laws.specs.CpuSums.{ShownAreAllEntries, WaitingAreAllEntries, HeadHasTheSums, CpuHeadHasItsCounts, SnapshotHeadHasTheSums};
 ghost use Rattle.history_laws.specs.OneOrder.{KeptTimesRise, PipesReadTheTrace, TraceAndPipeShowOneOrder, EachCpuKeepsItsOrder};
+ghost use Rattle.history_laws.specs.TriggerTrees.{SnapshotTriggersMeetAsTheirTrees, HistTriggersMeetAsTheirTrees};
 
 /// The whole is the sum of the CPUs. `trace` shows as many records as the CPUs' `entries` are together, and as many wait in the pipe of all CPUs. Its
 /// head has the sums of what the CPUs' `stats` show, and so has that of `snapshot`, of the other side; the head of a CPU's `trace` has what the CPU's
@@ -14,9 +15,9 @@ pub fn the_whole_is_the_sum()
     ensures snapshot { SnapshotHeadHasTheSums }
 {}
 
-/// `trace` and `trace_pipe` show one order. In a legal history with a configuration in range the timestamps that a ring keeps rise strictly, on either
-/// side; `cat trace_pipe` takes the records that `cat trace` shows, in the same order, and a read with a limit the first of them; and those of a CPU are
-/// in the order of its ring.
+/// `trace` and `trace_pipe` show one order. In a legal history with a configuration in range the timestamps that a ring keeps rise strictly, on
+/// either side; `cat trace_pipe` takes the records that `cat trace` shows, in the same order, and a read with a limit the first of them; and those of
+/// a CPU are in the order of its ring.
 pub fn trace_and_pipe_show_one_order()
     ensures rise { KeptTimesRise }
     ensures reads { PipesReadTheTrace }
@@ -25,4 +26,16 @@ pub fn trace_and_pipe_show_one_order()
 {
     page_ring::laws::least_is_read();
     trace_history::laws::pipe_reads_consume_what_they_show();
+}
+
+/// Triggers meet as their trees. In a legal history each trigger that an event has, for snapshots or of a histogram, was attached by a string written
+/// to the event's trigger file, and it meets just the emissions of which a tree of that string's condition holds, or all where it has none.
+pub fn triggers_meet_as_their_trees()
+    ensures snapshot { SnapshotTriggersMeetAsTheirTrees }
+    ensures hist { HistTriggersMeetAsTheirTrees }
+{
+    trace_filter::laws::filters_hold_as_their_trees();
+    trace_trigger::laws::trigger_texts_are_as_written();
+    trace_trigger::hist_laws::hist_triggers_are_as_written();
+    trace_history::laws::triggers_are_few_and_differ();
 }
