@@ -15,3 +15,7 @@ pub mod CpuSums
 pub mod MergedReads
 pub mod PipeOrder
 pub mod TriggerConditions
+pub mod Renumbered
+pub mod Looks
+pub mod AlikePasts
+pub mod LookedTables

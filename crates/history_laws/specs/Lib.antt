@@ -5,3 +5,4 @@ pub mod RingTotals
 pub mod CpuSums
 pub mod OneOrder
 pub mod TriggerTrees
+pub mod Looks

@@ -1,6 +1,7 @@
 //! What the files of instances show, taken together. Each function does nothing: its contract is a theorem.
 
 ghost use Rattle.history_laws.specs.CpuSums.{ShownAreAllEntries, WaitingAreAllEntries, HeadHasTheSums, CpuHeadHasItsCounts, SnapshotHeadHasTheSums};
+ghost use Rattle.history_laws.specs.Looks.{LookingChangesNothing, LookingTakesOnlyRoom, LookingLeavesWaiting};
 ghost use Rattle.history_laws.specs.OneOrder.{KeptTimesRise, PipesReadTheTrace, TraceAndPipeShowOneOrder, EachCpuKeepsItsOrder};
 ghost use Rattle.history_laws.specs.TriggerTrees.{SnapshotTriggersMeetAsTheirTrees, HistTriggersMeetAsTheirTrees};
 
@@ -39,3 +40,11 @@ pub fn triggers_meet_as_their_trees()
     trace_trigger::hist_laws::hist_triggers_are_as_written();
     trace_history::laws::triggers_are_few_and_differ();
 }
+
+/// Looking changes nothing. A read of a file that is no pipe leaves the answer to every later request as it is without the read, whatever was done
+/// before and after, as long as the history has room; and looks at pipes tell the same.
+pub fn looking_changes_nothing()
+    ensures later { LookingChangesNothing }
+    ensures room { LookingTakesOnlyRoom }
+    ensures waiting { LookingLeavesWaiting }
+{}

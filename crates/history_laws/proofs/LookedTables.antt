@@ -1,0 +1,236 @@
+-- The hist triggers of an instance, and the rows of their tables, with one more request among those done that only looks.
+use Rattle.std.proofs.Common.{◌≡◌, inl, inr, ℕ, ◌≤◌, nat_lt, Bool, true, false, not, ◌&&◌, if◌then◌else◌, List, [], ◌∷◌, ◌++◌, length, map, Option, None, Some, option_map, Result, Ok, Err, refl, sym, ap, ◌∙◌, arith, lt-ltb}
+use Rattle.std.proofs.lemmas.List.{append-nil, length-append, map-append}
+use Rattle.trace_format.specs.Definitions.{Definition}
+use Rattle.trace_trigger.specs.HistSpecs.{SpecSeen}
+use Rattle.trace_trigger.specs.TriggerTexts.{said_of}
+use Rattle.trace_trigger.specs.declared.fault.TriggerFault.{TriggerFault}
+use Rattle.trace_trigger.specs.declared.spec.Action.{Action}
+use Rattle.trace_trigger.specs.declared.trigger.TriggerText.{TriggerText}
+use Rattle.trace_trigger.specs.declared.trigger.TriggerText.TheVariants.{Nothing, Attach, Remove, Hist, RemoveHist}
+use Rattle.trace_entries.specs.Hits.{Hit}
+use Rattle.trace_command.specs.Paths.{File, OfEvent}
+use Rattle.trace_command.specs.Requests.{Request, WriteFile, ReadFile}
+use Rattle.trace_command.specs.declared.command.Reply.{Reply}
+use Rattle.trace_command.specs.declared.refusal.Refusal.{Refusal}
+use Rattle.trace_command.specs.declared.file_name.EventFile.TheVariants as per_event
+use Rattle.trace_history.specs.Emissions.{Emitted, emitted}
+use Rattle.trace_history.specs.HistTriggers.{HistTrigger, Written, asked_by, asked_in, asked_of, counted_by, counted_hit, empties, has_same, hist_triggers, hists_after, hists_said, hits_of, is_of, is_paused, left_by, met_in, named_by, new_hist, paused_after, says_same, speaks_of, table_or, those_of, written_to}
+use Rattle.trace_history.specs.History.{answer, answer_with_room, unless_full}
+use Rattle.trace_history.specs.Settings.{NumberedEvent, is_same, makes}
+use Rattle.trace_history.specs.Triggers.{met_by}
+use Rattle.trace_history.proofs.EventHists.{tables-made_before}
+use Rattle.trace_history.proofs.TableSteps.{nothing-counted, unmade}
+use Rattle.history_laws.specs.Looks.{LookingChangesNothing, LookingLeavesWaiting, LookingTakesOnlyRoom}
+use Rattle.history_laws.specs.ReadsInParts.{is_pipe}
+use Rattle.history_laws.proofs.AlikePasts.{AreAlike, answer-same, found-later, left-later, same-later, those-later, waiting-same}
+use Rattle.history_laws.proofs.Looks as looks
+use Rattle.history_laws.proofs.Renumbered.{any-later, each-later, early-hists, filter-later, later_hist, up, up-cases, up-same}
+
+-- ---- one string
+
+table-later : (n number : ℕ) (found : Option HistTrigger) → table_or (up n number) (option_map (later_hist n) found) ≡ up n (table_or number found)
+table-later n number None = refl
+table-later n number (Some t) = refl
+
+new-hist-later : (n number : ℕ) (event : Definition) (hists : List HistTrigger) (spec : SpecSeen)
+    → new_hist (up n number) event (map (later_hist n) hists) spec ≡ later_hist n (new_hist number event hists spec)
+new-hist-later n number event hists spec =
+    ap (λ (m : ℕ). let t : HistTrigger = record { event = event; number = up n number; spec = spec; table = m } in t)
+    (ap (table_or (up n number)) (found-later n spec hists) ∙ table-later n number (named_by spec hists))
+
+said-hists : (n number : ℕ) (event : Definition) (hists : List HistTrigger) (said : Result TriggerText TriggerFault)
+    → hists_said (up n number) event (map (later_hist n) hists) said ≡ map (later_hist n) (hists_said number event hists said)
+said-hists n number event hists (Ok (Hist spec)) =
+    ap (λ (ts : List HistTrigger). if has_same spec ts then map (later_hist n) hists else map (later_hist n) hists ++ new_hist (up n number) event (map (later_hist n) hists) spec ∷ [])
+    (those-later n event hists)
+    ∙ by (has_same spec (those_of event hists)) (has_same spec (map (later_hist n) (those_of event hists))) (same-later n spec (those_of event hists))
+  where
+    by : (same same_later : Bool) → same_later ≡ same
+        → (if same_later then map (later_hist n) hists else map (later_hist n) hists ++ new_hist (up n number) event (map (later_hist n) hists) spec ∷ [])
+        ≡ map (later_hist n) (if same then hists else hists ++ new_hist number event hists spec ∷ [])
+    by true true is = refl
+    by false false is =
+        ap (λ (t : HistTrigger). map (later_hist n) hists ++ t ∷ []) (new-hist-later n number event hists spec)
+        ∙ sym (map-append (later_hist n) hists (new_hist number event hists spec ∷ []))
+    by true false is = cc
+    by false true is = cc
+said-hists n number event hists (Ok (RemoveHist spec)) =
+    filter-later n (λ t. not (is_of event t && says_same spec t)) (λ t. not (is_of event t && says_same spec t)) (λ t. refl) hists
+said-hists n number event hists (Ok (Attach spec)) = refl
+said-hists n number event hists (Ok Remove) = refl
+said-hists n number event hists (Ok Nothing) = refl
+said-hists n number event hists (Err fault) = refl
+
+after-hists : (n number : ℕ) (written : Option Written) (hists : List HistTrigger)
+    → hists_after (up n number) written (map (later_hist n) hists) ≡ map (later_hist n) (hists_after number written hists)
+after-hists n number None hists = refl
+after-hists n number (Some w) hists =
+    ap (λ (ts : List HistTrigger). hists_said (up n number) w.event ts (said_of w.event w.text)) (left-later n w.event w.append hists)
+    ∙ said-hists n number w.event (left_by w.event w.append hists) (said_of w.event w.text)
+
+asked-of-later : (n table : ℕ) (hists : List HistTrigger) (said : Result TriggerText TriggerFault)
+    → asked_of (up n table) (map (later_hist n) hists) said ≡ asked_of table hists said
+asked-of-later n table hists (Ok (Hist spec)) =
+    ap (λ (b : Bool). if b then Some spec.action else None)
+    (any-later n (speaks_of spec table) (speaks_of spec (up n table)) (λ t. ap (λ (b : Bool). says_same spec t && b) (up-same n t.table table)) hists)
+asked-of-later n table hists (Ok (RemoveHist spec)) = refl
+asked-of-later n table hists (Ok (Attach spec)) = refl
+asked-of-later n table hists (Ok Remove) = refl
+asked-of-later n table hists (Ok Nothing) = refl
+asked-of-later n table hists (Err fault) = refl
+
+asked-in-later : (n table : ℕ) (hists : List HistTrigger) (written : Option Written)
+    → asked_in (up n table) (map (later_hist n) hists) written ≡ asked_in table hists written
+asked-in-later n table hists None = refl
+asked-in-later n table hists (Some w) =
+    ap (λ (ts : List HistTrigger). asked_of (up n table) ts (said_of w.event w.text)) (those-later n w.event hists)
+    ∙ asked-of-later n table (those_of w.event hists) (said_of w.event w.text)
+
+-- ---- one emission
+
+met-later : (n table : ℕ) (e : Option Emitted) (t : HistTrigger) → met_in (up n table) e (later_hist n t) ≡ met_in table e t
+met-later n table e t = ap (λ (b : Bool). if b then map (counted_hit t) (met_by t.event t.spec.filter e) else []) (up-same n t.table table)
+
+counted-later : (n table : ℕ) (paused : Bool) (hists : List HistTrigger) (e : Option Emitted)
+    → counted_by (up n table) paused (map (later_hist n) hists) e ≡ counted_by table paused hists e
+counted-later n table true hists e = refl
+counted-later n table false hists e = each-later n (met_in table e) (met_in (up n table) e) (met-later n table e) hists
+
+-- ---- a read of this file, after these requests
+
+module _ (past : List Request) (reader : Option (List ℕ)) (seen : File) (limit : Option ℕ) (quiet : is_pipe seen ≡ false) where
+  abbrev with_look : List Request → List Request
+  with_look later = later ++ ReadFile reader (Some seen) limit ∷ past
+
+  abbrev without : List Request → List Request
+  without later = later ++ past
+
+  abbrev first : ℕ
+  first = length past
+
+  written-same : (instance : Option (List ℕ)) (later : List Request) (request : Request)
+      → written_to instance (with_look later) request ≡ written_to instance (without later) request
+  written-same instance later (WriteFile other (Some (OfEvent name per_event.Trigger)) append text) =
+      ap (λ (o : Option NumberedEvent).
+      if is_same instance other then option_map (λ (k : NumberedEvent). let w : Written = record { event = k.event; append = append; text = text } in w) o else None)
+      (looks.named-same past reader seen limit quiet name later)
+  written-same instance later request = refl
+
+  hists-same : (instance : Option (List ℕ)) (later : List Request)
+      → hist_triggers instance (with_look later) ≡ map (later_hist first) (hist_triggers instance (without later))
+  hists-same instance [] = early-hists first (hist_triggers instance past) (tables-made_before instance past)
+  hists-same instance (request ∷ later) = by (makes instance request) (hists-same instance later)
+    where
+      by : (new : Bool) → hist_triggers instance (with_look later) ≡ map (later_hist first) (hist_triggers instance (without later))
+          → (if new then [] else hists_after (length (with_look later)) (written_to instance (with_look later) request) (hist_triggers instance (with_look later)))
+          ≡ map (later_hist first)
+          (if new then [] else hists_after (length (without later)) (written_to instance (without later) request) (hist_triggers instance (without later)))
+      by true rest = refl
+      by false rest =
+          ap (λ (m : ℕ). hists_after m (written_to instance (with_look later) request) (hist_triggers instance (with_look later)))
+          (looks.length-later past reader seen limit quiet later)
+          ∙ ap (λ (w : Option Written). hists_after (up first (length (without later))) w (hist_triggers instance (with_look later)))
+          (written-same instance later request)
+          ∙ ap (hists_after (up first (length (without later))) (written_to instance (without later) request)) rest
+          ∙ after-hists first (length (without later)) (written_to instance (without later) request) (hist_triggers instance (without later))
+
+  asked-same : (instance : Option (List ℕ)) (table : ℕ) (later : List Request) (request : Request)
+      → asked_by instance (up first table) (with_look later) request ≡ asked_by instance table (without later) request
+  asked-same instance table later request =
+      ap (λ (ts : List HistTrigger). asked_in (up first table) ts (written_to instance (with_look later) request)) (hists-same instance (request ∷ later))
+      ∙ ap (asked_in (up first table) (map (later_hist first) (hist_triggers instance (request ∷ without later)))) (written-same instance later request)
+      ∙ asked-in-later first table (hist_triggers instance (request ∷ without later)) (written_to instance (without later) request)
+
+  paused-same : (instance : Option (List ℕ)) (table : ℕ) (later : List Request)
+      → is_paused instance (up first table) (with_look later) ≡ is_paused instance table (without later)
+  paused-same instance table [] = elim (up-cases first table) [
+    | inl early ↦ ap (λ (k : ℕ). is_paused instance k past) early.1
+    | inr behind ↦
+        let le = behind.0 in
+        let more : first ≤ up first table = omega (arith, le, behind.1) in
+        (unmade instance (up first table) past more).0 ∙ sym (unmade instance table past le).0
+  ]
+  paused-same instance table (request ∷ later) =
+      ap (λ (a : Option Action). paused_after a (is_paused instance (up first table) (with_look later))) (asked-same instance table later request)
+      ∙ ap (paused_after (asked_by instance table (without later) request)) (paused-same instance table later)
+
+  hits-same : (instance : Option (List ℕ)) (table : ℕ) (later : List Request)
+      → hits_of instance (up first table) (with_look later) ≡ hits_of instance table (without later)
+  hits-same instance table [] =
+      ap (λ (rows : List Hit). hits_of instance (up first table) past ++ rows)
+      (nothing-counted (up first table) (is_paused instance (up first table) past) (hist_triggers instance past))
+      ∙ append-nil (hits_of instance (up first table) past)
+      ∙ elim (up-cases first table) [
+        | inl early ↦ ap (λ (k : ℕ). hits_of instance k past) early.1
+        | inr behind ↦
+            let le = behind.0 in
+            let more : first ≤ up first table = omega (arith, le, behind.1) in
+            (unmade instance (up first table) past more).1 ∙ sym (unmade instance table past le).1
+      ]
+  hits-same instance table (request ∷ later) =
+      let counted : Bool → List HistTrigger → Option Emitted → List Hit = counted_by (up first table) in
+      let e = emitted (without later) request in
+      let older = hits_of instance table (without later) in
+      let asked = asked_by instance table (without later) request in
+      let paused = is_paused instance table (without later) in
+      ap (λ (a : Option Action). if empties a then [] else hits_of instance (up first table) (with_look later)
+      ++ counted (is_paused instance (up first table) (with_look later)) (hist_triggers instance (with_look later)) (emitted (with_look later) request))
+      (asked-same instance table later request)
+      ∙ ap (λ (rows : List Hit). if empties asked then [] else rows
+      ++ counted (is_paused instance (up first table) (with_look later)) (hist_triggers instance (with_look later)) (emitted (with_look later) request))
+      (hits-same instance table later)
+      ∙ ap (λ (b : Bool). if empties asked then [] else older ++ counted b (hist_triggers instance (with_look later)) (emitted (with_look later) request))
+      (paused-same instance table later)
+      ∙ ap (λ (ts : List HistTrigger). if empties asked then [] else older ++ counted paused ts (emitted (with_look later) request)) (hists-same instance later)
+      ∙ ap (λ (o : Option Emitted). if empties asked then [] else older ++ counted paused (map (later_hist first) (hist_triggers instance (without later))) o)
+      (looks.emitted-same past reader seen limit quiet later request)
+      ∙ ap (λ (rows : List Hit). if empties asked then [] else older ++ rows) (counted-later first table paused (hist_triggers instance (without later)) e)
+
+  are-alike : (later : List Request) → AreAlike first (with_look later) (without later)
+  are-alike later = record {
+    events = looks.events-same past reader seen limit quiet later;
+    instances = looks.instances-same past reader seen limit quiet later;
+    now = looks.now-same past reader seen limit quiet later;
+    enabled = λ instance event. looks.enabled-same past reader seen limit quiet instance event later;
+    filters = λ instance event. looks.filter-same past reader seen limit quiet instance event later;
+    overwriting = λ instance. looks.overwrites-same past reader seen limit quiet instance later;
+    tracing = λ instance. looks.tracing-same past reader seen limit quiet instance later;
+    live = λ g instance. looks.rings-same past reader seen limit quiet g instance later;
+    spare = λ g instance. looks.spare_rings-same past reader seen limit quiet g instance later;
+    trigger = λ instance event. looks.trigger-later past reader seen limit quiet instance event later;
+    times = λ event t. looks.times-same past reader seen limit quiet event t later;
+    hists = λ instance. hists-same instance later;
+    paused = λ instance table. paused-same instance table later;
+    hits = λ instance table. hits-same instance table later;
+  }
+
+-- ---- the theorems
+
+pub looking_changes_nothing : LookingChangesNothing
+looking_changes_nothing g past later instance file limit next quiet =
+    answer-same (length past) (later ++ ReadFile instance (Some file) limit ∷ past) (later ++ past) (are-alike past instance file limit quiet later) g next
+
+pub looking_leaves_waiting : LookingLeavesWaiting
+looking_leaves_waiting g past later instance at file limit pipe quiet =
+    waiting-same (length past) (later ++ ReadFile instance (Some file) limit ∷ past) (later ++ past) (are-alike past instance file limit quiet later) g at pipe
+
+pub looking_takes_only_room : LookingTakesOnlyRoom
+unfolding answer
+looking_takes_only_room g past later instance file limit next quiet room =
+    ap (unless_full g.history_limit (length (later ++ look ∷ past))) (looking_changes_nothing g past later instance file limit next quiet)
+    ∙ by (answer_with_room g (later ++ past) next)
+  where
+    look : Request
+    look = ReadFile instance (Some file) limit
+
+    one : nat_lt (length (later ++ look ∷ past)) g.history_limit ≡ true
+    one = lt-ltb (length (later ++ look ∷ past)) g.history_limit
+        (let a = length-append later (look ∷ past) in let b = length-append later past in omega (arith, a, b, room))
+
+    other : nat_lt (length (later ++ past)) g.history_limit ≡ true
+    other = lt-ltb (length (later ++ past)) g.history_limit (omega (arith, room))
+
+    by : (answered : Result Reply Refusal) → unless_full g.history_limit (length (later ++ look ∷ past)) answered ≡ unless_full g.history_limit (length (later ++ past)) answered
+    by (Err refusal) = refl
+    by (Ok reply) = rw (one, other) refl
