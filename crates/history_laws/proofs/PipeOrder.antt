@@ -9,6 +9,7 @@ use Rattle.page_ring.specs.Laws.{ReadingsAreAhead}
 use Rattle.trace_buffer.specs.Families.{CpuReading, on_cpu, events_of, cpu_readings, kept_count}
 use Rattle.trace_buffer.specs.Orders.{Consumed, by_timestamp, consume_any, merged}
 use Rattle.trace_buffer.proofs.Consumed.{consumed-min, taken_in_order-consumed}
+use Rattle.trace_buffer.proofs.Merges.{AreAtLeast, Rises as NeverFalls, Rises-from_sort}
 use Rattle.trace_buffer.proofs.PipeLaws.{reads_consume_what_they_take, reads_take_so_many}
 use Rattle.trace_text.specs.BufferText.{taken_lines, pipe_text, trace_text, entries_of_all, overrun_of_all}
 use Rattle.trace_text.specs.TraceText.{trace_head}
@@ -21,7 +22,7 @@ use Rattle.trace_history.specs.History.{requests_of, IsLegalNewestFirst}
 use Rattle.trace_history.specs.Rings.{rings, rings_of_side}
 use Rattle.trace_history.specs.Settings.{declared_events, now_of}
 use Rattle.trace_history.specs.Snapshots.{live_side}
-use Rattle.history_laws.specs.OneOrder.{TimesRise, KeptTimesRise, PipesReadTheTrace, ReadsTheTrace, ShowsOneOrder, TraceAndPipeShowOneOrder, EachCpuKeepsItsOrder, trace_records}
+use Rattle.history_laws.specs.OneOrder.{OrdersAreOne, TimesRise, KeptTimesRise, PipesReadTheTrace, ReadsTheTrace, ShowsOneOrder, TraceAndPipeShowOneOrder, EachCpuKeepsItsOrder, trace_records}
 use Rattle.history_laws.specs.ReadOnce.{read_from_side}
 use Rattle.history_laws.proofs.CpuSums.{length-merged}
 use Rattle.history_laws.proofs.MergedReads.{IsUp, all_from-kept, taken_in_order-merged}
@@ -95,6 +96,22 @@ consumed-merged ahead pages page_bytes reads family up =
     sym (taken_in_order-consumed ahead pages page_bytes reads family)
     ∙ taken_in_order-merged reads (map (readings_of pages page_bytes) family) up
     ∙ ap (λ (l : List CpuReading). take reads (by_timestamp l)) (all_from-kept pages page_bytes 0 family)
+
+from-least : (least : ℕ) (readings : List Reading) → AreAtLeast (λ (r : Reading). timestamp r.rec) least readings
+    → AllByRecursion (λ (s : Reading). least ≤ timestamp s.rec) readings
+from-least least [] h = tt
+from-least least (r ∷ rest) h = (h.0, from-least least rest h.1)
+
+up-sorted : (readings : List Reading) → NeverFalls (λ (r : Reading). timestamp r.rec) readings → IsUp readings
+up-sorted [] h = tt
+up-sorted (r ∷ rest) h = (from-least (timestamp r.rec) rest h.0, up-sorted rest h.1)
+
+pub orders_are_one : ReadingsAreAhead → OrdersAreOne
+orders_are_one ahead pages page_bytes reads family rising =
+    consumed-merged ahead pages page_bytes reads family
+    (all-up pages page_bytes family
+    (λ cpu. let kept = cpu_readings pages page_bytes family cpu in
+    up-sorted kept (Rises-from_sort (λ (r : Reading). timestamp r.rec) kept (rising cpu))))
 
 reads-the-trace : ReadingsAreAhead → (g : Config) (past : List Request) (instance : Option (List ℕ))
     → AllByRecursion IsUp (map (readings_of g.pages g.page_bytes) (rings g instance past)) → ReadsTheTrace g past instance

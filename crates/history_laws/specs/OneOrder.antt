@@ -1,10 +1,12 @@
 -- `trace` and `trace_pipe` show one order (ftrace.rst, "The File System"). The newest entry comes first.
 use Rattle.std.specs.Prelude.{◌≡◌, ◌<◌, ℕ, List, ◌++◌, map, take, Option, Some, None}
 use Rattle.std.specs.List.{AllPairs, flat_map}
+use Rattle.std.specs.List.Sorted.{IsNonDecreasingBy}
 use Rattle.trace_record.specs.Record.{timestamp}
 use Rattle.page_ring.specs.Account.{Reading}
-use Rattle.trace_buffer.specs.Families.{CpuReading, on_cpu}
-use Rattle.trace_buffer.specs.Orders.{merged}
+use Rattle.page_ring.specs.Events.{Event}
+use Rattle.trace_buffer.specs.Families.{CpuReading, on_cpu, cpu_readings}
+use Rattle.trace_buffer.specs.Orders.{consume_any, merged}
 use Rattle.trace_text.specs.BufferText.{reading_line, taken_lines}
 use Rattle.trace_command.specs.Configs.{IsInRange}
 use Rattle.trace_command.specs.Requests.{Request}
@@ -40,7 +42,14 @@ PipesReadTheTrace =
     (g : Config) (entries : List Entry) (instance : Option (List ℕ)) → IsInRange g → IsLegalNewestFirst g entries
     → ReadsTheTrace g (requests_of entries) instance
 
--- so the texts have lines of the same records: those of `trace` follow its head, and those of `trace_pipe` have the lines of lost records among them
+-- so it is for whatever rings of which the timestamps don't fall
+abbrev pub OrdersAreOne : Type 0
+OrdersAreOne =
+    (pages page_bytes reads : ℕ) (family : List (List Event))
+    → ((cpu : ℕ) → IsNonDecreasingBy (λ (r : Reading). timestamp r.rec) (cpu_readings pages page_bytes family cpu))
+    → (consume_any pages page_bytes reads family).taken ≡ take reads (merged pages page_bytes family)
+
+-- so in a legal history the texts have lines of the same records: those of `trace` follow its head, and those of `trace_pipe` have the lines of lost records among them
 pub record ShowsOneOrder (g : Config) (past : List Request) (instance : Option (List ℕ)) : Type 0 where
   pub head : List ℕ
   pub trace : shown_trace g instance past None ≡ head ++ flat_map (reading_line (declared_events past)) (trace_records g instance past)

@@ -2,7 +2,7 @@
 
 ghost use Rattle.history_laws.specs.CpuSums.{ShownAreAllEntries, WaitingAreAllEntries, HeadHasTheSums, CpuHeadHasItsCounts, SnapshotHeadHasTheSums};
 ghost use Rattle.history_laws.specs.Looks.{LookingChangesNothing, LookingTakesOnlyRoom, LookingLeavesWaiting};
-ghost use Rattle.history_laws.specs.OneOrder.{KeptTimesRise, PipesReadTheTrace, TraceAndPipeShowOneOrder, EachCpuKeepsItsOrder};
+ghost use Rattle.history_laws.specs.OneOrder.{KeptTimesRise, PipesReadTheTrace, TraceAndPipeShowOneOrder, EachCpuKeepsItsOrder, OrdersAreOne};
 ghost use Rattle.history_laws.specs.TriggerTrees.{SnapshotTriggersMeetAsTheirTrees, HistTriggersMeetAsTheirTrees};
 
 /// The whole is the sum of the CPUs. `trace` shows as many records as the CPUs' `entries` are together, and as many wait in the pipe of all CPUs. Its
@@ -18,12 +18,13 @@ pub fn the_whole_is_the_sum()
 
 /// `trace` and `trace_pipe` show one order. In a legal history with a configuration in range the timestamps that a ring keeps rise strictly, on
 /// either side; `cat trace_pipe` takes the records that `cat trace` shows, in the same order, and a read with a limit the first of them; and those of
-/// a CPU are in the order of its ring.
+/// a CPU are in the order of its ring. Reads of whatever rings take the merged order if the timestamps of none fall.
 pub fn trace_and_pipe_show_one_order()
     ensures rise { KeptTimesRise }
     ensures reads { PipesReadTheTrace }
     ensures texts { TraceAndPipeShowOneOrder }
     ensures cpus { EachCpuKeepsItsOrder }
+    ensures orders { OrdersAreOne }
 {
     page_ring::laws::least_is_read();
     trace_history::laws::pipe_reads_consume_what_they_show();

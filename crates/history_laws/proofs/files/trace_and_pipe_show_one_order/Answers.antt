@@ -1,4 +1,4 @@
-use Rattle.history_laws.proofs.PipeOrder.{kept_times_rise, pipes_read_the_trace, trace_and_pipe_show_one_order, each_cpu_keeps_its_order}
+use Rattle.history_laws.proofs.PipeOrder.{kept_times_rise, orders_are_one, pipes_read_the_trace, trace_and_pipe_show_one_order, each_cpu_keeps_its_order}
 use Rattle.history_laws.proofs.files.trace_and_pipe_show_one_order.Goals as goal
 
 pub returns-clause-rise : goal.returns-clause-rise
@@ -32,3 +32,6 @@ returns-clause-cpus c =
       one = c.pipe_reads_consume_what_they_show.ensures.cpu;
       least = c.least_is_read.ensures.least;
     }) c.least_is_read.ensures.ahead
+
+pub returns-clause-orders : goal.returns-clause-orders
+returns-clause-orders c = orders_are_one c.least_is_read.ensures.ahead
