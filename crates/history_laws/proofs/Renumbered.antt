@@ -20,10 +20,10 @@ alike false false there back = refl
 abbrev pub up : ℕ → ℕ → ℕ
 up n m = if nat_lt m n then m else suc m
 
-abbrev IsUp : ℕ → ℕ → Type 0
-IsUp n m = ((m < n) × (up n m ≡ m)) ⊎ ((n ≤ m) × (up n m ≡ suc m))
+abbrev pub IsRaised : ℕ → ℕ → Type 0
+IsRaised n m = ((m < n) × (up n m ≡ m)) ⊎ ((n ≤ m) × (up n m ≡ suc m))
 
-pub up-cases : (n m : ℕ) → ((m < n) × (up n m ≡ m)) ⊎ ((n ≤ m) × (up n m ≡ suc m))
+pub up-cases : (n m : ℕ) → IsRaised n m
 up-cases n m = elim (cases_Bool (nat_lt m n)) [
   | inl less ↦ inl (ltb-true m n less, cond-true _ m (suc m) less)
   | inr not_less ↦ inr (ltb-false m n not_less, cond-false _ m (suc m) not_less)
@@ -46,13 +46,13 @@ up-less n a b = alike (nat_lt (up n a) (up n b)) (nat_lt a b)
     (λ is. lt-ltb a b (back (up-cases n a) (up-cases n b) (ltb-true (up n a) (up n b) is)))
     (λ is. lt-ltb (up n a) (up n b) (there (up-cases n a) (up-cases n b) (ltb-true a b is)))
   where
-    there : IsUp n a → IsUp n b → a < b → up n a < up n b
+    there : IsRaised n a → IsRaised n b → a < b → up n a < up n b
     there (inl x) (inl y) l = omega (arith, x.0, x.1, y.0, y.1, l)
     there (inl x) (inr y) l = omega (arith, x.0, x.1, y.0, y.1, l)
     there (inr x) (inl y) l = omega (arith, x.0, x.1, y.0, y.1, l)
     there (inr x) (inr y) l = omega (arith, x.0, x.1, y.0, y.1, l)
 
-    back : IsUp n a → IsUp n b → up n a < up n b → a < b
+    back : IsRaised n a → IsRaised n b → up n a < up n b → a < b
     back (inl x) (inl y) l = omega (arith, x.0, x.1, y.0, y.1, l)
     back (inl x) (inr y) l = omega (arith, x.0, x.1, y.0, y.1, l)
     back (inr x) (inl y) l = omega (arith, x.0, x.1, y.0, y.1, l)
@@ -63,7 +63,7 @@ up-same n a b = alike (up n a == up n b) (a == b)
     (λ is. eq-eqb a b (back (up-cases n a) (up-cases n b) (eqb-true (up n a) (up n b) is)))
     (λ is. eq-eqb (up n a) (up n b) (ap (up n) (eqb-true a b is)))
   where
-    back : IsUp n a → IsUp n b → up n a ≡ up n b → a ≡ b
+    back : IsRaised n a → IsRaised n b → up n a ≡ up n b → a ≡ b
     back (inl x) (inl y) e = omega (arith, x.0, x.1, y.0, y.1, e)
     back (inl x) (inr y) e = omega (arith, x.0, x.1, y.0, y.1, e)
     back (inr x) (inl y) e = omega (arith, x.0, x.1, y.0, y.1, e)

@@ -1,10 +1,11 @@
 -- The conditions with which triggers were attached, and the emissions of which they hold.
 use Rattle.std.proofs.Common.{◌≡◌, inl, ℕ, Bool, true, false, if◌then◌else◌, List, [], ◌∷◌, ◌++◌, length, bytes_eq, IsTrue, ◌↔◌, Option, Some, None, unwrap_or, Result, Ok, Err, refl, sym, ap, ◌∙◌, subst}
-use Rattle.std.specs.Option.{option_map}
+use Rattle.std.specs.Option.{option_map, option_to_list}
 use Rattle.std.proofs.lemmas.Option.{none-some, same_Some}
 use Rattle.std.proofs.lemmas.Slice.Eq.{bytes_eq-Decides}
 use Rattle.trace_filter.specs.Filters.{Parsed}
 use Rattle.trace_filter.specs.Laws.{HoldsAsItsTree}
+use Rattle.trace_format.specs.Cells.{IsRowOf}
 use Rattle.trace_format.specs.Definitions.{Definition, IsDefinition}
 use Rattle.trace_trigger.specs.Frames.{IsReadAs}
 use Rattle.trace_trigger.specs.HistLaws.{OkIsWritten}
@@ -19,14 +20,15 @@ use Rattle.trace_command.specs.declared.file_name.EventFile.TheVariants as per_e
 use Rattle.trace_history.specs.HistTriggers.{HistTrigger, Written, hist_triggers, written_to}
 use Rattle.trace_history.specs.History.{requests_of}
 use Rattle.trace_history.specs.Laws.{HistTriggersAreThoseAttached, IsAttached}
-use Rattle.trace_history.specs.Settings.{NumberedEvent, declared_events, event_named, is_same, makes, set_by}
+use Rattle.trace_history.specs.Settings.{NumberedEvent, declared_events, declares, event_named, is_same, makes, set_by}
 use Rattle.trace_history.specs.Triggers.{Trigger, passes, sets_trigger, trigger_of, written_trigger}
 use Rattle.trace_history.proofs.Events.{index_of_id}
-use Rattle.trace_history.proofs.LegalEvents.{named-is_definition, named-is_numbered}
+use Rattle.trace_history.proofs.LegalEvents.{named-is_definition, named-is_numbered, named_in-more}
 use Rattle.trace_history.proofs.Members.{contains-in, each-in}
 use Rattle.trace_history.proofs.OwnFiles.{IsNamed, all-named}
+use Rattle.trace_history.proofs.ShownRecords.{emission-is, row_of-is_row}
 use Rattle.trace_history.proofs.Spares.{same-instance}
-use Rattle.history_laws.specs.TriggerTrees.{HistMeets, HistTriggersMeetAsTheirTrees, HoldsOf, MeetsAsItsTree, SnapshotTriggersMeetAsTheirTrees, WasWritten}
+use Rattle.history_laws.specs.TriggerTrees.{EmissionsHaveTheirRows, HistMeets, HistTriggersMeetAsTheirTrees, HoldsOf, MeetsAsItsTree, SnapshotTriggersMeetAsTheirTrees, WasWritten}
 
 -- ---- what a filter that was read comes to
 
@@ -38,6 +40,28 @@ meets-as-read tree event (Some condition) None defined read e row = absurd read
 meets-as-read tree event (Some condition) (Some filter) defined read e row =
     subst (λ (f : Parsed). IsTrue (passes (Some f) e) ↔ HoldsOf event (Some condition) e) (sym read.1)
     (tree event condition e.row (record { values = e.row.values; cpu = e.cpu; pid = e.pid }) read.0 defined row refl)
+
+-- ---- rows
+
+named-itself : (name : List ℕ) (past : List Request) (k : NumberedEvent) → event_named name past ≡ Some k → name ≡ k.event.name
+named-itself name past k there =
+    let numbered = named-is_numbered (declared_events past) name k there in
+    let index = index_of_id (declared_events past) name k.id k.event numbered.named numbered.there in
+    (bytes_eq-Decides name k.event.name).0 index.named
+
+still-named : (name : List ℕ) (later past : List Request) (k : NumberedEvent) → event_named name past ≡ Some k → event_named name (later ++ past) ≡ Some k
+still-named name [] past k there = there
+still-named name (request ∷ later) past k there =
+    named_in-more name (declared_events (later ++ past)) (option_to_list (declares request)) k (still-named name later past k there)
+
+pub emissions_have_their_rows : EmissionsHaveTheirRows
+emissions_have_their_rows past later request e k is named =
+    let emission = emission-is past request e is in
+    let own : event_named e.k.event.name past ≡ Some e.k =
+    ap (λ (n : List ℕ). event_named n past) (sym (named-itself emission.name past e.k emission.named)) ∙ emission.named in
+    let then_named = still-named e.k.event.name later (request ∷ past) e.k (still-named e.k.event.name (request ∷ []) past e.k own) in
+    let same : e.k ≡ k = same_Some _ _ (sym then_named ∙ named) in
+    (same, subst (λ (j : NumberedEvent). IsRowOf j.event e.row) same (row_of-is_row e.k.event emission.pairs e.row emission.built))
 
 -- ---- snapshot triggers
 
@@ -138,12 +162,6 @@ snapshot_triggers_meet_as_their_trees tree attach g entries instance name k t le
     }
 
 -- ---- hist triggers
-
-named-itself : (name : List ℕ) (past : List Request) (k : NumberedEvent) → event_named name past ≡ Some k → name ≡ k.event.name
-named-itself name past k there =
-    let numbered = named-is_numbered (declared_events past) name k there in
-    let index = index_of_id (declared_events past) name k.id k.event numbered.named numbered.there in
-    (bytes_eq-Decides name k.event.name).0 index.named
 
 written-is : (instance : Option (List ℕ)) (past : List Request) (request : Request) (w : Written) → written_to instance past request ≡ Some w
     → request ≡ WriteFile instance (Some (OfEvent w.event.name per_event.Trigger)) w.append w.text

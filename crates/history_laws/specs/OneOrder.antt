@@ -49,7 +49,8 @@ OrdersAreOne =
     → ((cpu : ℕ) → IsNonDecreasingBy (λ (r : Reading). timestamp r.rec) (cpu_readings pages page_bytes family cpu))
     → (consume_any pages page_bytes reads family).taken ≡ take reads (merged pages page_bytes family)
 
--- so in a legal history the texts have lines of the same records: those of `trace` follow its head, and those of `trace_pipe` have the lines of lost records among them
+-- so in a legal history the texts have lines of the same records: those of `trace` follow its head, and those of `trace_pipe` have the lines of lost
+-- records among them
 pub record ShowsOneOrder (g : Config) (past : List Request) (instance : Option (List ℕ)) : Type 0 where
   pub head : List ℕ
   pub trace : shown_trace g instance past None ≡ head ++ flat_map (reading_line (declared_events past)) (trace_records g instance past)

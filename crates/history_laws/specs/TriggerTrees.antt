@@ -12,7 +12,7 @@ use Rattle.trace_command.specs.Requests.{Request, WriteFile}
 use Rattle.trace_command.specs.declared.command.Config.{Config}
 use Rattle.trace_command.specs.declared.command.Entry.{Entry}
 use Rattle.trace_command.specs.declared.file_name.EventFile.TheVariants as per_event
-use Rattle.trace_history.specs.Emissions.{Emitted}
+use Rattle.trace_history.specs.Emissions.{Emitted, emitted}
 use Rattle.trace_history.specs.HistTriggers.{HistTrigger, hist_triggers}
 use Rattle.trace_history.specs.History.{requests_of, IsLegalNewestFirst}
 use Rattle.trace_history.specs.Settings.{NumberedEvent, event_named}
@@ -26,6 +26,12 @@ HoldsOf event (Some condition) e = Passes event condition (record { values = e.r
 -- a trigger with this filter meets just those emissions of its event of which the condition holds
 abbrev pub MeetsAsItsTree : Definition → Option Parsed → Option (List ℕ) → Type 0
 MeetsAsItsTree event filter condition = (e : Emitted) → IsRowOf event e.row → IsTrue (passes filter e) ↔ HoldsOf event condition e
+
+-- an emission has the event of that name, then and later, and a row of it: so this is said of each emission in a history
+abbrev pub EmissionsHaveTheirRows : Type 0
+EmissionsHaveTheirRows =
+    (past later : List Request) (request : Request) (e : Emitted) (k : NumberedEvent) → emitted past request ≡ Some e
+    → event_named e.k.event.name (later ++ request ∷ past) ≡ Some k → (e.k ≡ k) × IsRowOf k.event e.row
 
 -- a string was written to an event's trigger file, after so many requests
 pub record WasWritten (instance : Option (List ℕ)) (event : Definition) (number : ℕ) (text : List ℕ) (past : List Request) : Type 0 where

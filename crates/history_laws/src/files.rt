@@ -3,7 +3,7 @@
 ghost use Rattle.history_laws.specs.CpuSums.{ShownAreAllEntries, WaitingAreAllEntries, HeadHasTheSums, CpuHeadHasItsCounts, SnapshotHeadHasTheSums};
 ghost use Rattle.history_laws.specs.Looks.{LookingChangesNothing, LookingTakesOnlyRoom, LookingLeavesWaiting};
 ghost use Rattle.history_laws.specs.OneOrder.{KeptTimesRise, PipesReadTheTrace, TraceAndPipeShowOneOrder, EachCpuKeepsItsOrder, OrdersAreOne};
-ghost use Rattle.history_laws.specs.TriggerTrees.{SnapshotTriggersMeetAsTheirTrees, HistTriggersMeetAsTheirTrees};
+ghost use Rattle.history_laws.specs.TriggerTrees.{SnapshotTriggersMeetAsTheirTrees, HistTriggersMeetAsTheirTrees, EmissionsHaveTheirRows};
 
 /// The whole is the sum of the CPUs. `trace` shows as many records as the CPUs' `entries` are together, and as many wait in the pipe of all CPUs. Its
 /// head has the sums of what the CPUs' `stats` show, and so has that of `snapshot`, of the other side; the head of a CPU's `trace` has what the CPU's
@@ -32,9 +32,11 @@ pub fn trace_and_pipe_show_one_order()
 
 /// Triggers meet as their trees. In a legal history each trigger that an event has, for snapshots or of a histogram, was attached by a string written
 /// to the event's trigger file, and it meets just the emissions of which a tree of that string's condition holds, or all where it has none.
+/// Each emission in a history has the event of its name, and a row of it, then and later.
 pub fn triggers_meet_as_their_trees()
     ensures snapshot { SnapshotTriggersMeetAsTheirTrees }
     ensures hist { HistTriggersMeetAsTheirTrees }
+    ensures rows { EmissionsHaveTheirRows }
 {
     trace_filter::laws::filters_hold_as_their_trees();
     trace_trigger::laws::trigger_texts_are_as_written();
