@@ -1,6 +1,7 @@
 //! What the files of instances show, taken together. Each function does nothing: its contract is a theorem.
 
 ghost use Rattle.history_laws.specs.CpuSums.{ShownAreAllEntries, WaitingAreAllEntries, HeadHasTheSums, CpuHeadHasItsCounts, SnapshotHeadHasTheSums};
+ghost use Rattle.history_laws.specs.HistogramRows.{HistogramsAreAccountedFor, HistogramsKeepTheirEntries};
 ghost use Rattle.history_laws.specs.Looks.{LookingChangesNothing, LookingTakesOnlyRoom, LookingLeavesWaiting};
 ghost use Rattle.history_laws.specs.OneOrder.{KeptTimesRise, PipesReadTheTrace, TraceAndPipeShowOneOrder, EachCpuKeepsItsOrder, OrdersAreOne};
 ghost use Rattle.history_laws.specs.TriggerTrees.{SnapshotTriggersMeetAsTheirTrees, HistTriggersMeetAsTheirTrees, EmissionsHaveTheirRows};
@@ -51,3 +52,14 @@ pub fn looking_changes_nothing()
     ensures room { LookingTakesOnlyRoom }
     ensures waiting { LookingLeavesWaiting }
 {}
+
+/// Histograms are accounted for, whatever was done: Hits and Dropped are together the rows that the trigger's table counted since it was made or last
+/// emptied, and the hitcounts are together Hits; an entry's sums are those of the rows with its key, and all entries' sums those of the rows that were
+/// not dropped; a row is dropped only where there is no room for another entry; entries that tie are printed in order of their first rows. As long as
+/// nobody asks for the table to be emptied, a key that has an entry keeps it, in its place.
+pub fn histograms_are_accounted_for()
+    ensures rows { HistogramsAreAccountedFor }
+    ensures stay { HistogramsKeepTheirEntries }
+{
+    crate::groups::rows_are_accounted_for();
+}
