@@ -1,5 +1,6 @@
 -- The hist triggers of an instance, and the rows of their tables, with one more request among those done that only looks.
-use Rattle.std.proofs.Common.{◌≡◌, inl, inr, ℕ, ◌≤◌, nat_lt, Bool, true, false, not, ◌&&◌, if◌then◌else◌, List, [], ◌∷◌, ◌++◌, length, map, Option, None, Some, option_map, Result, Ok, Err, refl, sym, ap, ◌∙◌, arith, lt-ltb}
+use Rattle.std.proofs.Common.{All, IsOk, subst, suc, ◌<◌, ◌≡◌, inl, inr, ℕ, ◌≤◌, nat_lt, Bool, true, false, not, ◌&&◌, if◌then◌else◌, List, [], ◌∷◌, ◌++◌, length, map, Option, None, Some, option_map, Result, Ok, Err, refl, sym, ap, ◌∙◌, arith, lt-ltb}
+use Rattle.std.proofs.lemmas.List.Elements.{All-cons}
 use Rattle.std.proofs.lemmas.List.{append-nil, length-append, map-append}
 use Rattle.trace_format.specs.Definitions.{Definition}
 use Rattle.trace_trigger.specs.HistSpecs.{SpecSeen}
@@ -10,18 +11,21 @@ use Rattle.trace_trigger.specs.declared.trigger.TriggerText.{TriggerText}
 use Rattle.trace_trigger.specs.declared.trigger.TriggerText.TheVariants.{Nothing, Attach, Remove, Hist, RemoveHist}
 use Rattle.trace_entries.specs.Hits.{Hit}
 use Rattle.trace_command.specs.Paths.{File, OfEvent}
-use Rattle.trace_command.specs.Requests.{Request, WriteFile, ReadFile}
+use Rattle.trace_command.specs.Requests.{Request, WriteFile, ReadFile, request_of}
+use Rattle.trace_command.specs.declared.command.Config.{Config}
+use Rattle.trace_command.specs.declared.command.Entry.{Entry}
 use Rattle.trace_command.specs.declared.command.Reply.{Reply}
 use Rattle.trace_command.specs.declared.refusal.Refusal.{Refusal}
 use Rattle.trace_command.specs.declared.file_name.EventFile.TheVariants as per_event
 use Rattle.trace_history.specs.Emissions.{Emitted, emitted}
 use Rattle.trace_history.specs.HistTriggers.{HistTrigger, Written, asked_by, asked_in, asked_of, counted_by, counted_hit, empties, has_same, hist_triggers, hists_after, hists_said, hits_of, is_of, is_paused, left_by, met_in, named_by, new_hist, paused_after, says_same, speaks_of, table_or, those_of, written_to}
-use Rattle.trace_history.specs.History.{answer, answer_with_room, unless_full}
+use Rattle.trace_history.specs.History.{answer, answer_with_room, requests_of, unless_full}
 use Rattle.trace_history.specs.Settings.{NumberedEvent, is_same, makes}
 use Rattle.trace_history.specs.Triggers.{met_by}
 use Rattle.trace_history.proofs.EventHists.{tables-made_before}
+use Rattle.trace_history.proofs.LegalEvents.{done-had_room}
 use Rattle.trace_history.proofs.TableSteps.{nothing-counted, unmade}
-use Rattle.history_laws.specs.Looks.{LookingChangesNothing, LookingLeavesWaiting, LookingTakesOnlyRoom}
+use Rattle.history_laws.specs.Looks.{LooksCanBeLeftOut, LookingChangesNothing, LookingLeavesWaiting, LookingTakesOnlyRoom}
 use Rattle.history_laws.specs.ReadsInParts.{is_pipe}
 use Rattle.history_laws.proofs.AlikePasts.{AreAlike, answer-same, found-later, left-later, same-later, those-later, waiting-same}
 use Rattle.history_laws.proofs.Looks as looks
@@ -234,3 +238,54 @@ looking_takes_only_room g past later instance file limit next quiet room =
     by : (answered : Result Reply Refusal) → unless_full g.history_limit (length (later ++ look ∷ past)) answered ≡ unless_full g.history_limit (length (later ++ past)) answered
     by (Err refusal) = refl
     by (Ok reply) = rw (one, other) refl
+
+-- ---- looks left out
+
+requests-append : (later before : List Entry) → requests_of (later ++ before) ≡ requests_of later ++ requests_of before
+requests-append [] before = refl
+requests-append (entry ∷ later) before = ap (λ (rs : List Request). request_of entry.command ∷ rs) (requests-append later before)
+
+all-but-one : (P : Entry → Type 0) (later : List Entry) (look : Entry) (before : List Entry) → All P (later ++ look ∷ before) → All P (later ++ before)
+all-but-one P [] look before all = λ k d within. all (suc k) d (omega (arith, within))
+all-but-one P (entry ∷ later) look before all =
+    All-cons P entry (later ++ before) (all 0 entry (omega arith))
+    (all-but-one P later look before (λ k d within. all (suc k) d (omega (arith, within))))
+
+-- what is done with a look before it is done without
+done-without : (g : Config) (before later : List Entry) (look : Entry) (instance : Option (List ℕ)) (file : File) (limit : Option ℕ) (next : Request)
+    → request_of look.command ≡ ReadFile instance (Some file) limit → is_pipe file ≡ false
+    → IsOk (answer g (requests_of (later ++ look ∷ before)) next) → IsOk (answer g (requests_of (later ++ before)) next)
+unfolding answer
+done-without g before later look instance file limit next is quiet done =
+    by (answer_with_room g (requests_of (later ++ before)) next) (subst IsOk same had.0)
+  where
+    had : IsOk (answer_with_room g (requests_of (later ++ look ∷ before)) next) × (length (requests_of (later ++ look ∷ before)) < g.history_limit)
+    had = done-had_room g (requests_of (later ++ look ∷ before)) next done
+
+    with_it : requests_of (later ++ look ∷ before) ≡ requests_of later ++ ReadFile instance (Some file) limit ∷ requests_of before
+    with_it = requests-append later (look ∷ before) ∙ ap (λ (r : Request). requests_of later ++ r ∷ requests_of before) is
+
+    same : answer_with_room g (requests_of (later ++ look ∷ before)) next ≡ answer_with_room g (requests_of (later ++ before)) next
+    same =
+        ap (λ (rs : List Request). answer_with_room g rs next) with_it
+        ∙ looking_changes_nothing g (requests_of before) (requests_of later) instance file limit next quiet
+        ∙ ap (λ (rs : List Request). answer_with_room g rs next) (sym (requests-append later before))
+
+    room : nat_lt (length (requests_of (later ++ before))) g.history_limit ≡ true
+    room = lt-ltb (length (requests_of (later ++ before))) g.history_limit
+        (let a = ap length with_it in let b = ap length (requests-append later before) in
+        let c = length-append (requests_of later) (ReadFile instance (Some file) limit ∷ requests_of before) in
+        let d = length-append (requests_of later) (requests_of before) in omega (arith, a, b, c, d, had.1))
+
+    by : (answered : Result Reply Refusal) → IsOk answered → IsOk (unless_full g.history_limit (length (requests_of (later ++ before))) answered)
+    by (Err refusal) ok = ok
+    by (Ok reply) ok = rw room refl
+
+pub looks_can_be_left_out : LooksCanBeLeftOut
+looks_can_be_left_out g before [] look instance file limit is quiet legal = legal.3
+looks_can_be_left_out g before (entry ∷ later) look instance file limit is quiet legal = (
+  legal.0,
+  all-but-one (λ (earlier : Entry). earlier.ticket < entry.ticket) later look before legal.1,
+  done-without g before later look instance file limit (request_of entry.command) is quiet legal.2,
+  looks_can_be_left_out g before later look instance file limit is quiet legal.3,
+)

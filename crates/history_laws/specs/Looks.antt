@@ -2,9 +2,10 @@
 -- newest request comes first.
 use Rattle.std.specs.Prelude.{◌≡◌, ◌<◌, ℕ, ◌+◌, false, List, ◌∷◌, ◌++◌, length, Option, Some}
 use Rattle.trace_command.specs.Paths.{File}
-use Rattle.trace_command.specs.Requests.{Request, ReadFile}
+use Rattle.trace_command.specs.Requests.{Request, ReadFile, request_of}
 use Rattle.trace_command.specs.declared.command.Config.{Config}
-use Rattle.trace_history.specs.History.{answer, answer_with_room}
+use Rattle.trace_command.specs.declared.command.Entry.{Entry}
+use Rattle.trace_history.specs.History.{answer, answer_with_room, IsLegalNewestFirst}
 use Rattle.trace_history.specs.Waiting.{waiting}
 use Rattle.history_laws.specs.ReadsInParts.{is_pipe}
 
@@ -27,3 +28,10 @@ LookingLeavesWaiting =
     (g : Config) (past later : List Request) (instance at : Option (List ℕ)) (file : File) (limit : Option ℕ) (pipe : Option File)
     → is_pipe file ≡ false
     → waiting g (later ++ ReadFile instance (Some file) limit ∷ past) at pipe ≡ waiting g (later ++ past) at pipe
+
+-- so an entry that only looked can be left out of a legal history
+abbrev pub LooksCanBeLeftOut : Type 0
+LooksCanBeLeftOut =
+    (g : Config) (before later : List Entry) (look : Entry) (instance : Option (List ℕ)) (file : File) (limit : Option ℕ)
+    → request_of look.command ≡ ReadFile instance (Some file) limit → is_pipe file ≡ false
+    → IsLegalNewestFirst g (later ++ look ∷ before) → IsLegalNewestFirst g (later ++ before)

@@ -2,7 +2,7 @@
 
 ghost use Rattle.history_laws.specs.CpuSums.{ShownAreAllEntries, WaitingAreAllEntries, HeadHasTheSums, CpuHeadHasItsCounts, SnapshotHeadHasTheSums};
 ghost use Rattle.history_laws.specs.HistogramRows.{HistogramsAreAccountedFor, HistogramsKeepTheirEntries};
-ghost use Rattle.history_laws.specs.Looks.{LookingChangesNothing, LookingTakesOnlyRoom, LookingLeavesWaiting};
+ghost use Rattle.history_laws.specs.Looks.{LookingChangesNothing, LookingTakesOnlyRoom, LookingLeavesWaiting, LooksCanBeLeftOut};
 ghost use Rattle.history_laws.specs.OneOrder.{KeptTimesRise, PipesReadTheTrace, TraceAndPipeShowOneOrder, EachCpuKeepsItsOrder, OrdersAreOne};
 ghost use Rattle.history_laws.specs.TriggerTrees.{SnapshotTriggersMeetAsTheirTrees, HistTriggersMeetAsTheirTrees, EmissionsHaveTheirRows};
 
@@ -46,11 +46,12 @@ pub fn triggers_meet_as_their_trees()
 }
 
 /// Looking changes nothing. A read of a file that is no pipe leaves the answer to every later request as it is without the read, whatever was done
-/// before and after, as long as the history has room; and looks at pipes tell the same.
+/// before and after, as long as the history has room; and looks at pipes tell the same. A legal history is legal without it.
 pub fn looking_changes_nothing()
     ensures later { LookingChangesNothing }
     ensures room { LookingTakesOnlyRoom }
     ensures waiting { LookingLeavesWaiting }
+    ensures legal { LooksCanBeLeftOut }
 {}
 
 /// Histograms are accounted for, whatever was done: Hits and Dropped are together the rows that the trigger's table counted since it was made or last
