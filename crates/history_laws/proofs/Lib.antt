@@ -19,3 +19,7 @@ pub mod Renumbered
 pub mod Looks
 pub mod AlikePasts
 pub mod LookedTables
+pub mod DistinctRows
+pub mod GroupedSums
+pub mod TiedRows
+pub mod HistogramRows

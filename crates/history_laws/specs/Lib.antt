@@ -6,3 +6,5 @@ pub mod CpuSums
 pub mod OneOrder
 pub mod TriggerTrees
 pub mod Looks
+pub mod GroupedRows
+pub mod HistogramRows

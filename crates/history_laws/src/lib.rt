@@ -2,4 +2,5 @@
 #![tactic(auto)]
 
 pub mod files;
+pub mod groups;
 pub mod laws;
