@@ -23,13 +23,17 @@ use Rattle.mount_tree.specs.Scenes.{SceneSeen, event_at, event_name, instance_at
 use Rattle.mount_tree.specs.TreeLaws.{IsSound}
 use Rattle.mount_tree.specs.TreeNames.{cpu_file_name, event_file_name, file_name, file_parent}
 use Rattle.mount_tree.specs.declared.file.File.{File}
-use Rattle.mount_tree.specs.declared.file.File.TheVariants.{SyntheticEvents, OfInstance, SystemEnable, OfCpu, OfEvent, Inject}
+use Rattle.mount_tree.specs.declared.file.File.TheVariants.{SyntheticEvents, OfInstance, SystemEnable, OfCpu, OfEvent, Inject, Tool, OfTop, CpuSize, EventId, ErrorLog}
 use Rattle.mount_tree.specs.declared.node.Node.TheVariants as nodes
 use Rattle.mount_tree.specs.declared.node.Owner.{Owner}
 use Rattle.mount_tree.specs.declared.node.Owner.TheVariants.{Top, Made}
 use Rattle.mount_tree.specs.declared.scene.Event.{Event}
 use Rattle.mount_tree.specs.declared.scene.Instance.{Instance}
 use Rattle.mount_tree.proofs.ListLemmas.{found_one}
+use Rattle.mount_tree.specs.declared.tool.ToolFile.{ToolFile}
+use Rattle.mount_tree.specs.declared.tool.ToolFile.TheVariants as tools
+use Rattle.mount_tree.specs.declared.tool.TopTool.{TopTool}
+use Rattle.mount_tree.specs.declared.tool.TopTool.TheVariants as top_tools
 
 -- ---- names have no slash
 
@@ -146,6 +150,29 @@ declarations-names : (scene : SceneSeen) → Names (item_path scene SyntheticEve
 unfolding below_mount_point mount_point top_file
 declarations-names scene = record { first = codes "synthetic_events"; rest = []; split = refl; plain = refl; below = refl; means = refl }
 
+tool-names : (scene : SceneSeen) (file : ToolFile) → Names (item_path scene (Tool file)) None
+unfolding below_mount_point mount_point top_file
+tool-names scene tools.AvailableTracers = record { first = codes "available_tracers"; rest = []; split = refl; plain = refl; below = refl; means = refl }
+tool-names scene tools.CurrentTracer = record { first = codes "current_tracer"; rest = []; split = refl; plain = refl; below = refl; means = refl }
+tool-names scene tools.SetEvent = record { first = codes "set_event"; rest = []; split = refl; plain = refl; below = refl; means = refl }
+tool-names scene tools.TraceClock = record { first = codes "trace_clock"; rest = []; split = refl; plain = refl; below = refl; means = refl }
+tool-names scene tools.TimestampMode = record { first = codes "timestamp_mode"; rest = []; split = refl; plain = refl; below = refl; means = refl }
+tool-names scene tools.BufferSizeKb = record { first = codes "buffer_size_kb"; rest = []; split = refl; plain = refl; below = refl; means = refl }
+tool-names scene tools.BufferTotalSizeKb = record { first = codes "buffer_total_size_kb"; rest = []; split = refl; plain = refl; below = refl; means = refl }
+tool-names scene tools.TracingCpumask = record { first = codes "tracing_cpumask"; rest = []; split = refl; plain = refl; below = refl; means = refl }
+
+top_tool-names : (scene : SceneSeen) (file : TopTool) → Names (item_path scene (OfTop file)) None
+unfolding below_mount_point mount_point top_file
+top_tool-names scene top_tools.AvailableEvents = record { first = codes "available_events"; rest = []; split = refl; plain = refl; below = refl; means = refl }
+top_tool-names scene top_tools.Readme = record { first = codes "README"; rest = []; split = refl; plain = refl; below = refl; means = refl }
+top_tool-names scene top_tools.SavedCmdlines = record { first = codes "saved_cmdlines"; rest = []; split = refl; plain = refl; below = refl; means = refl }
+top_tool-names scene top_tools.PrintkFormats = record { first = codes "printk_formats"; rest = []; split = refl; plain = refl; below = refl; means = refl }
+top_tool-names scene top_tools.TracingThresh = record { first = codes "tracing_thresh"; rest = []; split = refl; plain = refl; below = refl; means = refl }
+
+log-names : (scene : SceneSeen) → Names (item_path scene ErrorLog) None
+unfolding below_mount_point mount_point top_file
+log-names scene = record { first = codes "error_log"; rest = []; split = refl; plain = refl; below = refl; means = refl }
+
 cpu-below : (cpu : ℕ) (rest : List ℕ) → below_mount_point (cpu_folder cpu ++ rest) ≡ cpu_folder cpu ++ rest
 unfolding cpu_folder below_mount_point mount_point
 cpu-below cpu rest = refl
@@ -171,6 +198,20 @@ cpu-names scene cpu file few =
       means = rw (cpu-numbered cpu few, named.0) refl;
     }
 
+size-named : cpu_file (codes "buffer_size_kb") ≡ None
+unfolding cpu_file
+size-named = refl
+
+size-names : (scene : SceneSeen) (cpu : ℕ) → cpu < 8 → Names (item_path scene (CpuSize cpu)) None
+size-names scene cpu few = record {
+  first = codes "per_cpu";
+  rest = cpu_name cpu ∷ codes "buffer_size_kb" ∷ [];
+  split = cpu-parts cpu (codes "buffer_size_kb") few;
+  plain = refl;
+  below = cpu-below cpu (codes "buffer_size_kb");
+  means = rw (cpu-numbered cpu few, size-named) refl;
+}
+
 event_file-named : (file : EventFile) → (event_file (event_file_name file) ≡ Some file) × (parts (event_file_name file) ≡ event_file_name file ∷ [])
 unfolding event_file
 event_file-named per_event.Enable = (refl, refl)
@@ -179,9 +220,9 @@ event_file-named per_event.Trigger = (refl, refl)
 event_file-named per_event.Hist = (refl, refl)
 event_file-named per_event.Format = (refl, refl)
 
-inject-named : event_file (codes "inject") ≡ None
+inject-named : (event_file (codes "inject") ≡ None) × (event_file (codes "id") ≡ None)
 unfolding event_file
-inject-named = refl
+inject-named = (refl, refl)
 
 event-split : (name file : List ℕ) → IsPart name → parts file ≡ file ∷ []
     → parts (event_folder name ++ file) ≡ codes "events" ∷ codes "synthetic" ∷ name ∷ file ∷ []
@@ -231,7 +272,16 @@ item-names scene owner (OfEvent event file) sound there =
     rw called.is (event-named called.name (event_file_name file) (Some file) called.good named.0 named.1)
 item-names scene owner (Inject event) sound there =
     let called = event-called scene event sound there in
-    rw called.is (event-named called.name (codes "inject") None called.good inject-named refl)
+    rw called.is (event-named called.name (codes "inject") None called.good inject-named.0 refl)
+item-names scene owner (Tool file) sound there = tool-names scene file
+item-names scene owner (OfTop file) sound there = top_tool-names scene file
+item-names scene owner (CpuSize cpu) sound there =
+    let below = ltb-true cpu scene.cpus there in
+    size-names scene cpu (omega (arith, below, sound.few_cpus))
+item-names scene owner (EventId event) sound there =
+    let called = event-called scene event sound there in
+    rw called.is (event-named called.name (codes "id") None called.good inject-named.1 refl)
+item-names scene owner ErrorLog sound there = log-names scene
 
 -- ---- addresses
 
@@ -271,6 +321,11 @@ kept-file scene serial (OfEvent event file) there = by (event_name event scene.e
     by None = refl
     by (Some name) = refl
 kept-file scene serial (Inject event) there = refl
+kept-file scene serial (Tool file) there = refl
+kept-file scene serial (OfTop file) there = refl
+kept-file scene serial (CpuSize cpu) there = refl
+kept-file scene serial (EventId event) there = refl
+kept-file scene serial ErrorLog there = refl
 
 pub path-address : (scene : SceneSeen) (owner : Owner) (file : File) → IsSound scene → is_there scene (nodes.File owner file) ≡ true
     → address_of (path_of scene (nodes.File owner file)) ≡ address_meant scene owner file

@@ -36,30 +36,9 @@ folder_join owner folder name whole is =
 
 fixed_joined : (scene : SceneSeen) (owner : Owner) (folder : Folder)
     → AllByRecursion (IsJoined scene (path_of scene (nodes.Folder owner folder))) (fixed_children owner folder)
-fixed_joined scene Top folders.Root = (refl, (refl, (refl, (refl, (refl, (refl, (refl, (refl, (refl, (refl, tt))))))))))
+fixed_joined scene Top folders.Root = (refl, (refl, (refl, (refl, (refl, (refl, (refl, (refl, (refl, (refl, (refl, (refl, (refl, (refl, (refl, (refl, (refl, (refl, (refl, (refl, (refl, (refl, (refl, (refl, tt))))))))))))))))))))))))
 fixed_joined scene (Made serial) folders.Root =
-    let o = owner_path scene (Made serial) in (
-      file_join (o ++ []) (codes "snapshot"),
-      (
-        file_join (o ++ []) (codes "tracing_on"),
-        (
-          file_join (o ++ []) (codes "trace"),
-          (
-            file_join (o ++ []) (codes "trace_pipe"),
-            (
-              folder_join o [] (codes "options") (codes "options/") refl,
-              (
-                file_join (o ++ []) (codes "trace_options"),
-                (
-                  folder_join o [] (codes "events") (codes "events/") refl,
-                  (folder_join o [] (codes "per_cpu") (codes "per_cpu/") refl, tt),
-                ),
-              ),
-            ),
-          ),
-        ),
-      ),
-    )
+    let o = owner_path scene (Made serial) in (file_join (o ++ []) (codes "snapshot"), (file_join (o ++ []) (codes "tracing_on"), (file_join (o ++ []) (codes "trace"), (file_join (o ++ []) (codes "trace_pipe"), (folder_join o [] (codes "options") (codes "options/") refl, (file_join (o ++ []) (codes "trace_options"), (folder_join o [] (codes "events") (codes "events/") refl, (folder_join o [] (codes "per_cpu") (codes "per_cpu/") refl, (file_join (o ++ []) (codes "available_tracers"), (file_join (o ++ []) (codes "current_tracer"), (file_join (o ++ []) (codes "set_event"), (file_join (o ++ []) (codes "trace_clock"), (file_join (o ++ []) (codes "timestamp_mode"), (file_join (o ++ []) (codes "buffer_size_kb"), (file_join (o ++ []) (codes "buffer_total_size_kb"), (file_join (o ++ []) (codes "tracing_cpumask"), (file_join (o ++ []) (codes "error_log"), tt)))))))))))))))))
 fixed_joined scene owner folders.Instances = tt
 fixed_joined scene owner folders.PerCpu = tt
 fixed_joined scene owner folders.Options = (file_join (owner_path scene owner ++ codes "options/") (codes "overwrite"), tt)
@@ -73,7 +52,7 @@ fixed_joined scene owner folders.Synthetic = (
 )
 fixed_joined scene owner (folders.Cpu cpu) =
     let path = owner_path scene owner ++ cpu_folder cpu in
-    (file_join path (codes "stats"), (file_join path (codes "trace"), (file_join path (codes "trace_pipe"), tt)))
+    (file_join path (codes "stats"), (file_join path (codes "trace"), (file_join path (codes "trace_pipe"), (file_join path (codes "buffer_size_kb"), tt))))
 fixed_joined scene owner (folders.Event event) =
     let path = path_of scene (nodes.Folder owner (folders.Event event)) in (
       file_join path (codes "format"),
@@ -85,7 +64,7 @@ fixed_joined scene owner (folders.Event event) =
             file_join path (codes "trigger"),
             (
               file_join path (codes "hist"),
-              (file_join path (codes "inject"), tt),
+              (file_join path (codes "inject"), (file_join path (codes "id"), tt)),
             ),
           ),
         ),

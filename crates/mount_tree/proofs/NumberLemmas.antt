@@ -5,25 +5,27 @@ use Rattle.trace_command.specs.declared.file_name.CpuFile.TheVariants as per_cpu
 use Rattle.trace_command.specs.declared.file_name.EventFile.TheVariants as per_event
 use Rattle.trace_command.specs.declared.file_name.TopFile.TheVariants as top
 use Rattle.mount_tree.specs.Nodes.{FitsItsTypes, index_of, number_from, number_of, owner_number, owner_of, place_of}
-use Rattle.mount_tree.specs.declared.file.File.TheVariants.{SyntheticEvents, OfInstance, SystemEnable, OfCpu, OfEvent, Inject}
+use Rattle.mount_tree.specs.declared.file.File.TheVariants.{SyntheticEvents, OfInstance, SystemEnable, OfCpu, OfEvent, Inject, Tool, OfTop, CpuSize, EventId, ErrorLog}
 use Rattle.mount_tree.specs.declared.folder.Folder.TheVariants.{Root, Instances, Options, PerCpu, Cpu, Events, Synthetic, Event}
 use Rattle.mount_tree.specs.declared.node.Node.{Node}
 use Rattle.mount_tree.specs.declared.node.Node.TheVariants as nodes
 use Rattle.mount_tree.specs.declared.node.Owner.{Owner}
 use Rattle.mount_tree.specs.declared.node.Owner.TheVariants.{Top, Made}
 use Rattle.mount_tree.specs.private.KindPlaces.{nodes_of}
+use Rattle.mount_tree.specs.declared.tool.ToolFile.TheVariants as tools
+use Rattle.mount_tree.specs.declared.tool.TopTool.TheVariants as top_tools
 
 -- the three numbers that are packed in one
 pub record AreIn (number owner index place : ℕ) : Type 0 where
-  pub whose : owner ≡ (number - 1) / 8192
-  pub which : index ≡ (number - 1) / 32 % 256
-  pub kind : place ≡ (number - 1) % 32
+  pub whose : owner ≡ (number - 1) / 16384
+  pub which : index ≡ (number - 1) / 64 % 256
+  pub kind : place ≡ (number - 1) % 64
 
-pub unpacked : (owner index place : ℕ) → index < 256 → place < 32 → AreIn (number_from owner index place) owner index place
+pub unpacked : (owner index place : ℕ) → index < 256 → place < 64 → AreIn (number_from owner index place) owner index place
 unpacked owner index place few small = record { whose = omega arith; which = omega arith; kind = omega arith }
 
 -- a kind's number is small, and the node is at it among those of its owner and index
-pub place-below : (node : Node) → place_of node < 32
+pub place-below : (node : Node) → place_of node < 64
 place-below (nodes.Folder o Root) = lit< tt
 place-below (nodes.Folder o Instances) = lit< tt
 place-below (nodes.Folder o Options) = lit< tt
@@ -51,6 +53,22 @@ place-below (nodes.File o (OfEvent k per_event.Trigger)) = lit< tt
 place-below (nodes.File o (OfEvent k per_event.Hist)) = lit< tt
 place-below (nodes.File o (OfEvent k per_event.Format)) = lit< tt
 place-below (nodes.File o (Inject k)) = lit< tt
+place-below (nodes.File o (Tool tools.AvailableTracers)) = lit< tt
+place-below (nodes.File o (Tool tools.CurrentTracer)) = lit< tt
+place-below (nodes.File o (Tool tools.SetEvent)) = lit< tt
+place-below (nodes.File o (Tool tools.TraceClock)) = lit< tt
+place-below (nodes.File o (Tool tools.TimestampMode)) = lit< tt
+place-below (nodes.File o (Tool tools.BufferSizeKb)) = lit< tt
+place-below (nodes.File o (Tool tools.BufferTotalSizeKb)) = lit< tt
+place-below (nodes.File o (Tool tools.TracingCpumask)) = lit< tt
+place-below (nodes.File o (OfTop top_tools.AvailableEvents)) = lit< tt
+place-below (nodes.File o (OfTop top_tools.Readme)) = lit< tt
+place-below (nodes.File o (OfTop top_tools.SavedCmdlines)) = lit< tt
+place-below (nodes.File o (OfTop top_tools.PrintkFormats)) = lit< tt
+place-below (nodes.File o (OfTop top_tools.TracingThresh)) = lit< tt
+place-below (nodes.File o (CpuSize k)) = lit< tt
+place-below (nodes.File o (EventId k)) = lit< tt
+place-below (nodes.File o ErrorLog) = lit< tt
 
 pub at_place : (node : Node) → slice_get (nodes_of (owner_of node) (index_of node)) (place_of node) ≡ Some node
 at_place (nodes.Folder o Root) = refl
@@ -80,6 +98,22 @@ at_place (nodes.File o (OfEvent k per_event.Trigger)) = refl
 at_place (nodes.File o (OfEvent k per_event.Hist)) = refl
 at_place (nodes.File o (OfEvent k per_event.Format)) = refl
 at_place (nodes.File o (Inject k)) = refl
+at_place (nodes.File o (Tool tools.AvailableTracers)) = refl
+at_place (nodes.File o (Tool tools.CurrentTracer)) = refl
+at_place (nodes.File o (Tool tools.SetEvent)) = refl
+at_place (nodes.File o (Tool tools.TraceClock)) = refl
+at_place (nodes.File o (Tool tools.TimestampMode)) = refl
+at_place (nodes.File o (Tool tools.BufferSizeKb)) = refl
+at_place (nodes.File o (Tool tools.BufferTotalSizeKb)) = refl
+at_place (nodes.File o (Tool tools.TracingCpumask)) = refl
+at_place (nodes.File o (OfTop top_tools.AvailableEvents)) = refl
+at_place (nodes.File o (OfTop top_tools.Readme)) = refl
+at_place (nodes.File o (OfTop top_tools.SavedCmdlines)) = refl
+at_place (nodes.File o (OfTop top_tools.PrintkFormats)) = refl
+at_place (nodes.File o (OfTop top_tools.TracingThresh)) = refl
+at_place (nodes.File o (CpuSize k)) = refl
+at_place (nodes.File o (EventId k)) = refl
+at_place (nodes.File o ErrorLog) = refl
 
 -- the owner of a number is one
 pub one_owner : (a b : Owner) → owner_number a ≡ owner_number b → a ≡ b
@@ -95,8 +129,8 @@ packed node number fits is =
     rw (sym is) (unpacked (owner_number (owner_of node)) (index_of node) (place_of node) (omega (arith, fits.index)) (place-below node))
 
 -- a node is the one that its number, unpacked, says
-pub found_again : (node : Node) (number : ℕ) (owner : Owner) → FitsItsTypes node → number_of node ≡ number → owner_number owner ≡ (number - 1) / 8192
-    → slice_get (nodes_of owner ((number - 1) / 32 % 256)) ((number - 1) % 32) ≡ Some node
+pub found_again : (node : Node) (number : ℕ) (owner : Owner) → FitsItsTypes node → number_of node ≡ number → owner_number owner ≡ (number - 1) / 16384
+    → slice_get (nodes_of owner ((number - 1) / 64 % 256)) ((number - 1) % 64) ≡ Some node
 found_again node number owner fits is whose =
     let are = packed node number fits is in
     let same : owner ≡ owner_of node = one_owner owner (owner_of node) (whose ∙ sym are.whose) in
@@ -116,22 +150,22 @@ pub not_zero : (number : ℕ) → number < 1 → (node : Node) → FitsItsTypes 
 unfolding number_of
 not_zero number zero node fits is = absurd (omega (arith, is, zero))
 
-pub no_owner : (number : ℕ) → ((owner : Owner) → owner_number owner ≤ 2 ^ 32 → owner_number owner ≡ (number - 1) / 8192 → ⊥)
+pub no_owner : (number : ℕ) → ((owner : Owner) → owner_number owner ≤ 2 ^ 32 → owner_number owner ≡ (number - 1) / 16384 → ⊥)
     → (node : Node) → FitsItsTypes node → number_of node ≡ number → ⊥
 no_owner number none node fits is = none (owner_of node) fits.owner (packed node number fits is).whose
 
-pub no_node : (number : ℕ) (owner : Owner) → owner_number owner ≡ (number - 1) / 8192
-    → slice_get (nodes_of owner ((number - 1) / 32 % 256)) ((number - 1) % 32) ≡ None
+pub no_node : (number : ℕ) (owner : Owner) → owner_number owner ≡ (number - 1) / 16384
+    → None ≡ slice_get (nodes_of owner ((number - 1) / 64 % 256)) ((number - 1) % 64)
     → (node : Node) → FitsItsTypes node → number_of node ≡ number → ⊥
 no_node number owner whose none node fits is =
-    none-some node (sym none ∙ found_again node number owner fits is whose)
+    none-some node (none ∙ found_again node number owner fits is whose)
 
-pub other_number : (number : ℕ) (owner : Owner) (found : Node) → owner_number owner ≡ (number - 1) / 8192
-    → slice_get (nodes_of owner ((number - 1) / 32 % 256)) ((number - 1) % 32) ≡ Some found → (number_of found ≡ number → ⊥)
+pub other_number : (number : ℕ) (owner : Owner) (found : Node) → owner_number owner ≡ (number - 1) / 16384
+    → Some found ≡ slice_get (nodes_of owner ((number - 1) / 64 % 256)) ((number - 1) % 64) → (number_of found ≡ number → ⊥)
     → (node : Node) → FitsItsTypes node → number_of node ≡ number → ⊥
 other_number number owner found whose at differs node fits is =
-    let same : node ≡ found = same_Some node found (sym (found_again node number owner fits is whose) ∙ at) in
-    differs (subst (λ (n : Node). number_of n ≡ number) same is)
+    let same : found ≡ node = same_Some found node (at ∙ found_again node number owner fits is whose) in
+    differs (subst (λ (n : Node). number_of n ≡ number) (sym same) is)
 
 pub if_none : {A : Type 0} {P Q : Type 0} (o : Option A) → IfNone o P → (P → Q) → IfNone o Q
 if_none None holds weaker = weaker holds

@@ -11,7 +11,7 @@ use Rattle.mount_tree.specs.Scenes.{SceneSeen, event_at, instance_at}
 use Rattle.mount_tree.specs.TreeLaws.{IsFoundIn, IsSound}
 use Rattle.mount_tree.specs.TreeNames.{file_name, file_parent, node_parent}
 use Rattle.mount_tree.specs.declared.file.File.{File}
-use Rattle.mount_tree.specs.declared.file.File.TheVariants.{SyntheticEvents, OfInstance, SystemEnable, OfCpu, OfEvent, Inject}
+use Rattle.mount_tree.specs.declared.file.File.TheVariants.{SyntheticEvents, OfInstance, SystemEnable, OfCpu, OfEvent, Inject, Tool, OfTop, CpuSize, EventId, ErrorLog}
 use Rattle.mount_tree.specs.declared.folder.Folder.{Folder}
 use Rattle.mount_tree.specs.declared.folder.Folder.TheVariants as folders
 use Rattle.mount_tree.specs.declared.node.Node.{Node}
@@ -23,6 +23,8 @@ use Rattle.mount_tree.specs.declared.scene.Instance.{Instance}
 use Rattle.mount_tree.proofs.EntryLaws.{children_found}
 use Rattle.mount_tree.proofs.EntryLemmas.{named_first}
 use Rattle.mount_tree.proofs.ListLemmas.{all-unmapped, found_one, found_passes}
+use Rattle.mount_tree.specs.declared.tool.ToolFile.TheVariants as tools
+use Rattle.mount_tree.specs.declared.tool.TopTool.TheVariants as top_tools
 
 -- ---- what a folder always has
 
@@ -61,6 +63,32 @@ file_found owner (OfEvent event per_event.Trigger) scene there = refl
 file_found owner (OfEvent event per_event.Hist) scene there = refl
 file_found owner (OfEvent event per_event.Format) scene there = refl
 file_found owner (Inject event) scene there = refl
+file_found Top (Tool tools.AvailableTracers) scene there = refl
+file_found Top (Tool tools.CurrentTracer) scene there = refl
+file_found Top (Tool tools.SetEvent) scene there = refl
+file_found Top (Tool tools.TraceClock) scene there = refl
+file_found Top (Tool tools.TimestampMode) scene there = refl
+file_found Top (Tool tools.BufferSizeKb) scene there = refl
+file_found Top (Tool tools.BufferTotalSizeKb) scene there = refl
+file_found Top (Tool tools.TracingCpumask) scene there = refl
+file_found (Made serial) (Tool tools.AvailableTracers) scene there = refl
+file_found (Made serial) (Tool tools.CurrentTracer) scene there = refl
+file_found (Made serial) (Tool tools.SetEvent) scene there = refl
+file_found (Made serial) (Tool tools.TraceClock) scene there = refl
+file_found (Made serial) (Tool tools.TimestampMode) scene there = refl
+file_found (Made serial) (Tool tools.BufferSizeKb) scene there = refl
+file_found (Made serial) (Tool tools.BufferTotalSizeKb) scene there = refl
+file_found (Made serial) (Tool tools.TracingCpumask) scene there = refl
+file_found Top (OfTop top_tools.AvailableEvents) scene there = refl
+file_found Top (OfTop top_tools.Readme) scene there = refl
+file_found Top (OfTop top_tools.SavedCmdlines) scene there = refl
+file_found Top (OfTop top_tools.PrintkFormats) scene there = refl
+file_found Top (OfTop top_tools.TracingThresh) scene there = refl
+file_found (Made serial) (OfTop file) scene there = absurd (false≢true there)
+file_found owner (CpuSize cpu) scene there = refl
+file_found owner (EventId event) scene there = refl
+file_found Top ErrorLog scene there = refl
+file_found (Made serial) ErrorLog scene there = refl
 
 parent_there : (scene : SceneSeen) (owner : Owner) (file : File) → file_is_there scene owner file ≡ true
     → folder_is_there scene owner (file_parent file) ≡ true
@@ -70,6 +98,11 @@ parent_there scene owner SystemEnable there = there
 parent_there scene owner (OfCpu cpu file) there = there
 parent_there scene owner (OfEvent event file) there = there
 parent_there scene owner (Inject event) there = there
+parent_there scene owner (Tool file) there = there
+parent_there scene owner (OfTop file) there = refl
+parent_there scene owner (CpuSize cpu) there = there
+parent_there scene owner (EventId event) there = there
+parent_there scene owner ErrorLog there = there
 
 -- ---- CPUs, events and instances
 

@@ -44,18 +44,18 @@ own_there scene owner is = rw is refl
 
 fixed_there : (scene : SceneSeen) (owner : Owner) (folder : Folder) → owner_is_there scene owner ≡ true → folder_is_there scene owner folder ≡ true
     → AllByRecursion (IsEntryThere scene) (fixed_children owner folder)
-fixed_there scene Top folders.Root o f = (refl, (refl, (refl, (refl, (refl, (refl, (refl, (refl, (refl, (refl, tt))))))))))
+fixed_there scene Top folders.Root o f = (refl, (refl, (refl, (refl, (refl, (refl, (refl, (refl, (refl, (refl, (refl, (refl, (refl, (refl, (refl, (refl, (refl, (refl, (refl, (refl, (refl, (refl, (refl, (refl, tt))))))))))))))))))))))))
 fixed_there scene (Made serial) folders.Root o f =
-    let w = own_there scene (Made serial) o in (w, (w, (w, (w, (w, (w, (w, (w, tt))))))))
+    let w = own_there scene (Made serial) o in (w, (w, (w, (w, (w, (w, (w, (w, (w, (w, (w, (w, (w, (w, (w, (w, (w, tt)))))))))))))))))
 fixed_there scene owner folders.Instances o f = tt
 fixed_there scene owner folders.PerCpu o f = tt
 fixed_there scene owner folders.Options o f = let w = own_there scene owner o in (w, tt)
 fixed_there scene owner folders.Events o f = let w = own_there scene owner o in (w, (w, tt))
 fixed_there scene owner folders.Synthetic o f = let w = own_there scene owner o in (w, (w, tt))
 fixed_there scene owner (folders.Cpu cpu) o f =
-    let w = and_from (owner_is_there scene owner) (nat_lt cpu scene.cpus) o f in (w, (w, (w, tt)))
+    let w = and_from (owner_is_there scene owner) (nat_lt cpu scene.cpus) o f in (w, (w, (w, (w, tt))))
 fixed_there scene owner (folders.Event event) o f =
-    let w = and_from (owner_is_there scene owner) (is_some (event_at event scene.events)) o f in (w, (w, (w, (w, (w, (w, tt))))))
+    let w = and_from (owner_is_there scene owner) (is_some (event_at event scene.events)) o f in (w, (w, (w, (w, (w, (w, (w, tt)))))))
 
 -- ---- CPUs, events and instances
 

@@ -16,7 +16,7 @@ lists = (refl, refl, refl, refl)
 
 pub look_ups : LookUps
 unfolding cpu_name digits
-look_ups = (refl, refl, refl, refl, refl, refl, refl, refl, refl)
+look_ups = (refl, refl, refl, refl, refl, refl, refl, refl, refl, refl, refl, refl, refl)
 
 pub numbers : NumbersAndPaths
 unfolding cpu_folder digits event_folder instance_folder number_of

@@ -7,7 +7,7 @@ use Rattle.trace_list.specs.Files.{cpu_folder, declarations_file, event_folder, 
 use Rattle.trace_list.specs.declared.access.Access.{Access}
 use Rattle.trace_list.specs.declared.access.Access.TheVariants.{Read, Write, Both}
 use Rattle.trace_list.specs.Listings.{instance_folder, line_of, line_of_file, lines_in, listing}
-use Rattle.mount_tree.specs.Children.{Child, cpu_child, cpu_children, event_child, fixed_children, folder_child, instance_child, is_there, made_children, own_children, owner_is_there}
+use Rattle.mount_tree.specs.Children.{Child, cpu_child, cpu_children, event_child, fixed_children, folder_child, instance_child, is_there, last_children, made_children, own_children, owner_is_there}
 use Rattle.mount_tree.specs.NodePaths.{owner_path}
 use Rattle.mount_tree.specs.Nodes as numbers
 use Rattle.mount_tree.specs.Scenes.{SceneSeen, event_at, instance_at}
@@ -229,9 +229,9 @@ tree_lines scene sound =
     let instances : Child = folder_child Top (codes "instances") folders.Instances in
     let own_is : flat_map (below scene 6) (own_children Top) ≡ own = own_lines scene Top 2 sound refl ∙ sym (listed_parts scene Top) in
     let others_are : below scene 6 instances ≡ others = instances_lines scene 0 sound in
-    let rest : flat_map (below scene 6) (own_children Top ++ instances ∷ []) ≡ own ++ others =
-    flat_map-append (below scene 6) (own_children Top) (instances ∷ [])
-    ∙ ap (λ (l : List ℕ). l ++ flat_map (below scene 6) (instances ∷ [])) own_is
+    let rest : flat_map (below scene 6) (own_children Top ++ last_children) ≡ own ++ others =
+    flat_map-append (below scene 6) (own_children Top) last_children
+    ∙ ap (λ (l : List ℕ). l ++ flat_map (below scene 6) last_children) own_is
     ∙ ap (λ (l : List ℕ). own ++ l) (append-nil (below scene 6 instances) ∙ others_are) in
     opened scene 6 Top folders.Root refl
     ∙ append-nil (flat_map (below scene 6) (fixed_children Top folders.Root))

@@ -10,7 +10,7 @@ use Rattle.trace_command.specs.declared.file_name.TopFile.TheVariants as top
 use Rattle.mount_tree.specs.Scenes.{SceneSeen, event_at, instance_at}
 use Rattle.mount_tree.specs.TreeNames.{file_name, file_parent}
 use Rattle.mount_tree.specs.declared.file.File.{File}
-use Rattle.mount_tree.specs.declared.file.File.TheVariants.{SyntheticEvents, OfInstance, SystemEnable, OfCpu, OfEvent, Inject}
+use Rattle.mount_tree.specs.declared.file.File.TheVariants.{SyntheticEvents, OfInstance, SystemEnable, OfCpu, OfEvent, Inject, Tool, OfTop, CpuSize, EventId, ErrorLog}
 use Rattle.mount_tree.specs.declared.folder.Folder.{Folder}
 use Rattle.mount_tree.specs.declared.folder.Folder.TheVariants as folders
 use Rattle.mount_tree.specs.declared.node.Node.{Node}
@@ -19,6 +19,8 @@ use Rattle.mount_tree.specs.declared.node.Owner.{Owner}
 use Rattle.mount_tree.specs.declared.node.Owner.TheVariants.{Top, Made}
 use Rattle.mount_tree.specs.declared.scene.Event.{Event}
 use Rattle.mount_tree.specs.declared.scene.Instance.{Instance}
+use Rattle.mount_tree.specs.declared.tool.ToolFile.TheVariants as tools
+use Rattle.mount_tree.specs.declared.tool.TopTool.TheVariants as top_tools
 
 -- ---- what is there
 
@@ -36,9 +38,10 @@ folder_is_there scene owner (folders.Cpu cpu) = nat_lt cpu scene.cpus
 folder_is_there scene owner (folders.Event event) = is_some (event_at event scene.events)
 folder_is_there scene owner _ = true
 
--- a file is there where its folder is, but that of the declarations only at the top
+-- a file is there where its folder is, but that of the declarations and some that tools ask for only at the top
 abbrev pub file_is_there : SceneSeen → Owner → File → Bool
 file_is_there scene owner SyntheticEvents = is_top owner
+file_is_there scene owner (OfTop file) = is_top owner
 file_is_there scene owner file = folder_is_there scene owner (file_parent file)
 
 abbrev pub is_there : SceneSeen → Node → Bool
@@ -68,12 +71,30 @@ own_children owner =
     ∷ file_child owner (OfInstance top.TraceOptions)
     ∷ folder_child owner (codes "events") folders.Events
     ∷ folder_child owner (codes "per_cpu") folders.PerCpu
+    ∷ file_child owner (Tool tools.AvailableTracers)
+    ∷ file_child owner (Tool tools.CurrentTracer)
+    ∷ file_child owner (Tool tools.SetEvent)
+    ∷ file_child owner (Tool tools.TraceClock)
+    ∷ file_child owner (Tool tools.TimestampMode)
+    ∷ file_child owner (Tool tools.BufferSizeKb)
+    ∷ file_child owner (Tool tools.BufferTotalSizeKb)
+    ∷ file_child owner (Tool tools.TracingCpumask)
+    ∷ file_child owner ErrorLog
     ∷ []
 
--- the top instance's own folder, the mounted one, has two entries more
+-- what the top instance's own folder, the mounted one, has beside that: a first file, and last ones
+abbrev pub last_children : List Child
+last_children =
+    folder_child Top (codes "instances") folders.Instances
+    ∷ file_child Top (OfTop top_tools.AvailableEvents)
+    ∷ file_child Top (OfTop top_tools.Readme)
+    ∷ file_child Top (OfTop top_tools.SavedCmdlines)
+    ∷ file_child Top (OfTop top_tools.PrintkFormats)
+    ∷ file_child Top (OfTop top_tools.TracingThresh)
+    ∷ []
+
 abbrev pub root_children : Owner → List Child
-root_children Top =
-    file_child Top SyntheticEvents ∷ own_children Top ++ folder_child Top (codes "instances") folders.Instances ∷ []
+root_children Top = file_child Top SyntheticEvents ∷ own_children Top ++ last_children
 root_children (Made serial) = own_children (Made serial)
 
 -- what a folder has always
@@ -84,6 +105,7 @@ fixed_children owner (folders.Cpu cpu) =
     file_child owner (OfCpu cpu per_cpu.Stats)
     ∷ file_child owner (OfCpu cpu per_cpu.Trace)
     ∷ file_child owner (OfCpu cpu per_cpu.TracePipe)
+    ∷ file_child owner (CpuSize cpu)
     ∷ []
 fixed_children owner folders.Events =
     file_child owner (OfInstance top.EventsEnable)
@@ -100,6 +122,7 @@ fixed_children owner (folders.Event event) =
     ∷ file_child owner (OfEvent event per_event.Trigger)
     ∷ file_child owner (OfEvent event per_event.Hist)
     ∷ file_child owner (Inject event)
+    ∷ file_child owner (EventId event)
     ∷ []
 fixed_children owner _ = []
 

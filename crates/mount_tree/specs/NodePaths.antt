@@ -8,7 +8,7 @@ use Rattle.trace_list.specs.Listings.{instance_folder}
 use Rattle.mount_tree.specs.Scenes.{SceneSeen, event_name, instance_name}
 use Rattle.mount_tree.specs.TreeNames.{file_name, file_parent}
 use Rattle.mount_tree.specs.declared.file.File.{File}
-use Rattle.mount_tree.specs.declared.file.File.TheVariants.{SyntheticEvents, OfInstance, SystemEnable, OfCpu, OfEvent, Inject}
+use Rattle.mount_tree.specs.declared.file.File.TheVariants.{SyntheticEvents, OfInstance, SystemEnable, OfCpu, OfEvent, Inject, Tool, OfTop, CpuSize, EventId, ErrorLog}
 use Rattle.mount_tree.specs.declared.folder.Folder.{Folder}
 use Rattle.mount_tree.specs.declared.folder.Folder.TheVariants as folders
 use Rattle.mount_tree.specs.declared.node.Node.{Node}
@@ -44,7 +44,7 @@ abbrev pub owner_name : SceneSeen → Owner → Option (List ℕ)
 owner_name scene Top = None
 owner_name scene (Made serial) = instance_name serial scene.instances
 
--- `inject` is no file of a tracer: a write to it is an emission
+-- `inject` is no file of a tracer: a write to it is an emission. Those that tools ask for are none either.
 abbrev pub file_meant : SceneSeen → File → Option paths.File
 file_meant scene SyntheticEvents = Some paths.SyntheticEvents
 file_meant scene (OfInstance file) = Some (paths.OfInstance file)
@@ -52,6 +52,11 @@ file_meant scene SystemEnable = Some (paths.OfInstance top.EventsEnable)
 file_meant scene (OfCpu cpu file) = Some (paths.OfCpu cpu file)
 file_meant scene (OfEvent event file) = option_map (λ (name : List ℕ). paths.OfEvent name file) (event_name event scene.events)
 file_meant scene (Inject event) = None
+file_meant scene (Tool file) = None
+file_meant scene (OfTop file) = None
+file_meant scene (CpuSize cpu) = None
+file_meant scene (EventId event) = None
+file_meant scene ErrorLog = None
 
 -- the instance and the file
 abbrev pub address_meant : SceneSeen → Owner → File → paths.Address

@@ -8,13 +8,17 @@ use Rattle.trace_command.specs.declared.file_name.EventFile.TheVariants as per_e
 use Rattle.trace_command.specs.declared.file_name.TopFile.{TopFile}
 use Rattle.trace_command.specs.declared.file_name.TopFile.TheVariants as top_files
 use Rattle.mount_tree.specs.declared.file.File.{File}
-use Rattle.mount_tree.specs.declared.file.File.TheVariants.{SyntheticEvents, OfInstance, SystemEnable, OfCpu, OfEvent, Inject}
+use Rattle.mount_tree.specs.declared.file.File.TheVariants.{SyntheticEvents, OfInstance, SystemEnable, OfCpu, OfEvent, Inject, Tool, OfTop, CpuSize, EventId, ErrorLog}
 use Rattle.mount_tree.specs.declared.folder.Folder.{Folder}
 use Rattle.mount_tree.specs.declared.folder.Folder.TheVariants.{Root, Instances, Options, PerCpu, Cpu, Events, Synthetic, Event}
 use Rattle.mount_tree.specs.declared.node.Node.{Node}
 use Rattle.mount_tree.specs.declared.node.Node.TheVariants as nodes
 use Rattle.mount_tree.specs.declared.node.Owner.{Owner}
 use Rattle.mount_tree.specs.declared.node.Owner.TheVariants.{Top, Made}
+use Rattle.mount_tree.specs.declared.tool.ToolFile.{ToolFile}
+use Rattle.mount_tree.specs.declared.tool.ToolFile.TheVariants as tools
+use Rattle.mount_tree.specs.declared.tool.TopTool.{TopTool}
+use Rattle.mount_tree.specs.declared.tool.TopTool.TheVariants as top_tools
 
 -- whose it is: 0 for the top instance, and one more than how many instances were made before for another
 abbrev pub owner_number : Owner → ℕ
@@ -53,6 +57,23 @@ event_place per_event.Trigger = 23
 event_place per_event.Hist = 24
 event_place per_event.Format = 25
 
+abbrev pub tool_place : ToolFile → ℕ
+tool_place tools.AvailableTracers = 27
+tool_place tools.CurrentTracer = 28
+tool_place tools.SetEvent = 29
+tool_place tools.TraceClock = 30
+tool_place tools.TimestampMode = 31
+tool_place tools.BufferSizeKb = 32
+tool_place tools.BufferTotalSizeKb = 33
+tool_place tools.TracingCpumask = 34
+
+abbrev pub top_tool_place : TopTool → ℕ
+top_tool_place top_tools.AvailableEvents = 35
+top_tool_place top_tools.Readme = 36
+top_tool_place top_tools.SavedCmdlines = 37
+top_tool_place top_tools.PrintkFormats = 38
+top_tool_place top_tools.TracingThresh = 39
+
 abbrev pub file_place : File → ℕ
 file_place SyntheticEvents = 8
 file_place (OfInstance file) = top_place file
@@ -60,6 +81,11 @@ file_place SystemEnable = 17
 file_place (OfCpu cpu file) = cpu_place file
 file_place (OfEvent event file) = event_place file
 file_place (Inject event) = 26
+file_place (Tool file) = tool_place file
+file_place (OfTop file) = top_tool_place file
+file_place (CpuSize cpu) = 40
+file_place (EventId event) = 41
+file_place ErrorLog = 42
 
 -- the number of the CPU or the index of the event
 abbrev pub folder_index : Folder → ℕ
@@ -71,6 +97,8 @@ abbrev pub file_index : File → ℕ
 file_index (OfCpu cpu file) = cpu
 file_index (OfEvent event file) = event
 file_index (Inject event) = event
+file_index (CpuSize cpu) = cpu
+file_index (EventId event) = event
 file_index _ = 0
 
 abbrev pub owner_of : Node → Owner
@@ -91,7 +119,7 @@ top = nodes.Folder Top Root
 
 -- the number of a node: that of the mounted folder is 1
 abbrev pub number_from : ℕ → ℕ → ℕ → ℕ
-number_from owner index place = (owner * 256 + index) * 32 + place + 1
+number_from owner index place = (owner * 256 + index) * 64 + place + 1
 
 unfoldable pub number_of : Node → ℕ
 number_of node = number_from (owner_number (owner_of node)) (index_of node) (place_of node)

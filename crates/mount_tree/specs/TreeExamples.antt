@@ -8,11 +8,13 @@ use Rattle.mount_tree.specs.NodePaths.{path_of}
 use Rattle.mount_tree.specs.Nodes.{number_of, top}
 use Rattle.mount_tree.specs.Scenes.{SceneSeen, new_scene, with_event, with_instance, without_instance}
 use Rattle.mount_tree.specs.ScenesAfter.{instances_after, made_after}
-use Rattle.mount_tree.specs.declared.file.File.TheVariants.{SyntheticEvents, OfCpu, OfEvent, Inject}
+use Rattle.mount_tree.specs.declared.file.File.TheVariants.{SyntheticEvents, OfCpu, OfEvent, Inject, Tool, OfTop}
 use Rattle.mount_tree.specs.declared.folder.Folder.TheVariants as folders
 use Rattle.mount_tree.specs.declared.node.Node.{Node}
 use Rattle.mount_tree.specs.declared.node.Node.TheVariants as nodes
 use Rattle.mount_tree.specs.declared.node.Owner.TheVariants.{Top, Made}
+use Rattle.mount_tree.specs.declared.tool.ToolFile.TheVariants as tools
+use Rattle.mount_tree.specs.declared.tool.TopTool.TheVariants as top_tools
 
 -- ---- requests
 
@@ -47,7 +49,10 @@ abbrev pub ListsOfFolders : Type 0
 ListsOfFolders =
     (names_in top
     ≡ codes "synthetic_events" ∷ codes "snapshot" ∷ codes "tracing_on" ∷ codes "trace" ∷ codes "trace_pipe" ∷ codes "options" ∷ codes "trace_options"
-    ∷ codes "events" ∷ codes "per_cpu" ∷ codes "instances" ∷ [])
+    ∷ codes "events" ∷ codes "per_cpu"
+    ∷ codes "available_tracers" ∷ codes "current_tracer" ∷ codes "set_event" ∷ codes "trace_clock" ∷ codes "timestamp_mode"
+    ∷ codes "buffer_size_kb" ∷ codes "buffer_total_size_kb" ∷ codes "tracing_cpumask" ∷ codes "error_log"
+    ∷ codes "instances" ∷ codes "available_events" ∷ codes "README" ∷ codes "saved_cmdlines" ∷ codes "printk_formats" ∷ codes "tracing_thresh" ∷ [])
     × (names_in (nodes.Folder Top folders.Instances) ≡ codes "b" ∷ codes "a" ∷ [])
     × (names_in (nodes.Folder Top folders.Synthetic) ≡ codes "enable" ∷ codes "filter" ∷ codes "tick" ∷ [])
     × (names_in (nodes.Folder (Made 1) folders.PerCpu) ≡ codes "cpu0" ∷ codes "cpu1" ∷ [])
@@ -55,8 +60,8 @@ ListsOfFolders =
 abbrev pub found : List ℕ → Node → Option Node
 found name folder = node_named name (children scene folder)
 
--- `tick` was declared second; `enable` is the file; there is no CPU 2, and none is called `cpu01`; the files of the declarations and of instances
--- are at the top alone; and nothing is in what was removed
+-- `tick` was declared second; `enable` is the file; there is no CPU 2, and none is called `cpu01`; the files of the declarations, of instances and of
+-- what events there are are at the top alone; and nothing is in what was removed
 abbrev pub LookUps : Type 0
 LookUps =
     (found (codes "tick") (nodes.Folder Top folders.Synthetic) ≡ Some (nodes.Folder Top (folders.Event 1)))
@@ -66,6 +71,10 @@ LookUps =
     × (found (codes "cpu2") (nodes.Folder Top folders.PerCpu) ≡ None)
     × (found (codes "cpu01") (nodes.Folder Top folders.PerCpu) ≡ None)
     × (found (codes "a") (nodes.Folder Top folders.Instances) ≡ Some (nodes.Folder (Made 2) folders.Root))
+    × (found (codes "set_event") (nodes.Folder (Made 2) folders.Root) ≡ Some (nodes.File (Made 2) (Tool tools.SetEvent)))
+    × (found (codes "available_events") (nodes.Folder Top folders.Root) ≡ Some (nodes.File Top (OfTop top_tools.AvailableEvents)))
+    × (found (codes "available_events") (nodes.Folder (Made 2) folders.Root) ≡ None)
+    × (found (codes "set_event_pid") (nodes.Folder Top folders.Root) ≡ None)
     × (found (codes "synthetic_events") (nodes.Folder (Made 2) folders.Root) ≡ None)
     × (found (codes "trace") (nodes.Folder (Made 0) folders.Root) ≡ None)
 
@@ -75,7 +84,7 @@ abbrev pub NumbersAndPaths : Type 0
 NumbersAndPaths =
     (number_of top ≡ 1)
     × (number_of (nodes.File Top SyntheticEvents) ≡ 9)
-    × (number_of (nodes.File (Made 1) (OfCpu 1 per_cpu.Stats)) ≡ 16437)
+    × (number_of (nodes.File (Made 1) (OfCpu 1 per_cpu.Stats)) ≡ 32853)
     × (path_of scene (nodes.File (Made 1) (OfCpu 1 per_cpu.Stats)) ≡ codes "instances/b/per_cpu/cpu1/stats")
     × (path_of scene (nodes.File Top (OfEvent 1 per_event.Enable)) ≡ codes "events/synthetic/tick/enable")
     × (path_of scene (nodes.Folder (Made 2) folders.Root) ≡ codes "instances/a/")

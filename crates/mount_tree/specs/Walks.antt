@@ -10,16 +10,21 @@ use Rattle.mount_tree.specs.Nodes.{top}
 use Rattle.mount_tree.specs.Scenes.{SceneSeen}
 use Rattle.mount_tree.specs.TreeLaws.{IsSound}
 use Rattle.mount_tree.specs.declared.file.File.{File}
-use Rattle.mount_tree.specs.declared.file.File.TheVariants.{Inject}
+use Rattle.mount_tree.specs.declared.file.File.TheVariants.{Inject, Tool, OfTop, CpuSize, EventId, ErrorLog}
 use Rattle.mount_tree.specs.declared.node.Node.{Node}
 use Rattle.mount_tree.specs.declared.node.Node.TheVariants as nodes
 use Rattle.mount_tree.specs.declared.node.Owner.{Owner}
 use Rattle.mount_tree.specs.declared.scene.Event.{Event}
 use Rattle.mount_tree.specs.declared.scene.Instance.{Instance}
 
--- the line of a file in a list: how it can be used, and its path. The file `inject`, which no script has, has no line.
+-- the line of a file in a list: how it can be used, and its path. The files that no script has have no line.
 abbrev pub line_in : SceneSeen → Owner → File → List ℕ
 line_in scene owner (Inject event) = []
+line_in scene owner (Tool file) = []
+line_in scene owner (OfTop file) = []
+line_in scene owner (CpuSize cpu) = []
+line_in scene owner (EventId event) = []
+line_in scene owner ErrorLog = []
 line_in scene owner file = line_of (access_of_file file) (path_of scene (nodes.File owner file))
 
 -- the lines of the files below a node, folder by folder, down to so many folders

@@ -6,6 +6,7 @@ ghost use Rattle.mount_tree.specs.FileKinds.{access_of_file, kind_of_file};
 ghost use Rattle.mount_tree.specs.TreeNames.{cpu_file_name, event_file_name, file_name, file_parent, top_file_name};
 
 use crate::folder::Folder;
+use crate::tool::{ToolFile, TopTool};
 use trace_command::{CpuFile, EventFile, TopFile};
 use trace_list::{Access, cpu_access, event_access, top_access};
 
@@ -24,6 +25,16 @@ pub enum File {
     OfEvent(u8, EventFile),
     /// The file `inject` of an event, by its index.
     Inject(u8),
+    /// A file that tools ask for.
+    Tool(ToolFile),
+    /// A file that tools ask for, which the top instance alone has.
+    OfTop(TopTool),
+    /// The file `buffer_size_kb` of a CPU, by its number.
+    CpuSize(u8),
+    /// The file `id` of an event, by its index.
+    EventId(u8),
+    /// `error_log`: the last commands that were refused.
+    ErrorLog,
 }
 
 /// How a file is read and written.
@@ -37,6 +48,10 @@ pub enum FileKind {
     Pipe,
     /// A write emits an event.
     Inject,
+    /// One that tools ask for, and that commands don't know: read whole.
+    Tool,
+    /// The last commands that were refused: read whole, and cleared by opening it to be emptied.
+    ErrorLog,
 }
 
 impl File {
@@ -51,6 +66,10 @@ impl File {
             File::OfCpu(_, file) => cpu_access(file),
             File::OfEvent(_, file) => event_access(file),
             File::Inject(_) => Access::Write,
+            File::Tool(file) => file.access(),
+            File::OfTop(file) => file.access(),
+            File::CpuSize(_) | File::ErrorLog => Access::Both,
+            File::EventId(_) => Access::Read,
         }
     }
 
@@ -64,6 +83,10 @@ impl File {
                 FileKind::Pipe
             }
             File::Inject(_) => FileKind::Inject,
+            File::Tool(_) | File::OfTop(_) | File::CpuSize(_) | File::EventId(_) => {
+                FileKind::Tool
+            }
+            File::ErrorLog => FileKind::ErrorLog,
             File::SyntheticEvents
             | File::OfInstance(_)
             | File::SystemEnable
@@ -83,6 +106,11 @@ impl File {
             File::OfCpu(_, file) => cpu_name(file),
             File::OfEvent(_, file) => event_name(file),
             File::Inject(_) => "inject",
+            File::Tool(file) => file.name(),
+            File::OfTop(file) => file.name(),
+            File::CpuSize(_) => "buffer_size_kb",
+            File::EventId(_) => "id",
+            File::ErrorLog => "error_log",
         }
     }
 
@@ -94,9 +122,15 @@ impl File {
             File::OfInstance(TopFile::Overwrite) => Folder::Options,
             File::OfInstance(TopFile::EventsEnable) => Folder::Events,
             File::OfInstance(TopFile::EventsFilter) | File::SystemEnable => Folder::Synthetic,
-            File::SyntheticEvents | File::OfInstance(_) => Folder::Root,
-            File::OfCpu(cpu, _) => Folder::Cpu(cpu),
-            File::OfEvent(event, _) | File::Inject(event) => Folder::Event(event),
+            File::SyntheticEvents
+            | File::OfInstance(_)
+            | File::Tool(_)
+            | File::OfTop(_)
+            | File::ErrorLog => Folder::Root,
+            File::OfCpu(cpu, _) | File::CpuSize(cpu) => Folder::Cpu(cpu),
+            File::OfEvent(event, _) | File::Inject(event) | File::EventId(event) => {
+                Folder::Event(event)
+            }
         }
     }
 
@@ -105,9 +139,14 @@ impl File {
         ensures { result ≡ file_index self }
     {
         match self {
-            File::OfCpu(cpu, _) => cpu,
-            File::OfEvent(event, _) | File::Inject(event) => event,
-            File::SyntheticEvents | File::OfInstance(_) | File::SystemEnable => 0,
+            File::OfCpu(cpu, _) | File::CpuSize(cpu) => cpu,
+            File::OfEvent(event, _) | File::Inject(event) | File::EventId(event) => event,
+            File::SyntheticEvents
+            | File::OfInstance(_)
+            | File::SystemEnable
+            | File::Tool(_)
+            | File::OfTop(_)
+            | File::ErrorLog => 0,
         }
     }
 
@@ -122,6 +161,11 @@ impl File {
             File::OfCpu(_, file) => cpu_place(file),
             File::OfEvent(_, file) => event_place(file),
             File::Inject(_) => 26,
+            File::Tool(file) => file.place(),
+            File::OfTop(file) => file.place(),
+            File::CpuSize(_) => 40,
+            File::EventId(_) => 41,
+            File::ErrorLog => 42,
         }
     }
 }

@@ -9,10 +9,11 @@ use crate::entry::Entry;
 use crate::file::File;
 use crate::folder::Folder;
 use crate::node::{Node, Owner};
+use crate::tool::{ToolFile, TopTool};
 use trace_command::{CpuFile, EventFile, TopFile};
 
 /// More than the entries that any folder always has.
-const MOST_FIXED: usize = 11;
+const MOST_FIXED: usize = 25;
 
 fn file_entry(owner: Owner, file: File) -> Option<Entry<'static>>
     ensures { option_map child_of result ≡ Some (file_child owner file) }
@@ -49,6 +50,15 @@ fn own_entry(owner: Owner, index: usize) -> Option<Entry<'static>>
         5 => file_entry(owner, File::OfInstance(TopFile::TraceOptions)),
         6 => folder_entry(owner, "events", Folder::Events),
         7 => folder_entry(owner, "per_cpu", Folder::PerCpu),
+        8 => file_entry(owner, File::Tool(ToolFile::AvailableTracers)),
+        9 => file_entry(owner, File::Tool(ToolFile::CurrentTracer)),
+        10 => file_entry(owner, File::Tool(ToolFile::SetEvent)),
+        11 => file_entry(owner, File::Tool(ToolFile::TraceClock)),
+        12 => file_entry(owner, File::Tool(ToolFile::TimestampMode)),
+        13 => file_entry(owner, File::Tool(ToolFile::BufferSizeKb)),
+        14 => file_entry(owner, File::Tool(ToolFile::BufferTotalSizeKb)),
+        15 => file_entry(owner, File::Tool(ToolFile::TracingCpumask)),
+        16 => file_entry(owner, File::ErrorLog),
         _ => None,
     }
 }
@@ -68,7 +78,12 @@ fn top_entry(index: usize) -> Option<Entry<'static>>
 {
     match index {
         0 => file_entry(Owner::Top, File::SyntheticEvents),
-        9 => folder_entry(Owner::Top, "instances", Folder::Instances),
+        18 => folder_entry(Owner::Top, "instances", Folder::Instances),
+        19 => file_entry(Owner::Top, File::OfTop(TopTool::AvailableEvents)),
+        20 => file_entry(Owner::Top, File::OfTop(TopTool::Readme)),
+        21 => file_entry(Owner::Top, File::OfTop(TopTool::SavedCmdlines)),
+        22 => file_entry(Owner::Top, File::OfTop(TopTool::PrintkFormats)),
+        23 => file_entry(Owner::Top, File::OfTop(TopTool::TracingThresh)),
         _ => own_entry(Owner::Top, index - 1),
     }
 }
@@ -81,6 +96,7 @@ fn cpu_entry(owner: Owner, cpu: u8, index: usize) -> Option<Entry<'static>>
         0 => file_entry(owner, File::OfCpu(cpu, CpuFile::Stats)),
         1 => file_entry(owner, File::OfCpu(cpu, CpuFile::Trace)),
         2 => file_entry(owner, File::OfCpu(cpu, CpuFile::TracePipe)),
+        3 => file_entry(owner, File::CpuSize(cpu)),
         _ => None,
     }
 }
@@ -96,6 +112,7 @@ fn event_entry(owner: Owner, event: u8, index: usize) -> Option<Entry<'static>>
         3 => file_entry(owner, File::OfEvent(event, EventFile::Trigger)),
         4 => file_entry(owner, File::OfEvent(event, EventFile::Hist)),
         5 => file_entry(owner, File::Inject(event)),
+        6 => file_entry(owner, File::EventId(event)),
         _ => None,
     }
 }

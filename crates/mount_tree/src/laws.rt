@@ -63,7 +63,8 @@ pub fn examples_are_computed()
     ensures numbers { NumbersAndPaths }
 {}
 
-/// A walk through all folders finds the files that `tracectl --list` lists, in its order, each to be used as it says, and each event's `inject`.
+/// A walk through all folders finds the files that `tracectl --list` lists, in its order, each to be used as it says; beside them only each event's
+/// `inject` and the files that tools ask for.
 pub fn trees_are_listed()
     ensures { TreesAreListed }
 {}

@@ -10,9 +10,11 @@ mod node;
 mod number;
 mod path;
 mod scene;
+mod tool;
 
 pub use entry::Entry;
 pub use file::{File, FileKind};
 pub use folder::Folder;
 pub use node::{Node, Owner};
 pub use scene::{Event, Instance, Scene};
+pub use tool::{ToolFile, TopTool};

@@ -3,7 +3,7 @@
 //! A number is one more than three numbers packed: whose the node is, the CPU or event, and the kind.
 //!
 //! ```text
-//!     number - 1   =   owner: 33 bits   index: 8 bits   kind: 5 bits
+//!     number - 1   =   owner: 33 bits   index: 8 bits   kind: 6 bits
 //! ```
 
 ghost use Rattle.std.specs.Prelude.{◌≡◌, ◌≢◌, ◌≤◌, ◌^◌, IfSome, IfNone, slice_get};
@@ -14,12 +14,13 @@ ghost use Rattle.mount_tree.specs.private.KindPlaces.{nodes_of};
 use crate::file::File;
 use crate::folder::Folder;
 use crate::node::{Node, Owner};
+use crate::tool::{ToolFile, TopTool};
 use trace_command::{CpuFile, EventFile, TopFile};
 
 /// The values of the index, and of the kind.
 const INDEXES: u64 = 256;
 
-const PLACES: u64 = 32;
+const PLACES: u64 = 64;
 
 impl Node {
     /// The mounted folder. Its number is 1.
@@ -158,6 +159,22 @@ fn node_from(owner: Owner, index: u8, place: u8) -> Option<Node>
         24 => Node::File(owner, File::OfEvent(index, EventFile::Hist)),
         25 => Node::File(owner, File::OfEvent(index, EventFile::Format)),
         26 => Node::File(owner, File::Inject(index)),
+        27 => Node::File(owner, File::Tool(ToolFile::AvailableTracers)),
+        28 => Node::File(owner, File::Tool(ToolFile::CurrentTracer)),
+        29 => Node::File(owner, File::Tool(ToolFile::SetEvent)),
+        30 => Node::File(owner, File::Tool(ToolFile::TraceClock)),
+        31 => Node::File(owner, File::Tool(ToolFile::TimestampMode)),
+        32 => Node::File(owner, File::Tool(ToolFile::BufferSizeKb)),
+        33 => Node::File(owner, File::Tool(ToolFile::BufferTotalSizeKb)),
+        34 => Node::File(owner, File::Tool(ToolFile::TracingCpumask)),
+        35 => Node::File(owner, File::OfTop(TopTool::AvailableEvents)),
+        36 => Node::File(owner, File::OfTop(TopTool::Readme)),
+        37 => Node::File(owner, File::OfTop(TopTool::SavedCmdlines)),
+        38 => Node::File(owner, File::OfTop(TopTool::PrintkFormats)),
+        39 => Node::File(owner, File::OfTop(TopTool::TracingThresh)),
+        40 => Node::File(owner, File::CpuSize(index)),
+        41 => Node::File(owner, File::EventId(index)),
+        42 => Node::File(owner, File::ErrorLog),
         _ => return None,
     };
     Some(node)

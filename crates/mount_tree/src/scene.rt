@@ -151,6 +151,21 @@ impl Scene {
         self.declared < 256
     }
 
+    /// How many CPUs there are.
+    pub fn cpus(&self) -> u8
+        ensures value { result ≡ self.now.cpus }
+        ensures bound { result ≤ 8 }
+    {
+        self.cpus
+    }
+
+    /// The events that have a folder, in order of declaration.
+    pub fn events(&self) -> &[Event]
+        ensures { result.now ≡ self.now.events }
+    {
+        &self.events
+    }
+
     /// The name of the event at this index, if it has a folder.
     pub fn event_name(&self, index: u8) -> Option<&[u8]>
         ensures { option_map bytes_now result ≡ event_name index self.now.events }
@@ -195,12 +210,16 @@ impl Scene {
         ensures { result ≡ file_is_there self.now owner file }
     {
         match file {
-            File::SyntheticEvents => is_top(owner),
+            File::SyntheticEvents | File::OfTop(_) => is_top(owner),
             File::OfInstance(_)
             | File::SystemEnable
             | File::OfCpu(_, _)
             | File::OfEvent(_, _)
-            | File::Inject(_) => self.folder_exists(owner, file.parent()),
+            | File::Inject(_)
+            | File::Tool(_)
+            | File::CpuSize(_)
+            | File::EventId(_)
+            | File::ErrorLog => self.folder_exists(owner, file.parent()),
         }
     }
 
