@@ -155,11 +155,15 @@ class Server:
         return struct.unpack_from("<I", self.ask(POLL, node, struct.pack("<QQII", handle, number, flags, 0x41)))[0]
 
     def echo(self, text, path, append=False, pid=None):
-        """`echo TEXT > PATH`, or with `>>`."""
+        """`echo TEXT > PATH`, or with `>>`. As in a shell, what a write left is written again."""
         node = self.lookup(path)
         handle = self.open(node, os.O_WRONLY | (os.O_APPEND if append else os.O_TRUNC))
         try:
-            assert self.write_at(node, handle, 0, text + b"\n", pid) == len(text) + 1
+            data, done = text + b"\n", 0
+            while done < len(data):
+                count = self.write_at(node, handle, done, data[done:], pid)
+                assert 0 < count <= len(data) - done
+                done += count
         finally:
             self.close(node, handle)
 

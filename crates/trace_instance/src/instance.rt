@@ -125,6 +125,13 @@ impl Instance {
         self.enabled[event]
     }
 
+    /// Which events are enabled, in order of declaration.
+    pub fn enabled(&self) -> &[bool]
+        ensures { result.now ≡ self.now.enabled }
+    {
+        &self.enabled
+    }
+
     /// Whether no event is enabled.
     pub(crate) fn none_on(&self) -> bool
         ensures { result ≡ list_all not self.now.enabled }

@@ -1,0 +1,3 @@
+pub mod EventFlags
+pub mod Lines
+pub mod Owners

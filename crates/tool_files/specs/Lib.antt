@@ -1,0 +1,5 @@
+pub mod Words
+pub mod EventWords
+pub mod ToolTexts
+pub mod ToolWrites
+pub mod private

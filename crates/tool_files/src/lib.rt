@@ -1,0 +1,10 @@
+//! The files of a mounted tracer that tools ask for and commands don't know: what they show, and what a write to one comes to.
+#![tactic(auto)]
+
+mod config;
+mod text;
+mod word;
+mod write;
+
+pub use text::text_of;
+pub use write::{ToolWrite, write_of};
