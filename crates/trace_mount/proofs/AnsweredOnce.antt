@@ -1,5 +1,5 @@
 -- Each read is answered once.
-use Rattle.std.proofs.Common.{◌≡◌, inl, inr, ℕ, ◌+◌, ◌==◌, ◌^◌, ◌%◌, nat_lt, Bool, true, false, if◌then◌else◌, is_some, List, [], ◌∷◌, ◌++◌, map, Option, Some, None, unwrap_or, Result, Ok, Err, refl, ap, ◌∙◌, arith}
+use Rattle.std.proofs.Common.{◌≡◌, inl, inr, ℕ, ◌+◌, ◌==◌, ◌^◌, ◌%◌, nat_lt, Bool, true, false, not, if◌then◌else◌, is_some, List, [], ◌∷◌, ◌++◌, map, length, Option, Some, None, unwrap_or, Result, Ok, Err, refl, ap, ◌∙◌, arith}
 use Rattle.std.specs.List.{remove, slice_get}
 use Rattle.std.specs.Option.{option_map}
 use Rattle.fuse_wire.specs.declared.errno.Errno.TheVariants.{EACCES, EAGAIN, EINVAL, ENOENT, ENOSPC}
@@ -23,13 +23,20 @@ use Rattle.mount_tree.specs.declared.file.FileKind.TheVariants as kinds
 use Rattle.mount_tree.specs.declared.folder.Folder.TheVariants as folders
 use Rattle.mount_tree.specs.declared.node.Node.{Node}
 use Rattle.mount_tree.specs.declared.node.Node.TheVariants as nodes
+use Rattle.mount_tree.specs.declared.node.Owner.{Owner}
 use Rattle.mount_tree.specs.declared.node.Owner.TheVariants.{Top, Made}
+use Rattle.trace_command.specs.declared.command.Config.{Config}
+use Rattle.tool_files.specs.ToolTexts.{tool_text}
+use Rattle.tool_files.specs.ToolWrites.{tool_write}
+use Rattle.tool_files.specs.declared.write.ToolWrite.{ToolWrite}
+use Rattle.tool_files.specs.declared.write.ToolWrite.TheVariants.{Missing, Same, Switch}
+use Rattle.tool_files.specs.declared.write.ToolWrite.TheVariants as writes
 use Rattle.trace_mount.specs.Injections.{first_line, injection, line_size, pairs_of_line}
 use Rattle.trace_mount.specs.Mounted.{AreServed, Does, IsExchanged, Right, TellsOwed, Unframed, Wrong}
 use Rattle.trace_mount.specs.Owed.{Owed, ReplyAt, WakeupAt, owed, step_of_parked}
 use Rattle.trace_mount.specs.ParkedLaws.{ReadsAreAnsweredOnce, answered_once, asked_once, number_answered, number_asked, number_told, numbers_of, read_number, reads_answered, reads_asked, times}
 use Rattle.trace_mount.specs.Pipes.{ends, is_dry, is_used_up, would_wait}
-use Rattle.trace_mount.specs.Served.{Asks, Interrupts, Parks, Plain, Step, Takes, emptied, empties_at_end, failed, given_records, given_text, inject, inject_asked, instance_path, is_nonblocking, made_folder, make_folder, make_instance, makes_text, open_flags, opened, part_of, plain, poll_file, poll_kind, poll_pipe, read_anew, read_dry, read_file, read_kind, read_pipe, read_records, read_text, release, remove_folder, step_of, taken_records, taking, write_file, write_kind}
+use Rattle.trace_mount.specs.Served.{disables, disabling, given_tool, handed_out, read_tool, write_other, write_tool, Asks, Interrupts, Parks, Plain, Step, Takes, emptied, empties_at_end, failed, given_records, given_text, inject, inject_asked, instance_path, is_nonblocking, made_folder, make_folder, make_instance, makes_text, open_flags, opened, part_of, plain, poll_file, poll_kind, poll_pipe, read_anew, read_dry, read_file, read_kind, read_pipe, read_records, read_text, release, remove_folder, step_of, taken_records, taking, write_file, write_kind}
 use Rattle.trace_mount.specs.Services.{OpenSeen, Service, Terms, file_at, free_handle, interrupted_if, just_opened, node_of, read_of_pipe, scene_of, with_file, without_file, without_read}
 use Rattle.trace_mount.specs.Told.{empties, known, may, wants_read, wants_write}
 use Rattle.trace_mount.specs.declared.parked.Parked.{Parked}
@@ -39,7 +46,7 @@ use Rattle.trace_mount.proofs.TimesLemmas.{times-append, times-joined, times-rem
 
 abbrev IsReadStep : ℕ → Step → Type 0
 IsReadStep unique (Plain outcome) = is_some outcome.reply ≡ true
-IsReadStep unique (Takes outcome) = ⊥
+IsReadStep unique (Takes outcome) = is_some outcome.reply ≡ true
 IsReadStep unique (Asks request outcome) = (answer : Result Answer Refusal) → is_some (outcome answer).reply ≡ true
 IsReadStep unique (Parks read) = read.unique ≡ unique
 IsReadStep unique (Interrupts number) = ⊥
@@ -61,6 +68,21 @@ text-step g s read offset file = by (makes_text offset file)
     by : (t : Bool) → IsReadStep read.unique (if t then read_anew (scene_of g s) read.handle offset read.size (node_of file) s.files
         else plain (replies.Data (part_of offset read.size (unwrap_or file.text []))) s.files)
     by true = text-reply read.handle offset read.size s.files
+    by false = refl
+
+given-step : (unique handle offset size : ℕ) (open_files : List (Option OpenSeen)) (shown : Option (List ℕ))
+    → IsReadStep unique (given_tool handle offset size open_files shown)
+given-step unique handle offset size open_files None = refl
+given-step unique handle offset size open_files (Some text) = refl
+
+tool-step : (g : Terms) (s : Service) (read : Parked) (offset : ℕ) (file : OpenSeen)
+    → IsReadStep read.unique (read_tool g s read.handle offset read.size file)
+tool-step g s read offset file = by (makes_text offset file)
+  where
+    by : (t : Bool) → IsReadStep read.unique (if t
+        then given_tool read.handle offset read.size s.files (tool_text g.config s.past file.owner file.file)
+        else plain (replies.Data (part_of offset read.size (unwrap_or file.text []))) s.files)
+    by true = given-step read.unique read.handle offset read.size s.files (tool_text g.config s.past file.owner file.file)
     by false = refl
 
 dry-step : (read : Parked) (flags : ℕ) (ended : Bool) (open_files : List (Option OpenSeen)) → IsReadStep read.unique (read_dry read flags ended open_files)
@@ -85,6 +107,8 @@ kind-step : (g : Terms) (s : Service) (read : Parked) (offset flags : ℕ) (file
     → IsReadStep read.unique (read_kind g s read offset flags file kind)
 kind-step g s read offset flags file kinds.Pipe = pipe-step g s read flags file
 kind-step g s read offset flags file kinds.Inject = refl
+kind-step g s read offset flags file kinds.Tool = tool-step g s read offset file
+kind-step g s read offset flags file kinds.ErrorLog = refl
 kind-step g s read offset flags file kinds.Text = text-step g s read offset file
 kind-step g s read offset flags file kinds.Trace = text-step g s read offset file
 
@@ -99,17 +123,19 @@ abbrev IsOther : Step → Type 0
 IsOther (Parks read) = ⊥
 IsOther _ = Unit {0}
 
-opened-other : (flags : ℕ) (node : Option Node) (open_files : List (Option OpenSeen)) → IsOther (opened flags node open_files)
-opened-other flags None open_files = tt
-opened-other flags (Some (nodes.Folder owner folder)) open_files = tt
-opened-other flags (Some (nodes.File owner file)) open_files = by (may (access_of_file file) (wants_read flags) (wants_write flags))
+opened-other : (scene : SceneSeen) (flags : ℕ) (node : Option Node) (open_files : List (Option OpenSeen)) → IsOther (opened scene flags node open_files)
+opened-other scene flags None open_files = tt
+opened-other scene flags (Some (nodes.Folder owner folder)) open_files = tt
+opened-other scene flags (Some (nodes.File owner file)) open_files =
+    by (may (access_of_file file) (wants_read flags) (wants_write flags)) (disables file flags)
   where
-    by : (t : Bool) → IsOther (if t
-        then taking (replies.Opened (free_handle open_files) (open_flags (kind_of_file file)))
-        (with_file (free_handle open_files) (just_opened owner file (empties flags)) open_files)
+    by : (t d : Bool) → IsOther (if t
+        then (if d then disabling scene (just_opened owner file (empties flags)) open_files
+        else Takes (handed_out (just_opened owner file (empties flags)) open_files))
         else failed EACCES open_files)
-    by true = tt
-    by false = tt
+    by true true = tt
+    by true false = tt
+    by false d = tt
 
 made-in : (g : Terms) (scene : SceneSeen) (name : List ℕ) (open_files : List (Option OpenSeen)) → IsOther (make_instance g scene name open_files)
 made-in g scene name open_files = by (nat_lt scene.made most_made)
@@ -161,12 +187,40 @@ injected-other cpus handle pid bytes_of open_files (Some event) = by (nat_lt pid
     by true = asked-other handle (line_size bytes_of) open_files (option_map (injection (pid % cpus) event pid) (pairs_of_line (first_line bytes_of)))
     by false = tt
 
+switched-other : (scene : SceneSeen) (handle : ℕ) (owner : Owner) (size : ℕ) (open_files : List (Option OpenSeen)) (comes : ToolWrite)
+    → IsOther (write_tool scene handle owner size open_files comes)
+switched-other scene handle owner size open_files Missing = tt
+switched-other scene handle owner size open_files writes.Wrong = tt
+switched-other scene handle owner size open_files Same = tt
+switched-other scene handle owner size open_files (Switch file on count) = tt
+
+text-other : (g : Config) (scene : SceneSeen) (handle : ℕ) (owner : Owner) (file : File) (append : Bool) (bytes_of : List ℕ)
+    (open_files : List (Option OpenSeen)) (kind : FileKind) → IsOther (write_other g scene handle owner file append bytes_of open_files kind)
+text-other g scene handle owner file append bytes_of open_files kinds.Tool =
+    switched-other scene handle owner (length bytes_of) open_files (tool_write g scene owner file bytes_of)
+text-other g scene handle owner file append bytes_of open_files kinds.ErrorLog = tt
+text-other g scene handle owner file append bytes_of open_files kinds.Text = tt
+text-other g scene handle owner file append bytes_of open_files kinds.Trace = tt
+text-other g scene handle owner file append bytes_of open_files kinds.Pipe = tt
+text-other g scene handle owner file append bytes_of open_files kinds.Inject = tt
+
 kind-other : (g : Terms) (s : Service) (handle pid : ℕ) (bytes_of : List ℕ) (own : OpenSeen) (file : File) → IsOther (write_kind g s handle pid bytes_of own file)
-kind-other g s handle pid bytes_of own files.SyntheticEvents = tt
-kind-other g s handle pid bytes_of own (files.OfInstance file) = tt
-kind-other g s handle pid bytes_of own files.SystemEnable = tt
-kind-other g s handle pid bytes_of own (files.OfCpu cpu file) = tt
-kind-other g s handle pid bytes_of own (files.OfEvent event file) = tt
+kind-other g s handle pid bytes_of own files.SyntheticEvents = text-other g.config (scene_of g s) handle own.owner own.file (not own.starts_over) bytes_of s.files (kind_of_file own.file)
+kind-other g s handle pid bytes_of own (files.OfInstance file) = text-other g.config (scene_of g s) handle own.owner own.file (not own.starts_over) bytes_of s.files (kind_of_file own.file)
+kind-other g s handle pid bytes_of own files.SystemEnable = text-other g.config (scene_of g s) handle own.owner own.file (not own.starts_over) bytes_of s.files (kind_of_file own.file)
+kind-other g s handle pid bytes_of own (files.OfCpu cpu file) = text-other g.config (scene_of g s) handle own.owner own.file (not own.starts_over) bytes_of s.files (kind_of_file own.file)
+kind-other g s handle pid bytes_of own (files.OfEvent event file) =
+    text-other g.config (scene_of g s) handle own.owner own.file (not own.starts_over) bytes_of s.files (kind_of_file own.file)
+kind-other g s handle pid bytes_of own (files.Tool file) =
+    text-other g.config (scene_of g s) handle own.owner own.file (not own.starts_over) bytes_of s.files (kind_of_file own.file)
+kind-other g s handle pid bytes_of own (files.OfTop file) =
+    text-other g.config (scene_of g s) handle own.owner own.file (not own.starts_over) bytes_of s.files (kind_of_file own.file)
+kind-other g s handle pid bytes_of own (files.CpuSize cpu) =
+    text-other g.config (scene_of g s) handle own.owner own.file (not own.starts_over) bytes_of s.files (kind_of_file own.file)
+kind-other g s handle pid bytes_of own (files.EventId event) =
+    text-other g.config (scene_of g s) handle own.owner own.file (not own.starts_over) bytes_of s.files (kind_of_file own.file)
+kind-other g s handle pid bytes_of own files.ErrorLog =
+    text-other g.config (scene_of g s) handle own.owner own.file (not own.starts_over) bytes_of s.files (kind_of_file own.file)
 kind-other g s handle pid bytes_of own (files.Inject event) = by (is_there (scene_of g s) (nodes.File own.owner (files.Inject event)))
   where
     by : (t : Bool) → IsOther (if t then inject g.config.cpus handle pid bytes_of s.files (slice_get (declared_events s.past) event) else failed ENOENT s.files)
@@ -200,6 +254,8 @@ polled-other g s handle wakeup flags (Some file) = by_kind (kind_of_file file.fi
     by_kind kinds.Text = tt
     by_kind kinds.Trace = tt
     by_kind kinds.Inject = tt
+    by_kind kinds.Tool = tt
+    by_kind kinds.ErrorLog = tt
 
 -- ---- how often a number is there
 
@@ -224,7 +280,11 @@ read-times : (g : Terms) (before : Service) (step : Step) (unique u : ℕ) (repl
 read-times g before (Plain outcome) unique u reply after is does =
     let replied : is_some reply ≡ true = ap (λ (r : Option Reply). is_some r) does.0 ∙ is in
     rw (replied, ap (λ (s : Service). s.parked) does.1) (omega arith)
-read-times g before (Takes outcome) unique u reply after is does = absurd is
+read-times g before (Takes outcome) unique u reply after is (inl does) =
+    let replied : is_some reply ≡ true = ap (λ (r : Option Reply). is_some r) does.0 ∙ is in
+    rw (replied, ap (λ (s : Service). s.parked) does.1) (omega arith)
+read-times g before (Takes outcome) unique u reply after is (inr does) =
+    rw (does.0, ap (λ (s : Service). s.parked) does.1) (omega arith)
 read-times g before (Asks request outcome) unique u reply after is (answer, answered, told, same) =
     let replied : is_some reply ≡ true = ap (λ (r : Option Reply). is_some r) told ∙ is answer in
     rw (replied, ap (λ (s : Service). s.parked) same) (omega arith)
@@ -278,7 +338,7 @@ request-times g s unique pid u target (operations.MkDir name) reply after does =
 request-times g s unique pid u target (operations.RmDir name) reply after does =
     other-times g s (step_of g s unique pid target (operations.RmDir name)) u reply after (removed-other name s.files (known (scene_of g s) target)) does
 request-times g s unique pid u target (operations.Open flags) reply after does =
-    other-times g s (step_of g s unique pid target (operations.Open flags)) u reply after (opened-other flags (known (scene_of g s) target) s.files) does
+    other-times g s (step_of g s unique pid target (operations.Open flags)) u reply after (opened-other (scene_of g s) flags (known (scene_of g s) target) s.files) does
 request-times g s unique pid u target (operations.Write handle offset bytes_of) reply after does =
     other-times g s (step_of g s unique pid target (operations.Write handle offset bytes_of)) u reply after (written-other g s handle pid bytes_of (file_at handle s.files)) does
 request-times g s unique pid u target operations.StatFs reply after does =

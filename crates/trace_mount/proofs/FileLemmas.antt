@@ -1,9 +1,11 @@
 -- Open files that change.
-use Rattle.std.proofs.Common.{◌≡◌, ℕ, zero, suc, Bool, true, false, if◌then◌else◌, is_some, nat_lt, List, [], ◌∷◌, ◌++◌, length, drop, Option, Some, None, set, refl, ap, ◌∙◌, arith}
-use Rattle.std.specs.List.{list_any}
-use Rattle.std.proofs.lemmas.List.{set-set}
+use Rattle.std.proofs.Common.{◌≡◌, ℕ, zero, suc, Bool, true, false, if◌then◌else◌, is_none, is_some, nat_lt, ◌<◌, List, [], ◌∷◌, ◌++◌, length, drop, get_or, unwrap_or, Option, Some, None, set, refl, sym, ap, ◌∙◌, arith}
+use Rattle.std.specs.List.{list_any, position}
+use Rattle.std.proofs.lemmas.Bool.{lt-ltb}
+use Rattle.std.proofs.lemmas.List.{set-get_or, set-set}
+use Rattle.std.proofs.lemmas.List.Quantifiers.{position-Some}
 use Rattle.std.specs.Option.{option_and_then, option_map}
-use Rattle.trace_mount.specs.Services.{OpenSeen, file_at, has_wakeup, text_at, with_change, with_file, with_records, without_file}
+use Rattle.trace_mount.specs.Services.{OpenSeen, file_at, free_handle, has_wakeup, text_at, with_change, with_file, with_records, without_file}
 
 -- a file is taken out, changed and put back
 pub changed : (change : OpenSeen → OpenSeen) (files now after : List (Option OpenSeen)) (handle : ℕ) (file other : OpenSeen)
@@ -55,3 +57,28 @@ none-opened files handle file none is = by (nat_lt handle (length files))
     by : (t : Bool) → list_any has_wakeup (if t then set files handle (Some file) else files ++ Some file ∷ []) ≡ false
     by true = none-set has_wakeup files handle (Some file) none quiet
     by false = none-more has_wakeup files (Some file) none quiet
+
+-- ---- a file that is taken back
+
+none-there : (slot : Option OpenSeen) → is_none slot ≡ true → slot ≡ None
+none-there None is = refl
+none-there (Some file) is = absurd (cc)
+
+-- the handle that is given next has no file
+free-set : (files : List (Option OpenSeen)) (handle : ℕ) → handle ≡ free_handle files → handle < length files → set files handle None ≡ files
+free-set files handle is low = by (position (λ (file : Option OpenSeen). is_none file) files) refl is
+  where
+    by : (o : Option ℕ) → position (λ (file : Option OpenSeen). is_none file) files ≡ o → handle ≡ unwrap_or o (length files)
+        → set files handle None ≡ files
+    by None at same = absurd (omega (arith, same, low))
+    by (Some i) at same =
+        let none : get_or files i None ≡ None =
+        none-there (get_or files i None) (position-Some (λ (file : Option OpenSeen). is_none file) files i None at).1 in
+        rw same (ap (λ (slot : Option OpenSeen). set files i slot) (sym none) ∙ set-get_or files i None)
+
+pub taken-back : (files before after : List (Option OpenSeen)) (handle count : ℕ) (file : OpenSeen) → count ≡ length before
+    → handle ≡ free_handle before → files ≡ with_file handle file before → handle < count → after ≡ set files handle None → after ≡ before
+taken-back files before after handle count file many is was low now =
+    let below : handle < length before = omega (arith, many, low) in
+    let opened : files ≡ set before handle (Some file) = was ∙ (rw (lt-ltb handle (length before) below) refl) in
+    now ∙ ap (λ (f : List (Option OpenSeen)). set f handle None) opened ∙ set-set before handle (Some file) None ∙ free-set before handle is below

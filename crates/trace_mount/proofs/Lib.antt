@@ -16,3 +16,4 @@ pub mod ShownLemmas
 pub mod TimesLemmas
 pub mod AnsweredOnce
 pub mod WaitLaws
+pub mod ToolLemmas

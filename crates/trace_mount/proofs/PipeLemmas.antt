@@ -105,6 +105,11 @@ no-pipe g s owner file none = never (is_there (scene_of g s) (nodes.File owner f
         event-bad None named is = absurd (cc)
         event-bad (Some n) named is = let same : paths.OfEvent n f ≡ named = cc in rw (sym same) refl
     by (files.Inject event) e = event-no g s owner None (λ named is. absurd (cc))
+    by (files.Tool f) e = event-no g s owner None (λ named is. absurd (cc))
+    by (files.OfTop f) e = event-no g s owner None (λ named is. absurd (cc))
+    by (files.CpuSize cpu) e = event-no g s owner None (λ named is. absurd (cc))
+    by (files.EventId event) e = event-no g s owner None (λ named is. absurd (cc))
+    by files.ErrorLog e = event-no g s owner None (λ named is. absurd (cc))
 
 -- an instance that is not there
 pub gone-dry : (g : Terms) (s : Service) (owner : Owner) (file : File)
@@ -145,6 +150,11 @@ pipe-dry g s owner (files.OfCpu cpu per_cpu.Trace) pipe told is there lives says
 pipe-dry g s owner (files.OfCpu cpu per_cpu.Stats) pipe told is there lives says = absurd (cc)
 pipe-dry g s owner (files.OfEvent event f) pipe told is there lives says = absurd (cc)
 pipe-dry g s owner (files.Inject event) pipe told is there lives says = absurd (cc)
+pipe-dry g s owner (files.Tool file) pipe told is there lives says = absurd (cc)
+pipe-dry g s owner (files.OfTop file) pipe told is there lives says = absurd (cc)
+pipe-dry g s owner (files.CpuSize cpu) pipe told is there lives says = absurd (cc)
+pipe-dry g s owner (files.EventId event) pipe told is there lives says = absurd (cc)
+pipe-dry g s owner files.ErrorLog pipe told is there lives says = absurd (cc)
 
 -- its CPU is there
 pub has-cpu : (cpus own : ℕ) (file : File) (pipe : Opened) → Some pipe ≡ pipe_in cpus file → own ≡ cpus → HasCpu own pipe
@@ -170,6 +180,11 @@ has-cpu cpus own (files.OfCpu cpu per_cpu.Trace) pipe is same = absurd (cc)
 has-cpu cpus own (files.OfCpu cpu per_cpu.Stats) pipe is same = absurd (cc)
 has-cpu cpus own (files.OfEvent event f) pipe is same = absurd (cc)
 has-cpu cpus own (files.Inject event) pipe is same = absurd (cc)
+has-cpu cpus own (files.Tool file) pipe is same = absurd (cc)
+has-cpu cpus own (files.OfTop file) pipe is same = absurd (cc)
+has-cpu cpus own (files.CpuSize cpu) pipe is same = absurd (cc)
+has-cpu cpus own (files.EventId event) pipe is same = absurd (cc)
+has-cpu cpus own files.ErrorLog pipe is same = absurd (cc)
 
 -- ---- what is told of a mounted tracer
 

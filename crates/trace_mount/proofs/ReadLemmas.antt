@@ -144,6 +144,8 @@ text-told past old new read offset flags own kinds.Trace bytes mounted has is te
     kind-told past old new read offset flags own kinds.Trace bytes has is (rw (sym mounted.scene) told)
 text-told past old new read offset flags own kinds.Pipe bytes mounted has is text told = absurd text
 text-told past old new read offset flags own kinds.Inject bytes mounted has is text told = absurd text
+text-told past old new read offset flags own kinds.Tool bytes mounted has is text told = absurd text
+text-told past old new read offset flags own kinds.ErrorLog bytes mounted has is text told = absurd text
 
 -- ---- READ of a pipe
 

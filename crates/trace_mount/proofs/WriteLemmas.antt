@@ -7,23 +7,30 @@ use Rattle.fuse_wire.specs.declared.reply.Reply.TheVariants as replies
 use Rattle.trace_command.specs.Requests.{Request}
 use Rattle.trace_command.specs.declared.refusal.Refusal.TheVariants.{Memory}
 use Rattle.trace_format.specs.Definitions.{Definition}
+use Rattle.mount_tree.specs.FileKinds.{kind_of_file}
 use Rattle.mount_tree.specs.declared.file.File.{File}
 use Rattle.mount_tree.specs.declared.file.File.TheVariants as files
 use Rattle.trace_mount.specs.Injections.{first_line, injection, line_size, pairs_of_line}
 use Rattle.trace_mount.specs.Mounted.{IsAsked, HasLedTo, IsStep, MountSeen}
-use Rattle.trace_mount.specs.Served.{inject, inject_asked, write_kind, write_text, written}
-use Rattle.trace_mount.specs.Services.{OpenSeen, Service, Terms, node_of, scene_of}
+use Rattle.trace_mount.specs.Served.{inject, inject_asked, write_kind, write_other, written}
+use Rattle.trace_mount.specs.Services.{OpenSeen, Service, Terms, scene_of}
 use Rattle.trace_mount.proofs.Steps.{asked-step, memory-step}
 
 -- a file that is not `inject`
-pub text-kind : (g : Terms) (s : Service) (handle pid : ℕ) (bytes : List ℕ) (own : OpenSeen) (file : File) → ((event : ℕ) → file ≢ files.Inject event)
-    → write_kind g s handle pid bytes own file ≡ write_text (scene_of g s) handle (node_of own) (not own.starts_over) bytes s.files
-text-kind g s handle pid bytes own files.SyntheticEvents other = refl
-text-kind g s handle pid bytes own (files.OfInstance file) other = refl
-text-kind g s handle pid bytes own files.SystemEnable other = refl
-text-kind g s handle pid bytes own (files.OfCpu cpu file) other = refl
-text-kind g s handle pid bytes own (files.OfEvent event file) other = refl
-text-kind g s handle pid bytes own (files.Inject event) other = absurd (other event refl)
+pub other-kind : (g : Terms) (s : Service) (handle pid : ℕ) (bytes : List ℕ) (own : OpenSeen) (file : File) → ((event : ℕ) → file ≢ files.Inject event)
+    → write_kind g s handle pid bytes own file
+    ≡ write_other g.config (scene_of g s) handle own.owner own.file (not own.starts_over) bytes s.files (kind_of_file own.file)
+other-kind g s handle pid bytes own files.SyntheticEvents other = refl
+other-kind g s handle pid bytes own (files.OfInstance file) other = refl
+other-kind g s handle pid bytes own files.SystemEnable other = refl
+other-kind g s handle pid bytes own (files.OfCpu cpu file) other = refl
+other-kind g s handle pid bytes own (files.OfEvent event file) other = refl
+other-kind g s handle pid bytes own (files.Tool file) other = refl
+other-kind g s handle pid bytes own (files.OfTop file) other = refl
+other-kind g s handle pid bytes own (files.CpuSize cpu) other = refl
+other-kind g s handle pid bytes own (files.EventId event) other = refl
+other-kind g s handle pid bytes own files.ErrorLog other = refl
+other-kind g s handle pid bytes own (files.Inject event) other = absurd (other event refl)
 
 -- memory is refused before a command is asked
 pub asked-none : (past : List Request) (old : MountSeen) (request : Request) → HasLedTo past old → IsAsked past old old request (Err Memory)

@@ -13,6 +13,8 @@ use Rattle.trace_command.specs.Requests.{Request, request_of}
 use Rattle.trace_command.specs.declared.command.Command.TheVariants as commands
 use Rattle.trace_command.specs.declared.command.Reply.{Reply as Answer}
 use Rattle.trace_command.specs.declared.command.Reply.TheVariants as answers
+use Rattle.trace_command.specs.declared.command.Config.{Config}
+use Rattle.trace_command.specs.declared.file_name.TopFile.TheVariants as top_files
 use Rattle.trace_command.specs.declared.refusal.Refusal.{Refusal}
 use Rattle.trace_format.specs.Definitions.{Definition}
 use Rattle.trace_history.specs.Settings.{declared_events}
@@ -28,6 +30,12 @@ use Rattle.mount_tree.specs.declared.folder.Folder.TheVariants as folders
 use Rattle.mount_tree.specs.declared.node.Node.{Node}
 use Rattle.mount_tree.specs.declared.node.Node.TheVariants as nodes
 use Rattle.mount_tree.specs.declared.node.Owner.TheVariants.{Top, Made}
+use Rattle.mount_tree.specs.declared.node.Owner.{Owner}
+use Rattle.mount_tree.specs.declared.tool.ToolFile.TheVariants as tools
+use Rattle.tool_files.specs.ToolTexts.{tool_text}
+use Rattle.tool_files.specs.ToolWrites.{tool_write}
+use Rattle.tool_files.specs.declared.write.ToolWrite.{ToolWrite}
+use Rattle.tool_files.specs.declared.write.ToolWrite.TheVariants.{Missing, Wrong, Same, Switch}
 use Rattle.trace_mount.specs.Errnos.{errno_of, errno_of_other}
 use Rattle.trace_mount.specs.Injections.{first_line, injection, line_size, pairs_of_line}
 use Rattle.trace_mount.specs.Pipes.{ends, is_dry, is_used_up, would_wait}
@@ -80,13 +88,34 @@ abbrev pub open_flags : FileKind → ℕ
 open_flags kinds.Pipe = 5
 open_flags _ = 1
 
-abbrev pub opened : ℕ → Option Node → List (Option OpenSeen) → Step
-opened flags None files = failed ENOENT files
-opened flags (Some (nodes.Folder owner folder)) files = failed EISDIR files
-opened flags (Some (nodes.File owner file)) files =
+-- a file gets the lowest handle that is not in use
+abbrev pub handed_out : OpenSeen → List (Option OpenSeen) → Outcome
+handed_out file files =
+    told (replies.Opened (free_handle files) (open_flags (kind_of_file file.file))) (with_file (free_handle files) file files)
+
+-- `set_event` that is opened to be emptied disables all events of its instance
+abbrev pub disables : File → ℕ → Bool
+disables (files.Tool tools.SetEvent) flags = empties flags
+disables file flags = false
+
+abbrev pub disabled_first : OpenSeen → List (Option OpenSeen) → Result Answer Refusal → Outcome
+disabled_first file files (Ok answer) = handed_out file files
+disabled_first file files (Err refusal) = told (replies.Error (errno_of refusal)) files
+
+-- as a write of `0` to `events/enable` does
+abbrev pub disabling : SceneSeen → OpenSeen → List (Option OpenSeen) → Step
+disabling scene file open_files =
+    Asks (write_of scene (nodes.File file.owner (files.OfInstance top_files.EventsEnable)) false (codes "0")) (disabled_first file open_files)
+
+abbrev pub opened_file : SceneSeen → ℕ → OpenSeen → List (Option OpenSeen) → Step
+opened_file scene flags file files = if disables file.file flags then disabling scene file files else Takes (handed_out file files)
+
+abbrev pub opened : SceneSeen → ℕ → Option Node → List (Option OpenSeen) → Step
+opened scene flags None files = failed ENOENT files
+opened scene flags (Some (nodes.Folder owner folder)) files = failed EISDIR files
+opened scene flags (Some (nodes.File owner file)) files =
     if may (access_of_file file) (wants_read flags) (wants_write flags)
-    then taking (replies.Opened (free_handle files) (open_flags (kind_of_file file)))
-    (with_file (free_handle files) (just_opened owner file (empties flags)) files)
+    then opened_file scene flags (just_opened owner file (empties flags)) files
     else failed EACCES files
 
 -- ---- READ
@@ -115,6 +144,17 @@ abbrev pub read_text : SceneSeen → ℕ → ℕ → ℕ → OpenSeen → List (
 read_text scene handle offset size file files =
     if makes_text offset file then read_anew scene handle offset size (node_of file) files
     else plain (replies.Data (part_of offset size (unwrap_or file.text []))) files
+
+-- a file that tools ask for and that is not there has no text
+abbrev pub given_tool : ℕ → ℕ → ℕ → List (Option OpenSeen) → Option (List ℕ) → Step
+given_tool handle offset size files None = taking (replies.Error ENOENT) files
+given_tool handle offset size files (Some text) = taking (replies.Data (part_of offset size text)) (with_text text handle files)
+
+-- it is read as a text is, but the tracer is asked nothing
+abbrev pub read_tool : Terms → Service → ℕ → ℕ → ℕ → OpenSeen → Step
+read_tool g s handle offset size file =
+    if makes_text offset file then given_tool handle offset size s.files (tool_text g.config s.past file.owner file.file)
+    else plain (replies.Data (part_of offset size (unwrap_or file.text []))) s.files
 
 -- how many records are taken for a read: no line of a record, with one of lost records before it, has more than 2,048 bytes
 abbrev pub records_for : ℕ → ℕ
@@ -155,6 +195,8 @@ read_pipe g s read flags file =
 abbrev pub read_kind : Terms → Service → Parked → ℕ → ℕ → OpenSeen → FileKind → Step
 read_kind g s read offset flags file kinds.Pipe = read_pipe g s read flags file
 read_kind g s read offset flags file kinds.Inject = failed EACCES s.files
+read_kind g s read offset flags file kinds.Tool = read_tool g s read.handle offset read.size file
+read_kind g s read offset flags file kinds.ErrorLog = plain (replies.Data []) s.files
 read_kind g s read offset flags file _ = read_text (scene_of g s) read.handle offset read.size file s.files
 
 abbrev pub read_file : Terms → Service → Parked → ℕ → ℕ → Option OpenSeen → Step
@@ -205,6 +247,31 @@ abbrev pub write_text : SceneSeen → ℕ → Node → Bool → List ℕ → Lis
 write_text scene handle node append bytes files =
     Asks (write_of scene node append (without_newline bytes)) (written handle (length bytes) files)
 
+-- a write that changes nothing
+abbrev pub write_same : ℕ → ℕ → List (Option OpenSeen) → Step
+write_same handle size files = plain (replies.Written size) (with_write handle files)
+
+abbrev pub switch_text : Bool → List ℕ
+switch_text on = if on then codes "1" else codes "0"
+
+-- so many bytes are done by writing to this switch
+abbrev pub write_switch : SceneSeen → ℕ → Node → Bool → ℕ → List (Option OpenSeen) → Step
+write_switch scene handle node on size files = Asks (write_of scene node false (switch_text on)) (written handle size files)
+
+-- so many bytes are written to a file that tools ask for: what it switches is a file of the same instance
+abbrev pub write_tool : SceneSeen → ℕ → Owner → ℕ → List (Option OpenSeen) → ToolWrite → Step
+write_tool scene handle owner size files Missing = failed ENOENT files
+write_tool scene handle owner size files Wrong = failed EINVAL files
+write_tool scene handle owner size files Same = write_same handle size files
+write_tool scene handle owner size files (Switch file on count) = write_switch scene handle (nodes.File owner file) on count files
+
+-- a write to a file other than `inject`, by the file's kind
+abbrev pub write_other : Config → SceneSeen → ℕ → Owner → File → Bool → List ℕ → List (Option OpenSeen) → FileKind → Step
+write_other g scene handle owner file append bytes files kinds.Tool =
+    write_tool scene handle owner (length bytes) files (tool_write g scene owner file bytes)
+write_other g scene handle owner file append bytes files kinds.ErrorLog = write_same handle (length bytes) files
+write_other g scene handle owner file append bytes files _ = write_text scene handle (nodes.File owner file) append bytes files
+
 -- A write to `inject` is by the process that writes, on the CPU that is its number modulo the number of CPUs. It does the first line and says how many bytes that has, so the caller writes the others anew
 abbrev pub inject_asked : ℕ → ℕ → List (Option OpenSeen) → Option Request → Step
 inject_asked handle size files None = taking (replies.Error EINVAL) files
@@ -223,7 +290,8 @@ write_kind g s handle pid bytes file (files.Inject event) =
     if is_there (scene_of g s) (nodes.File file.owner (files.Inject event))
     then inject g.config.cpus handle pid bytes s.files (slice_get (declared_events s.past) event)
     else failed ENOENT s.files
-write_kind g s handle pid bytes file _ = write_text (scene_of g s) handle (node_of file) (not file.starts_over) bytes s.files
+write_kind g s handle pid bytes file _ =
+    write_other g.config (scene_of g s) handle file.owner file.file (not file.starts_over) bytes s.files (kind_of_file file.file)
 
 abbrev pub write_file : Terms → Service → ℕ → ℕ → List ℕ → Option OpenSeen → Step
 write_file g s handle pid bytes None = failed EBADF s.files
@@ -295,7 +363,7 @@ step_of g s unique pid target operations.GetAttr = plain (get_attributes g (scen
 step_of g s unique pid target (operations.SetAttr valid size) = plain (set_attributes g (scene_of g s) target valid size) s.files
 step_of g s unique pid target (operations.MkDir name) = make_folder g (scene_of g s) name s.files (known (scene_of g s) target)
 step_of g s unique pid target (operations.RmDir name) = remove_folder name s.files (known (scene_of g s) target)
-step_of g s unique pid target (operations.Open flags) = opened flags (known (scene_of g s) target) s.files
+step_of g s unique pid target (operations.Open flags) = opened (scene_of g s) flags (known (scene_of g s) target) s.files
 step_of g s unique pid target (operations.Read handle offset size flags) =
     read_file g s (read_of_pipe unique handle size) offset flags (file_at handle s.files)
 step_of g s unique pid target (operations.Write handle offset bytes) = write_file g s handle pid bytes (file_at handle s.files)

@@ -1,6 +1,6 @@
 //! The open files, by their handles.
 
-ghost use Rattle.std.specs.Prelude.{◌≡◌, Option, [], length, set, drop, true, false, is_none, unwrap_or, position, OnErr, OnOk, IfOk};
+ghost use Rattle.std.specs.Prelude.{◌≡◌, List, Option, [], length, set, drop, true, false, is_none, unwrap_or, position, OnErr, OnOk, IfOk};
 ghost use Rattle.std.specs.List.{list_any};
 ghost use Rattle.std.specs.Option.{option_copied, option_map};
 ghost use Rattle.trace_command.specs.FileNames.{bytes_now};
@@ -399,6 +399,18 @@ impl OpenFiles {
         let handle = self.free_handle();
         add_at(&mut self.slots, handle, file)?;
         Ok(handle as u64)
+    }
+
+    /// Takes back a file that was just opened with this handle, where there were so many handles before.
+    pub fn take_back(&mut self, handle: u64, count: usize)
+        ensures { (before : List (Option OpenSeen)) (file : OpenSeen) → count ≡ length before → handle ≡ free_handle before
+            → self.old ≡ with_file handle file before → self.new ≡ before }
+    {
+        if (handle as usize) < count {
+            self.put(handle, None);
+        } else {
+            drop(self.slots.pop());
+        }
     }
 
     // Takes the file of a handle out.

@@ -1,11 +1,11 @@
 //! Open files: their beginning and their end.
 
-ghost use Rattle.std.specs.Prelude.{◌≡◌, List, Some};
+ghost use Rattle.std.specs.Prelude.{◌≡◌, true, List, Some};
 ghost use Rattle.trace_command.specs.Requests.{Request};
 ghost use Rattle.mount_tree.specs.declared.node.Node.TheVariants as nodes;
 ghost use Rattle.trace_mount.specs.Mounted.{HasLedTo, IsStep, StepsBy, service_of, terms_of};
-ghost use Rattle.trace_mount.specs.Served.{emptied, open_flags as flags_of, opened, poll_file, poll_pipe as polled, release as released};
-ghost use Rattle.trace_mount.specs.Services.{OpenSeen, file_at};
+ghost use Rattle.trace_mount.specs.Served.{disables as disabled_by, disabling, emptied, open_flags as flags_of, opened, poll_file, poll_pipe as polled, release as released};
+ghost use Rattle.trace_mount.specs.Services.{OpenSeen, file_at, just_opened};
 ghost use Rattle.trace_mount.specs.Told.{known};
 ghost use Rattle.trace_mount.specs.private.ShortReplies.{IsShort};
 
@@ -14,7 +14,8 @@ use crate::files::OpenFile;
 use crate::mount::Mount;
 use crate::told::{empties, may_open};
 use fuse_wire::{Errno, Reply};
-use mount_tree::{File, FileKind, Node, Owner};
+use mount_tree::{File, FileKind, Node, Owner, ToolFile};
+use trace_command::TopFile;
 
 /// The flags that a file is opened with: a kernel asks for each read, whatever the size, and a pipe has no places.
 fn open_flags(kind: FileKind) -> u32
@@ -22,14 +23,25 @@ fn open_flags(kind: FileKind) -> u32
 {
     match kind {
         FileKind::Pipe => 5,
-        FileKind::Text | FileKind::Trace | FileKind::Inject => 1,
+        FileKind::Text | FileKind::Trace | FileKind::Inject | FileKind::Tool | FileKind::ErrorLog =>
+            1,
+    }
+}
+
+/// Whether opening a file so disables all events: `set_event`, to be emptied.
+fn disables(file: File, flags: u32) -> bool
+    ensures { result ≡ disabled_by file flags }
+{
+    match file {
+        File::Tool(ToolFile::SetEvent) => empties(flags),
+        _ => false,
     }
 }
 
 impl Mount {
     /// OPEN.
     pub(crate) fn open(&mut self, node: Option<Node>, flags: u32) -> Reply<'static>
-        ensures step { StepsBy self.old self.new (opened flags (known self.old.scene node) self.old.files) result }
+        ensures step { StepsBy self.old self.new (opened self.old.scene flags (known self.old.scene node) self.old.files) result }
         ensures short { IsShort result }
     {
         match self.known(node) {
@@ -41,11 +53,14 @@ impl Mount {
 
     // OPEN of a file that is there.
     fn open_file(&mut self, owner: Owner, file: File, flags: u32) -> Reply<'static>
-        ensures step { StepsBy self.old self.new (opened flags (Some (nodes.File owner file)) self.old.files) result }
+        ensures step { StepsBy self.old self.new (opened self.old.scene flags (Some (nodes.File owner file)) self.old.files) result }
         ensures short { IsShort result }
     {
         if !may_open(file, flags) {
             return Reply::Error(Errno::EACCES);
+        }
+        if disables(file, flags) {
+            return self.open_disabling(owner, file);
         }
         let open_file = OpenFile::new(owner, file, empties(flags));
         match self.files.open(open_file) {
@@ -54,6 +69,28 @@ impl Mount {
                 flags: open_flags(file.kind()),
             },
             Err(_) => Reply::Error(Errno::ENOMEM),
+        }
+    }
+
+    // OPEN of `set_event` to be emptied. It has its handle, which takes memory, before all events are disabled, and gives it back if they aren't.
+    fn open_disabling(&mut self, owner: Owner, file: File) -> Reply<'static>
+        ensures step { StepsBy self.old self.new (disabling self.old.scene (just_opened owner file true) self.old.files) result }
+        ensures short { IsShort result }
+    {
+        let count = self.files.count();
+        let Ok(handle) = self.files.open(OpenFile::new(owner, file, true)) else {
+            return Reply::Error(Errno::ENOMEM);
+        };
+        let switch = File::OfInstance(TopFile::EventsEnable);
+        match self.ask_write(owner, switch, false, b"0".as_slice()) {
+            Ok(_) => Reply::Opened {
+                handle,
+                flags: open_flags(file.kind()),
+            },
+            Err(refusal) => {
+                self.files.take_back(handle, count);
+                Reply::Error(errno_of(&refusal))
+            }
         }
     }
 
@@ -71,7 +108,11 @@ impl Mount {
                 let waits = self.would_wait(open_file);
                 self.poll_pipe(handle, wakeup, flags, waits)
             }
-            FileKind::Text | FileKind::Trace | FileKind::Inject => Reply::Poll { events: 325 },
+            FileKind::Text
+            | FileKind::Trace
+            | FileKind::Inject
+            | FileKind::Tool
+            | FileKind::ErrorLog => Reply::Poll { events: 325 },
         }
     }
 

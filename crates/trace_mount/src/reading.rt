@@ -7,8 +7,9 @@ ghost use Rattle.trace_command.specs.Requests.{Request};
 ghost use Rattle.mount_tree.specs.declared.node.Node.TheVariants as nodes;
 ghost use Rattle.mount_tree.specs.NodePaths.{owner_name};
 ghost use Rattle.trace_history.specs.Settings.{is_tracing};
+ghost use Rattle.tool_files.specs.ToolTexts.{tool_text};
 ghost use Rattle.trace_mount.specs.Mounted.{HasLedTo, IsTold, TellsBy, most_reply, service_of, terms_of};
-ghost use Rattle.trace_mount.specs.Served.{Parks, Plain, given_records, is_nonblocking as nonblocking, part_of, read_anew as anew, read_dry as dry_step, read_file, read_pipe as pipe_step, read_records as taking, read_text as text_step, records_for as records, text_in as text_of};
+ghost use Rattle.trace_mount.specs.Served.{Parks, Plain, given_records, given_tool, is_nonblocking as nonblocking, part_of, read_anew as anew, read_dry as dry_step, read_file, read_pipe as pipe_step, read_records as taking, read_text as text_step, read_tool as tool_step, records_for as records, text_in as text_of};
 ghost use Rattle.trace_mount.specs.Services.{OpenSeen, file_at, text_at};
 
 use crate::errno::errno_of;
@@ -69,6 +70,8 @@ impl Mount {
                 self.read_pipe(read, flags, owner, file, has_read, out);
             }
             FileKind::Inject => tell_error(unique, Errno::EACCES, out),
+            FileKind::Tool => self.read_tool(unique, handle, owner, file, offset, size, out),
+            FileKind::ErrorLog => tell_part(unique, &[], 0, 0, out),
             FileKind::Text => self.read_text(unique, handle, owner, file, offset, size, out),
             FileKind::Trace => self.read_text(unique, handle, owner, file, offset, size, out),
         }
@@ -97,6 +100,58 @@ impl Mount {
         match self.files.text(handle) {
             Some(text) => tell_part(unique, text, offset, size, out),
             None => self.read_anew(unique, handle, owner, file, offset, size, out),
+        }
+    }
+
+    // READ of a file that tools ask for.
+    fn read_tool(
+        &mut self,
+        unique: u64,
+        handle: u64,
+        owner: Owner,
+        file: File,
+        offset: u64,
+        size: u32,
+        out: &mut Vec<u8>,
+    )
+        requires room { most_reply ≤ vec_capacity out.old }
+        ensures told { (past : List Request) (own : OpenSeen) → HasLedTo past self.old → file_at handle self.old.files ≡ Some own
+            → own.owner ≡ owner → own.file ≡ file
+            → IsTold past self.old self.new (tool_step (terms_of self.old) (service_of past self.old) handle offset size own) unique out.new.items }
+        ensures capacity { vec_capacity out.old ≤ vec_capacity out.new }
+    {
+        if offset == 0 {
+            return self.read_tool_anew(unique, handle, owner, file, offset, size, out);
+        }
+        match self.files.text(handle) {
+            Some(text) => tell_part(unique, text, offset, size, out),
+            None => self.read_tool_anew(unique, handle, owner, file, offset, size, out),
+        }
+    }
+
+    // Makes the text of a file that tools ask for.
+    fn read_tool_anew(
+        &mut self,
+        unique: u64,
+        handle: u64,
+        owner: Owner,
+        file: File,
+        offset: u64,
+        size: u32,
+        out: &mut Vec<u8>,
+    )
+        requires room { most_reply ≤ vec_capacity out.old }
+        ensures told { (past : List Request) → HasLedTo past self.old → IsTold past self.old self.new
+            (given_tool handle offset size self.old.files (tool_text self.old.live.config past owner file)) unique out.new.items }
+        ensures capacity { vec_capacity out.old ≤ vec_capacity out.new }
+    {
+        match tool_files::text_of(self.alloc, &self.live, &self.scene, owner, file) {
+            Ok(Some(text)) => {
+                tell_part(unique, text.as_bytes(), offset, size, out);
+                self.files.keep_text(handle, text);
+            }
+            Ok(None) => tell_error(unique, Errno::ENOENT, out),
+            Err(_) => tell_error(unique, Errno::ENOMEM, out),
         }
     }
 

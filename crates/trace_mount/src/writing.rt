@@ -2,9 +2,11 @@
 
 ghost use Rattle.std.specs.Prelude.{◌≡◌, ◌<◌, ◌^◌, List, Some, length};
 ghost use Rattle.trace_command.specs.Requests.{Request};
+ghost use Rattle.mount_tree.specs.FileKinds.{kind_of_file};
 ghost use Rattle.mount_tree.specs.declared.node.Node.TheVariants as nodes;
+ghost use Rattle.tool_files.specs.ToolWrites.{tool_write};
 ghost use Rattle.trace_mount.specs.Mounted.{HasLedTo, IsStep, StepsBy, service_of, terms_of};
-ghost use Rattle.trace_mount.specs.Served.{make_folder as making, make_instance as making_instance, remove_folder as removing, remove_instance, without_newline, write_file, write_text as text_step};
+ghost use Rattle.trace_mount.specs.Served.{make_folder as making, make_instance as making_instance, remove_folder as removing, remove_instance, switch_text as text_of_switch, without_newline, write_file, write_other as other_step, write_same, write_switch as switch_step, write_text as text_step, write_tool as tool_step};
 ghost use Rattle.trace_mount.specs.Services.{file_at};
 ghost use Rattle.trace_mount.specs.Told.{known};
 ghost use Rattle.trace_mount.specs.private.ShortReplies.{IsShort};
@@ -12,7 +14,8 @@ ghost use Rattle.trace_mount.specs.private.ShortReplies.{IsShort};
 use crate::errno::errno_of;
 use crate::mount::Mount;
 use fuse_wire::{Errno, Reply};
-use mount_tree::{File, Folder, Node, Owner};
+use mount_tree::{File, FileKind, Folder, Node, Owner};
+use tool_files::{ToolWrite, write_of};
 
 /// What is written, without a last newline.
 fn without_newline(bytes: &[u8]) -> &[u8]
@@ -26,6 +29,13 @@ fn without_newline(bytes: &[u8]) -> &[u8]
     } else {
         bytes
     }
+}
+
+/// What is written to a switch.
+fn switch_text(on: bool) -> &'static [u8]
+    ensures { result.now ≡ text_of_switch on }
+{
+    if on { b"1" } else { b"0" }
 }
 
 impl Mount {
@@ -49,7 +59,81 @@ impl Mount {
                 }
                 self.inject(handle, event, pid, bytes)
             }
-            _ => self.write_text(handle, owner, file, append, bytes),
+            _ => self.write_other(handle, owner, file, append, bytes),
+        }
+    }
+
+    // WRITE of a file other than `inject`.
+    fn write_other(
+        &mut self,
+        handle: u64,
+        owner: Owner,
+        file: File,
+        append: bool,
+        bytes: &[u8],
+    ) -> Reply<'static>
+        requires { length bytes.now < 2 ^ 32 }
+        ensures step { StepsBy self.old self.new (other_step self.old.live.config self.old.scene handle owner file append bytes.now
+            self.old.files (kind_of_file file)) result }
+        ensures short { IsShort result }
+    {
+        match file.kind() {
+            FileKind::Tool => self.write_tool(handle, owner, file, bytes),
+            FileKind::ErrorLog => self.write_nothing(handle, bytes),
+            FileKind::Text | FileKind::Trace | FileKind::Pipe | FileKind::Inject => {
+                self.write_text(handle, owner, file, append, bytes)
+            }
+        }
+    }
+
+    // A write that changes nothing.
+    fn write_nothing(&mut self, handle: u64, bytes: &[u8]) -> Reply<'static>
+        requires { length bytes.now < 2 ^ 32 }
+        ensures step { StepsBy self.old self.new (write_same handle (length bytes.now) self.old.files) result }
+        ensures short { IsShort result }
+    {
+        self.files.note_write(handle);
+        Reply::Written {
+            size: bytes.len() as u32,
+        }
+    }
+
+    // WRITE of a file that tools ask for.
+    fn write_tool(&mut self, handle: u64, owner: Owner, file: File, bytes: &[u8]) -> Reply<'static>
+        requires { length bytes.now < 2 ^ 32 }
+        ensures step { StepsBy self.old self.new (tool_step self.old.scene handle owner (length bytes.now) self.old.files
+            (tool_write self.old.live.config self.old.scene owner file bytes.now)) result }
+        ensures short { IsShort result }
+    {
+        match write_of(self.live.config(), &self.scene, owner, file, bytes) {
+            ToolWrite::Missing => Reply::Error(Errno::ENOENT),
+            ToolWrite::Wrong => Reply::Error(Errno::EINVAL),
+            ToolWrite::Same => self.write_nothing(handle, bytes),
+            ToolWrite::Switch { file, on, size } => {
+                self.write_switch(handle, owner, file, on, size as u32)
+            }
+        }
+    }
+
+    // Writes to a switch what does so many bytes.
+    fn write_switch(
+        &mut self,
+        handle: u64,
+        owner: Owner,
+        file: File,
+        on: bool,
+        size: u32,
+    ) -> Reply<'static>
+        ensures step { StepsBy self.old self.new
+            (switch_step self.old.scene handle (nodes.File owner file) on size self.old.files) result }
+        ensures short { IsShort result }
+    {
+        match self.ask_write(owner, file, false, switch_text(on)) {
+            Ok(_) => {
+                self.files.note_write(handle);
+                Reply::Written { size }
+            }
+            Err(refusal) => Reply::Error(errno_of(&refusal)),
         }
     }
 

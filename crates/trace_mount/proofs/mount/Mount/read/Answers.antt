@@ -1,4 +1,4 @@
-use Rattle.std.proofs.Common.{sym}
+use Rattle.std.proofs.Common.{[], sym}
 use Rattle.fuse_wire.specs.declared.errno.Errno.TheVariants.{EACCES}
 use Rattle.fuse_wire.specs.declared.reply.Reply.TheVariants as replies
 use Rattle.mount_tree.specs.declared.file.FileKind.TheVariants as kinds
@@ -30,6 +30,24 @@ returns-in-Pipe-clause-told c =
     kinds.Pipe c.read_pipe.new.out.items c.in-Some.ensures is
     (told past c.in-Some.open_file.now mounted (sym c.in-Some.ensures) (sym c.owner-owner.ensures) (sym c.file-file.ensures)
     (sym c.has_read-has_read.ensures)))
+
+pub returns-in-Tool-clause-told : goal.returns-in-Tool-clause-told
+returns-in-Tool-clause-told c =
+    let is = rw c.file-file.ensures at c.in-Tool.ensures in
+    let told = rw (← c.self.view_is) at c.read_tool.ensures.told in
+    rw (← c.self.view_is) (λ past mounted.
+    kind-told past (the_view c.self.inside) c.read_tool.new.self c.args.read c.args.offset c.args.flags c.in-Some.open_file.now
+    kinds.Tool c.read_tool.new.out.items c.in-Some.ensures is
+    (told past c.in-Some.open_file.now mounted (sym c.in-Some.ensures) (sym c.owner-owner.ensures) (sym c.file-file.ensures)))
+
+pub returns-in-ErrorLog-clause-told : goal.returns-in-ErrorLog-clause-told
+returns-in-ErrorLog-clause-told c =
+    let is = rw c.file-file.ensures at c.in-ErrorLog.ensures in
+    rw (← c.self.view_is) (λ past mounted.
+    kind-told past (the_view c.self.inside) (the_view c.self.inside) c.args.read c.args.offset c.args.flags c.in-Some.open_file.now
+    kinds.ErrorLog c.tell_part.new.out.items c.in-Some.ensures is
+    (plain-told past (the_view c.self.inside) (replies.Data []) c.args.read.unique c.tell_part.new.out.items mounted
+    c.tell_part.ensures.bytes))
 
 pub returns-in-Text-clause-told : goal.returns-in-Text-clause-told
 returns-in-Text-clause-told c =

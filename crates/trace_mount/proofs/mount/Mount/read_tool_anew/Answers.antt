@@ -1,0 +1,27 @@
+use Rattle.std.proofs.Common.{sym, ◌∙◌}
+use Rattle.tool_files.specs.ToolTexts.{tool_text}
+use Rattle.trace_mount.specs.contracts.mount.Mount.{the_view}
+use Rattle.trace_mount.proofs.ToolLemmas.{tool-made, tool-missing, tool-refused}
+use Rattle.trace_mount.proofs.mount.Mount.read_tool_anew.Goals as goal
+
+pub returns-in-Ok-Some-clause-told : goal.returns-in-Ok-Some-clause-told
+returns-in-Ok-Some-clause-told c =
+    rw (← c.self.view_is) (λ past mounted.
+    let old = the_view c.self.inside in
+    tool-made past old c.args.handle c.args.offset c.args.size (tool_text old.live.config past c.args.owner c.args.file) c.in-Ok-Some.text
+    c.keep_text.new.self c.args.unique c.tell_part.new.out.items mounted (sym c.in-Ok-Some.field-0-is ∙ c.in-Ok-Some.ensures past mounted.lives mounted.scene)
+    c.keep_text.ensures (rw c.as_bytes.ensures at c.tell_part.ensures.bytes))
+
+pub returns-in-Ok-None-clause-told : goal.returns-in-Ok-None-clause-told
+returns-in-Ok-None-clause-told c =
+    rw (← c.self.view_is) (λ past mounted.
+    let old = the_view c.self.inside in
+    tool-missing past old c.args.handle c.args.offset c.args.size (tool_text old.live.config past c.args.owner c.args.file) c.args.unique
+    c.tell_error.new.out.items mounted (sym c.in-Ok-None.field-0-is ∙ c.in-Ok-None.ensures past mounted.lives mounted.scene) c.tell_error.ensures.bytes)
+
+pub returns-in-Err-clause-told : goal.returns-in-Err-clause-told
+returns-in-Err-clause-told c =
+    rw (← c.self.view_is) (λ past mounted.
+    let old = the_view c.self.inside in
+    tool-refused past old c.args.handle c.args.offset c.args.size (tool_text old.live.config past c.args.owner c.args.file) c.args.unique
+    c.tell_error-in-Err.new.out.items mounted c.tell_error-in-Err.ensures.bytes)
