@@ -26,11 +26,13 @@ use Rattle.mount_tree.specs.declared.file.File.{File}
 use Rattle.mount_tree.specs.declared.file.File.TheVariants as files
 use Rattle.mount_tree.specs.declared.file.FileKind.{FileKind}
 use Rattle.mount_tree.specs.declared.file.FileKind.TheVariants as kinds
+use Rattle.mount_tree.specs.declared.node.Node.TheVariants as nodes
+use Rattle.mount_tree.specs.declared.node.Owner.{Owner}
 use Rattle.trace_mount.proofs.DoneLemmas.{events-are, had-room, pasts_are_done}
 use Rattle.trace_mount.proofs.PartLaws.{text-kept}
 use Rattle.trace_mount.specs.Errnos.{errno_of}
 use Rattle.trace_mount.specs.Mounted.{Does, bytes_of_reply}
-use Rattle.trace_mount.specs.Served.{Asks, Step, read_anew, read_file, read_kind, read_of, read_text, text_in, without_newline, write_file, write_kind, write_of, write_text, written}
+use Rattle.trace_mount.specs.Served.{Asks, Step, read_anew, read_file, read_kind, read_of, read_text, text_in, without_newline, write_file, write_kind, write_of, write_other, write_text, written}
 use Rattle.trace_mount.specs.Services.{OpenSeen, Service, Terms, file_at, node_of, read_of_pipe, scene_of}
 use Rattle.trace_mount.specs.declared.parked.Parked.{Parked}
 use Rattle.trace_mount.specs.PastLaws.{IsDone, IsNotDone, LaterReadsGoOn, NotShown, ReadsAnew, Shown, ReadsShowThePast, StatsShowThePast, WasDone, WritesAreCommands, WritesOnce, instance_of, is_file, is_text, read_whole, write_once}
@@ -188,15 +190,21 @@ later_reads_go_on g before after request bytes handle offset size flags file tex
 
 -- ---- writes
 
+-- a file that commands can write
+other-writes : (g : Config) (scene : SceneSeen) (handle : ℕ) (owner : Owner) (file : File) (append : Bool) (bytes : List ℕ) (files : List (Option OpenSeen)) (kind : FileKind)
+    → is_file kind ≡ true
+    → write_other g scene handle owner file append bytes files kind ≡ write_text scene handle (nodes.File owner file) append bytes files
+other-writes g scene handle owner file append bytes files kinds.Text is = refl
+other-writes g scene handle owner file append bytes files kinds.Trace is = refl
+other-writes g scene handle owner file append bytes files kinds.Pipe is = refl
+other-writes g scene handle owner file append bytes files _ is = absurd (false≢true is)
+
 -- a file that is not `inject`
-kind-writes : (g : Terms) (s : Service) (handle pid : ℕ) (bytes : List ℕ) (own : OpenSeen) (file : File) → is_file (kind_of_file file) ≡ true
+kind-writes : (g : Terms) (s : Service) (handle pid : ℕ) (bytes : List ℕ) (own : OpenSeen) (file : File) → own.file ≡ file → is_file (kind_of_file own.file) ≡ true
     → write_kind g s handle pid bytes own file ≡ write_text (scene_of g s) handle (node_of own) (not own.starts_over) bytes s.files
-kind-writes g s handle pid bytes own files.SyntheticEvents is = refl
-kind-writes g s handle pid bytes own (files.OfInstance file) is = refl
-kind-writes g s handle pid bytes own files.SystemEnable is = refl
-kind-writes g s handle pid bytes own (files.OfCpu cpu file) is = refl
-kind-writes g s handle pid bytes own (files.OfEvent event file) is = refl
-kind-writes g s handle pid bytes own _ is = absurd (false≢true is)
+kind-writes g s handle pid bytes own (files.Inject event) same is = absurd (false≢true (sym (ap (λ (f : File). is_file (kind_of_file f)) same) ∙ is))
+kind-writes g s handle pid bytes own _ same is =
+    other-writes g.config (scene_of g s) handle own.owner own.file (not own.starts_over) bytes s.files (kind_of_file own.file) is
 
 file-writes : (g : Terms) (s : Service) (handle pid : ℕ) (bytes : List ℕ) (own : OpenSeen) (there : Option OpenSeen) → there ≡ Some own
     → is_file (kind_of_file own.file) ≡ true
@@ -204,7 +212,7 @@ file-writes : (g : Terms) (s : Service) (handle pid : ℕ) (bytes : List ℕ) (o
 file-writes g s handle pid bytes own None e is = absurd (let no : None ≡ Some own = e in cc)
 file-writes g s handle pid bytes own (Some found) e is =
     let same : found ≡ own = cc in
-    ap (λ (f : OpenSeen). write_file g s handle pid bytes (Some f)) same ∙ kind-writes g s handle pid bytes own own.file is
+    ap (λ (f : OpenSeen). write_file g s handle pid bytes (Some f)) same ∙ kind-writes g s handle pid bytes own own.file refl is
 
 once : (g : Terms) (before after : Service) (unique handle : ℕ) (own : List ℕ) (command asked : Request) (reply : Option Reply) (bytes : List ℕ)
     → command ≡ asked → bytes ≡ bytes_of_reply unique reply → Does g before (Asks command (written handle (length own) before.files)) reply after
