@@ -14,4 +14,5 @@ pub mod Places
 pub mod Hints
 pub mod Layout
 pub mod Explanations
+pub mod Writes
 pub mod private

@@ -22,6 +22,7 @@ mod near_files;
 mod near_words;
 mod openings;
 mod place;
+mod refused_write;
 mod script_line;
 mod starts;
 mod subject;
@@ -30,4 +31,5 @@ mod wording;
 
 pub use cause::Cause;
 pub use explainer::Explainer;
+pub use refused_write::{write_offset, write_words};
 pub use script_line::ScriptLine;

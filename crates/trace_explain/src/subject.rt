@@ -57,7 +57,7 @@ fn subject_of_top_file(file: TopFile) -> Subject
 }
 
 /// What is written to the file of a path.
-fn written_subject(path: &[u8]) -> Subject
+pub(crate) fn written_subject(path: &[u8]) -> Subject
     ensures { result ≡ wording.written_subject (paths.address_of path.now).file }
 {
     match address_of(path).file {
