@@ -1,0 +1,73 @@
+-- Writes that were refused, as `error_log` shows them (ftrace.rst, "The File System": error_log).
+use Rattle.std.specs.Prelude.{ℕ, ◌-◌, ◌==◌, ◌&&◌, nat_lt, Bool, not, List, [], ◌++◌, length, map, take, Option, Some, codes, if◌then◌else◌}
+use Rattle.std.specs.Fmt.{decimal}
+use Rattle.std.specs.List.{prefix_len}
+use Rattle.trace_command.specs.Paths.{File, OfInstance, OfEvent, address_of}
+use Rattle.trace_command.specs.declared.file_name.EventFile.TheVariants as per_event
+use Rattle.trace_command.specs.declared.file_name.TopFile.TheVariants as top
+use Rattle.mount_tree.specs.declared.node.Owner.{Owner}
+
+-- A write that was refused: the instance whose file was written, when, what the file is called, the first line of what was written, one sentence of what
+-- is wrong, and the offset of the byte that is to blame; 0, if none is.
+pub record ErrorSeen : Type 0 where
+  pub owner : Owner
+  pub time : ℕ
+  pub name : List ℕ
+  pub written : List ℕ
+  pub sentence : List ℕ
+  pub at : ℕ
+
+-- ---- what is kept of a write
+
+-- what a file is called: a trigger and a filter as a kernel calls them, any other by its path
+abbrev pub name_of_file : List ℕ → Option File → List ℕ
+name_of_file path (Some (OfEvent event per_event.Trigger)) = codes "hist:synthetic:" ++ event
+name_of_file path (Some (OfEvent event per_event.Filter)) = codes "event filter parse error"
+name_of_file path (Some (OfInstance top.EventsFilter)) = codes "event filter parse error"
+name_of_file path _ = path
+
+abbrev pub name_at : List ℕ → List ℕ
+name_at path = name_of_file path (address_of path).file
+
+-- the first line of it, of which at most 256 bytes are kept
+abbrev pub is_in_line : ℕ → Bool
+is_in_line byte = not (byte == 10)
+
+abbrev pub kept_of : List ℕ → List ℕ
+kept_of text = take 256 (take (prefix_len is_in_line text) text)
+
+-- a write whose refusal isn't known yet
+abbrev pub begun : Owner → ℕ → List ℕ → List ℕ → ErrorSeen
+begun owner time path text =
+    record { owner = owner; time = time; name = name_at path; written = kept_of text; sentence = []; at = 0 }
+
+-- and one that was refused
+abbrev pub refused : ErrorSeen → List ℕ → ℕ → ErrorSeen
+refused error sentence at = record error { sentence = sentence; at = at }
+
+-- ---- what is shown of it
+
+-- seconds in five places or more, and microseconds: the clock counts
+abbrev pub time_text : ℕ → List ℕ
+time_text time = take (5 - length (decimal time)) (codes "     ") ++ decimal time ++ codes ".000000"
+
+-- a byte that no line has is shown as a `?` (63)
+abbrev pub shown_byte : ℕ → ℕ
+shown_byte b = if b == 9 then b else if nat_lt 31 b && nat_lt b 127 then b else 63
+
+-- what stands under a byte before the caret: a tab (9) under a tab, else a space
+abbrev pub pad_byte : ℕ → ℕ
+pad_byte b = if b == 9 then 9 else 32
+
+abbrev pub heading : ErrorSeen → List ℕ
+heading e = codes "[" ++ time_text e.time ++ codes "] " ++ e.name ++ codes ": error: " ++ e.sentence ++ codes "\n"
+
+-- what was written, and the caret under the byte that is to blame
+abbrev pub command : ErrorSeen → List ℕ
+command e = codes "  Command: " ++ map shown_byte e.written
+
+abbrev pub before_caret : ErrorSeen → List ℕ
+before_caret e = codes "           " ++ map pad_byte (take e.at e.written)
+
+abbrev pub error_text : ErrorSeen → List ℕ
+error_text e = heading e ++ command e ++ codes "\n" ++ before_caret e ++ codes "^\n"

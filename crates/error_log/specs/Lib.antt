@@ -1,0 +1,3 @@
+pub mod Errors
+pub mod Logs
+pub mod LogLaws

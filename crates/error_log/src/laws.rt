@@ -1,0 +1,13 @@
+//! What is kept, and where the caret stands. The functions do nothing: their contracts are theorems.
+
+ghost use Rattle.error_log.specs.LogLaws.{CaretStandsUnder, KeepsLastEight};
+
+/// The log of an instance has the last eight of all errors that were noted of it since it was cleared.
+pub fn keeps_last_eight()
+    ensures { KeepsLastEight }
+{}
+
+/// The caret stands under the byte that is to blame.
+pub fn caret_stands_under()
+    ensures { CaretStandsUnder }
+{}

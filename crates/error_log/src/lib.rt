@@ -1,0 +1,10 @@
+//! The last writes that were refused, of each instance of a mounted tracer, as its `error_log` shows them.
+#![tactic(auto)]
+
+mod error;
+mod laws;
+mod log;
+mod text;
+
+pub use laws::{caret_stands_under, keeps_last_eight};
+pub use log::ErrorLog;
