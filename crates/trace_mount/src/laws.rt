@@ -59,7 +59,7 @@ pub fn reads_show_the_past()
     ensures later { LaterReadsGoOn }
 {}
 
-/// A write to a file that is not `inject` is one command, of what came without a last newline, or is refused with nothing changed.
+/// A write to a file of the tracer's own other than `inject` is one command, of what came without a last newline, or is refused with nothing changed.
 pub fn writes_are_commands()
     ensures { WritesAreCommands }
 {}
