@@ -2,7 +2,7 @@
 use Rattle.std.proofs.Common.{◌≡◌, ℕ, ◌-◌, ◌<◌, ◌≤◌, ◌⊎◌, List, [], ◌++◌, length, Option, Some, None, IfSome, inl, inr, refl, ap, subst, sym, ◌∙◌, arith, append_assoc, length-append}
 use Rattle.std.proofs.lemmas.List.{append-nil}
 use Rattle.std.specs.Io.KnownBytes.{Consumes, IsAtEnd}
-use Rattle.trace_items.specs.Sources.{ConsumesAtMost, HasRisen}
+use Rattle.trace_items.specs.Sources.{ConsumesAtMost, GivesAtMost, GivesMore, HasRisen}
 
 pub Consumes_append : (a b c : Option (List ℕ)) (xs ys : List ℕ) → Consumes a b xs → Consumes b c ys → Consumes a c (xs ++ ys)
 Consumes_append None b c xs ys p q = tt
@@ -36,8 +36,20 @@ Consumes_longer None b xs most p h q = tt
 Consumes_longer (Some us) None xs most p h q = absurd p
 Consumes_longer (Some us) (Some bs) xs most p h q = omega (arith, ap length p, length-append xs bs, q, h)
 
+-- what was given before, and as much more
+pub GivesAtMost_append : (a b c : List ℕ) (xs : List ℕ) (most : ℕ) → b ≡ a ++ xs → length xs ≤ most → GivesAtMost (most - length xs) b c → GivesAtMost most a c
+GivesAtMost_append a b c xs most p h q =
+    (xs ++ q.0, q.1 ∙ (ap (λ (front : List ℕ). front ++ q.0) p ∙ append_assoc a xs q.0), simp length-append (omega (arith, h, q.2)))
+
+-- more was given than there is room for after what was given before: there was too much
+GivesMore_append : (a b : Option (List ℕ)) (given gave gives : List ℕ) (xs : List ℕ) (most : ℕ) → Consumes a b xs → gave ≡ given ++ xs → length xs ≤ most
+    → GivesMore (most - length xs) gave gives b → GivesMore most given gives a
+GivesMore_append a b given gave gives xs most p e h q =
+    (xs ++ q.0, q.1 ∙ (ap (λ (front : List ℕ). front ++ q.0) e ∙ append_assoc given xs q.0), (simp length-append (omega (arith, h, q.2.0)), Consumes_longer a b xs most p h q.2.1))
+
 -- why a device stopped the reads is the same from their beginning
-pub device_since : (a b : Option (List ℕ)) (xs : List ℕ) (most first before after : ℕ) → Consumes a b xs → length xs ≤ most → before ≡ first
-    → (HasRisen before after ⊎ IfSome b (λ bytes. most - length xs < length bytes)) → HasRisen first after ⊎ IfSome a (λ bytes. most < length bytes)
-device_since a b xs most first before after p h same (inl risen) = inl (subst (λ (n : ℕ). HasRisen n after) same risen)
-device_since a b xs most first before after p h same (inr long) = inr (Consumes_longer a b xs most p h long)
+pub device_since : (a b : Option (List ℕ)) (given gave gives : List ℕ) (xs : List ℕ) (most first before after : ℕ) → Consumes a b xs → gave ≡ given ++ xs → length xs ≤ most
+    → before ≡ first → ((HasRisen before after × (gives ≡ gave)) ⊎ GivesMore (most - length xs) gave gives b)
+    → (HasRisen first after × GivesAtMost most given gives) ⊎ GivesMore most given gives a
+device_since a b given gave gives xs most first before after p e h same (inl (risen, kept)) = inl (subst (λ (n : ℕ). HasRisen n after) same risen, (xs, kept ∙ e, h))
+device_since a b given gave gives xs most first before after p e h same (inr long) = inr (GivesMore_append a b given gave gives xs most p e h long)

@@ -11,8 +11,10 @@ pub mod plain;
 mod script;
 mod source;
 mod stop;
+mod told;
 
 pub use lines_from::LinesFrom;
 pub use script::{MOST_SCRIPT_BYTES, read_script};
 pub use source::{Input, Source};
 pub use stop::Stop;
+pub use told::Told;

@@ -4,7 +4,7 @@ ghost use Rattle.std.specs.Prelude.{◌≡◌, ◌==◌, ◌+◌, ◌-◌, ◌<�
 ghost use Rattle.std.specs.Io.KnownBytes.{Consumes, IsAtEnd};
 ghost use Rattle.std.specs.Option.{option_copied};
 ghost use Rattle.trace_items.specs.ScriptLines.{lines_of, lines_left, bytes_left};
-ghost use Rattle.trace_items.specs.Sources.{ConsumesAtMost, HasRisen};
+ghost use Rattle.trace_items.specs.Sources.{ConsumesAtMost, GivesAtMost, GivesMore, HasRisen};
 
 use crate::source::Source;
 use crate::stop::Stop;
@@ -30,15 +30,18 @@ fn read_more<R: Source>(
     requires room { 0 < length chunk.old }
     requires short { length script.old.items ≤ MOST_SCRIPT_BYTES }
     ensures bytes { IfOk result (λ count. Consumes (R.remaining reader.old) (R.remaining reader.new) (take count chunk.new)
-        × (script.new.items ≡ script.old.items ++ take count chunk.new) × (count ≤ length chunk.new)) }
+        × (script.new.items ≡ script.old.items ++ take count chunk.new) × (count ≤ length chunk.new)
+        × (R.given reader.new ≡ R.given reader.old ++ take count chunk.new)) }
     ensures end { IfOk result (λ count. count ≡ 0 → IsAtEnd (R.remaining reader.new)) }
     ensures length { OnOk result (length script.new.items ≤ MOST_SCRIPT_BYTES) }
     ensures failures { OnOk result (R.failures reader.new ≡ R.failures reader.old) }
     ensures memory { IsErrOf result Stop.Memory → (R.failures reader.new ≡ R.failures reader.old)
-        × ConsumesAtMost (MOST_SCRIPT_BYTES - length script.old.items) (R.remaining reader.old) (R.remaining reader.new) }
+        × ConsumesAtMost (MOST_SCRIPT_BYTES - length script.old.items) (R.remaining reader.old) (R.remaining reader.new)
+        × GivesAtMost (MOST_SCRIPT_BYTES - length script.old.items) (R.given reader.old) (R.given reader.new) }
     ensures stopped { IsErrOf result Stop.Stopped → ⊥ }
-    ensures device { IsErrOf result Stop.Device → HasRisen (R.failures reader.old) (R.failures reader.new)
-        ⊎ IfSome (R.remaining reader.old) (λ bytes. MOST_SCRIPT_BYTES - length script.old.items < length bytes) }
+    ensures device { IsErrOf result Stop.Device
+        → (HasRisen (R.failures reader.old) (R.failures reader.new) × (R.given reader.new ≡ R.given reader.old))
+        ⊎ GivesMore (MOST_SCRIPT_BYTES - length script.old.items) (R.given reader.old) (R.given reader.new) (R.remaining reader.old) }
 {
     match reader.read(chunk) {
         Ok(count) if count > MOST_SCRIPT_BYTES - script.len() => Err(Stop::Device),
@@ -54,15 +57,18 @@ fn read_more<R: Source>(
 #[tactic(auto, using(crate::proofs::SourceLemmas::Consumes_append, crate::proofs::SourceLemmas::Consumes_whole, crate::proofs::SourceLemmas::Consumes_long))]
 pub fn read_script<R: Source>(alloc: Global, reader: &mut R) -> Result<Vec<u8>, Stop>
     ensures script { IfOk result (λ script. IfSome (R.remaining reader.old) (λ bytes. script.items ≡ bytes)) }
+    ensures given { IfOk result (λ script. R.given reader.new ≡ R.given reader.old ++ script.items) }
     ensures end { OnOk result (IsAtEnd (R.remaining reader.new)) }
     ensures consumed { IfOk result (λ script. Consumes (R.remaining reader.old) (R.remaining reader.new) script.items) }
     ensures length { IfOk result (λ script. length script.items ≤ MOST_SCRIPT_BYTES) }
     ensures failures { OnOk result (R.failures reader.new ≡ R.failures reader.old) }
     ensures memory { IsErrOf result Stop.Memory → (R.failures reader.new ≡ R.failures reader.old)
-        × ConsumesAtMost MOST_SCRIPT_BYTES (R.remaining reader.old) (R.remaining reader.new) }
+        × ConsumesAtMost MOST_SCRIPT_BYTES (R.remaining reader.old) (R.remaining reader.new)
+        × GivesAtMost MOST_SCRIPT_BYTES (R.given reader.old) (R.given reader.new) }
     ensures stopped { IsErrOf result Stop.Stopped → ⊥ }
-    ensures device { IsErrOf result Stop.Device → HasRisen (R.failures reader.old) (R.failures reader.new)
-        ⊎ IfSome (R.remaining reader.old) (λ bytes. MOST_SCRIPT_BYTES < length bytes) }
+    ensures device { IsErrOf result Stop.Device
+        → (HasRisen (R.failures reader.old) (R.failures reader.new) × GivesAtMost MOST_SCRIPT_BYTES (R.given reader.old) (R.given reader.new))
+        ⊎ GivesMore MOST_SCRIPT_BYTES (R.given reader.old) (R.given reader.new) (R.remaining reader.old) }
 {
     let mut script = Vec::new(alloc);
     let mut chunk = [0; CHUNK_BYTES];

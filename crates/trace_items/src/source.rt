@@ -1,10 +1,11 @@
-//! What a script is read from. Contracts see the bytes, where a reader tells them, and how many calls failed.
+//! What a script is read from. Contracts see the bytes that it gave, those that it will give, where it states them, and how many calls failed.
 
-ghost use Rattle.std.specs.Prelude.{◌≡◌, ℕ, List, Option};
+ghost use Rattle.std.specs.Prelude.{◌≡◌, ℕ, List, [], Option};
 ghost use Rattle.std.specs.Io.{ReadsAtMost};
 ghost use Rattle.std.specs.Io.KnownBytes.{ReadConsumes};
-ghost use Rattle.trace_items.specs.Sources.{failures_after_read};
+ghost use Rattle.trace_items.specs.Sources.{failures_after_read, given_after};
 
+use crate::told::Told;
 use std::io;
 use std::io::Read;
 
@@ -13,6 +14,9 @@ pub trait Source {
     /// The bytes that reads will give from here on, where they are known.
     ghost remaining: { Self → Option (List ℕ) };
 
+    /// The bytes that its reads gave, as these told them.
+    ghost given: { Self → List ℕ };
+
     /// How many calls failed.
     ghost failures: { Self → ℕ };
 
@@ -20,14 +24,16 @@ pub trait Source {
     fn read(&mut self, buf: &mut [u8]) -> io::Result<usize>
         ensures bound { ReadsAtMost result buf.new }
         ensures bytes { ReadConsumes (remaining self.old) (remaining self.new) result buf.new }
+        ensures given { given self.new ≡ given_after (given self.old) result buf.new }
         ensures failures { failures self.new ≡ failures_after_read (failures self.old) result };
 }
 
-/// A reader of std, and how many of its calls failed.
+/// A reader of std, what its calls gave, and how many of them failed.
 #[derive(Drop)]
 pub struct Input<R> {
     pub device: R,
     failures: u64,
+    told: Told,
 }
 
 impl<R: Read> Input<R> {
@@ -35,10 +41,12 @@ impl<R: Read> Input<R> {
     pub fn new(device: R) -> Input<R>
         ensures device { result.device ≡ device }
         ensures failures { result.failures ≡ 0 }
+        ensures told { result.told.bytes ≡ [] }
     {
         Input {
             device,
             failures: 0,
+            told: Told::nothing(),
         }
     }
 }
@@ -46,12 +54,15 @@ impl<R: Read> Input<R> {
 impl<R: Read> Source for Input<R> {
     ghost remaining = { λ input. R.remaining input.device };
 
+    ghost given = { λ input. input.told.bytes };
+
     ghost failures = { λ input. input.failures };
 
     fn read(&mut self, buf: &mut [u8]) -> io::Result<usize> {
         let result = self.device.read(buf);
-        if result.is_err() {
-            self.failures = self.failures.saturating_add(1);
+        match result {
+            Ok(count) => self.told = Told::after(&self.told, &buf[..count]),
+            Err(_) => self.failures = self.failures.saturating_add(1),
         }
         result
     }

@@ -1,4 +1,4 @@
-use Rattle.std.proofs.Common.{◌≡◌, ◌≤◌, length}
+use Rattle.std.proofs.Common.{◌≡◌, ◌≤◌, ◌++◌, length}
 use Rattle.std.specs.Io.KnownBytes.{Consumes}
 use Rattle.trace_items.proofs.script.read_script.Given as goal
 
@@ -10,6 +10,7 @@ invariant-loop g l =
       consumed : Consumes (remaining l.fn.reader) (remaining l.reader) l.script.items;
       turns : l.counter ≤ length l.script.items;
       short : length l.script.items ≤ 16777216;
+      given : g.R.Source.given l.reader ≡ g.R.Source.given l.fn.reader ++ l.script.items;
       unfailed : failures l.reader ≡ failures l.fn.reader;
       room : length l.chunk ≡ 4096;
     }
