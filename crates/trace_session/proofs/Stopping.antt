@@ -1,9 +1,10 @@
 -- A session that was stopped, and a script without parts.
-use Rattle.std.proofs.Common.{ℕ, Bool, List, [], ◌∷◌, ◌++◌, Option, Some, None, IfSome, subst}
+use Rattle.std.proofs.Common.{ℕ, Bool, List, [], ◌∷◌, ◌++◌, Option, subst}
 use Rattle.trace_command.specs.declared.command.Config.{Config}
 use Rattle.trace_items.specs.Items.{Item, Single, Threads, Faulty, HasNoPart}
 use Rattle.trace_items.specs.declared.part.Numbered.{Numbered}
 use Rattle.trace_session.specs.Heard.{Heard}
+use Rattle.trace_items.specs.Sources.{GivesScript}
 use Rattle.trace_session.specs.Fronts.{AppendsStopped}
 use Rattle.trace_workers.specs.declared.gate.Point.{Point}
 use Rattle.trace_session.proofs.PartSessions.{ArePlain, items_are_plain}
@@ -16,9 +17,8 @@ part_among (Threads threads ∷ done) part rest plain = plain
 part_among (Faulty at ∷ done) part rest plain = part_among done part rest plain
 
 -- so a session of a script without parts was not stopped
-pub stopped_at_part : (g : Config) (may : ℕ → ℕ → Point → Bool → Type 0) (bytes old new : Option (List ℕ)) (first hears : Option (List Heard))
-    → IfSome bytes (λ (script : List ℕ). AppendsStopped g may script old new first hears)
-    → IfSome bytes (λ (script : List ℕ). HasNoPart script → ⊥)
-stopped_at_part g may None old new first hears stopped = tt
-stopped_at_part g may (Some script) old new first hears (texts, s, written, heard) =
-    λ none. part_among s.done s.part s.rest (subst ArePlain s.items (items_are_plain script none))
+pub stopped_at_part : (g : Config) (may : ℕ → ℕ → Point → Bool → Type 0) (given gives : List ℕ) (bytes old new : Option (List ℕ)) (first hears : Option (List Heard))
+    → GivesScript given gives bytes (λ (script : List ℕ). AppendsStopped g may script old new first hears)
+    → GivesScript given gives bytes (λ (script : List ℕ). HasNoPart script → ⊥)
+stopped_at_part g may given gives bytes old new first hears (script, e, (read, (texts, s, written, heard))) =
+    (script, e, (read, λ none. part_among s.done s.part s.rest (subst ArePlain s.items (items_are_plain script none))))

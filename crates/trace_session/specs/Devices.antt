@@ -1,7 +1,10 @@
 -- What writes do to the bytes and the failures of a device. How failures are counted is in Sources of trace_items.
-use Rattle.std.specs.Prelude.{◌≡◌, ℕ, ◌==◌, ◌&&◌, nat_lt, if◌then◌else◌, List, ◌++◌, Option, Result, Ok, Err}
+use Rattle.std.specs.Prelude.{◌≡◌, ℕ, ◌==◌, ◌&&◌, nat_lt, if◌then◌else◌, List, ◌++◌, Option, Some, None, Result, Ok, Err}
+use Rattle.std.specs.Coded.{coded_ℕ, coded_list}
 use Rattle.std.specs.Io.KnownBytes.{Appends}
 use Rattle.trace_items.specs.Sources.{one_more}
+use base.Stored.{Coded-set}
+use mathlib.Core.HLevel.{Unit-prop}
 
 -- the failures after a write of so many bytes: a call that fails is one, and one that takes none, though some were offered
 abbrev pub failures_after_write : {E : Type 0} → ℕ → ℕ → Result ℕ E → ℕ
@@ -15,3 +18,9 @@ AppendsFront old new text = (front : List ℕ) × (rest : List ℕ) × (text ≡
 -- of bytes that waited and a text after them, known bytes grow by a front, and the rest waits
 abbrev pub Passes : Option (List ℕ) → List ℕ → Option (List ℕ) → List ℕ → List ℕ → Type 0
 Passes old waited new waits text = (front : List ℕ) × (waited ++ text ≡ front ++ waits) × Appends old new front
+
+-- that known bytes grow by some has one proof at most
+pub Appends_prop : (old new : Option (List ℕ)) (more : List ℕ) → IsProp (Appends old new more)
+Appends_prop None new more = Unit-prop
+Appends_prop (Some xs) None more = Prim.hlevel
+Appends_prop (Some xs) (Some ys) more = Coded-set (coded_list coded_ℕ) ys (xs ++ more)

@@ -1,14 +1,16 @@
 //! What a session writes to; what it reads from is a `Source` of trace_items. Contracts see its bytes and what it heard, if the device states them,
-//! and how many of its calls failed.
+//! and how many of its calls failed. A writer of std states the bytes that its calls took, whatever it is.
 
-ghost use Rattle.std.specs.Prelude.{◌≡◌, ℕ, false, List, [], ◌∷◌, Option, None, length};
+ghost use Rattle.std.specs.Prelude.{◌≡◌, ℕ, false, List, [], ◌∷◌, Option, None, Some, length};
 ghost use Rattle.std.specs.Io.{WritesAtMost};
-ghost use Rattle.std.specs.Io.KnownBytes.{WriteAppends};
-ghost use Rattle.trace_session.specs.Devices.{failures_after_write};
+ghost use Rattle.std.specs.Io.KnownBytes.{Appends, WriteAppends};
+ghost use Rattle.trace_session.specs.Devices.{Appends_prop, failures_after_write};
 ghost use Rattle.trace_session.specs.Heard.{Heard, Hears, heard_of};
 
 use std::io;
 use std::io::Write;
+use std::snapshot::Snapshot;
+use trace_items::Told;
 use trace_script::Outcome;
 
 /// What takes the bytes that a session writes.
@@ -48,11 +50,15 @@ pub trait Sink {
             (heard_of number line.now outcome.now (contents self.old) ∷ []) };
 }
 
-/// A writer of std, and how many of its calls failed, or took none of the bytes offered, if any were. It hears nothing.
+/// A writer of std, the bytes that its calls took, and how many of them failed, or took none of the bytes offered, if any were. It hears nothing.
 #[derive(Drop)]
-pub struct Output<W> {
+pub struct Output<W: Write> {
     pub device: W,
     failures: u64,
+    /// The writer before the first call.
+    start: Snapshot<W>,
+    told: Told,
+    pub ghost appended: { Appends (W.contents start.value) (W.contents device) told.bytes } by { Appends_prop _ _ _ },
 }
 
 impl<W: Write> Output<W> {
@@ -60,16 +66,21 @@ impl<W: Write> Output<W> {
     pub fn new(device: W) -> Output<W>
         ensures device { result.device ≡ device }
         ensures failures { result.failures ≡ 0 }
+        ensures start { result.start.value ≡ device }
+        ensures told { result.told.bytes ≡ [] }
     {
+        let start = Snapshot::of(&device);
         Output {
             device,
             failures: 0,
+            start,
+            told: Told::nothing(),
         }
     }
 }
 
 impl<W: Write> Sink for Output<W> {
-    ghost contents = { λ output. W.contents output.device };
+    ghost contents = { λ output. Some output.told.bytes };
 
     ghost failures = { λ output. output.failures };
 
@@ -78,7 +89,10 @@ impl<W: Write> Sink for Output<W> {
     fn write(&mut self, buf: &[u8]) -> io::Result<usize> {
         let result = self.device.write(buf);
         let is_failure = match result {
-            Ok(count) => count == 0 && !buf.is_empty(),
+            Ok(count) => {
+                self.told = Told::after(&self.told, &buf[..count]);
+                count == 0 && !buf.is_empty()
+            }
             Err(_) => true,
         };
         if is_failure {

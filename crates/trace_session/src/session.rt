@@ -6,7 +6,7 @@ ghost use Rattle.ticket_lock.specs.Calls.{view_of, IsOf};
 ghost use Rattle.trace_command.specs.Configs.{IsInRange};
 ghost use Rattle.trace_command.specs.declared.command.Config.{Config};
 ghost use Rattle.trace_items.specs.Items.{HasNoPart};
-ghost use Rattle.trace_items.specs.Sources.{ConsumesAtMost, HasRisen};
+ghost use Rattle.trace_items.specs.Sources.{ConsumesAtMost, Gives, GivesMore, GivesScript, HasRisen};
 ghost use Rattle.trace_session.specs.Fronts.{AppendsSession, AppendsBegun, AppendsBegunFront, AppendsStopped};
 ghost use Rattle.trace_session.specs.private.StepFronts.{PassesSession, PassesBegun, PassesStopped};
 ghost use Rattle.trace_session.specs.Passes.{IsSessionPass, progress_of};
@@ -179,39 +179,47 @@ fn attempt<T: Threads + Wait + Sync, R: Source, W: Sink, G: Gate + Sync>(
     gate: &G,
 ) -> Result<Status, Stop>
     requires { IsInRange config }
-    ensures session { IfOk result (λ status. IfSome (R.remaining reader.old) (λ script.
+    ensures session { IfOk result (λ status. GivesScript (R.given reader.old) (R.given reader.new) (R.remaining reader.old) (λ script.
         AppendsSession config (G.may_answer gate.now) script status
         (W.contents writer.old) (W.contents writer.new) (W.heard writer.old) (W.heard writer.new))) }
     ensures whole { IfOk result IsWhole }
     ensures end { OnOk result (IsAtEnd (R.remaining reader.new)) }
-    ensures short { OnOk result (IfSome (R.remaining reader.old) (λ script. length script ≤ MOST_SCRIPT_BYTES)) }
+    ensures short { OnOk result (
+        GivesScript (R.given reader.old) (R.given reader.new) (R.remaining reader.old) (λ script. length script ≤ MOST_SCRIPT_BYTES)) }
     ensures reads { OnOk result (R.failures reader.new ≡ R.failures reader.old) }
     ensures writes { OnOk result (W.failures writer.new ≡ W.failures writer.old) }
     ensures memory { IsErrOf result Stop.Memory → IfSome (R.remaining reader.old) (λ script.
         AppendsBegun config (G.may_answer gate.now) script
         (W.contents writer.old) (W.contents writer.new) (W.heard writer.old) (W.heard writer.new)) }
+    ensures begun { IsErrOf result Stop.Memory → Gives (R.given reader.old) (R.given reader.new) (λ script. (length script ≤ MOST_SCRIPT_BYTES)
+        × AppendsBegun config (G.may_answer gate.now) script
+        (W.contents writer.old) (W.contents writer.new) (W.heard writer.old) (W.heard writer.new)) }
     ensures unread { IsErrOf result Stop.Memory → R.failures reader.new ≡ R.failures reader.old }
     ensures unfailed { IsErrOf result Stop.Memory → W.failures writer.new ≡ W.failures writer.old }
     ensures consumed { IsErrOf result Stop.Memory
         → ConsumesAtMost MOST_SCRIPT_BYTES (R.remaining reader.old) (R.remaining reader.new) }
-    ensures stopped { IsErrOf result Stop.Stopped → IfSome (R.remaining reader.old) (λ script.
+    ensures stopped { IsErrOf result Stop.Stopped → GivesScript (R.given reader.old) (R.given reader.new) (R.remaining reader.old) (λ script.
         AppendsStopped config (G.may_answer gate.now) script
         (W.contents writer.old) (W.contents writer.new) (W.heard writer.old) (W.heard writer.new)) }
     ensures open { G.is_open gate.now ≡ true → IsErrOf result Stop.Stopped → ⊥ }
     ensures stopped_end { IsErrOf result Stop.Stopped → IsAtEnd (R.remaining reader.new) }
-    ensures stopped_short { IsErrOf result Stop.Stopped → IfSome (R.remaining reader.old) (λ script. length script ≤ MOST_SCRIPT_BYTES) }
+    ensures stopped_short { IsErrOf result Stop.Stopped
+        → GivesScript (R.given reader.old) (R.given reader.new) (R.remaining reader.old) (λ script. length script ≤ MOST_SCRIPT_BYTES) }
     ensures stopped_reads { IsErrOf result Stop.Stopped → R.failures reader.new ≡ R.failures reader.old }
     ensures stopped_writes { IsErrOf result Stop.Stopped → W.failures writer.new ≡ W.failures writer.old }
     ensures device { IsErrOf result Stop.Device → IfSome (R.remaining reader.old) (λ script.
         AppendsBegunFront config (G.may_answer gate.now) script
         (W.contents writer.old) (W.contents writer.new) (W.heard writer.old) (W.heard writer.new)) }
+    ensures front { IsErrOf result Stop.Device → Gives (R.given reader.old) (R.given reader.new) (λ script.
+        AppendsBegunFront config (G.may_answer gate.now) script
+        (W.contents writer.old) (W.contents writer.new) (W.heard writer.old) (W.heard writer.new)) }
     ensures unwritten { IsErrOf result Stop.Device → (HasRisen (W.failures writer.old) (W.failures writer.new)
         × (R.failures reader.new ≡ R.failures reader.old)
-        × IfSome (R.remaining reader.old) (λ script. length script ≤ MOST_SCRIPT_BYTES))
+        × GivesScript (R.given reader.old) (R.given reader.new) (R.remaining reader.old) (λ script. length script ≤ MOST_SCRIPT_BYTES))
         ⊎ Appends (W.contents writer.old) (W.contents writer.new) [] }
     ensures only { IsErrOf result Stop.Device → HasRisen (R.failures reader.old) (R.failures reader.new)
         ⊎ HasRisen (W.failures writer.old) (W.failures writer.new)
-        ⊎ IfSome (R.remaining reader.old) (λ script. MOST_SCRIPT_BYTES < length script) }
+        ⊎ GivesMore MOST_SCRIPT_BYTES (R.given reader.old) (R.given reader.new) (R.remaining reader.old) }
 {
     let (lock, root) = new_book(alloc, config)?;
     let script = read_script(alloc, reader)?;
@@ -232,6 +240,9 @@ fn attempt<T: Threads + Wait + Sync, R: Source, W: Sink, G: Gate + Sync>(
 /// the output of the items before it was written; only with a gate that isn't open and a script with a part. With `Device`, a read or a write failed
 /// or the script has over 16,777,216 bytes, and a prefix of a session's output was written, nothing if a read failed or the script is too long.
 ///
+/// Of every reader and writer, a file or standard output too: the script is what the reads told that they gave (`GivesScript`), and an `Output` holds
+/// what its writes told that they took. Out of memory or at a failure, what the reads gave may be a part of the script (`begun`, `front`).
+///
 /// The gate may have answered `true` at each command of the parts whose output counts here (`LetsGivenPass`), and `false` at one of the part at which
 /// it stopped. A writer that states what it heard has heard of each item written, in order, and of no other (`HearsAll`); with `Device`, of the first.
 ///
@@ -247,25 +258,30 @@ pub fn run_session<T: Threads + Wait + Sync, R: Source, W: Sink, G: Gate + Sync>
     requires { IsInRange config }
 
     // With memory and without failures: a lawful session of the bytes read, whose parts the gate let pass, and of which the writer has heard.
-    ensures session { IsWhole result → IfSome (R.remaining reader.old) (λ script.
+    ensures session { IsWhole result → GivesScript (R.given reader.old) (R.given reader.new) (R.remaining reader.old) (λ script.
         AppendsSession config (G.may_answer gate.now) script result
         (W.contents writer.old) (W.contents writer.new) (W.heard writer.old) (W.heard writer.new)) }
     ensures end { IsRead result → IsAtEnd (R.remaining reader.new) }
-    ensures short { IsRead result → IfSome (R.remaining reader.old) (λ script. length script ≤ MOST_SCRIPT_BYTES) }
+    ensures short { IsRead result
+        → GivesScript (R.given reader.old) (R.given reader.new) (R.remaining reader.old) (λ script. length script ≤ MOST_SCRIPT_BYTES) }
     ensures failures { IsRead result
         → (R.failures reader.new ≡ R.failures reader.old) × (W.failures writer.new ≡ W.failures writer.old) }
 
     // Stopped by the gate at a part, in which it may answer `false`: the output of the items before it was written, and none of the part's. A script
     // without parts is never stopped.
-    ensures stopped { result ≡ Status.Stopped → IfSome (R.remaining reader.old) (λ script.
+    ensures stopped { result ≡ Status.Stopped → GivesScript (R.given reader.old) (R.given reader.new) (R.remaining reader.old) (λ script.
         AppendsStopped config (G.may_answer gate.now) script
         (W.contents writer.old) (W.contents writer.new) (W.heard writer.old) (W.heard writer.new)) }
-    ensures part { result ≡ Status.Stopped → IfSome (R.remaining reader.old) (λ script. HasNoPart script → ⊥) }
+    ensures part { result ≡ Status.Stopped
+        → GivesScript (R.given reader.old) (R.given reader.new) (R.remaining reader.old) (λ script. HasNoPart script → ⊥) }
     ensures open { G.is_open gate.now ≡ true → result ≢ Status.Stopped }
 
     // Out of memory: no device failed, and the script was not seen to be too long.
     ensures memory { result ≡ Status.Memory → IfSome (R.remaining reader.old) (λ script.
         AppendsBegun config (G.may_answer gate.now) script
+        (W.contents writer.old) (W.contents writer.new) (W.heard writer.old) (W.heard writer.new)) }
+    ensures begun { result ≡ Status.Memory → Gives (R.given reader.old) (R.given reader.new) (λ script. (length script ≤ MOST_SCRIPT_BYTES)
+        × AppendsBegun config (G.may_answer gate.now) script
         (W.contents writer.old) (W.contents writer.new) (W.heard writer.old) (W.heard writer.new)) }
     ensures unfailed { result ≡ Status.Memory
         → (R.failures reader.new ≡ R.failures reader.old) × (W.failures writer.new ≡ W.failures writer.old) }
@@ -276,13 +292,16 @@ pub fn run_session<T: Threads + Wait + Sync, R: Source, W: Sink, G: Gate + Sync>
     ensures device { result ≡ Status.Device → IfSome (R.remaining reader.old) (λ script.
         AppendsBegunFront config (G.may_answer gate.now) script
         (W.contents writer.old) (W.contents writer.new) (W.heard writer.old) (W.heard writer.new)) }
+    ensures front { result ≡ Status.Device → Gives (R.given reader.old) (R.given reader.new) (λ script.
+        AppendsBegunFront config (G.may_answer gate.now) script
+        (W.contents writer.old) (W.contents writer.new) (W.heard writer.old) (W.heard writer.new)) }
     ensures unwritten { result ≡ Status.Device → (HasRisen (W.failures writer.old) (W.failures writer.new)
         × (R.failures reader.new ≡ R.failures reader.old)
-        × IfSome (R.remaining reader.old) (λ script. length script ≤ MOST_SCRIPT_BYTES))
+        × GivesScript (R.given reader.old) (R.given reader.new) (R.remaining reader.old) (λ script. length script ≤ MOST_SCRIPT_BYTES))
         ⊎ Appends (W.contents writer.old) (W.contents writer.new) [] }
     ensures only { result ≡ Status.Device → HasRisen (R.failures reader.old) (R.failures reader.new)
         ⊎ HasRisen (W.failures writer.old) (W.failures writer.new)
-        ⊎ IfSome (R.remaining reader.old) (λ script. MOST_SCRIPT_BYTES < length script) }
+        ⊎ GivesMore MOST_SCRIPT_BYTES (R.given reader.old) (R.given reader.new) (R.remaining reader.old) }
 {
     match attempt(rt, alloc, config, reader, writer, gate) {
         Ok(status) => status,

@@ -1,5 +1,5 @@
 -- `after` makes a value of no bytes, whose ghost field is what `old` had and what `more` shows.
-use Rattle.std.proofs.Common.{List, [], ◌∷◌, ◌++◌, refl}
+use Rattle.std.proofs.Common.{[], ◌∷◌, ◌++◌, refl}
 use Rattle.std.proofs.raw_atomic.Walks.{proved}
 use mir.Val.{Val, vstruct, vcons, vnil}
 use mir.Syntax.{named}

@@ -1,5 +1,5 @@
 -- `nothing` makes a value of no bytes, whose ghost field is empty.
-use Rattle.std.proofs.Common.{List, [], ◌∷◌, refl}
+use Rattle.std.proofs.Common.{[], ◌∷◌, refl}
 use Rattle.std.proofs.raw_atomic.Walks.{proved}
 use mir.Val.{Val, vstruct, vcons, vnil}
 use base.Fml.{Fml, ftrue}
