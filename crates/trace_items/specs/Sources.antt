@@ -1,5 +1,5 @@
 -- What reads do to the bytes and the failures of a reader. The bytes that they gave are those that their calls told of, whatever the reader.
-use Rattle.std.specs.Prelude.{◌≡◌, ◌<◌, ◌≤◌, ◌⊎◌, ℕ, ◌+◌, ◌-◌, ◌^◌, min, List, ◌++◌, length, take, Option, Result, Ok, Err, IfSome}
+use Rattle.std.specs.Prelude.{◌≡◌, ◌<◌, ◌≤◌, ◌⊎◌, ℕ, Bool, false, ◌==◌, ◌&&◌, nat_lt, ◌+◌, ◌-◌, ◌^◌, min, List, ◌++◌, length, take, Option, Result, Ok, Err, IfSome}
 use Rattle.std.specs.Io.KnownBytes.{Consumes}
 
 -- the greatest count of failures, the greatest number of 64 bits
@@ -27,6 +27,11 @@ ConsumesAtMost most old new = (front : List ℕ) × (length front ≤ most) × C
 abbrev pub given_after : {E : Type 0} → List ℕ → Result ℕ E → List ℕ → List ℕ
 given_after given (Ok count) buf = given ++ take count buf
 given_after given (Err error) buf = given
+
+-- whether a read into this much room found the end: it gave none
+abbrev pub is_end_after : {E : Type 0} → ℕ → Result ℕ E → Bool
+is_end_after room (Ok count) = nat_lt 0 room && count == 0
+is_end_after room (Err error) = false
 
 -- the bytes given grow by some, of which this holds
 abbrev pub Gives : List ℕ → List ℕ → (List ℕ → Type 0) → Type 0

@@ -1,6 +1,6 @@
 //! A script: it is read to its end, and cut into lines.
 
-ghost use Rattle.std.specs.Prelude.{◌≡◌, ◌==◌, ◌+◌, ◌-◌, ◌<◌, ◌≤◌, ◌⊎◌, ◌∷◌, ◌++◌, length, take, position, IfOk, IfSome, OnOk, IsErrOf};
+ghost use Rattle.std.specs.Prelude.{◌≡◌, ◌==◌, ◌+◌, ◌-◌, ◌<◌, ◌≤◌, ◌⊎◌, ◌∷◌, ◌++◌, length, take, position, true, IfOk, IfSome, OnOk, IsErrOf};
 ghost use Rattle.std.specs.Io.KnownBytes.{Consumes, IsAtEnd};
 ghost use Rattle.std.specs.Option.{option_copied};
 ghost use Rattle.trace_items.specs.ScriptLines.{lines_of, lines_left, bytes_left};
@@ -32,7 +32,7 @@ fn read_more<R: Source>(
     ensures bytes { IfOk result (λ count. Consumes (R.remaining reader.old) (R.remaining reader.new) (take count chunk.new)
         × (script.new.items ≡ script.old.items ++ take count chunk.new) × (count ≤ length chunk.new)
         × (R.given reader.new ≡ R.given reader.old ++ take count chunk.new)) }
-    ensures end { IfOk result (λ count. count ≡ 0 → IsAtEnd (R.remaining reader.new)) }
+    ensures end { IfOk result (λ count. count ≡ 0 → IsAtEnd (R.remaining reader.new) × (R.has_ended reader.new ≡ true)) }
     ensures length { OnOk result (length script.new.items ≤ MOST_SCRIPT_BYTES) }
     ensures failures { OnOk result (R.failures reader.new ≡ R.failures reader.old) }
     ensures memory { IsErrOf result Stop.Memory → (R.failures reader.new ≡ R.failures reader.old)
@@ -59,6 +59,7 @@ pub fn read_script<R: Source>(alloc: Global, reader: &mut R) -> Result<Vec<u8>, 
     ensures script { IfOk result (λ script. IfSome (R.remaining reader.old) (λ bytes. script.items ≡ bytes)) }
     ensures given { IfOk result (λ script. R.given reader.new ≡ R.given reader.old ++ script.items) }
     ensures end { OnOk result (IsAtEnd (R.remaining reader.new)) }
+    ensures ended { OnOk result (R.has_ended reader.new ≡ true) }
     ensures consumed { IfOk result (λ script. Consumes (R.remaining reader.old) (R.remaining reader.new) script.items) }
     ensures length { IfOk result (λ script. length script.items ≤ MOST_SCRIPT_BYTES) }
     ensures failures { OnOk result (R.failures reader.new ≡ R.failures reader.old) }

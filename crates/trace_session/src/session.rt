@@ -184,6 +184,7 @@ fn attempt<T: Threads + Wait + Sync, R: Source, W: Sink, G: Gate + Sync>(
         (W.contents writer.old) (W.contents writer.new) (W.heard writer.old) (W.heard writer.new))) }
     ensures whole { IfOk result IsWhole }
     ensures end { OnOk result (IsAtEnd (R.remaining reader.new)) }
+    ensures ended { OnOk result (R.has_ended reader.new ≡ true) }
     ensures short { OnOk result (
         GivesScript (R.given reader.old) (R.given reader.new) (R.remaining reader.old) (λ script. length script ≤ MOST_SCRIPT_BYTES)) }
     ensures reads { OnOk result (R.failures reader.new ≡ R.failures reader.old) }
@@ -203,6 +204,7 @@ fn attempt<T: Threads + Wait + Sync, R: Source, W: Sink, G: Gate + Sync>(
         (W.contents writer.old) (W.contents writer.new) (W.heard writer.old) (W.heard writer.new)) }
     ensures open { G.is_open gate.now ≡ true → IsErrOf result Stop.Stopped → ⊥ }
     ensures stopped_end { IsErrOf result Stop.Stopped → IsAtEnd (R.remaining reader.new) }
+    ensures stopped_ended { IsErrOf result Stop.Stopped → R.has_ended reader.new ≡ true }
     ensures stopped_short { IsErrOf result Stop.Stopped
         → GivesScript (R.given reader.old) (R.given reader.new) (R.remaining reader.old) (λ script. length script ≤ MOST_SCRIPT_BYTES) }
     ensures stopped_reads { IsErrOf result Stop.Stopped → R.failures reader.new ≡ R.failures reader.old }
@@ -262,6 +264,7 @@ pub fn run_session<T: Threads + Wait + Sync, R: Source, W: Sink, G: Gate + Sync>
         AppendsSession config (G.may_answer gate.now) script result
         (W.contents writer.old) (W.contents writer.new) (W.heard writer.old) (W.heard writer.new)) }
     ensures end { IsRead result → IsAtEnd (R.remaining reader.new) }
+    ensures ended { IsRead result → R.has_ended reader.new ≡ true }
     ensures short { IsRead result
         → GivesScript (R.given reader.old) (R.given reader.new) (R.remaining reader.old) (λ script. length script ≤ MOST_SCRIPT_BYTES) }
     ensures failures { IsRead result

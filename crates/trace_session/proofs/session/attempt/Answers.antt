@@ -71,6 +71,7 @@ returns-in_err-lock g c =
       session = rw p.1 tt;
       whole = rw p.1 tt;
       end = rw p.1 tt;
+      ended = rw p.1 tt;
       short = rw p.1 tt;
       reads = rw p.1 tt;
       writes = rw p.1 tt;
@@ -82,6 +83,7 @@ returns-in_err-lock g c =
       stopped = λ is. absurd (made.stopped (moved c.new_book.result c.from_residual.result _ p.0 Stopped c.in_err-lock.was p.1 p.2 is));
       «open» = λ _ is. made.stopped (moved c.new_book.result c.from_residual.result _ p.0 Stopped c.in_err-lock.was p.1 p.2 is);
       stopped_end = λ is. absurd (made.stopped (moved c.new_book.result c.from_residual.result _ p.0 Stopped c.in_err-lock.was p.1 p.2 is));
+      stopped_ended = λ is. absurd (made.stopped (moved c.new_book.result c.from_residual.result _ p.0 Stopped c.in_err-lock.was p.1 p.2 is));
       stopped_short = λ is. absurd (made.stopped (moved c.new_book.result c.from_residual.result _ p.0 Stopped c.in_err-lock.was p.1 p.2 is));
       stopped_reads = λ _. refl;
       stopped_writes = λ _. refl;
@@ -105,6 +107,7 @@ returns-in_err-script g c =
       session = rw p.1 tt;
       whole = rw p.1 tt;
       end = rw p.1 tt;
+      ended = rw p.1 tt;
       short = rw p.1 tt;
       reads = rw p.1 tt;
       writes = rw p.1 tt;
@@ -116,6 +119,7 @@ returns-in_err-script g c =
       stopped = λ is. absurd (read.stopped (moved c.read_script.result c.from_residual-in_err-script.result _ p.0 Stopped c.in_err-script.was p.1 p.2 is));
       «open» = λ _ is. read.stopped (moved c.read_script.result c.from_residual-in_err-script.result _ p.0 Stopped c.in_err-script.was p.1 p.2 is);
       stopped_end = λ is. absurd (read.stopped (moved c.read_script.result c.from_residual-in_err-script.result _ p.0 Stopped c.in_err-script.was p.1 p.2 is));
+      stopped_ended = λ is. absurd (read.stopped (moved c.read_script.result c.from_residual-in_err-script.result _ p.0 Stopped c.in_err-script.was p.1 p.2 is));
       stopped_short = λ is. absurd (read.stopped (moved c.read_script.result c.from_residual-in_err-script.result _ p.0 Stopped c.in_err-script.was p.1 p.2 is));
       stopped_reads = λ is. absurd (read.stopped (moved c.read_script.result c.from_residual-in_err-script.result _ p.0 Stopped c.in_err-script.was p.1 p.2 is));
       stopped_writes = λ _. refl;
@@ -207,3 +211,9 @@ returns-clause-unwritten g c h =
       c.in_ok-script.ensures.failures,
       (c.in_ok-script.script.items, c.in_ok-script.ensures.given, (c.in_ok-script.ensures.script, c.in_ok-script.ensures.length)),
     )
+
+pub returns-clause-ended : goal.returns-clause-ended
+returns-clause-ended g c = on_ok c.do_script.result c.in_ok-script.ensures.ended
+
+pub returns-clause-stopped_ended : goal.returns-clause-stopped_ended
+returns-clause-stopped_ended g c h = c.in_ok-script.ensures.ended

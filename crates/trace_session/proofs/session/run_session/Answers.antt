@@ -41,6 +41,7 @@ returns-in-Ok g c =
     record {
       session = λ _. ran.session;
       end = λ _. ran.end;
+      ended = λ _. ran.ended;
       short = λ _. ran.short;
       failures = λ _. (ran.reads, ran.writes);
       stopped = λ is. absurd (not_stopped status ran.whole is);
@@ -62,6 +63,7 @@ returns-in-Err-Memory g c =
     record {
       session = λ no. absurd no;
       end = λ no. absurd no;
+      ended = λ no. absurd no;
       short = λ no. absurd no;
       failures = λ no. absurd no;
       stopped = λ is. absurd (memory_or_stopped is);
@@ -83,6 +85,7 @@ returns-in-Err-Device g c =
     record {
       session = λ no. absurd no;
       end = λ no. absurd no;
+      ended = λ no. absurd no;
       short = λ no. absurd no;
       failures = λ no. absurd no;
       stopped = λ is. absurd (device_or_stopped is);
@@ -105,6 +108,7 @@ returns-in-Err-Stopped g c =
     record {
       session = λ no. absurd no;
       end = λ _. ran.stopped_end (cc);
+      ended = λ _. ran.stopped_ended (cc);
       short = λ _. ran.stopped_short (cc);
       failures = λ _. (ran.stopped_reads (cc), ran.stopped_writes (cc));
       stopped = λ _. ran.stopped (cc);
