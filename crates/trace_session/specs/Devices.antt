@@ -11,7 +11,7 @@ abbrev pub failures_after_write : {E : Type 0} → ℕ → ℕ → Result ℕ E 
 failures_after_write offered failures (Ok count) = if nat_lt 0 offered && count == 0 then one_more failures else failures
 failures_after_write offered failures (Err error) = one_more failures
 
--- known bytes grow by a front of the text
+-- known bytes grow by a prefix of the text
 abbrev pub AppendsFront : Option (List ℕ) → Option (List ℕ) → List ℕ → Type 0
 AppendsFront old new text = (front : List ℕ) × (rest : List ℕ) × (text ≡ front ++ rest) × Appends old new front
 

@@ -58,7 +58,7 @@ abbrev pub AppendsStopped : Config → (ℕ → ℕ → Point → Bool → Type 
 AppendsStopped g may script old new heard hears =
     (texts : List (List ℕ)) × (is : IsStopped g may script texts) × Appends old new (concat texts) × HearsAll script old is.done is.given heard hears
 
--- Known bytes grow by a front of what the first items of the script may write. The gate let each part among them pass, and a sink that tells what it
+-- Known bytes grow by a prefix of what the first items of the script may write. The gate let each part among them pass, and a sink that tells what it
 -- heard has heard of the first of them.
 abbrev pub AppendsBegunFront : Config → (ℕ → ℕ → Point → Bool → Type 0) → List ℕ → Option (List ℕ) → Option (List ℕ)
     → Option (List Heard) → Option (List Heard) → Type 0
