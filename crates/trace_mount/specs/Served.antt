@@ -83,9 +83,10 @@ write_of scene node append text = request_of (commands.Write (path_of scene node
 
 -- ---- OPEN
 
--- FOPEN_DIRECT_IO is 1: a kernel asks for each read, whatever the size; FOPEN_NONSEEKABLE is 4
+-- FOPEN_DIRECT_IO is 1: a kernel asks for each read, whatever the size; FOPEN_NONSEEKABLE is 4; FOPEN_STREAM is 16: a read that waits holds up no other
+-- one by the same open file
 abbrev pub open_flags : FileKind → ℕ
-open_flags kinds.Pipe = 5
+open_flags kinds.Pipe = 21
 open_flags _ = 1
 
 -- a file gets the lowest handle that is not in use

@@ -17,12 +17,12 @@ use fuse_wire::{Errno, Reply};
 use mount_tree::{File, FileKind, Node, Owner, ToolFile};
 use trace_command::TopFile;
 
-/// The flags that a file is opened with: a kernel asks for each read, whatever the size, and a pipe has no places.
+/// The flags that a file is opened with: a kernel asks for each read, whatever the size, and a pipe has no places and several reads at once.
 fn open_flags(kind: FileKind) -> u32
     ensures { result ≡ flags_of kind }
 {
     match kind {
-        FileKind::Pipe => 5,
+        FileKind::Pipe => 21,
         FileKind::Text | FileKind::Trace | FileKind::Inject | FileKind::Tool | FileKind::ErrorLog =>
             1,
     }
