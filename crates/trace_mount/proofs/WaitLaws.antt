@@ -1,7 +1,8 @@
 -- Reads that wait: what is lost, what waits, and which is first.
-use Rattle.std.proofs.Common.{◌≡◌, inl, inr, ℕ, zero, suc, Bool, true, false, not, ◌&&◌, ◌||◌, List, [], ◌∷◌, drop, min, Option, Some, None, Result, Ok, Err, refl, ap}
+use Rattle.std.proofs.Common.{◌≡◌, inl, inr, ℕ, zero, suc, Bool, true, false, not, ◌&&◌, ◌||◌, List, [], ◌∷◌, drop, min, Option, is_some, Some, None, Result, Ok, Err, refl, ap}
 use Rattle.std.proofs.lemmas.List.{take-append-drop}
-use Rattle.std.specs.List.{position}
+use Rattle.std.specs.List.{position, slice_get}
+use Rattle.std.specs.Option.{option_and_then}
 use Rattle.fuse_wire.specs.declared.errno.Errno.TheVariants.{EINTR, EBADF}
 use Rattle.fuse_wire.specs.declared.reply.Reply.TheVariants as replies
 use Rattle.trace_command.specs.declared.refusal.Refusal.{Refusal}
@@ -11,8 +12,8 @@ use Rattle.mount_tree.specs.declared.node.Node.TheVariants as nodes
 use Rattle.trace_history.specs.Waiting.{waiting}
 use Rattle.trace_mount.specs.Mounted.{Does}
 use Rattle.trace_mount.specs.Owed.{ReplyAt, WakeupAt, first_owed, is_due, is_ready, step_of_parked}
-use Rattle.trace_mount.specs.ParkedLaws.{ClosedReadsTakeNothing, InterruptedReadsTakeNothing, InterruptingAsksNothing, NoReadWaitsForWhatIsThere, NothingIsOwedToRequests, OldestIsAnsweredFirst, TakenTextIsGivenOrKept, TellingDoesOneCommandAtMost, WaitingAsksNothing, WaitsForRecords}
-use Rattle.trace_mount.specs.Pipes.{ends, is_no, is_used_up, waits_at}
+use Rattle.trace_mount.specs.ParkedLaws.{ClosedReadsTakeNothing, InterruptedReadsTakeNothing, InterruptingAsksNothing, NoPollWaitsForWhatIsThere, NoReadWaitsForWhatIsThere, NothingIsOwedToRequests, OldestIsAnsweredFirst, TakenTextIsGivenOrKept, TellingDoesOneCommandAtMost, WaitingAsksNothing, WaitsForRecords}
+use Rattle.trace_mount.specs.Pipes.{ends, is_no, is_used_up, waits_at, would_wait}
 use Rattle.trace_mount.specs.Served.{failed, part_of}
 use Rattle.trace_mount.specs.Services.{OpenSeen, Service, Terms, file_at, scene_of, text_at, with_records, without_read}
 use Rattle.trace_mount.specs.Told.{most_data}
@@ -80,24 +81,28 @@ says-no (Ok false) e = refl
 says-no (Ok true) e = absurd (cc)
 says-no (Err refusal) e = absurd (cc)
 
-all-three : (used there dry going : Bool) → (used && (there && dry) && going) ≡ true → (used ≡ true) × (dry ≡ true)
-all-three true true true going e = (refl, refl)
-all-three true true false going e = absurd (cc)
-all-three true false dry going e = absurd (cc)
-all-three false there dry going e = absurd (cc)
+all-four : (used there dry ended : Bool) → (used && (there && dry) && not ended) ≡ true
+    → (used ≡ true) × (there ≡ true) × (dry ≡ true) × (ended ≡ false)
+all-four true true true false e = (refl, refl, refl, refl)
+all-four true true true true e = absurd (cc)
+all-four true true false ended e = absurd (cc)
+all-four true false dry ended e = absurd (cc)
+all-four false there dry ended e = absurd (cc)
 
 waits-for : (g : Terms) (s : Service) (read : Parked) (slot : Option OpenSeen) → file_at read.handle s.files ≡ slot → read.interrupted ≡ false
     → waits_at g s slot ≡ true → WaitsForRecords g s read
 waits-for g s read None is going waits = absurd (let no : false ≡ true = waits in cc)
 waits-for g s read (Some file) is going waits =
-    let both = all-three (is_used_up file) (is_there (scene_of g s) (nodes.File file.owner file.file))
-    (is_no (waiting g.config s.past (owner_name (scene_of g s) file.owner) (file_meant (scene_of g s) file.file))) (not (ends g s file)) waits in
+    let all = all-four (is_used_up file) (is_there (scene_of g s) (nodes.File file.owner file.file))
+    (is_no (waiting g.config s.past (owner_name (scene_of g s) file.owner) (file_meant (scene_of g s) file.file))) (ends g s file) waits in
     record {
       going = going;
       file = file;
       is = is;
-      used_up = both.0;
-      none = says-no (waiting g.config s.past (owner_name (scene_of g s) file.owner) (file_meant (scene_of g s) file.file)) both.1;
+      used_up = all.0;
+      there = all.1;
+      none = says-no (waiting g.config s.past (owner_name (scene_of g s) file.owner) (file_meant (scene_of g s) file.file)) all.2;
+      goes_on = all.3;
     }
 
 pub no_read_waits_for_what_is_there : NoReadWaitsForWhatIsThere
@@ -105,6 +110,29 @@ no_read_waits_for_what_is_there g s index read nothing is =
     let none : position (is_due g s) s.parked ≡ None = none-due (position (is_due g s) s.parked) (position (is_ready g s) s.files) nothing in
     let both = not-due read.interrupted (waits_at g s (file_at read.handle s.files)) (none-passes (is_due g s) s.parked index read none is) in
     waits-for g s read (file_at read.handle s.files) refl both.0 both.1
+
+none-ready : (due ready : Option ℕ) → first_owed due ready ≡ None → ready ≡ None
+none-ready None None e = refl
+none-ready None (Some handle) e = absurd (cc)
+none-ready (Some index) ready e = absurd (cc)
+
+slot-is : (files : List (Option OpenSeen)) (handle : ℕ) (file : OpenSeen) → file_at handle files ≡ Some file → slice_get files handle ≡ Some (Some file)
+slot-is files handle file is = by (slice_get files handle) is
+  where
+    by : (slot : Option (Option OpenSeen)) → option_and_then (λ (file : Option OpenSeen). file) slot ≡ Some file → slot ≡ Some (Some file)
+    by (Some found) e = ap (λ (f : Option OpenSeen). Some f) e
+    by None e = absurd (cc)
+
+not-ready : (waits : Bool) (wakeup : Option ℕ) (number : ℕ) → wakeup ≡ Some number → (is_some wakeup && not waits) ≡ false → waits ≡ true
+not-ready true wakeup number told e = refl
+not-ready false None number told e = absurd (cc)
+not-ready false (Some other) number told e = absurd (cc)
+
+pub no_poll_waits_for_what_is_there : NoPollWaitsForWhatIsThere
+no_poll_waits_for_what_is_there g s handle wakeup file nothing is wanted =
+    let none : position (is_ready g s) s.files ≡ None = none-ready (position (is_due g s) s.parked) (position (is_ready g s) s.files) nothing in
+    not-ready (would_wait g s file) file.wakeup wakeup wanted
+    (none-passes (is_ready g s) s.files handle (Some file) none (slot-is s.files handle file is))
 
 pub nothing_is_owed_to_requests : NothingIsOwedToRequests
 nothing_is_owed_to_requests g before after byte asked bytes exchanged = exchanged.0

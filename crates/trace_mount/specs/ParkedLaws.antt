@@ -8,12 +8,13 @@ use Rattle.fuse_wire.specs.declared.request.Operation.{Operation}
 use Rattle.fuse_wire.specs.declared.request.Operation.TheVariants as operations
 use Rattle.trace_command.specs.Requests.{Request}
 use Rattle.trace_history.specs.Waiting.{waiting}
+use Rattle.mount_tree.specs.Children.{is_there}
 use Rattle.mount_tree.specs.NodePaths.{file_meant, owner_name}
 use Rattle.trace_mount.specs.Mounted.{AreServed, Right, Wrong, Unframed, Does, IsExchanged, IsReplied, Serves, TellsOwed}
 use Rattle.trace_mount.specs.Owed.{Owed, ReplyAt, WakeupAt, is_due, owed}
-use Rattle.trace_mount.specs.Pipes.{is_used_up}
+use Rattle.trace_mount.specs.Pipes.{ends, is_used_up, would_wait}
 use Rattle.trace_mount.specs.Served.{Interrupts, Parks, given_records}
-use Rattle.trace_mount.specs.Services.{OpenSeen, Service, Terms, file_at, scene_of, text_at, without_read}
+use Rattle.trace_mount.specs.Services.{OpenSeen, Service, Terms, file_at, node_of, scene_of, text_at, without_read}
 use Rattle.trace_mount.specs.declared.parked.Parked.{Parked}
 
 -- ---- each read is answered once
@@ -121,17 +122,26 @@ TakenTextIsGivenOrKept =
 
 -- ---- where something waits, no read does
 
--- a read waits for what is not there: it was not interrupted, its file is open, nothing is kept for it, and nothing waits in its pipe
+-- a read waits for what is not there: it was not interrupted, its file is open, nothing is kept for it, its pipe is there, nothing waits in it, and it
+-- does not end
 pub record WaitsForRecords (g : Terms) (s : Service) (read : Parked) : Type 0 where
   pub going : read.interrupted ≡ false
   pub file : OpenSeen
   pub is : file_at read.handle s.files ≡ Some file
   pub used_up : is_used_up file ≡ true
+  pub there : is_there (scene_of g s) (node_of file) ≡ true
   pub none : waiting g.config s.past (owner_name (scene_of g s) file.owner) (file_meant (scene_of g s) file.file) ≡ Ok false
+  pub goes_on : ends g s file ≡ false
 
 abbrev pub NoReadWaitsForWhatIsThere : Type 0
 NoReadWaitsForWhatIsThere =
     (g : Terms) (s : Service) (index : ℕ) (read : Parked) → owed g s ≡ None → slice_get s.parked index ≡ Some read → WaitsForRecords g s read
+
+-- and no poll that is to be told: its file is not ready
+abbrev pub NoPollWaitsForWhatIsThere : Type 0
+NoPollWaitsForWhatIsThere =
+    (g : Terms) (s : Service) (handle wakeup : ℕ) (file : OpenSeen) → owed g s ≡ None → file_at handle s.files ≡ Some file → file.wakeup ≡ Some wakeup
+    → would_wait g s file ≡ true
 
 -- and so it is whenever a request is answered
 abbrev pub NothingIsOwedToRequests : Type 0

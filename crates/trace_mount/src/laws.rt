@@ -1,7 +1,7 @@
 //! What reads of a file give, and what a step does. The functions do nothing: their contracts are theorems.
 
 ghost use Rattle.trace_mount.specs.MountLaws.{FirstTextIsKept, NothingLeftIsAll, ReadsGiveParts, ReadsGoOn, StepsDoOneCommandAtMost};
-ghost use Rattle.trace_mount.specs.ParkedLaws.{ClosedReadsTakeNothing, InterruptedReadsTakeNothing, InterruptingAsksNothing, NoReadWaitsForWhatIsThere, NothingIsOwedToRequests, OldestIsAnsweredFirst, ReadsAreAnsweredOnce, TakenTextIsGivenOrKept, TellingDoesOneCommandAtMost, WaitingAsksNothing};
+ghost use Rattle.trace_mount.specs.ParkedLaws.{ClosedReadsTakeNothing, InterruptedReadsTakeNothing, InterruptingAsksNothing, NoPollWaitsForWhatIsThere, NoReadWaitsForWhatIsThere, NothingIsOwedToRequests, OldestIsAnsweredFirst, ReadsAreAnsweredOnce, TakenTextIsGivenOrKept, TellingDoesOneCommandAtMost, WaitingAsksNothing};
 ghost use Rattle.trace_mount.specs.PastLaws.{LaterReadsGoOn, PastsAreDone, ReadsShowThePast, StatsShowThePast, WritesAreCommands};
 
 /// Reads of a file that go on one after another give together one part of the text that the first of them made, and so from the beginning on what
@@ -35,9 +35,10 @@ pub fn waiting_loses_nothing()
     ensures text { TakenTextIsGivenOrKept }
 {}
 
-/// Where something waits, no read does that could take it, whenever a request is answered.
+/// Where something waits, no read does that could take it, and no poll that is to be told of it, whenever a request is answered.
 pub fn no_read_waits_for_what_is_there()
     ensures waits { NoReadWaitsForWhatIsThere }
+    ensures polls { NoPollWaitsForWhatIsThere }
     ensures requests { NothingIsOwedToRequests }
 {}
 
