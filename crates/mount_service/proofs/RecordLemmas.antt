@@ -42,7 +42,7 @@ stats-are g s file cpu = refl
 pub tell_all : ShownCountsAccountForEmissions → StatsShowThePast → StatsTellAllRecords
 tell_all shown stats g requests messages before after request bytes handle size flags cpu file ranges served is asks opened is_stats there unemptied unexchanged = (
   live_stats g (instance_of g before file) cpu before.past,
-  subst (λ (text : List ℕ). ReadsAnew before (read_whole (instance_of g before file) (paths.OfCpu cpu per_cpu.Stats)) request.unique handle size text bytes after) (stats-are g before file cpu)
+  subst (λ (text : List ℕ). ReadsAnew g before (read_whole (instance_of g before file) (paths.OfCpu cpu per_cpu.Stats)) request.unique handle size text bytes after) (stats-are g before file cpu)
       (stats g requests messages before after request bytes handle size flags cpu file ranges served is asks opened is_stats there),
   shown g.config before.past (instance_of g before file) cpu (cpu-there g before file cpu is_stats there) unemptied unexchanged,
 )

@@ -51,5 +51,5 @@ StatsTellAllRecords =
     → is_there (scene_of g before) (node_of file) ≡ true → was_emptied (instance_of g before file) cpu before.past ≡ false
     → exchange_count (instance_of g before file) before.past ≡ 0
     → (stats : RingStats)
-    × ReadsAnew before (read_whole (instance_of g before file) (paths.OfCpu cpu per_cpu.Stats)) request.unique handle size (stats_text stats (now_of before.past)) bytes after
+    × ReadsAnew g before (read_whole (instance_of g before file) (paths.OfCpu cpu per_cpu.Stats)) request.unique handle size (stats_text stats (now_of before.past)) bytes after
     × (counted stats ≡ recorded_count (instance_of g before file) cpu before.past)

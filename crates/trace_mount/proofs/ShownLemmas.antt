@@ -1,5 +1,5 @@
 -- What reads of a file show.
-use Rattle.std.proofs.Common.{◌≡◌, ℕ, Bool, true, false, not, if◌then◌else◌, List, length, Option, Some, None, Result, Ok, Err, refl, sym, ap, subst, ◌∙◌}
+use Rattle.std.proofs.Common.{◌≡◌, inl, inr, ℕ, Bool, true, false, not, if◌then◌else◌, List, length, Option, Some, None, Result, Ok, Err, refl, sym, ap, subst, ◌∙◌}
 use Rattle.std.proofs.lemmas.Bool.{false≢true}
 use Rattle.std.specs.Option.{option_map}
 use Rattle.fuse_wire.specs.declared.reply.Reply.{Reply}
@@ -31,11 +31,11 @@ use Rattle.mount_tree.specs.declared.node.Owner.{Owner}
 use Rattle.trace_mount.proofs.DoneLemmas.{events-are, had-room, pasts_are_done}
 use Rattle.trace_mount.proofs.PartLaws.{text-kept}
 use Rattle.trace_mount.specs.Errnos.{errno_of}
-use Rattle.trace_mount.specs.Mounted.{Does, bytes_of_reply}
+use Rattle.trace_mount.specs.Mounted.{Does, IsAnswered, bytes_of_reply}
 use Rattle.trace_mount.specs.Served.{Asks, Step, read_anew, read_file, read_kind, read_of, read_text, text_in, without_newline, write_file, write_kind, write_of, write_other, write_text, written}
 use Rattle.trace_mount.specs.Services.{OpenSeen, Service, Terms, file_at, node_of, read_of_pipe, scene_of}
 use Rattle.trace_mount.specs.declared.parked.Parked.{Parked}
-use Rattle.trace_mount.specs.PastLaws.{IsDone, IsNotDone, LaterReadsGoOn, NotShown, ReadsAnew, Shown, ReadsShowThePast, StatsShowThePast, WasDone, WritesAreCommands, WritesOnce, instance_of, is_file, is_text, read_whole, write_once}
+use Rattle.trace_mount.specs.PastLaws.{IsDone, IsNotDone, IsReason, LaterReadsGoOn, NotShown, ReadsAnew, Shown, ReadsShowThePast, StatsShowThePast, WasDone, WritesAreCommands, WritesOnce, instance_of, is_file, is_text, read_whole, write_once}
 
 -- ---- answers
 
@@ -108,6 +108,12 @@ done-shows g instance past meant answer whole is =
     let found = there-answered instance past (file_answer g past (read_answer g instance past None) (Some meant)) answer is in
     read-shows g instance past meant answer whole (unrefused (missing g past meant) (read_answer g instance past None meant) answer found)
 
+-- an answer that is a refusal is the defined one, or memory was refused
+reason : (g : Terms) (past : List Request) (command : Request) (refused : Refusal) → IsAnswered g past command (Err refused)
+    → IsReason g past command (errno_of refused)
+reason g past command refusal.Memory answered = inl refl
+reason g past command refused answered = inr (refused, answered (λ same. absurd (cc)), refl)
+
 -- ---- steps
 
 -- the file that the path of an open file names, if it is there
@@ -152,9 +158,12 @@ anew : (g : Terms) (before after : Service) (unique handle size : ℕ) (file : O
     → IsInRange g.config → WasDone g before.past → file_at handle before.files ≡ Some file → is_text (kind_of_file file.file) ≡ true
     → is_there (scene_of g before) (node_of file) ≡ true → file_meant (scene_of g before) file.file ≡ Some meant
     → bytes ≡ bytes_of_reply unique reply → Does g before (read_anew (scene_of g before) handle 0 size (node_of file) before.files) reply after
-    → ReadsAnew before (read_whole (instance_of g before file) meant) unique handle size (text_of g.config (instance_of g before file) before.past meant) bytes after
+    → ReadsAnew g before (read_whole (instance_of g before file) meant) unique handle size (text_of g.config (instance_of g before file) before.past meant) bytes after
 anew g before after unique handle size file meant reply bytes ranges was opened text there means told (Err refused, answered, replied, is) =
-    NotShown (record { errno = errno_of refused; told = told ∙ ap (bytes_of_reply unique) replied; now = is })
+    let why : IsReason g before.past (read_whole (instance_of g before file) meant) (errno_of refused) =
+    subst (λ (asked : Request). IsReason g before.past asked (errno_of refused)) (asked-is g before file meant ranges was there means)
+    (reason g before.past (read_of (scene_of g before) (node_of file) None) refused answered) in
+    NotShown (record { errno = errno_of refused; why = why; told = told ∙ ap (bytes_of_reply unique) replied; now = is })
 anew g before after unique handle size file meant reply bytes ranges was opened text there means told (Ok answer, answered, replied, is) =
     let command = read_of (scene_of g before) (node_of file) None in
     let same = asked-is g before file meant ranges was there means in
@@ -162,8 +171,8 @@ anew g before after unique handle size file meant reply bytes ranges was opened 
     let shows : text_in answer ≡ text_of g.config (instance_of g before file) before.past meant =
     done-shows g.config (instance_of g before file) before.past meant answer (meant-whole (scene_of g before) file.file meant text means)
     (ap (answer_with_room g.config before.past) (sym same) ∙ done.0) in
-    subst (λ (asked : Request). ReadsAnew before asked unique handle size (text_of g.config (instance_of g before file) before.past meant) bytes after) same
-    (subst (λ (shown : List ℕ). ReadsAnew before command unique handle size shown bytes after) shows (Shown (record {
+    subst (λ (asked : Request). ReadsAnew g before asked unique handle size (text_of g.config (instance_of g before file) before.past meant) bytes after) same
+    (subst (λ (shown : List ℕ). ReadsAnew g before command unique handle size shown bytes after) shows (Shown (record {
       told = told ∙ ap (bytes_of_reply unique) replied;
       now = is;
       kept = rw is (text-kept before.files handle (text_in answer) file opened);
@@ -216,11 +225,13 @@ file-writes g s handle pid bytes own (Some found) e is =
 
 once : (g : Terms) (before after : Service) (unique handle : ℕ) (own : List ℕ) (command asked : Request) (reply : Option Reply) (bytes : List ℕ)
     → command ≡ asked → bytes ≡ bytes_of_reply unique reply → Does g before (Asks command (written handle (length own) before.files)) reply after
-    → WritesOnce before asked unique handle (length own) bytes after
+    → WritesOnce g before asked unique handle (length own) bytes after
 once g before after unique handle own command asked reply bytes same told (Err refused, answered, replied, is) =
-    IsNotDone (record { errno = errno_of refused; told = told ∙ ap (bytes_of_reply unique) replied; now = is })
+    let why : IsReason g before.past asked (errno_of refused) =
+    subst (λ (c : Request). IsReason g before.past c (errno_of refused)) same (reason g before.past command refused answered) in
+    IsNotDone (record { errno = errno_of refused; why = why; told = told ∙ ap (bytes_of_reply unique) replied; now = is })
 once g before after unique handle own command asked reply bytes same told (Ok answer, answered, replied, is) =
-    subst (λ (c : Request). WritesOnce before c unique handle (length own) bytes after) same
+    subst (λ (c : Request). WritesOnce g before c unique handle (length own) bytes after) same
     (IsDone (record { told = told ∙ ap (bytes_of_reply unique) replied; now = is }))
 
 pub writes_are_commands : WritesAreCommands

@@ -1,7 +1,8 @@
 -- What a mounted tracer did, whatever it served, and what reads of its files show of that. Theorems that speak of no program.
-use Rattle.std.specs.Prelude.{◌≡◌, ℕ, ◌==◌, ◌≤◌, Bool, true, false, not, List, [], ◌∷◌, length, Option, Some, None}
+use Rattle.std.specs.Prelude.{◌≡◌, ◌⊎◌, ℕ, ◌==◌, ◌≤◌, Bool, true, false, not, List, [], ◌∷◌, length, Option, Some, None, Err}
 use Rattle.fuse_wire.specs.Replies.{reply_bytes}
 use Rattle.fuse_wire.specs.declared.errno.Errno.{Errno}
+use Rattle.fuse_wire.specs.declared.errno.Errno.TheVariants.{ENOMEM}
 use Rattle.fuse_wire.specs.declared.reply.Reply.TheVariants as replies
 use Rattle.fuse_wire.specs.declared.request.Operation.TheVariants as operations
 use Rattle.fuse_wire.specs.declared.request.Request.{Request as Asked}
@@ -9,16 +10,18 @@ use Rattle.trace_command.specs.Configs.{IsInRange}
 use Rattle.trace_command.specs.Paths as paths
 use Rattle.trace_command.specs.Requests.{Request, ReadFile, WriteFile}
 use Rattle.trace_command.specs.declared.file_name.CpuFile.TheVariants as per_cpu
+use Rattle.trace_command.specs.declared.refusal.Refusal.{Refusal}
 use Rattle.trace_history.specs.FileTexts.{cpu_stats_text}
 use Rattle.trace_history.specs.History.{text_of}
 use Rattle.trace_history.specs.Pasts.{AreDone}
-use Rattle.trace_live.specs.Lives.{most_done}
+use Rattle.trace_live.specs.Lives.{live_answer, most_done}
 use Rattle.mount_tree.specs.Children.{is_there}
 use Rattle.mount_tree.specs.FileKinds.{kind_of_file}
 use Rattle.mount_tree.specs.NodePaths.{file_meant, owner_name}
 use Rattle.mount_tree.specs.declared.file.File.TheVariants as files
 use Rattle.mount_tree.specs.declared.file.FileKind.{FileKind}
 use Rattle.mount_tree.specs.declared.file.FileKind.TheVariants as kinds
+use Rattle.trace_mount.specs.Errnos.{errno_of}
 use Rattle.trace_mount.specs.Mounted.{IsServed, Serves}
 use Rattle.trace_mount.specs.Served.{part_of, without_newline}
 use Rattle.trace_mount.specs.Services.{OpenSeen, Service, Terms, file_at, node_of, scene_of, text_at, with_text, with_write}
@@ -57,9 +60,15 @@ read_whole instance file = ReadFile instance (Some file) None
 abbrev pub write_once : Option (List ℕ) → paths.File → Bool → List ℕ → Request
 write_once instance file append text = WriteFile instance (Some file) append text
 
--- a request was refused, and nothing has changed
-pub record IsRefused (before : Service) (unique : ℕ) (bytes : List ℕ) (after : Service) : Type 0 where
+-- why a command is refused: there was no memory, or it is the command's answer after those that were done by then
+abbrev pub IsReason : Terms → List Request → Request → Errno → Type 0
+IsReason g past command errno =
+    (errno ≡ ENOMEM) ⊎ ((refusal : Refusal) × (live_answer g.config past command ≡ Err refusal) × (errno ≡ errno_of refusal))
+
+-- a request that is this one command was refused, and nothing has changed
+pub record IsRefused (g : Terms) (before : Service) (command : Request) (unique : ℕ) (bytes : List ℕ) (after : Service) : Type 0 where
   pub errno : Errno
+  pub why : IsReason g before.past command errno
   pub told : bytes ≡ reply_bytes unique (replies.Error errno)
   pub now : after ≡ before
 
@@ -70,9 +79,9 @@ pub record GivesText (before : Service) (command : Request) (unique handle size 
   pub kept : text_at handle after.files ≡ Some text
 
 -- or it was refused
-pub data ReadsAnew (before : Service) (command : Request) (unique handle size : ℕ) (text bytes : List ℕ) (after : Service) : Type 0 where
-  Shown : GivesText before command unique handle size text bytes after → ReadsAnew before command unique handle size text bytes after
-  NotShown : IsRefused before unique bytes after → ReadsAnew before command unique handle size text bytes after
+pub data ReadsAnew (g : Terms) (before : Service) (command : Request) (unique handle size : ℕ) (text bytes : List ℕ) (after : Service) : Type 0 where
+  Shown : GivesText before command unique handle size text bytes after → ReadsAnew g before command unique handle size text bytes after
+  NotShown : IsRefused g before command unique bytes after → ReadsAnew g before command unique handle size text bytes after
 
 -- A READ at offset 0, whatever was served before it: the text is what the file shows after the commands that were done by then.
 abbrev pub ReadsShowThePast : Type 0
@@ -81,7 +90,7 @@ ReadsShowThePast =
     → IsInRange g.config → Serves g just_mounted requests messages before → IsServed g before request bytes after
     → request.operation ≡ operations.Read handle 0 size flags → file_at handle before.files ≡ Some file → is_text (kind_of_file file.file) ≡ true
     → is_there (scene_of g before) (node_of file) ≡ true → file_meant (scene_of g before) file.file ≡ Some meant
-    → ReadsAnew before (read_whole (instance_of g before file) meant) request.unique handle size (text_of g.config (instance_of g before file) before.past meant) bytes
+    → ReadsAnew g before (read_whole (instance_of g before file) meant) request.unique handle size (text_of g.config (instance_of g before file) before.past meant) bytes
     after
 
 -- Of `stats` this is the text of the numbers that trace_history counts of the commands that were done by then: what the CPU's ring of that instance
@@ -92,7 +101,7 @@ StatsShowThePast =
     → IsInRange g.config → Serves g just_mounted requests messages before → IsServed g before request bytes after
     → request.operation ≡ operations.Read handle 0 size flags → file_at handle before.files ≡ Some file → file.file ≡ files.OfCpu cpu per_cpu.Stats
     → is_there (scene_of g before) (node_of file) ≡ true
-    → ReadsAnew before (read_whole (instance_of g before file) (paths.OfCpu cpu per_cpu.Stats)) request.unique handle size
+    → ReadsAnew g before (read_whole (instance_of g before file) (paths.OfCpu cpu per_cpu.Stats)) request.unique handle size
     (cpu_stats_text g.config (instance_of g before file) before.past cpu) bytes after
 
 -- a READ at a later offset goes on in the text that the open file keeps, and changes nothing
@@ -118,9 +127,9 @@ pub record IsWrittenOnce (before : Service) (command : Request) (unique handle s
   pub now : after ≡ record before { past = command ∷ before.past; files = with_write handle before.files }
 
 -- or it was refused
-pub data WritesOnce (before : Service) (command : Request) (unique handle size : ℕ) (bytes : List ℕ) (after : Service) : Type 0 where
-  IsDone : IsWrittenOnce before command unique handle size bytes after → WritesOnce before command unique handle size bytes after
-  IsNotDone : IsRefused before unique bytes after → WritesOnce before command unique handle size bytes after
+pub data WritesOnce (g : Terms) (before : Service) (command : Request) (unique handle size : ℕ) (bytes : List ℕ) (after : Service) : Type 0 where
+  IsDone : IsWrittenOnce before command unique handle size bytes after → WritesOnce g before command unique handle size bytes after
+  IsNotDone : IsRefused g before command unique bytes after → WritesOnce g before command unique handle size bytes after
 
 -- A WRITE, whatever was served before it: a command that writes what came, without a last newline, to that file of that instance: by `>` if the file
 -- was opened to be emptied and nothing was written to it yet, else by `>>`.
@@ -130,4 +139,4 @@ WritesAreCommands =
     → IsInRange g.config → Serves g just_mounted requests messages before → IsServed g before request bytes after
     → request.operation ≡ operations.Write handle offset own → file_at handle before.files ≡ Some file → is_file (kind_of_file file.file) ≡ true
     → is_there (scene_of g before) (node_of file) ≡ true → file_meant (scene_of g before) file.file ≡ Some meant
-    → WritesOnce before (write_once (instance_of g before file) meant (not file.starts_over) (without_newline own)) request.unique handle (length own) bytes after
+    → WritesOnce g before (write_once (instance_of g before file) meant (not file.starts_over) (without_newline own)) request.unique handle (length own) bytes after
