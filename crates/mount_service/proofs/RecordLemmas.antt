@@ -1,7 +1,7 @@
 -- Records of a mounted tracer are accounted for.
 use Rattle.std.proofs.Common.{◌≡◌, ℕ, ◌<◌, nat_lt, ◌&&◌, Bool, true, false, List, refl, sym, ap, subst, ◌∙◌, ltb-true}
 use Rattle.std.proofs.lemmas.Bool.{false≢true}
-use Rattle.history_laws.specs.AccountedFor.{EmissionsAreAccountedFor, ShownCountsAccountForEmissions}
+use Rattle.history_laws.specs.AccountedFor.{EmissionsAreAccountedFor, EmissionsAreShownOrCounted, ShownCountsAccountForEmissions}
 use Rattle.trace_command.specs.Paths as paths
 use Rattle.trace_command.specs.declared.file_name.CpuFile.TheVariants as per_cpu
 use Rattle.trace_history.specs.FileTexts.{cpu_stats_text}
@@ -15,10 +15,11 @@ use Rattle.mount_service.specs.RecordLaws.{ServicesAreAccountedFor, StatsTellAll
 use Rattle.trace_mount.specs.Services.{OpenSeen, Service, Terms, node_of, scene_of}
 use Rattle.trace_mount.specs.PastLaws.{PastsAreDone, ReadsAnew, StatsShowThePast, instance_of, read_whole}
 
-pub accounted_for : EmissionsAreAccountedFor → PastsAreDone → ServicesAreAccountedFor
-accounted_for all pasts g old new exchanges left after serving = record {
+pub accounted_for : EmissionsAreAccountedFor → EmissionsAreShownOrCounted → PastsAreDone → ServicesAreAccountedFor
+accounted_for all shown pasts g old new exchanges left after serving = record {
   done = (pasts g _ _ after serving.served).done;
   records = λ instance cpu within unemptied. all g.config after.past instance cpu within unemptied;
+  handed_out = λ instance cpu within unemptied. shown g.config after.past instance cpu within unemptied;
 }
 
 and_second : (a b : Bool) → (a && b) ≡ true → b ≡ true

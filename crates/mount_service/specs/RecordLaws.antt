@@ -3,7 +3,7 @@ use Rattle.std.specs.Prelude.{◌≡◌, ℕ, ◌+◌, ◌<◌, true, false, Lis
 use Rattle.fuse_wire.specs.declared.request.Operation.TheVariants as operations
 use Rattle.fuse_wire.specs.declared.request.Request.{Request as Asked}
 use Rattle.fuse_serve.specs.Exchanges.{Devices, Exchange}
-use Rattle.history_laws.specs.AccountedFor.{counted, recorded_count, was_emptied}
+use Rattle.history_laws.specs.AccountedFor.{counted, not_read, recorded_count, shown_count, was_emptied}
 use Rattle.page_ring.specs.declared.rings.RingStats.{RingStats}
 use Rattle.trace_buffer.specs.Families.{cpu_stats}
 use Rattle.trace_command.specs.Configs.{IsInRange}
@@ -29,12 +29,16 @@ live_stats g instance cpu past = cpu_stats g.config.pages g.config.page_bytes (r
 abbrev pub other_stats : Terms → Option (List ℕ) → ℕ → List Request → RingStats
 other_stats g instance cpu past = cpu_stats g.config.pages g.config.page_bytes (other_rings g.config instance past) cpu
 
--- What a service came to: its commands were done, one after another. The records of a CPU that pipes handed out, that are kept, and that were
--- overwritten or refused are together all that the instance recorded there since it was made, unless a ring of the CPU was emptied.
+-- What a service came to: its commands were done, one after another. The records of a CPU that were consumed, that are kept, and that were
+-- overwritten or refused are together all that the instance recorded there since it was made, unless a ring of the CPU was emptied; and so are those
+-- that its pipes handed out, in place of those consumed.
 pub record IsAccountedFor (g : Terms) (past : List Request) : Type 0 where
   pub done : AreDone g.config past
   pub records : (instance : Option (List ℕ)) (cpu : ℕ) → cpu < g.config.cpus → was_emptied instance cpu past ≡ false
       → counted (live_stats g instance cpu past) + counted (other_stats g instance cpu past) ≡ recorded_count instance cpu past
+  pub handed_out : (instance : Option (List ℕ)) (cpu : ℕ) → cpu < g.config.cpus → was_emptied instance cpu past ≡ false
+      → shown_count g.config instance cpu past + (not_read (live_stats g instance cpu past) + not_read (other_stats g instance cpu past))
+      ≡ recorded_count instance cpu past
 
 abbrev pub ServicesAreAccountedFor : Type 0
 ServicesAreAccountedFor =
