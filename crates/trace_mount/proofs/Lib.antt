@@ -16,4 +16,5 @@ pub mod ShownLemmas
 pub mod TimesLemmas
 pub mod AnsweredOnce
 pub mod WaitLaws
+pub mod RecordsKept
 pub mod ToolLemmas

@@ -44,7 +44,7 @@ telling_does_one g before after (Some (ReplyAt index)) bytes told =
     steps_do_one g (without_read index before) after (step_of_parked g before told.read) (Some told.reply) told.does
 telling_does_one g before after (Some (WakeupAt handle)) bytes told = inl (ap (λ (s : Service). s.past) told.now)
 
-records-kept : (files : List (Option OpenSeen)) (handle : ℕ) (text : List ℕ) (file : OpenSeen) → file_at handle files ≡ Some file
+pub records-kept : (files : List (Option OpenSeen)) (handle : ℕ) (text : List ℕ) (file : OpenSeen) → file_at handle files ≡ Some file
     → text_at handle (with_records text handle files) ≡ Some text
 records-kept [] zero text file there = absurd (let no : None ≡ Some file = there in cc)
 records-kept [] (suc handle) text file there = absurd (let no : None ≡ Some file = there in cc)

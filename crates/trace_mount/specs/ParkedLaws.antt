@@ -1,5 +1,5 @@
 -- Reads that wait, as theorems that speak of no program.
-use Rattle.std.specs.Prelude.{◌≡◌, ◌⊎◌, ℕ, ◌+◌, ◌<◌, ◌==◌, false, true, is_some, List, [], ◌∷◌, ◌++◌, map, Option, Some, None, Ok, if◌then◌else◌}
+use Rattle.std.specs.Prelude.{◌≡◌, ◌⊎◌, ℕ, ◌+◌, ◌<◌, ◌==◌, Bool, false, true, is_some, List, [], ◌∷◌, ◌++◌, map, Option, Some, None, unwrap_or, Ok, Err, if◌then◌else◌}
 use Rattle.std.specs.List.{slice_get}
 use Rattle.fuse_wire.specs.declared.errno.Errno.TheVariants.{EINTR, EBADF}
 use Rattle.fuse_wire.specs.declared.reply.Reply.{Reply}
@@ -9,11 +9,13 @@ use Rattle.fuse_wire.specs.declared.request.Operation.TheVariants as operations
 use Rattle.trace_command.specs.Requests.{Request}
 use Rattle.trace_history.specs.Waiting.{waiting}
 use Rattle.mount_tree.specs.Children.{is_there}
+use Rattle.mount_tree.specs.FileKinds.{kind_of_file}
 use Rattle.mount_tree.specs.NodePaths.{file_meant, owner_name}
+use Rattle.mount_tree.specs.declared.file.FileKind.TheVariants as kinds
 use Rattle.trace_mount.specs.Mounted.{AreServed, Right, Wrong, Unframed, Does, IsExchanged, IsReplied, Serves, TellsOwed}
-use Rattle.trace_mount.specs.Owed.{Owed, ReplyAt, WakeupAt, is_due, owed}
+use Rattle.trace_mount.specs.Owed.{Owed, ReplyAt, WakeupAt, is_due, owed, step_of_parked}
 use Rattle.trace_mount.specs.Pipes.{ends, is_used_up, would_wait}
-use Rattle.trace_mount.specs.Served.{Interrupts, Parks, given_records}
+use Rattle.trace_mount.specs.Served.{Asks, Interrupts, Parks, Plain, Step, Takes, given_records, step_of, text_in}
 use Rattle.trace_mount.specs.Services.{OpenSeen, Service, Terms, file_at, node_of, scene_of, text_at, without_read}
 use Rattle.trace_mount.specs.declared.parked.Parked.{Parked}
 
@@ -83,6 +85,74 @@ ReadsAreAnsweredOnce =
     ≡ times unique (reads_answered g before requests replies after served) + times unique (numbers_of after.parked)
 
 -- ---- no record is lost, or told twice
+
+-- what is kept for the reads of a handle
+abbrev pub kept_for : ℕ → Service → List ℕ
+kept_for handle s = unwrap_or (text_at handle s.files) []
+
+-- what the command of a step took, if it did one
+abbrev pub taken_by : (g : Terms) (before : Service) (step : Step) (reply : Option Reply) (after : Service) → Does g before step reply after → List ℕ
+taken_by g before (Plain outcome) reply after does = []
+taken_by g before (Takes outcome) reply after does = []
+taken_by g before (Asks request outcome) reply after (Ok answer, answered, told, same) = text_in answer
+taken_by g before (Asks request outcome) reply after (Err refusal, answered, told, same) = []
+taken_by g before (Parks read) reply after does = []
+taken_by g before (Interrupts unique) reply after does = []
+
+-- what a reply gives
+abbrev pub given_by : Option Reply → List ℕ
+given_by (Some (replies.Data bytes)) = bytes
+given_by _ = []
+
+abbrev pub is_read_of : ℕ → Operation → Bool
+is_read_of handle (operations.Read other offset size flags) = other == handle
+is_read_of handle _ = false
+
+-- what a request took for a handle: nothing, if it is no READ of it
+abbrev pub taken_asked : (handle : ℕ) (g : Terms) (before : Service) (asked bytes : List ℕ) (after : Service) → AreServed g before asked bytes after → List ℕ
+taken_asked handle g before asked bytes after (Right request is served) =
+    if is_read_of handle request.operation
+    then taken_by g before (step_of g before request.unique request.pid served.node request.operation) served.reply after served.does
+    else []
+taken_asked handle g before asked bytes after (Wrong opcode unique framed none told same) = []
+taken_asked handle g before asked bytes after (Unframed none told same) = []
+
+-- and what its reply gave to it
+abbrev pub given_asked : (handle : ℕ) (g : Terms) (before : Service) (asked bytes : List ℕ) (after : Service) → AreServed g before asked bytes after → List ℕ
+given_asked handle g before asked bytes after (Right request is served) =
+    if is_read_of handle request.operation then given_by served.reply else []
+given_asked handle g before asked bytes after (Wrong opcode unique framed none told same) = []
+given_asked handle g before asked bytes after (Unframed none told same) = []
+
+-- the same of the reply of a parked read
+abbrev pub taken_told : (handle : ℕ) (g : Terms) (before : Service) (what : Option Owed) (bytes : List ℕ) (after : Service) → TellsOwed g before what bytes after → List ℕ
+taken_told handle g before None bytes after told = []
+taken_told handle g before (Some (ReplyAt index)) bytes after told =
+    if told.read.handle == handle then taken_by g (without_read index before) (step_of_parked g before told.read) (Some told.reply) after told.does else []
+taken_told handle g before (Some (WakeupAt other)) bytes after told = []
+
+abbrev pub given_told : (handle : ℕ) (g : Terms) (before : Service) (what : Option Owed) (bytes : List ℕ) (after : Service) → TellsOwed g before what bytes after → List ℕ
+given_told handle g before None bytes after told = []
+given_told handle g before (Some (ReplyAt index)) bytes after told = if told.read.handle == handle then given_by (Some told.reply) else []
+given_told handle g before (Some (WakeupAt other)) bytes after told = []
+
+-- what an exchange took for a handle, and what it gave to it
+abbrev pub taken_for : (handle : ℕ) (g : Terms) (before : Service) (asked bytes : List ℕ) (after : Service) → IsExchanged g before asked bytes after → List ℕ
+taken_for handle g before [] bytes after told = taken_told handle g before (owed g before) bytes after told
+taken_for handle g before (byte ∷ asked) bytes after (quiet, served) = taken_asked handle g before (byte ∷ asked) bytes after served
+
+abbrev pub given_to : (handle : ℕ) (g : Terms) (before : Service) (asked bytes : List ℕ) (after : Service) → IsExchanged g before asked bytes after → List ℕ
+given_to handle g before [] bytes after told = given_told handle g before (owed g before) bytes after told
+given_to handle g before (byte ∷ asked) bytes after (quiet, served) = given_asked handle g before (byte ∷ asked) bytes after served
+
+-- Of a pipe that is open before an exchange and after it: what was kept, and then what was taken, is what was given, and then what is kept. An exchange
+-- that is no read of the pipe's handle takes and gives nothing, so it leaves what is kept as it was. What is kept when the file is closed is lost.
+abbrev pub NoRecordIsLostOrToldTwice : Type 0
+NoRecordIsLostOrToldTwice =
+    (g : Terms) (before : Service) (asked bytes : List ℕ) (after : Service) (exchanged : IsExchanged g before asked bytes after) (handle : ℕ) (old new : OpenSeen)
+    → file_at handle before.files ≡ Some old → kind_of_file old.file ≡ kinds.Pipe → file_at handle after.files ≡ Some new
+    → kept_for handle before ++ taken_for handle g before asked bytes after exchanged
+    ≡ given_to handle g before asked bytes after exchanged ++ kept_for handle after
 
 -- a read that waits, or waits no more, asks nothing of the tracer, and changes no open file
 abbrev pub WaitingAsksNothing : Type 0

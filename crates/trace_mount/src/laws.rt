@@ -1,7 +1,7 @@
 //! What reads of a file give, and what a step does. The functions do nothing: their contracts are theorems.
 
 ghost use Rattle.trace_mount.specs.MountLaws.{FirstTextIsKept, NothingLeftIsAll, ReadsGiveParts, ReadsGoOn, StepsDoOneCommandAtMost};
-ghost use Rattle.trace_mount.specs.ParkedLaws.{ClosedReadsTakeNothing, InterruptedReadsTakeNothing, InterruptingAsksNothing, NoPollWaitsForWhatIsThere, NoReadWaitsForWhatIsThere, NothingIsOwedToRequests, OldestIsAnsweredFirst, ReadsAreAnsweredOnce, TakenTextIsGivenOrKept, TellingDoesOneCommandAtMost, WaitingAsksNothing};
+ghost use Rattle.trace_mount.specs.ParkedLaws.{ClosedReadsTakeNothing, InterruptedReadsTakeNothing, InterruptingAsksNothing, NoPollWaitsForWhatIsThere, NoReadWaitsForWhatIsThere, NoRecordIsLostOrToldTwice, NothingIsOwedToRequests, OldestIsAnsweredFirst, ReadsAreAnsweredOnce, TakenTextIsGivenOrKept, TellingDoesOneCommandAtMost, WaitingAsksNothing};
 ghost use Rattle.trace_mount.specs.PastLaws.{LaterReadsGoOn, PastsAreDone, ReadsShowThePast, StatsShowThePast, WritesAreCommands};
 
 /// Reads of a file that go on one after another give together one part of the text that the first of them made, and so from the beginning on what
@@ -26,7 +26,11 @@ pub fn reads_are_answered_once()
 
 /// No record is lost, and none goes to two readers, whatever reads wait, are interrupted or lose their file: only a read that is answered takes records,
 /// by one command, and what it took is its reply and what its open file keeps.
+///
+/// `records`: of each pipe that stays open what was kept and what an exchange took for it is, in order, what the exchange gave of it and what is kept
+/// then.
 pub fn waiting_loses_nothing()
+    ensures records { NoRecordIsLostOrToldTwice }
     ensures waiting { WaitingAsksNothing }
     ensures interrupting { InterruptingAsksNothing }
     ensures interrupted { InterruptedReadsTakeNothing }
