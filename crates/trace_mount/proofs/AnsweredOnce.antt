@@ -12,7 +12,8 @@ use Rattle.trace_command.specs.declared.command.Command.TheVariants as commands
 use Rattle.trace_command.specs.declared.command.Reply.{Reply as Answer}
 use Rattle.trace_command.specs.declared.refusal.Refusal.{Refusal}
 use Rattle.trace_format.specs.Definitions.{Definition}
-use Rattle.trace_history.specs.Settings.{declared_events}
+use Rattle.trace_history.specs.Settings.{declared_events, now_of}
+use Rattle.error_log.specs.Logs.{log_text}
 use Rattle.mount_tree.specs.Children.{is_there}
 use Rattle.mount_tree.specs.FileKinds.{access_of_file, kind_of_file}
 use Rattle.mount_tree.specs.Scenes.{SceneSeen, most_made}
@@ -36,8 +37,8 @@ use Rattle.trace_mount.specs.Mounted.{AreServed, Does, IsExchanged, Right, Tells
 use Rattle.trace_mount.specs.Owed.{Owed, ReplyAt, WakeupAt, owed, step_of_parked}
 use Rattle.trace_mount.specs.ParkedLaws.{ReadsAreAnsweredOnce, answered_once, asked_once, number_answered, number_asked, number_told, numbers_of, read_number, reads_answered, reads_asked, times}
 use Rattle.trace_mount.specs.Pipes.{ends, is_dry, is_used_up, would_wait}
-use Rattle.trace_mount.specs.Served.{disables, disabling, given_tool, handed_out, read_tool, write_other, write_tool, Asks, Interrupts, Parks, Plain, Step, Takes, emptied, empties_at_end, failed, given_records, given_text, inject, inject_asked, instance_path, is_nonblocking, made_folder, make_folder, make_instance, makes_text, open_flags, opened, part_of, plain, poll_file, poll_kind, poll_pipe, read_anew, read_dry, read_file, read_kind, read_pipe, read_records, read_text, release, remove_folder, step_of, taken_records, taking, write_file, write_kind}
-use Rattle.trace_mount.specs.Services.{OpenSeen, Service, Terms, file_at, free_handle, interrupted_if, just_opened, node_of, read_of_pipe, scene_of, with_file, without_file, without_read}
+use Rattle.trace_mount.specs.Served.{AsksNoting, Clears, clears, disables, disabling, given_tool, handed_out, read_shown, write_other, write_tool, Asks, Interrupts, Parks, Plain, Step, Takes, emptied, empties_at_end, failed, given_records, given_text, inject, inject_asked, instance_path, is_nonblocking, made_folder, make_folder, make_instance, makes_text, opened, part_of, plain, poll_file, poll_kind, poll_pipe, read_anew, read_dry, read_file, read_kind, read_pipe, read_records, read_text, release, remove_folder, step_of, taken_records, write_file, write_kind}
+use Rattle.trace_mount.specs.Services.{OpenSeen, Service, Terms, file_at, interrupted_if, just_opened, node_of, read_of_pipe, scene_of, without_file, without_read}
 use Rattle.trace_mount.specs.Told.{empties, known, may, wants_read, wants_write}
 use Rattle.trace_mount.specs.declared.parked.Parked.{Parked}
 use Rattle.trace_mount.proofs.TimesLemmas.{times-append, times-joined, times-removed}
@@ -50,6 +51,8 @@ IsReadStep unique (Takes outcome) = is_some outcome.reply ≡ true
 IsReadStep unique (Asks request outcome) = (answer : Result Answer Refusal) → is_some (outcome answer).reply ≡ true
 IsReadStep unique (Parks read) = read.unique ≡ unique
 IsReadStep unique (Interrupts number) = ⊥
+IsReadStep unique (AsksNoting request outcome noting) = ⊥
+IsReadStep unique (Clears owner takes outcome) = ⊥
 
 records-reply : (handle size : ℕ) (open_files : List (Option OpenSeen)) (answer : Result Answer Refusal)
     → is_some (taken_records handle size open_files answer).reply ≡ true
@@ -75,14 +78,13 @@ given-step : (unique handle offset size : ℕ) (open_files : List (Option OpenSe
 given-step unique handle offset size open_files None = refl
 given-step unique handle offset size open_files (Some text) = refl
 
-tool-step : (g : Terms) (s : Service) (read : Parked) (offset : ℕ) (file : OpenSeen)
-    → IsReadStep read.unique (read_tool g s read.handle offset read.size file)
-tool-step g s read offset file = by (makes_text offset file)
+shown-step : (read : Parked) (offset : ℕ) (file : OpenSeen) (open_files : List (Option OpenSeen)) (shown : Option (List ℕ))
+    → IsReadStep read.unique (read_shown read.handle offset read.size file open_files shown)
+shown-step read offset file open_files shown = by (makes_text offset file)
   where
-    by : (t : Bool) → IsReadStep read.unique (if t
-        then given_tool read.handle offset read.size s.files (tool_text g.config s.past file.owner file.file)
-        else plain (replies.Data (part_of offset read.size (unwrap_or file.text []))) s.files)
-    by true = given-step read.unique read.handle offset read.size s.files (tool_text g.config s.past file.owner file.file)
+    by : (t : Bool) → IsReadStep read.unique (if t then given_tool read.handle offset read.size open_files shown
+        else plain (replies.Data (part_of offset read.size (unwrap_or file.text []))) open_files)
+    by true = given-step read.unique read.handle offset read.size open_files shown
     by false = refl
 
 dry-step : (read : Parked) (flags : ℕ) (ended : Bool) (open_files : List (Option OpenSeen)) → IsReadStep read.unique (read_dry read flags ended open_files)
@@ -107,8 +109,8 @@ kind-step : (g : Terms) (s : Service) (read : Parked) (offset flags : ℕ) (file
     → IsReadStep read.unique (read_kind g s read offset flags file kind)
 kind-step g s read offset flags file kinds.Pipe = pipe-step g s read flags file
 kind-step g s read offset flags file kinds.Inject = refl
-kind-step g s read offset flags file kinds.Tool = tool-step g s read offset file
-kind-step g s read offset flags file kinds.ErrorLog = refl
+kind-step g s read offset flags file kinds.Tool = shown-step read offset file s.files (tool_text g.config s.past file.owner file.file)
+kind-step g s read offset flags file kinds.ErrorLog = shown-step read offset file s.files (Some (log_text file.owner s.errors))
 kind-step g s read offset flags file kinds.Text = text-step g s read offset file
 kind-step g s read offset flags file kinds.Trace = text-step g s read offset file
 
@@ -127,15 +129,17 @@ opened-other : (scene : SceneSeen) (flags : ℕ) (node : Option Node) (open_file
 opened-other scene flags None open_files = tt
 opened-other scene flags (Some (nodes.Folder owner folder)) open_files = tt
 opened-other scene flags (Some (nodes.File owner file)) open_files =
-    by (may (access_of_file file) (wants_read flags) (wants_write flags)) (disables file flags)
+    by (may (access_of_file file) (wants_read flags) (wants_write flags)) (disables file flags) (clears file flags)
   where
-    by : (t d : Bool) → IsOther (if t
+    by : (t d c : Bool) → IsOther (if t
         then (if d then disabling scene (just_opened owner file (empties flags)) open_files
+        else if c then Clears owner true (handed_out (just_opened owner file (empties flags)) open_files)
         else Takes (handed_out (just_opened owner file (empties flags)) open_files))
         else failed EACCES open_files)
-    by true true = tt
-    by true false = tt
-    by false d = tt
+    by true true c = tt
+    by true false true = tt
+    by true false false = tt
+    by false d c = tt
 
 made-in : (g : Terms) (scene : SceneSeen) (name : List ℕ) (open_files : List (Option OpenSeen)) → IsOther (make_instance g scene name open_files)
 made-in g scene name open_files = by (nat_lt scene.made most_made)
@@ -159,18 +163,18 @@ made-other g scene name open_files (Some (nodes.Folder Top (folders.Cpu cpu))) =
 made-other g scene name open_files (Some (nodes.Folder Top (folders.Event event))) = tt
 made-other g scene name open_files (Some (nodes.Folder Top folders.Instances)) = made-in g scene name open_files
 
-removed-other : (name : List ℕ) (open_files : List (Option OpenSeen)) (node : Option Node) → IsOther (remove_folder name open_files node)
-removed-other name open_files None = tt
-removed-other name open_files (Some (nodes.File owner file)) = tt
-removed-other name open_files (Some (nodes.Folder (Made serial) folder)) = tt
-removed-other name open_files (Some (nodes.Folder Top folders.Root)) = tt
-removed-other name open_files (Some (nodes.Folder Top folders.Options)) = tt
-removed-other name open_files (Some (nodes.Folder Top folders.PerCpu)) = tt
-removed-other name open_files (Some (nodes.Folder Top folders.Events)) = tt
-removed-other name open_files (Some (nodes.Folder Top folders.Synthetic)) = tt
-removed-other name open_files (Some (nodes.Folder Top (folders.Cpu cpu))) = tt
-removed-other name open_files (Some (nodes.Folder Top (folders.Event event))) = tt
-removed-other name open_files (Some (nodes.Folder Top folders.Instances)) = tt
+removed-other : (scene : SceneSeen) (name : List ℕ) (open_files : List (Option OpenSeen)) (node : Option Node) → IsOther (remove_folder scene name open_files node)
+removed-other scene name open_files None = tt
+removed-other scene name open_files (Some (nodes.File owner file)) = tt
+removed-other scene name open_files (Some (nodes.Folder (Made serial) folder)) = tt
+removed-other scene name open_files (Some (nodes.Folder Top folders.Root)) = tt
+removed-other scene name open_files (Some (nodes.Folder Top folders.Options)) = tt
+removed-other scene name open_files (Some (nodes.Folder Top folders.PerCpu)) = tt
+removed-other scene name open_files (Some (nodes.Folder Top folders.Events)) = tt
+removed-other scene name open_files (Some (nodes.Folder Top folders.Synthetic)) = tt
+removed-other scene name open_files (Some (nodes.Folder Top (folders.Cpu cpu))) = tt
+removed-other scene name open_files (Some (nodes.Folder Top (folders.Event event))) = tt
+removed-other scene name open_files (Some (nodes.Folder Top folders.Instances)) = tt
 
 asked-other : (handle size : ℕ) (open_files : List (Option OpenSeen)) (request : Option Request) → IsOther (inject_asked handle size open_files request)
 asked-other handle size open_files None = tt
@@ -194,33 +198,33 @@ switched-other scene handle owner size open_files writes.Wrong = tt
 switched-other scene handle owner size open_files Same = tt
 switched-other scene handle owner size open_files (Switch file on count) = tt
 
-text-other : (g : Config) (scene : SceneSeen) (handle : ℕ) (owner : Owner) (file : File) (append : Bool) (bytes_of : List ℕ)
-    (open_files : List (Option OpenSeen)) (kind : FileKind) → IsOther (write_other g scene handle owner file append bytes_of open_files kind)
-text-other g scene handle owner file append bytes_of open_files kinds.Tool =
+text-other : (g : Config) (scene : SceneSeen) (now handle : ℕ) (owner : Owner) (file : File) (append : Bool) (bytes_of : List ℕ)
+    (open_files : List (Option OpenSeen)) (kind : FileKind) → IsOther (write_other g scene now handle owner file append bytes_of open_files kind)
+text-other g scene now handle owner file append bytes_of open_files kinds.Tool =
     switched-other scene handle owner (length bytes_of) open_files (tool_write g scene owner file bytes_of)
-text-other g scene handle owner file append bytes_of open_files kinds.ErrorLog = tt
-text-other g scene handle owner file append bytes_of open_files kinds.Text = tt
-text-other g scene handle owner file append bytes_of open_files kinds.Trace = tt
-text-other g scene handle owner file append bytes_of open_files kinds.Pipe = tt
-text-other g scene handle owner file append bytes_of open_files kinds.Inject = tt
+text-other g scene now handle owner file append bytes_of open_files kinds.ErrorLog = tt
+text-other g scene now handle owner file append bytes_of open_files kinds.Text = tt
+text-other g scene now handle owner file append bytes_of open_files kinds.Trace = tt
+text-other g scene now handle owner file append bytes_of open_files kinds.Pipe = tt
+text-other g scene now handle owner file append bytes_of open_files kinds.Inject = tt
 
 kind-other : (g : Terms) (s : Service) (handle pid : ℕ) (bytes_of : List ℕ) (own : OpenSeen) (file : File) → IsOther (write_kind g s handle pid bytes_of own file)
-kind-other g s handle pid bytes_of own files.SyntheticEvents = text-other g.config (scene_of g s) handle own.owner own.file (not own.starts_over) bytes_of s.files (kind_of_file own.file)
-kind-other g s handle pid bytes_of own (files.OfInstance file) = text-other g.config (scene_of g s) handle own.owner own.file (not own.starts_over) bytes_of s.files (kind_of_file own.file)
-kind-other g s handle pid bytes_of own files.SystemEnable = text-other g.config (scene_of g s) handle own.owner own.file (not own.starts_over) bytes_of s.files (kind_of_file own.file)
-kind-other g s handle pid bytes_of own (files.OfCpu cpu file) = text-other g.config (scene_of g s) handle own.owner own.file (not own.starts_over) bytes_of s.files (kind_of_file own.file)
+kind-other g s handle pid bytes_of own files.SyntheticEvents = text-other g.config (scene_of g s) (now_of s.past) handle own.owner own.file (not own.starts_over) bytes_of s.files (kind_of_file own.file)
+kind-other g s handle pid bytes_of own (files.OfInstance file) = text-other g.config (scene_of g s) (now_of s.past) handle own.owner own.file (not own.starts_over) bytes_of s.files (kind_of_file own.file)
+kind-other g s handle pid bytes_of own files.SystemEnable = text-other g.config (scene_of g s) (now_of s.past) handle own.owner own.file (not own.starts_over) bytes_of s.files (kind_of_file own.file)
+kind-other g s handle pid bytes_of own (files.OfCpu cpu file) = text-other g.config (scene_of g s) (now_of s.past) handle own.owner own.file (not own.starts_over) bytes_of s.files (kind_of_file own.file)
 kind-other g s handle pid bytes_of own (files.OfEvent event file) =
-    text-other g.config (scene_of g s) handle own.owner own.file (not own.starts_over) bytes_of s.files (kind_of_file own.file)
+    text-other g.config (scene_of g s) (now_of s.past) handle own.owner own.file (not own.starts_over) bytes_of s.files (kind_of_file own.file)
 kind-other g s handle pid bytes_of own (files.Tool file) =
-    text-other g.config (scene_of g s) handle own.owner own.file (not own.starts_over) bytes_of s.files (kind_of_file own.file)
+    text-other g.config (scene_of g s) (now_of s.past) handle own.owner own.file (not own.starts_over) bytes_of s.files (kind_of_file own.file)
 kind-other g s handle pid bytes_of own (files.OfTop file) =
-    text-other g.config (scene_of g s) handle own.owner own.file (not own.starts_over) bytes_of s.files (kind_of_file own.file)
+    text-other g.config (scene_of g s) (now_of s.past) handle own.owner own.file (not own.starts_over) bytes_of s.files (kind_of_file own.file)
 kind-other g s handle pid bytes_of own (files.CpuSize cpu) =
-    text-other g.config (scene_of g s) handle own.owner own.file (not own.starts_over) bytes_of s.files (kind_of_file own.file)
+    text-other g.config (scene_of g s) (now_of s.past) handle own.owner own.file (not own.starts_over) bytes_of s.files (kind_of_file own.file)
 kind-other g s handle pid bytes_of own (files.EventId event) =
-    text-other g.config (scene_of g s) handle own.owner own.file (not own.starts_over) bytes_of s.files (kind_of_file own.file)
+    text-other g.config (scene_of g s) (now_of s.past) handle own.owner own.file (not own.starts_over) bytes_of s.files (kind_of_file own.file)
 kind-other g s handle pid bytes_of own files.ErrorLog =
-    text-other g.config (scene_of g s) handle own.owner own.file (not own.starts_over) bytes_of s.files (kind_of_file own.file)
+    text-other g.config (scene_of g s) (now_of s.past) handle own.owner own.file (not own.starts_over) bytes_of s.files (kind_of_file own.file)
 kind-other g s handle pid bytes_of own (files.Inject event) = by (is_there (scene_of g s) (nodes.File own.owner (files.Inject event)))
   where
     by : (t : Bool) → IsOther (if t then inject g.config.cpus handle pid bytes_of s.files (slice_get (declared_events s.past) event) else failed ENOENT s.files)
@@ -295,6 +299,8 @@ read-times g before (Parks read) unique u reply after is (inl does) =
     rw (does.0, ap (λ (s : Service). s.parked) does.1) (omega (arith, joined, named))
 read-times g before (Parks read) unique u reply after is (inr does) = rw (does.0, ap (λ (s : Service). s.parked) does.1) (omega arith)
 read-times g before (Interrupts number) unique u reply after is does = absurd is
+read-times g before (AsksNoting request outcome noting) unique u reply after is does = absurd is
+read-times g before (Clears owner takes outcome) unique u reply after is does = absurd is
 
 abbrev nothing : List ℕ
 nothing = []
@@ -317,6 +323,12 @@ other-times g before (Asks request outcome) u reply after is (answer, answered, 
 other-times g before (Parks read) u reply after is does = absurd is
 other-times g before (Interrupts number) u reply after is does =
     rw (nothing-if (is_some reply), ap (λ (s : Service). s.parked) does.1, interrupted-number number before.parked) (omega arith)
+other-times g before (AsksNoting request outcome noting) u reply after is (answer, answered, told, same) =
+    rw (nothing-if (is_some reply), ap (λ (s : Service). s.parked) same) (omega arith)
+other-times g before (Clears owner takes outcome) u reply after is (inl does) =
+    rw (nothing-if (is_some reply), ap (λ (s : Service). s.parked) does.1) (omega arith)
+other-times g before (Clears owner takes outcome) u reply after is (inr (may, told, same)) =
+    rw (nothing-if (is_some reply), ap (λ (s : Service). s.parked) same) (omega arith)
 
 request-times : (g : Terms) (before : Service) (unique pid u : ℕ) (target : Option Node) (operation : Operation) (reply : Option Reply) (after : Service)
     → Does g before (step_of g before unique pid target operation) reply after
@@ -336,7 +348,7 @@ request-times g s unique pid u target (operations.SetAttr valid size) reply afte
 request-times g s unique pid u target (operations.MkDir name) reply after does =
     other-times g s (step_of g s unique pid target (operations.MkDir name)) u reply after (made-other g (scene_of g s) name s.files (known (scene_of g s) target)) does
 request-times g s unique pid u target (operations.RmDir name) reply after does =
-    other-times g s (step_of g s unique pid target (operations.RmDir name)) u reply after (removed-other name s.files (known (scene_of g s) target)) does
+    other-times g s (step_of g s unique pid target (operations.RmDir name)) u reply after (removed-other (scene_of g s) name s.files (known (scene_of g s) target)) does
 request-times g s unique pid u target (operations.Open flags) reply after does =
     other-times g s (step_of g s unique pid target (operations.Open flags)) u reply after (opened-other (scene_of g s) flags (known (scene_of g s) target) s.files) does
 request-times g s unique pid u target (operations.Write handle offset bytes_of) reply after does =
@@ -386,6 +398,9 @@ reply-parks-none g before (Asks request outcome) reply after (answer, answered, 
 reply-parks-none g before (Parks read) reply after (inl does) = absurd (let no : Some reply ≡ None = does.0 in cc)
 reply-parks-none g before (Parks read) reply after (inr does) = ap (λ (s : Service). s.parked) does.1
 reply-parks-none g before (Interrupts number) reply after does = absurd (let no : Some reply ≡ None = does.0 in cc)
+reply-parks-none g before (AsksNoting request outcome noting) reply after (answer, answered, told, same) = ap (λ (s : Service). s.parked) same
+reply-parks-none g before (Clears owner takes outcome) reply after (inl does) = ap (λ (s : Service). s.parked) does.1
+reply-parks-none g before (Clears owner takes outcome) reply after (inr (may, told, same)) = ap (λ (s : Service). s.parked) same
 
 told-times : (g : Terms) (before : Service) (what : Option Owed) (bytes : List ℕ) (after : Service) (u : ℕ) (told : TellsOwed g before what bytes after)
     → times u (numbers_of before.parked) + times u [] ≡ times u (number_told g before what bytes after told) + times u (numbers_of after.parked)

@@ -15,7 +15,7 @@ use Rattle.trace_live.specs.Lives.{limited_answer, live_answer, most_done}
 use Rattle.trace_mount.proofs.NewEvents.{declared-new}
 use Rattle.trace_mount.specs.Mounted.{AreServed, Right, Wrong, Unframed, Does, IsAnswered, IsExchanged, Serves, TellsOwed, past_after}
 use Rattle.trace_mount.specs.Owed.{Owed, ReplyAt, WakeupAt, owed}
-use Rattle.trace_mount.specs.Served.{Step, Plain, Takes, Asks, Parks, Interrupts}
+use Rattle.trace_mount.specs.Served.{Step, Plain, Takes, Asks, AsksNoting, Clears, Parks, Interrupts}
 use Rattle.trace_mount.specs.Services.{Service, Terms}
 use Rattle.trace_mount.specs.PastLaws.{PastsAreDone, WasDone}
 
@@ -55,6 +55,10 @@ does-done g before (Asks request outcome) reply after was (answer, answered, tol
 does-done g before (Parks read) reply after was (inl does) = subst (WasDone g) (sym (ap (λ (s : Service). s.past) does.1)) was
 does-done g before (Parks read) reply after was (inr does) = subst (WasDone g) (sym (ap (λ (s : Service). s.past) does.1)) was
 does-done g before (Interrupts unique) reply after was does = subst (WasDone g) (sym (ap (λ (s : Service). s.past) does.1)) was
+does-done g before (AsksNoting request outcome noting) reply after was (answer, answered, told, is) =
+    subst (WasDone g) (sym (ap (λ (s : Service). s.past) is)) (one-more g before.past request answer was answered)
+does-done g before (Clears owner takes outcome) reply after was (inl does) = subst (WasDone g) (sym (ap (λ (s : Service). s.past) does.1)) was
+does-done g before (Clears owner takes outcome) reply after was (inr (may, told, same)) = subst (WasDone g) (sym (ap (λ (s : Service). s.past) same)) was
 
 owed-done : (g : Terms) (before : Service) (what : Option Owed) (bytes : List ℕ) (after : Service) → WasDone g before.past → TellsOwed g before what bytes after
     → WasDone g after.past

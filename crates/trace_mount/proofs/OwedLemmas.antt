@@ -13,11 +13,12 @@ use Rattle.mount_tree.specs.FileKinds.{kind_of_file}
 use Rattle.trace_command.specs.Requests.{Request}
 use Rattle.trace_command.specs.declared.command.Reply.{Reply as Answer}
 use Rattle.trace_command.specs.declared.refusal.Refusal.{Refusal}
+use Rattle.error_log.specs.Logs.{log_text}
 use Rattle.tool_files.specs.ToolTexts.{tool_text}
 use Rattle.trace_mount.specs.Mounted.{bytes_of_reply, Does, HasLedTo, IsMounted, IsOwedCalled, IsReplying, IsTold, IsWaking, MountSeen, service_of, terms_of}
 use Rattle.trace_mount.specs.Owed.{first_owed, is_due, is_ready, owed, step_of_parked}
 use Rattle.trace_mount.specs.Pipes.{ends, is_dry, is_used_up, waits_at, would_wait}
-use Rattle.trace_mount.specs.Served.{Asks, Outcome, Plain, failed, given_records, given_text, given_tool, makes_text, part_of, plain, read_anew, read_dry, read_file, read_kind, read_pipe, read_records, read_text, read_tool, taken_records}
+use Rattle.trace_mount.specs.Served.{Asks, Outcome, Plain, failed, given_records, given_text, given_tool, makes_text, part_of, plain, read_anew, read_dry, read_file, read_kind, read_pipe, read_records, read_shown, read_text, taken_records}
 use Rattle.trace_mount.specs.Services.{OpenSeen, Service, Terms, file_at, node_of, scene_of, wakeup_at, with_wakeup, without_read}
 use Rattle.trace_mount.specs.declared.parked.Parked.{Parked}
 
@@ -72,23 +73,24 @@ given-replies g before after handle offset size files None reply (inr does) = (_
 given-replies g before after handle offset size files (Some text) reply (inl does) = (_, does.0)
 given-replies g before after handle offset size files (Some text) reply (inr does) = (_, does.0)
 
-tool-replies : (g : Terms) (s before after : Service) (read : Parked) (offset : ℕ) (file : OpenSeen) (reply : Option Reply)
-    → Does g before (read_tool g s read.handle offset read.size file) reply after → HasReply reply
-tool-replies g s before after read offset file reply = by (makes_text offset file)
+shown-replies : (g : Terms) (before after : Service) (read : Parked) (offset : ℕ) (file : OpenSeen) (files : List (Option OpenSeen))
+    (shown : Option (List ℕ)) (reply : Option Reply)
+    → Does g before (read_shown read.handle offset read.size file files shown) reply after → HasReply reply
+shown-replies g before after read offset file files shown reply = by (makes_text offset file)
   where
-    by : (t : Bool) → Does g before (if t
-        then given_tool read.handle offset read.size s.files (tool_text g.config s.past file.owner file.file)
-        else plain (replies.Data (part_of offset read.size (unwrap_or file.text []))) s.files) reply after → HasReply reply
-    by true does =
-        given-replies g before after read.handle offset read.size s.files (tool_text g.config s.past file.owner file.file) reply does
+    by : (t : Bool) → Does g before (if t then given_tool read.handle offset read.size files shown
+        else plain (replies.Data (part_of offset read.size (unwrap_or file.text []))) files) reply after → HasReply reply
+    by true does = given-replies g before after read.handle offset read.size files shown reply does
     by false does = (_, does.0)
 
 kind-replies : (g : Terms) (s before after : Service) (read : Parked) (offset flags : ℕ) (file : OpenSeen) (kind : FileKind) (reply : Option Reply)
     → would_wait g s file ≡ false → Does g before (read_kind g s read offset flags file kind) reply after → HasReply reply
 kind-replies g s before after read offset flags file kinds.Pipe reply waits does = pipe-replies g s before after read flags file reply waits does
 kind-replies g s before after read offset flags file kinds.Inject reply waits does = (_, does.0)
-kind-replies g s before after read offset flags file kinds.Tool reply waits does = tool-replies g s before after read offset file reply does
-kind-replies g s before after read offset flags file kinds.ErrorLog reply waits does = (_, does.0)
+kind-replies g s before after read offset flags file kinds.Tool reply waits does =
+    shown-replies g before after read offset file s.files (tool_text g.config s.past file.owner file.file) reply does
+kind-replies g s before after read offset flags file kinds.ErrorLog reply waits does =
+    shown-replies g before after read offset file s.files (Some (log_text file.owner s.errors)) reply does
 kind-replies g s before after read offset flags file kinds.Text reply waits does = text-replies g s before after read offset file reply does
 kind-replies g s before after read offset flags file kinds.Trace reply waits does = text-replies g s before after read offset file reply does
 
@@ -123,7 +125,7 @@ interrupted-replying past old index read now bytes mounted within is left interr
     read = read;
     is = at-index old.parked index read within is;
     reply = replies.Error EINTR;
-    does = rw interrupted (refl, ap (λ (p : List Parked). record { past = past; files = old.files; parked = p }) left);
+    does = rw interrupted (refl, ap (λ (p : List Parked). record { past = past; files = old.files; parked = p; errors = old.errors }) left);
     told = said;
   };
 }
@@ -182,7 +184,7 @@ woken past old handle wakeup now bytes mounted is said are = record {
     wakeup = wakeup;
     is = sym is;
     told = said;
-    now = ap (λ (f : List (Option OpenSeen)). record { past = past; files = f; parked = old.parked }) are;
+    now = ap (λ (f : List (Option OpenSeen)). record { past = past; files = f; parked = old.parked; errors = old.errors }) are;
   };
 }
 

@@ -4,7 +4,7 @@ use Rattle.std.proofs.Math.Seq.{take-add}
 use Rattle.std.proofs.lemmas.List.{take-append-drop}
 use Rattle.std.proofs.Common.{inl, inr, Option, Some, None, Ok, Err}
 use Rattle.trace_mount.specs.MountLaws.{FirstTextIsKept, NothingLeftIsAll, ReadsGiveParts, ReadsGoOn, StepsDoOneCommandAtMost, given_together}
-use Rattle.trace_mount.specs.Served.{Asks, Interrupts, Parks, Plain, Takes, part_of, text_in}
+use Rattle.trace_mount.specs.Served.{Asks, AsksNoting, Clears, Interrupts, Parks, Plain, Takes, part_of, text_in}
 use Rattle.trace_mount.specs.Services.{OpenSeen, Service, file_at, text_at, with_text}
 use Rattle.trace_mount.specs.Told.{most_data}
 
@@ -77,3 +77,7 @@ steps_do_one g before after (Asks request outcome) reply (Err refusal, answered,
 steps_do_one g before after (Parks read) reply (inl does) = inl (ap (λ (s : Service). s.past) does.1)
 steps_do_one g before after (Parks read) reply (inr does) = inl (ap (λ (s : Service). s.past) does.1)
 steps_do_one g before after (Interrupts unique) reply does = inl (ap (λ (s : Service). s.past) does.1)
+steps_do_one g before after (AsksNoting request outcome noting) reply (Ok answer, answered, told, is) = inr (request, ap (λ (s : Service). s.past) is)
+steps_do_one g before after (AsksNoting request outcome noting) reply (Err refusal, answered, told, is) = inl (ap (λ (s : Service). s.past) is)
+steps_do_one g before after (Clears owner takes outcome) reply (inl does) = inl (ap (λ (s : Service). s.past) does.1)
+steps_do_one g before after (Clears owner takes outcome) reply (inr (may, told, same)) = inl (ap (λ (s : Service). s.past) same)

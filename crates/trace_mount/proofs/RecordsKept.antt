@@ -15,7 +15,8 @@ use Rattle.trace_command.specs.declared.command.Command.TheVariants as commands
 use Rattle.trace_command.specs.declared.command.Reply.{Reply as Answer}
 use Rattle.trace_command.specs.declared.refusal.Refusal.{Refusal}
 use Rattle.trace_format.specs.Definitions.{Definition}
-use Rattle.trace_history.specs.Settings.{declared_events}
+use Rattle.trace_history.specs.Settings.{declared_events, now_of}
+use Rattle.error_log.specs.Logs.{log_text}
 use Rattle.mount_tree.specs.Children.{is_there}
 use Rattle.mount_tree.specs.FileKinds.{access_of_file, kind_of_file}
 use Rattle.mount_tree.specs.Scenes.{SceneSeen, most_made}
@@ -39,7 +40,7 @@ use Rattle.trace_mount.specs.Mounted.{AreServed, Does, Right, TellsOwed, Unframe
 use Rattle.trace_mount.specs.Owed.{Owed, ReplyAt, WakeupAt, owed, step_of_parked}
 use Rattle.trace_mount.specs.ParkedLaws.{NoRecordIsLostOrToldTwice, given_asked, given_by, given_told, is_read_of, taken_asked, taken_by, taken_told}
 use Rattle.trace_mount.specs.Pipes.{ends, is_dry, is_used_up, would_wait}
-use Rattle.trace_mount.specs.Served.{closed, disabled_first, written, removed_folder, disables, disabling, given_tool, handed_out, read_tool, write_other, write_tool, Asks, Interrupts, Parks, Plain, Step, Takes, emptied, empties_at_end, failed, given_records, given_text, inject, inject_asked, instance_path, is_nonblocking, made_folder, make_folder, make_instance, makes_text, opened, part_of, plain, poll_file, poll_kind, poll_pipe, ready_pipe, read_anew, read_dry, read_file, read_kind, read_pipe, read_records, read_text, release, remove_folder, step_of, taken_records, text_in, wants_wakeup, write_file, write_kind}
+use Rattle.trace_mount.specs.Served.{closed, disabled_first, written, removed_folder, disables, disabling, given_tool, handed_out, read_shown, write_other, write_tool, Asks, AsksNoting, Clears, clears, Interrupts, Parks, Plain, Step, Takes, emptied, empties_at_end, failed, given_records, given_text, inject, inject_asked, instance_path, is_nonblocking, made_folder, make_folder, make_instance, makes_text, opened, part_of, plain, poll_file, poll_kind, poll_pipe, ready_pipe, read_anew, read_dry, read_file, read_kind, read_pipe, read_records, read_text, release, remove_folder, step_of, taken_records, text_in, wants_wakeup, write_file, write_kind}
 use Rattle.trace_mount.specs.Services.{OpenSeen, Service, Terms, file_at, free_handle, just_opened, node_of, read_of_pipe, scene_of, text_at, with_change, with_file, with_records, with_text, with_wakeup, with_write, without_file, without_read}
 use Rattle.trace_mount.specs.Told.{empties, known, may, most_data, wants_read, wants_write}
 use Rattle.trace_mount.specs.declared.parked.Parked.{Parked}
@@ -145,6 +146,8 @@ KeepsText handle files (Takes outcome) = IsKept handle files outcome.files
 KeepsText handle files (Asks request outcome) = (answer : Result Answer Refusal) → IsKept handle files (outcome answer).files
 KeepsText handle files (Parks read) = Unit {0}
 KeepsText handle files (Interrupts number) = Unit {0}
+KeepsText handle files (AsksNoting request outcome noting) = (answer : Result Answer Refusal) → IsKept handle files (outcome answer).files
+KeepsText handle files (Clears owner takes outcome) = IsKept handle files outcome.files
 
 files-kept : (handle : ℕ) (before after : Service) (files : List (Option OpenSeen)) → after.files ≡ files → IsKept handle before.files files
     → IsKept handle before.files after.files
@@ -164,6 +167,12 @@ does-keeps g before (Parks read) reply after handle kept (inr does) =
     files-kept handle before after before.files (ap (λ (s : Service). s.files) does.1) (same-kept handle before.files)
 does-keeps g before (Interrupts number) reply after handle kept does =
     files-kept handle before after before.files (ap (λ (s : Service). s.files) does.1) (same-kept handle before.files)
+does-keeps g before (AsksNoting request outcome noting) reply after handle kept (answer, answered, told, same) =
+    files-kept handle before after (outcome answer).files (ap (λ (s : Service). s.files) same) (kept answer)
+does-keeps g before (Clears owner takes outcome) reply after handle kept (inl does) =
+    files-kept handle before after outcome.files (ap (λ (s : Service). s.files) does.1) kept
+does-keeps g before (Clears owner takes outcome) reply after handle kept (inr (may, told, same)) =
+    files-kept handle before after before.files (ap (λ (s : Service). s.files) same) (same-kept handle before.files)
 
 opened-in : (handle : ℕ) (file : OpenSeen) (files : List (Option OpenSeen)) → IsKept handle files (with_file (free_handle files) file files)
 opened-in handle file files old new was is = by (nat_lt (free_handle files) (length files)) refl
@@ -183,15 +192,17 @@ opened-keeps : (handle : ℕ) (scene : SceneSeen) (flags : ℕ) (node : Option N
 opened-keeps handle scene flags None open_files = same-kept handle open_files
 opened-keeps handle scene flags (Some (nodes.Folder owner folder)) open_files = same-kept handle open_files
 opened-keeps handle scene flags (Some (nodes.File owner file)) open_files =
-    by (may (access_of_file file) (wants_read flags) (wants_write flags)) (disables file flags)
+    by (may (access_of_file file) (wants_read flags) (wants_write flags)) (disables file flags) (clears file flags)
   where
-    by : (t d : Bool) → KeepsText handle open_files (if t
+    by : (t d c : Bool) → KeepsText handle open_files (if t
         then (if d then disabling scene (just_opened owner file (empties flags)) open_files
+        else if c then Clears owner true (handed_out (just_opened owner file (empties flags)) open_files)
         else Takes (handed_out (just_opened owner file (empties flags)) open_files))
         else failed EACCES open_files)
-    by true true = first-opened handle (just_opened owner file (empties flags)) open_files
-    by true false = opened-in handle (just_opened owner file (empties flags)) open_files
-    by false d = same-kept handle open_files
+    by true true c = first-opened handle (just_opened owner file (empties flags)) open_files
+    by true false true = opened-in handle (just_opened owner file (empties flags)) open_files
+    by true false false = opened-in handle (just_opened owner file (empties flags)) open_files
+    by false d c = same-kept handle open_files
 
 folder-kept : (handle : ℕ) (g : Terms) (serial : ℕ) (files : List (Option OpenSeen)) (answer : Result Answer Refusal)
     → IsKept handle files (made_folder g serial files answer).files
@@ -225,19 +236,19 @@ gone-kept : (handle : ℕ) (files : List (Option OpenSeen)) (answer : Result Ans
 gone-kept handle files (Ok answer) = same-kept handle files
 gone-kept handle files (Err refusal) = same-kept handle files
 
-removed-keeps : (handle : ℕ) (name : List ℕ) (open_files : List (Option OpenSeen)) (node : Option Node)
-    → KeepsText handle open_files (remove_folder name open_files node)
-removed-keeps handle name open_files None = same-kept handle open_files
-removed-keeps handle name open_files (Some (nodes.File owner file)) = same-kept handle open_files
-removed-keeps handle name open_files (Some (nodes.Folder (Made serial) folder)) = same-kept handle open_files
-removed-keeps handle name open_files (Some (nodes.Folder Top folders.Root)) = same-kept handle open_files
-removed-keeps handle name open_files (Some (nodes.Folder Top folders.Options)) = same-kept handle open_files
-removed-keeps handle name open_files (Some (nodes.Folder Top folders.PerCpu)) = same-kept handle open_files
-removed-keeps handle name open_files (Some (nodes.Folder Top folders.Events)) = same-kept handle open_files
-removed-keeps handle name open_files (Some (nodes.Folder Top folders.Synthetic)) = same-kept handle open_files
-removed-keeps handle name open_files (Some (nodes.Folder Top (folders.Cpu cpu))) = same-kept handle open_files
-removed-keeps handle name open_files (Some (nodes.Folder Top (folders.Event event))) = same-kept handle open_files
-removed-keeps handle name open_files (Some (nodes.Folder Top folders.Instances)) = gone-kept handle open_files
+removed-keeps : (handle : ℕ) (scene : SceneSeen) (name : List ℕ) (open_files : List (Option OpenSeen)) (node : Option Node)
+    → KeepsText handle open_files (remove_folder scene name open_files node)
+removed-keeps handle scene name open_files None = same-kept handle open_files
+removed-keeps handle scene name open_files (Some (nodes.File owner file)) = same-kept handle open_files
+removed-keeps handle scene name open_files (Some (nodes.Folder (Made serial) folder)) = same-kept handle open_files
+removed-keeps handle scene name open_files (Some (nodes.Folder Top folders.Root)) = same-kept handle open_files
+removed-keeps handle scene name open_files (Some (nodes.Folder Top folders.Options)) = same-kept handle open_files
+removed-keeps handle scene name open_files (Some (nodes.Folder Top folders.PerCpu)) = same-kept handle open_files
+removed-keeps handle scene name open_files (Some (nodes.Folder Top folders.Events)) = same-kept handle open_files
+removed-keeps handle scene name open_files (Some (nodes.Folder Top folders.Synthetic)) = same-kept handle open_files
+removed-keeps handle scene name open_files (Some (nodes.Folder Top (folders.Cpu cpu))) = same-kept handle open_files
+removed-keeps handle scene name open_files (Some (nodes.Folder Top (folders.Event event))) = same-kept handle open_files
+removed-keeps handle scene name open_files (Some (nodes.Folder Top folders.Instances)) = gone-kept handle open_files
 
 write-kept : (handle other : ℕ) (files : List (Option OpenSeen)) → IsKept handle files (with_write other files)
 write-kept handle other files old new was is = changed-text (λ (file : OpenSeen). record file { starts_over = false }) (λ file. refl) files handle other
@@ -270,38 +281,38 @@ switched-keeps handle scene other owner size open_files writes.Wrong = same-kept
 switched-keeps handle scene other owner size open_files Same = write-kept handle other open_files
 switched-keeps handle scene other owner size open_files (Switch file on count) = written-kept handle other count open_files
 
-other-keeps : (handle : ℕ) (g : Config) (scene : SceneSeen) (other : ℕ) (owner : Owner) (file : File) (append : Bool) (bytes_of : List ℕ)
-    (open_files : List (Option OpenSeen)) (kind : FileKind) → KeepsText handle open_files (write_other g scene other owner file append bytes_of open_files kind)
-other-keeps handle g scene other owner file append bytes_of open_files kinds.Tool =
+other-keeps : (handle : ℕ) (g : Config) (scene : SceneSeen) (now other : ℕ) (owner : Owner) (file : File) (append : Bool) (bytes_of : List ℕ)
+    (open_files : List (Option OpenSeen)) (kind : FileKind) → KeepsText handle open_files (write_other g scene now other owner file append bytes_of open_files kind)
+other-keeps handle g scene now other owner file append bytes_of open_files kinds.Tool =
     switched-keeps handle scene other owner (length bytes_of) open_files (tool_write g scene owner file bytes_of)
-other-keeps handle g scene other owner file append bytes_of open_files kinds.ErrorLog = write-kept handle other open_files
-other-keeps handle g scene other owner file append bytes_of open_files kinds.Text = written-kept handle other (length bytes_of) open_files
-other-keeps handle g scene other owner file append bytes_of open_files kinds.Trace = written-kept handle other (length bytes_of) open_files
-other-keeps handle g scene other owner file append bytes_of open_files kinds.Pipe = written-kept handle other (length bytes_of) open_files
-other-keeps handle g scene other owner file append bytes_of open_files kinds.Inject = written-kept handle other (length bytes_of) open_files
+other-keeps handle g scene now other owner file append bytes_of open_files kinds.ErrorLog = write-kept handle other open_files
+other-keeps handle g scene now other owner file append bytes_of open_files kinds.Text = written-kept handle other (length bytes_of) open_files
+other-keeps handle g scene now other owner file append bytes_of open_files kinds.Trace = written-kept handle other (length bytes_of) open_files
+other-keeps handle g scene now other owner file append bytes_of open_files kinds.Pipe = written-kept handle other (length bytes_of) open_files
+other-keeps handle g scene now other owner file append bytes_of open_files kinds.Inject = written-kept handle other (length bytes_of) open_files
 
 kind-keeps : (handle : ℕ) (g : Terms) (s : Service) (other pid : ℕ) (bytes_of : List ℕ) (own : OpenSeen) (file : File)
     → KeepsText handle s.files (write_kind g s other pid bytes_of own file)
 kind-keeps handle g s other pid bytes_of own files.SyntheticEvents =
-    other-keeps handle g.config (scene_of g s) other own.owner own.file (not own.starts_over) bytes_of s.files (kind_of_file own.file)
+    other-keeps handle g.config (scene_of g s) (now_of s.past) other own.owner own.file (not own.starts_over) bytes_of s.files (kind_of_file own.file)
 kind-keeps handle g s other pid bytes_of own (files.OfInstance file) =
-    other-keeps handle g.config (scene_of g s) other own.owner own.file (not own.starts_over) bytes_of s.files (kind_of_file own.file)
+    other-keeps handle g.config (scene_of g s) (now_of s.past) other own.owner own.file (not own.starts_over) bytes_of s.files (kind_of_file own.file)
 kind-keeps handle g s other pid bytes_of own files.SystemEnable =
-    other-keeps handle g.config (scene_of g s) other own.owner own.file (not own.starts_over) bytes_of s.files (kind_of_file own.file)
+    other-keeps handle g.config (scene_of g s) (now_of s.past) other own.owner own.file (not own.starts_over) bytes_of s.files (kind_of_file own.file)
 kind-keeps handle g s other pid bytes_of own (files.OfCpu cpu file) =
-    other-keeps handle g.config (scene_of g s) other own.owner own.file (not own.starts_over) bytes_of s.files (kind_of_file own.file)
+    other-keeps handle g.config (scene_of g s) (now_of s.past) other own.owner own.file (not own.starts_over) bytes_of s.files (kind_of_file own.file)
 kind-keeps handle g s other pid bytes_of own (files.OfEvent event file) =
-    other-keeps handle g.config (scene_of g s) other own.owner own.file (not own.starts_over) bytes_of s.files (kind_of_file own.file)
+    other-keeps handle g.config (scene_of g s) (now_of s.past) other own.owner own.file (not own.starts_over) bytes_of s.files (kind_of_file own.file)
 kind-keeps handle g s other pid bytes_of own (files.Tool file) =
-    other-keeps handle g.config (scene_of g s) other own.owner own.file (not own.starts_over) bytes_of s.files (kind_of_file own.file)
+    other-keeps handle g.config (scene_of g s) (now_of s.past) other own.owner own.file (not own.starts_over) bytes_of s.files (kind_of_file own.file)
 kind-keeps handle g s other pid bytes_of own (files.OfTop file) =
-    other-keeps handle g.config (scene_of g s) other own.owner own.file (not own.starts_over) bytes_of s.files (kind_of_file own.file)
+    other-keeps handle g.config (scene_of g s) (now_of s.past) other own.owner own.file (not own.starts_over) bytes_of s.files (kind_of_file own.file)
 kind-keeps handle g s other pid bytes_of own (files.CpuSize cpu) =
-    other-keeps handle g.config (scene_of g s) other own.owner own.file (not own.starts_over) bytes_of s.files (kind_of_file own.file)
+    other-keeps handle g.config (scene_of g s) (now_of s.past) other own.owner own.file (not own.starts_over) bytes_of s.files (kind_of_file own.file)
 kind-keeps handle g s other pid bytes_of own (files.EventId event) =
-    other-keeps handle g.config (scene_of g s) other own.owner own.file (not own.starts_over) bytes_of s.files (kind_of_file own.file)
+    other-keeps handle g.config (scene_of g s) (now_of s.past) other own.owner own.file (not own.starts_over) bytes_of s.files (kind_of_file own.file)
 kind-keeps handle g s other pid bytes_of own files.ErrorLog =
-    other-keeps handle g.config (scene_of g s) other own.owner own.file (not own.starts_over) bytes_of s.files (kind_of_file own.file)
+    other-keeps handle g.config (scene_of g s) (now_of s.past) other own.owner own.file (not own.starts_over) bytes_of s.files (kind_of_file own.file)
 kind-keeps handle g s other pid bytes_of own (files.Inject event) = by (is_there (scene_of g s) (nodes.File own.owner (files.Inject event)))
   where
     by : (t : Bool) → KeepsText handle s.files (if t then inject g.config.cpus other pid bytes_of s.files (slice_get (declared_events s.past) event)
@@ -395,15 +406,14 @@ given-keeps : (handle other offset size : ℕ) (open_files : List (Option OpenSe
 given-keeps handle other offset size open_files None apart = same-kept handle open_files
 given-keeps handle other offset size open_files (Some text) apart = text-kept handle other text open_files apart
 
-tool-keeps : (handle : ℕ) (g : Terms) (s : Service) (read : Parked) (offset : ℕ) (file : OpenSeen) → (read.handle == handle) ≡ false
-    → KeepsText handle s.files (read_tool g s read.handle offset read.size file)
-tool-keeps handle g s read offset file apart = by (makes_text offset file)
+shown-keeps : (handle : ℕ) (read : Parked) (offset : ℕ) (file : OpenSeen) (files : List (Option OpenSeen)) (shown : Option (List ℕ))
+    → (read.handle == handle) ≡ false → KeepsText handle files (read_shown read.handle offset read.size file files shown)
+shown-keeps handle read offset file files shown apart = by (makes_text offset file)
   where
-    by : (t : Bool) → KeepsText handle s.files (if t
-        then given_tool read.handle offset read.size s.files (tool_text g.config s.past file.owner file.file)
-        else plain (replies.Data (part_of offset read.size (unwrap_or file.text []))) s.files)
-    by true = given-keeps handle read.handle offset read.size s.files (tool_text g.config s.past file.owner file.file) apart
-    by false = same-kept handle s.files
+    by : (t : Bool) → KeepsText handle files (if t then given_tool read.handle offset read.size files shown
+        else plain (replies.Data (part_of offset read.size (unwrap_or file.text []))) files)
+    by true = given-keeps handle read.handle offset read.size files shown apart
+    by false = same-kept handle files
 
 dry-keeps : (handle : ℕ) (read : Parked) (flags : ℕ) (ended : Bool) (open_files : List (Option OpenSeen))
     → KeepsText handle open_files (read_dry read flags ended open_files)
@@ -429,8 +439,10 @@ read-kind : (handle : ℕ) (g : Terms) (s : Service) (read : Parked) (offset fla
     → KeepsText handle s.files (read_kind g s read offset flags file kind)
 read-kind handle g s read offset flags apart file kinds.Pipe = piped-keeps handle g s read flags file apart
 read-kind handle g s read offset flags apart file kinds.Inject = same-kept handle s.files
-read-kind handle g s read offset flags apart file kinds.Tool = tool-keeps handle g s read offset file apart
-read-kind handle g s read offset flags apart file kinds.ErrorLog = same-kept handle s.files
+read-kind handle g s read offset flags apart file kinds.Tool =
+    shown-keeps handle read offset file s.files (tool_text g.config s.past file.owner file.file) apart
+read-kind handle g s read offset flags apart file kinds.ErrorLog =
+    shown-keeps handle read offset file s.files (Some (log_text file.owner s.errors)) apart
 read-kind handle g s read offset flags apart file kinds.Text = text-keeps handle g s read offset file apart
 read-kind handle g s read offset flags apart file kinds.Trace = text-keeps handle g s read offset file apart
 
@@ -446,7 +458,7 @@ step-keeps handle g s unique pid target operations.Forget apart = same-kept hand
 step-keeps handle g s unique pid target operations.GetAttr apart = same-kept handle s.files
 step-keeps handle g s unique pid target (operations.SetAttr valid size) apart = same-kept handle s.files
 step-keeps handle g s unique pid target (operations.MkDir name) apart = made-keeps handle g (scene_of g s) name s.files (known (scene_of g s) target)
-step-keeps handle g s unique pid target (operations.RmDir name) apart = removed-keeps handle name s.files (known (scene_of g s) target)
+step-keeps handle g s unique pid target (operations.RmDir name) apart = removed-keeps handle (scene_of g s) name s.files (known (scene_of g s) target)
 step-keeps handle g s unique pid target (operations.Open flags) apart = opened-keeps handle (scene_of g s) flags (known (scene_of g s) target) s.files
 step-keeps handle g s unique pid target (operations.Read other offset size flags) apart = read-keeps handle g s (read_of_pipe unique other size) offset flags apart (file_at other s.files)
 step-keeps handle g s unique pid target (operations.Write other offset bytes_of) apart = written-keeps handle g s other pid bytes_of (file_at other s.files)
@@ -490,6 +502,8 @@ EvenStep handle files (Asks request outcome) =
     × ((refusal : Refusal) → IsEven handle files (outcome (Err refusal)).files [] (given_by (outcome (Err refusal)).reply))
 EvenStep handle files (Parks read) = Unit {0}
 EvenStep handle files (Interrupts number) = Unit {0}
+EvenStep handle files (AsksNoting request outcome noting) = ⊥
+EvenStep handle files (Clears owner takes outcome) = ⊥
 
 to-even : (handle : ℕ) (files now after : List (Option OpenSeen)) (taken : List ℕ) (reply said : Option Reply) → after ≡ now → said ≡ reply
     → IsEven handle files now taken (given_by reply) → IsEven handle files after taken (given_by said)
@@ -514,6 +528,8 @@ does-even g before (Parks read) reply after handle (inr does) even =
     to-even handle before.files before.files after.files [] _ reply (ap (λ (s : Service). s.files) does.1) does.0 (nothing-even handle before.files before.files refl)
 does-even g before (Interrupts number) reply after handle does even =
     to-even handle before.files before.files after.files [] None reply (ap (λ (s : Service). s.files) does.1) does.0 (nothing-even handle before.files before.files refl)
+does-even g before (AsksNoting request outcome noting) reply after handle does even = absurd even
+does-even g before (Clears owner takes outcome) reply after handle does even = absurd even
 
 -- what was kept or taken is given, and the rest kept
 records-even : (handle size : ℕ) (text : List ℕ) (files : List (Option OpenSeen)) (file : OpenSeen) → file_at handle files ≡ Some file

@@ -195,7 +195,7 @@ interrupt-served past old request node unique now bytes mounted is name are told
     node = node;
     named = name;
     reply = None;
-    does = rw is (refl, ap (λ (p : List Parked). record { past = past; files = old.files; parked = p }) are);
+    does = rw is (refl, ap (λ (p : List Parked). record { past = past; files = old.files; parked = p; errors = old.errors }) are);
     told = told;
   };
 }

@@ -15,7 +15,8 @@ use Rattle.trace_command.specs.declared.file_name.TopFile.TheVariants as top
 use Rattle.trace_command.specs.declared.refusal.Refusal.{Refusal}
 use Rattle.trace_command.specs.declared.refusal.Refusal.TheVariants as refusal
 use Rattle.trace_history.specs.History.{answer_with_room, file_answer, instance_answer, missing, read_answer, text_of, unless_refused, whole_text}
-use Rattle.trace_history.specs.Settings.{is_there as instance_is_there}
+use Rattle.trace_history.specs.Settings.{is_there as instance_is_there, now_of}
+use Rattle.error_log.specs.Errors.{begun}
 use Rattle.mount_tree.proofs.AddressLaws.{path-address}
 use Rattle.mount_tree.proofs.SoundLemmas.{scene-sound}
 use Rattle.mount_tree.specs.Children.{is_there}
@@ -26,13 +27,12 @@ use Rattle.mount_tree.specs.declared.file.File.{File}
 use Rattle.mount_tree.specs.declared.file.File.TheVariants as files
 use Rattle.mount_tree.specs.declared.file.FileKind.{FileKind}
 use Rattle.mount_tree.specs.declared.file.FileKind.TheVariants as kinds
-use Rattle.mount_tree.specs.declared.node.Node.TheVariants as nodes
 use Rattle.mount_tree.specs.declared.node.Owner.{Owner}
 use Rattle.trace_mount.proofs.DoneLemmas.{events-are, had-room, pasts_are_done}
 use Rattle.trace_mount.proofs.PartLaws.{text-kept}
 use Rattle.trace_mount.specs.Errnos.{errno_of}
 use Rattle.trace_mount.specs.Mounted.{Does, IsAnswered, bytes_of_reply}
-use Rattle.trace_mount.specs.Served.{Asks, Step, read_anew, read_file, read_kind, read_of, read_text, text_in, without_newline, write_file, write_kind, write_of, write_other, write_text, written}
+use Rattle.trace_mount.specs.Served.{AsksNoting, Step, noted_write, read_anew, read_file, read_kind, read_of, read_text, text_in, without_newline, write_file, write_kind, write_of, write_other, write_text, written}
 use Rattle.trace_mount.specs.Services.{OpenSeen, Service, Terms, file_at, node_of, read_of_pipe, scene_of}
 use Rattle.trace_mount.specs.declared.parked.Parked.{Parked}
 use Rattle.trace_mount.specs.PastLaws.{IsDone, IsNotDone, IsReason, LaterReadsGoOn, NotShown, ReadsAnew, Shown, ReadsShowThePast, StatsShowThePast, WasDone, WritesAreCommands, WritesOnce, instance_of, is_file, is_text, read_whole, write_once}
@@ -200,44 +200,52 @@ later_reads_go_on g before after request bytes handle offset size flags file tex
 -- ---- writes
 
 -- a file that commands can write
-other-writes : (g : Config) (scene : SceneSeen) (handle : ℕ) (owner : Owner) (file : File) (append : Bool) (bytes : List ℕ) (files : List (Option OpenSeen)) (kind : FileKind)
+other-writes : (g : Config) (scene : SceneSeen) (now handle : ℕ) (owner : Owner) (file : File) (append : Bool) (bytes : List ℕ) (files : List (Option OpenSeen)) (kind : FileKind)
     → is_file kind ≡ true
-    → write_other g scene handle owner file append bytes files kind ≡ write_text scene handle (nodes.File owner file) append bytes files
-other-writes g scene handle owner file append bytes files kinds.Text is = refl
-other-writes g scene handle owner file append bytes files kinds.Trace is = refl
-other-writes g scene handle owner file append bytes files kinds.Pipe is = refl
-other-writes g scene handle owner file append bytes files _ is = absurd (false≢true is)
+    → write_other g scene now handle owner file append bytes files kind ≡ write_text scene now handle owner file append bytes files
+other-writes g scene now handle owner file append bytes files kinds.Text is = refl
+other-writes g scene now handle owner file append bytes files kinds.Trace is = refl
+other-writes g scene now handle owner file append bytes files kinds.Pipe is = refl
+other-writes g scene now handle owner file append bytes files _ is = absurd (false≢true is)
 
 -- a file that is not `inject`
 kind-writes : (g : Terms) (s : Service) (handle pid : ℕ) (bytes : List ℕ) (own : OpenSeen) (file : File) → own.file ≡ file → is_file (kind_of_file own.file) ≡ true
-    → write_kind g s handle pid bytes own file ≡ write_text (scene_of g s) handle (node_of own) (not own.starts_over) bytes s.files
+    → write_kind g s handle pid bytes own file ≡ write_text (scene_of g s) (now_of s.past) handle own.owner own.file (not own.starts_over) bytes s.files
 kind-writes g s handle pid bytes own (files.Inject event) same is = absurd (false≢true (sym (ap (λ (f : File). is_file (kind_of_file f)) same) ∙ is))
 kind-writes g s handle pid bytes own _ same is =
-    other-writes g.config (scene_of g s) handle own.owner own.file (not own.starts_over) bytes s.files (kind_of_file own.file) is
+    other-writes g.config (scene_of g s) (now_of s.past) handle own.owner own.file (not own.starts_over) bytes s.files (kind_of_file own.file) is
 
 file-writes : (g : Terms) (s : Service) (handle pid : ℕ) (bytes : List ℕ) (own : OpenSeen) (there : Option OpenSeen) → there ≡ Some own
     → is_file (kind_of_file own.file) ≡ true
-    → write_file g s handle pid bytes there ≡ write_text (scene_of g s) handle (node_of own) (not own.starts_over) bytes s.files
+    → write_file g s handle pid bytes there ≡ write_text (scene_of g s) (now_of s.past) handle own.owner own.file (not own.starts_over) bytes s.files
 file-writes g s handle pid bytes own None e is = absurd (let no : None ≡ Some own = e in cc)
 file-writes g s handle pid bytes own (Some found) e is =
     let same : found ≡ own = cc in
     ap (λ (f : OpenSeen). write_file g s handle pid bytes (Some f)) same ∙ kind-writes g s handle pid bytes own own.file refl is
 
-once : (g : Terms) (before after : Service) (unique handle : ℕ) (own : List ℕ) (command asked : Request) (reply : Option Reply) (bytes : List ℕ)
-    → command ≡ asked → bytes ≡ bytes_of_reply unique reply → Does g before (Asks command (written handle (length own) before.files)) reply after
-    → WritesOnce g before asked unique handle (length own) bytes after
-once g before after unique handle own command asked reply bytes same told (Err refused, answered, replied, is) =
+once : (g : Terms) (before after : Service) (unique handle : ℕ) (file : OpenSeen) (own text : List ℕ) (command asked : Request) (reply : Option Reply)
+    (bytes : List ℕ) → command ≡ asked → bytes ≡ bytes_of_reply unique reply
+    → Does g before (AsksNoting command (written handle (length own) before.files)
+    (noted_write (begun file.owner (now_of before.past) (path_of (scene_of g before) (node_of file)) text) (path_of (scene_of g before) (node_of file)) text)) reply after
+    → WritesOnce g before file asked unique handle (length own) text bytes after
+once g before after unique handle file own text command asked reply bytes same told (Err refused, answered, replied, is) =
     let why : IsReason g before.past asked (errno_of refused) =
     subst (λ (c : Request). IsReason g before.past c (errno_of refused)) same (reason g before.past command refused answered) in
-    IsNotDone (record { errno = errno_of refused; why = why; told = told ∙ ap (bytes_of_reply unique) replied; now = is })
-once g before after unique handle own command asked reply bytes same told (Ok answer, answered, replied, is) =
-    subst (λ (c : Request). WritesOnce g before c unique handle (length own) bytes after) same
+    IsNotDone (record {
+      refusal = refused;
+      answered = subst (λ (c : Request). IsAnswered g before.past c (Err refused)) same answered;
+      why = why;
+      told = told ∙ ap (bytes_of_reply unique) replied;
+      now = is;
+    })
+once g before after unique handle file own text command asked reply bytes same told (Ok answer, answered, replied, is) =
+    subst (λ (c : Request). WritesOnce g before file c unique handle (length own) text bytes after) same
     (IsDone (record { told = told ∙ ap (bytes_of_reply unique) replied; now = is }))
 
 pub writes_are_commands : WritesAreCommands
 writes_are_commands g requests messages before after request bytes handle offset own file meant ranges served is asks opened kind there means =
     let was = pasts_are_done g requests messages before served in
     let step = file-writes g before handle request.pid own file (file_at handle before.files) opened kind in
-    once g before after request.unique handle own _ _ is.reply bytes
+    once g before after request.unique handle file own (without_newline own) _ _ is.reply bytes
     (write-is g before file meant (not file.starts_over) (without_newline own) ranges was there means) is.told
     (subst (λ (s : Step). Does g before s is.reply after) step (rw asks at is.does))

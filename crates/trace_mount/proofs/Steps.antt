@@ -1,5 +1,5 @@
 -- What steps come to.
-use Rattle.std.proofs.Common.{◌≡◌, ℕ, List, [], ◌∷◌, ◌++◌, Option, Some, None, Result, refl, ap, ◌∙◌, inl, inr}
+use Rattle.std.proofs.Common.{◌≡◌, ℕ, Bool, true, List, [], ◌∷◌, ◌++◌, Option, Some, None, Result, refl, ap, ◌∙◌, inl, inr}
 use Rattle.fuse_wire.specs.Replies.{reply_bytes}
 use Rattle.fuse_wire.specs.declared.errno.Errno.TheVariants.{ENOMEM}
 use Rattle.fuse_wire.specs.declared.reply.Reply.{Reply}
@@ -7,8 +7,11 @@ use Rattle.fuse_wire.specs.declared.reply.Reply.TheVariants as replies
 use Rattle.trace_command.specs.Requests.{Request}
 use Rattle.trace_command.specs.declared.command.Reply.{Reply as Answer}
 use Rattle.trace_command.specs.declared.refusal.Refusal.{Refusal}
+use Rattle.error_log.specs.Errors.{ErrorSeen}
+use Rattle.error_log.specs.Logs.{cleared}
+use Rattle.mount_tree.specs.declared.node.Owner.{Owner}
 use Rattle.trace_mount.specs.Mounted.{IsAsked, HasLedTo, IsStep, IsTold, MountSeen, past_after}
-use Rattle.trace_mount.specs.Served.{Asks, Outcome, Parks, Step, Takes, plain}
+use Rattle.trace_mount.specs.Served.{Asks, AsksNoting, Clears, Noting, Outcome, Parks, Step, Takes, errors_after, plain, told}
 use Rattle.trace_mount.specs.Services.{OpenSeen}
 use Rattle.trace_mount.specs.declared.parked.Parked.{Parked}
 
@@ -19,7 +22,7 @@ plain-step past old reply files now mounted is = record {
   after = past;
   mounted = record { lives = mounted.lives; scene = mounted.scene };
   terms = refl;
-  does = (refl, ap (λ (f : List (Option OpenSeen)). record { past = past; files = f; parked = old.parked }) is);
+  does = (refl, ap (λ (f : List (Option OpenSeen)). record { past = past; files = f; parked = old.parked; errors = old.errors }) is);
 }
 
 -- memory is refused
@@ -39,10 +42,51 @@ asked-step past old mid request outcome answer now asked is = record {
     answer,
     asked.answered,
     refl,
-    ap (λ (f : List (Option OpenSeen)). record { past = past_after answer request past; files = f; parked = mid.parked }) is
-        ∙ ap (λ (p : List Parked). record { past = past_after answer request past; files = (outcome answer).files; parked = p }) asked.parked,
+    ap (λ (f : List (Option OpenSeen)). record { past = past_after answer request past; files = f; parked = mid.parked; errors = mid.errors }) is
+        ∙ ap (λ (p : List Parked). record { past = past_after answer request past; files = (outcome answer).files; parked = p; errors = mid.errors }) asked.parked
+        ∙ ap (λ (e : List ErrorSeen). record { past = past_after answer request past; files = (outcome answer).files; parked = old.parked; errors = e }) asked.errors,
   );
 }
+
+-- a command is asked that may be noted, with more errors before it
+pub noted-step : (past : List Request) (old mid : MountSeen) (began : List ErrorSeen) (request : Request) (outcome : Result Answer Refusal → Outcome)
+    (noting : Result Answer Refusal → Noting) (answer : Result Answer Refusal) (now : List (Option OpenSeen)) (errors : List ErrorSeen)
+    → IsAsked past (record old { errors = began }) mid request answer → now ≡ (outcome answer).files → errors ≡ errors_after (noting answer) old.errors
+    → IsStep past old (record mid { files = now; errors = errors }) (AsksNoting request outcome noting) (outcome answer).reply
+noted-step past old mid began request outcome noting answer now errors asked is notes = record {
+  after = past_after answer request past;
+  mounted = record { lives = asked.mounted.lives; scene = asked.mounted.scene };
+  terms = asked.terms;
+  does = (
+    answer,
+    asked.answered,
+    refl,
+    ap (λ (f : List (Option OpenSeen)). record { past = past_after answer request past; files = f; parked = mid.parked; errors = errors }) is
+        ∙ ap (λ (p : List Parked). record { past = past_after answer request past; files = (outcome answer).files; parked = p; errors = errors }) asked.parked
+        ∙ ap (λ (e : List ErrorSeen). record { past = past_after answer request past; files = (outcome answer).files; parked = old.parked; errors = e }) notes,
+  );
+}
+
+-- the errors of an instance are forgotten
+pub clears-step : (past : List Request) (old : MountSeen) (owner : Owner) (takes : Bool) (reply : Reply) (files now : List (Option OpenSeen))
+    (errors : List ErrorSeen) → HasLedTo past old → now ≡ files → errors ≡ cleared owner old.errors
+    → IsStep past old (record old { files = now; errors = errors }) (Clears owner takes (told reply files)) (Some reply)
+clears-step past old owner takes reply files now errors mounted is clears = record {
+  after = past;
+  mounted = record { lives = mounted.lives; scene = mounted.scene };
+  terms = refl;
+  does = inl (
+    refl,
+    ap (λ (f : List (Option OpenSeen)). record { past = past; files = f; parked = old.parked; errors = errors }) is
+        ∙ ap (λ (e : List ErrorSeen). record { past = past; files = files; parked = old.parked; errors = e }) clears,
+  );
+}
+
+-- or memory is refused before
+pub unclear-step : (past : List Request) (old : MountSeen) (owner : Owner) (outcome : Outcome) → HasLedTo past old
+    → IsStep past old old (Clears owner true outcome) (Some (replies.Error ENOMEM))
+unclear-step past old owner outcome mounted =
+    record { after = past; mounted = mounted; terms = refl; does = inr (refl, refl, refl) }
 
 -- and told
 pub told-step : (past : List Request) (old new : MountSeen) (step : Step) (unique : ℕ) (bytes : List ℕ) (reply : Reply)
@@ -58,7 +102,7 @@ parked-told past old read now unique bytes mounted is none = record {
     after = past;
     mounted = record { lives = mounted.lives; scene = mounted.scene };
     terms = refl;
-    does = inl (refl, ap (λ (p : List Parked). record { past = past; files = old.files; parked = p }) is);
+    does = inl (refl, ap (λ (p : List Parked). record { past = past; files = old.files; parked = p; errors = old.errors }) is);
   };
   bytes_are = none;
 }
@@ -72,7 +116,7 @@ unparked-told past old read now unique bytes mounted same told = record {
     after = past;
     mounted = record { lives = mounted.lives; scene = mounted.scene };
     terms = refl;
-    does = inr (refl, ap (λ (p : List Parked). record { past = past; files = old.files; parked = p }) same);
+    does = inr (refl, ap (λ (p : List Parked). record { past = past; files = old.files; parked = p; errors = old.errors }) same);
   };
   bytes_are = told;
 }

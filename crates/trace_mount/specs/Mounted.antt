@@ -1,5 +1,5 @@
 -- What a call of a mounted tracer comes to: the step that is defined, or refused memory; and what a list of requests comes to.
-use Rattle.std.specs.Prelude.{◌≡◌, ◌≢◌, ◌⊎◌, ℕ, ◌+◌, if◌then◌else◌, Bool, is_some, List, [], ◌∷◌, Option, Some, None, Result, Ok, Err}
+use Rattle.std.specs.Prelude.{◌≡◌, ◌≢◌, ◌⊎◌, ℕ, ◌+◌, if◌then◌else◌, Bool, true, is_some, List, [], ◌∷◌, Option, Some, None, Result, Ok, Err}
 use Rattle.std.specs.List.{slice_get}
 use Rattle.fuse_wire.specs.Replies.{reply_bytes, wakeup_bytes}
 use Rattle.fuse_wire.specs.Requests.{IsRequest, IsFramed, has_reply}
@@ -14,12 +14,13 @@ use Rattle.trace_command.specs.declared.refusal.Refusal.{Refusal}
 use Rattle.trace_history.specs.Settings.{declares, made, removed}
 use Rattle.trace_live.specs.LiveSeen.{LiveSeen}
 use Rattle.trace_live.specs.Lives.{IsLive, live_answer}
+use Rattle.error_log.specs.Errors.{ErrorSeen}
 use Rattle.mount_tree.specs.Nodes.{FitsItsTypes, number_of}
 use Rattle.mount_tree.specs.Scenes.{SceneSeen}
 use Rattle.mount_tree.specs.ScenesAfter.{scene_after}
 use Rattle.mount_tree.specs.declared.node.Node.{Node}
 use Rattle.trace_mount.specs.Owed.{Owed, ReplyAt, WakeupAt, owed, step_of_parked}
-use Rattle.trace_mount.specs.Served.{Outcome, Step, Plain, Takes, Asks, Parks, Interrupts, step_of}
+use Rattle.trace_mount.specs.Served.{Noting, Forgets, Outcome, Step, Plain, Takes, Asks, AsksNoting, Clears, Parks, Interrupts, errors_after, step_of}
 use Rattle.trace_mount.specs.Services.{OpenSeen, Service, Terms, wakeup_at, with_interrupted, with_read, with_wakeup, without_read}
 use Rattle.trace_mount.specs.declared.parked.Parked.{Parked}
 use Rattle.trace_mount.specs.Told.{most_data}
@@ -32,6 +33,7 @@ pub record MountSeen : Type 0 where
   pub scene : SceneSeen
   pub files : List (Option OpenSeen)
   pub parked : List Parked
+  pub errors : List ErrorSeen
   pub owes : Bool
   pub uid : ℕ
   pub gid : ℕ
@@ -41,7 +43,7 @@ terms_of mount = record { config = mount.live.config; uid = mount.uid; gid = mou
 
 -- what it is after these requests
 abbrev pub service_of : List Request → MountSeen → Service
-service_of past mount = record { past = past; files = mount.files; parked = mount.parked }
+service_of past mount = record { past = past; files = mount.files; parked = mount.parked; errors = mount.errors }
 
 -- these requests led to the tracer, and its folders and files are those that they say
 pub record HasLedTo (past : List Request) (mount : MountSeen) : Type 0 where
@@ -68,6 +70,9 @@ IsAnswered g past request answer = OrMemory answer (live_answer g.config past re
 abbrev pub after_outcome : List Request → Outcome → Service → Service
 after_outcome past outcome before = record before { past = past; files = outcome.files }
 
+abbrev pub after_noting : List Request → Outcome → Noting → Service → Service
+after_noting past outcome noting before = record before { past = past; files = outcome.files; errors = errors_after noting before.errors }
+
 -- with this reply, if any, a step led from a service to another. Where memory is refused, ENOMEM is replied, and nothing has changed.
 abbrev pub Does : Terms → Service → Step → Option Reply → Service → Type 0
 Does g before (Plain outcome) reply after =
@@ -81,6 +86,12 @@ Does g before (Asks request outcome) reply after =
 Does g before (Parks read) reply after =
     ((reply ≡ None) × (after ≡ with_read read before)) ⊎ ((reply ≡ Some (replies.Error ENOMEM)) × (after ≡ before))
 Does g before (Interrupts unique) reply after = (reply ≡ None) × (after ≡ with_interrupted unique before)
+Does g before (AsksNoting request outcome noting) reply after =
+    (answer : Result Answer Refusal) × IsAnswered g before.past request answer × (reply ≡ (outcome answer).reply)
+    × (after ≡ after_noting (past_after answer request before.past) (outcome answer) (noting answer) before)
+Does g before (Clears owner takes outcome) reply after =
+    ((reply ≡ outcome.reply) × (after ≡ after_noting before.past outcome (Forgets owner) before))
+    ⊎ ((takes ≡ true) × (reply ≡ Some (replies.Error ENOMEM)) × (after ≡ before))
 
 -- the node of a number, if it is one's
 abbrev pub IsNamed : ℕ → Option Node → Type 0
@@ -180,6 +191,7 @@ pub record IsAsked (past : List Request) (old new : MountSeen) (request : Reques
   pub terms : terms_of new ≡ terms_of old
   pub files : new.files ≡ old.files
   pub parked : new.parked ≡ old.parked
+  pub errors : new.errors ≡ old.errors
 
 -- the parked read at this index got its reply
 pub record IsReplying (past : List Request) (old new : MountSeen) (index : ℕ) (bytes : List ℕ) : Type 0 where

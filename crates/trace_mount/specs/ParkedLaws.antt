@@ -15,7 +15,7 @@ use Rattle.mount_tree.specs.declared.file.FileKind.TheVariants as kinds
 use Rattle.trace_mount.specs.Mounted.{AreServed, Right, Wrong, Unframed, Does, IsExchanged, IsReplied, Serves, TellsOwed}
 use Rattle.trace_mount.specs.Owed.{Owed, ReplyAt, WakeupAt, is_due, owed, step_of_parked}
 use Rattle.trace_mount.specs.Pipes.{ends, is_used_up, would_wait}
-use Rattle.trace_mount.specs.Served.{Asks, Interrupts, Parks, Plain, Step, Takes, given_records, step_of, text_in}
+use Rattle.trace_mount.specs.Served.{Asks, AsksNoting, Clears, Interrupts, Parks, Plain, Step, Takes, given_records, step_of, text_in}
 use Rattle.trace_mount.specs.Services.{OpenSeen, Service, Terms, file_at, node_of, scene_of, text_at, without_read}
 use Rattle.trace_mount.specs.declared.parked.Parked.{Parked}
 
@@ -98,6 +98,9 @@ taken_by g before (Asks request outcome) reply after (Ok answer, answered, told,
 taken_by g before (Asks request outcome) reply after (Err refusal, answered, told, same) = []
 taken_by g before (Parks read) reply after does = []
 taken_by g before (Interrupts unique) reply after does = []
+taken_by g before (AsksNoting request outcome noting) reply after (Ok answer, answered, told, same) = text_in answer
+taken_by g before (AsksNoting request outcome noting) reply after (Err refusal, answered, told, same) = []
+taken_by g before (Clears owner takes outcome) reply after does = []
 
 -- what a reply gives
 abbrev pub given_by : Option Reply → List ℕ

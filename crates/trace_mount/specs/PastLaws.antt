@@ -14,23 +14,25 @@ use Rattle.trace_command.specs.declared.refusal.Refusal.{Refusal}
 use Rattle.trace_history.specs.FileTexts.{cpu_stats_text}
 use Rattle.trace_history.specs.History.{text_of}
 use Rattle.trace_history.specs.Pasts.{AreDone}
+use Rattle.trace_history.specs.Settings.{now_of}
 use Rattle.trace_live.specs.Lives.{live_answer, most_done}
+use Rattle.error_log.specs.Errors.{begun}
 use Rattle.mount_tree.specs.Children.{is_there}
 use Rattle.mount_tree.specs.FileKinds.{kind_of_file}
-use Rattle.mount_tree.specs.NodePaths.{file_meant, owner_name}
+use Rattle.mount_tree.specs.NodePaths.{file_meant, owner_name, path_of}
 use Rattle.mount_tree.specs.declared.file.File.TheVariants as files
 use Rattle.mount_tree.specs.declared.file.FileKind.{FileKind}
 use Rattle.mount_tree.specs.declared.file.FileKind.TheVariants as kinds
 use Rattle.trace_mount.specs.Errnos.{errno_of}
-use Rattle.trace_mount.specs.Mounted.{IsServed, Serves}
-use Rattle.trace_mount.specs.Served.{part_of, without_newline}
+use Rattle.trace_mount.specs.Mounted.{IsAnswered, IsServed, Serves}
+use Rattle.trace_mount.specs.Served.{Noting, errors_after, noted_refusal, part_of, without_newline}
 use Rattle.trace_mount.specs.Services.{OpenSeen, Service, Terms, file_at, node_of, scene_of, text_at, with_text, with_write}
 
 -- ---- what was served was done
 
--- a tracer that was just mounted: no command was done, no file is open, and no read waits
+-- a tracer that was just mounted: no command was done, no file is open, no read waits, and no write was refused
 abbrev pub just_mounted : Service
-just_mounted = record { past = []; files = []; parked = [] }
+just_mounted = record { past = []; files = []; parked = []; errors = [] }
 
 -- each of these commands was done after those before it, and they are no more than a tracer does that keeps no history
 pub record WasDone (g : Terms) (past : List Request) : Type 0 where
@@ -121,15 +123,27 @@ is_file kinds.Trace = true
 is_file kinds.Pipe = true
 is_file _ = false
 
+-- what becomes of the errors where a write of this text was refused
+abbrev pub noted_by : Terms → Service → OpenSeen → List ℕ → Refusal → Noting
+noted_by g s file text refusal =
+    noted_refusal (begun file.owner (now_of s.past) (path_of (scene_of g s) (node_of file)) text) (path_of (scene_of g s) (node_of file)) text refusal
+
 -- a write was this one command, and all of it was written; of the open files only this one has changed, which was written to
 pub record IsWrittenOnce (before : Service) (command : Request) (unique handle size : ℕ) (bytes : List ℕ) (after : Service) : Type 0 where
   pub told : bytes ≡ reply_bytes unique (replies.Written size)
   pub now : after ≡ record before { past = command ∷ before.past; files = with_write handle before.files }
 
--- or it was refused
-pub data WritesOnce (g : Terms) (before : Service) (command : Request) (unique handle size : ℕ) (bytes : List ℕ) (after : Service) : Type 0 where
-  IsDone : IsWrittenOnce before command unique handle size bytes after → WritesOnce g before command unique handle size bytes after
-  IsNotDone : IsRefused g before command unique bytes after → WritesOnce g before command unique handle size bytes after
+-- or it was refused, and nothing has changed but that the log of its instance has it, unless there was no memory
+pub record IsNotWritten (g : Terms) (before : Service) (file : OpenSeen) (command : Request) (unique : ℕ) (text bytes : List ℕ) (after : Service) : Type 0 where
+  pub refusal : Refusal
+  pub answered : IsAnswered g before.past command (Err refusal)
+  pub why : IsReason g before.past command (errno_of refusal)
+  pub told : bytes ≡ reply_bytes unique (replies.Error (errno_of refusal))
+  pub now : after ≡ record before { errors = errors_after (noted_by g before file text refusal) before.errors }
+
+pub data WritesOnce (g : Terms) (before : Service) (file : OpenSeen) (command : Request) (unique handle size : ℕ) (text bytes : List ℕ) (after : Service) : Type 0 where
+  IsDone : IsWrittenOnce before command unique handle size bytes after → WritesOnce g before file command unique handle size text bytes after
+  IsNotDone : IsNotWritten g before file command unique text bytes after → WritesOnce g before file command unique handle size text bytes after
 
 -- A WRITE, whatever was served before it: a command that writes what came, without a last newline, to that file of that instance: by `>` if the file
 -- was opened to be emptied and nothing was written to it yet, else by `>>`.
@@ -139,4 +153,5 @@ WritesAreCommands =
     → IsInRange g.config → Serves g just_mounted requests messages before → IsServed g before request bytes after
     → request.operation ≡ operations.Write handle offset own → file_at handle before.files ≡ Some file → is_file (kind_of_file file.file) ≡ true
     → is_there (scene_of g before) (node_of file) ≡ true → file_meant (scene_of g before) file.file ≡ Some meant
-    → WritesOnce g before (write_once (instance_of g before file) meant (not file.starts_over) (without_newline own)) request.unique handle (length own) bytes after
+    → WritesOnce g before file (write_once (instance_of g before file) meant (not file.starts_over) (without_newline own)) request.unique handle (length own)
+    (without_newline own) bytes after

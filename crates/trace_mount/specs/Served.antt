@@ -1,6 +1,6 @@
 -- What a mounted tracer does at each request of a kernel: it asks the tracer one command, or none, and replies, or lets a read wait. After a command
 -- that was refused all is as before, but what `outcome` says of the open files.
-use Rattle.std.specs.Prelude.{ℕ, ◌+◌, ◌-◌, ◌/◌, ◌%◌, ◌^◌, ◌==◌, Bool, false, not, ◌||◌, nat_lt, is_none, List, [], ◌++◌, length, slice_index, take, drop, min, max, Option, Some, None, unwrap_or, Result, Ok, Err, codes, if◌then◌else◌}
+use Rattle.std.specs.Prelude.{ℕ, ◌+◌, ◌-◌, ◌/◌, ◌%◌, ◌^◌, ◌==◌, Bool, true, false, not, ◌||◌, nat_lt, is_none, List, [], ◌++◌, length, slice_index, take, drop, min, max, Option, Some, None, unwrap_or, Result, Ok, Err, codes, if◌then◌else◌}
 use Rattle.std.specs.List.{slice_get}
 use Rattle.std.specs.Option.{option_map}
 use Rattle.fuse_wire.specs.declared.errno.Errno.{Errno}
@@ -16,8 +16,12 @@ use Rattle.trace_command.specs.declared.command.Reply.TheVariants as answers
 use Rattle.trace_command.specs.declared.command.Config.{Config}
 use Rattle.trace_command.specs.declared.file_name.TopFile.TheVariants as top_files
 use Rattle.trace_command.specs.declared.refusal.Refusal.{Refusal}
+use Rattle.trace_command.specs.declared.refusal.Refusal.TheVariants.{Memory}
+use Rattle.trace_explain.specs.Writes.{write_offset, write_words}
 use Rattle.trace_format.specs.Definitions.{Definition}
-use Rattle.trace_history.specs.Settings.{declared_events}
+use Rattle.trace_history.specs.Settings.{declared_events, now_of}
+use Rattle.error_log.specs.Errors.{ErrorSeen, begun, refused}
+use Rattle.error_log.specs.Logs.{cleared, log_text, noted}
 use Rattle.mount_tree.specs.Children.{is_there}
 use Rattle.mount_tree.specs.FileKinds.{access_of_file, kind_of_file}
 use Rattle.mount_tree.specs.NodePaths.{path_of}
@@ -41,7 +45,7 @@ use Rattle.trace_mount.specs.Injections.{first_line, injection, line_size, pairs
 use Rattle.trace_mount.specs.Pipes.{ends, is_dry, is_used_up, would_wait}
 use Rattle.trace_mount.specs.Services.{OpenSeen, Service, Terms, file_at, free_handle, just_opened, node_of, read_of_pipe, scene_of, with_file, with_records, with_text, with_wakeup, with_write, without_file}
 use Rattle.trace_mount.specs.declared.parked.Parked.{Parked}
-use Rattle.trace_mount.specs.Told.{agree, attributes_of, check_access, empties, get_attributes, known, look_up, may, most_data, open_folder, read_folder, set_attributes, wants_read, wants_write}
+use Rattle.trace_mount.specs.Told.{agree, attributes_of, check_access, empties, found_in, get_attributes, known, look_up, may, most_data, open_folder, read_folder, set_attributes, wants_read, wants_write}
 
 -- ---- steps
 
@@ -49,6 +53,17 @@ use Rattle.trace_mount.specs.Told.{agree, attributes_of, check_access, empties, 
 pub record Outcome : Type 0 where
   pub reply : Option Reply
   pub files : List (Option OpenSeen)
+
+-- what becomes of the writes that were refused
+pub data Noting : Type 0 where
+  Keeps : Noting
+  Notes : (error : ErrorSeen) → Noting
+  Forgets : (owner : Owner) → Noting
+
+abbrev pub errors_after : Noting → List ErrorSeen → List ErrorSeen
+errors_after Keeps errors = errors
+errors_after (Notes error) errors = noted error errors
+errors_after (Forgets owner) errors = cleared owner errors
 
 pub data Step : Type 0 where
   -- nothing is asked, and no memory taken
@@ -61,6 +76,10 @@ pub data Step : Type 0 where
   Parks : (read : Parked) → Step
   -- the read of this number waits no more, if it does
   Interrupts : (unique : ℕ) → Step
+  -- the tracer is asked this; its answer gives the outcome, and what becomes of the errors
+  AsksNoting : (request : Request) (outcome : Result Answer Refusal → Outcome) (noting : Result Answer Refusal → Noting) → Step
+  -- nothing is asked, and the errors of an instance are forgotten; memory may be taken
+  Clears : (owner : Owner) (takes : Bool) (outcome : Outcome) → Step
 
 abbrev pub told : Reply → List (Option OpenSeen) → Outcome
 told reply files = record { reply = Some reply; files = files }
@@ -108,8 +127,16 @@ abbrev pub disabling : SceneSeen → OpenSeen → List (Option OpenSeen) → Ste
 disabling scene file open_files =
     Asks (write_of scene (nodes.File file.owner (files.OfInstance top_files.EventsEnable)) false (codes "0")) (disabled_first file open_files)
 
+-- `error_log` that is opened to be emptied forgets the errors of its instance
+abbrev pub clears : File → ℕ → Bool
+clears files.ErrorLog flags = empties flags
+clears file flags = false
+
 abbrev pub opened_file : SceneSeen → ℕ → OpenSeen → List (Option OpenSeen) → Step
-opened_file scene flags file files = if disables file.file flags then disabling scene file files else Takes (handed_out file files)
+opened_file scene flags file files =
+    if disables file.file flags then disabling scene file files
+    else if clears file.file flags then Clears file.owner true (handed_out file files)
+    else Takes (handed_out file files)
 
 abbrev pub opened : SceneSeen → ℕ → Option Node → List (Option OpenSeen) → Step
 opened scene flags None files = failed ENOENT files
@@ -152,10 +179,18 @@ given_tool handle offset size files None = taking (replies.Error ENOENT) files
 given_tool handle offset size files (Some text) = taking (replies.Data (part_of offset size text)) (with_text text handle files)
 
 -- it is read as a text is, but the tracer is asked nothing
+abbrev pub read_shown : ℕ → ℕ → ℕ → OpenSeen → List (Option OpenSeen) → Option (List ℕ) → Step
+read_shown handle offset size file files shown =
+    if makes_text offset file then given_tool handle offset size files shown
+    else plain (replies.Data (part_of offset size (unwrap_or file.text []))) files
+
 abbrev pub read_tool : Terms → Service → ℕ → ℕ → ℕ → OpenSeen → Step
 read_tool g s handle offset size file =
-    if makes_text offset file then given_tool handle offset size s.files (tool_text g.config s.past file.owner file.file)
-    else plain (replies.Data (part_of offset size (unwrap_or file.text []))) s.files
+    read_shown handle offset size file s.files (tool_text g.config s.past file.owner file.file)
+
+-- and so is `error_log`
+abbrev pub read_log : Service → ℕ → ℕ → ℕ → OpenSeen → Step
+read_log s handle offset size file = read_shown handle offset size file s.files (Some (log_text file.owner s.errors))
 
 -- how many records are taken for a read: no line of a record, with one of lost records before it, has more than 2,048 bytes
 abbrev pub records_for : ℕ → ℕ
@@ -197,7 +232,7 @@ abbrev pub read_kind : Terms → Service → Parked → ℕ → ℕ → OpenSeen
 read_kind g s read offset flags file kinds.Pipe = read_pipe g s read flags file
 read_kind g s read offset flags file kinds.Inject = failed EACCES s.files
 read_kind g s read offset flags file kinds.Tool = read_tool g s read.handle offset read.size file
-read_kind g s read offset flags file kinds.ErrorLog = plain (replies.Data []) s.files
+read_kind g s read offset flags file kinds.ErrorLog = read_log s read.handle offset read.size file
 read_kind g s read offset flags file _ = read_text (scene_of g s) read.handle offset read.size file s.files
 
 abbrev pub read_file : Terms → Service → Parked → ℕ → ℕ → Option OpenSeen → Step
@@ -243,10 +278,20 @@ abbrev pub written : ℕ → ℕ → List (Option OpenSeen) → Result Answer Re
 written handle size files (Ok answer) = told (replies.Written size) (with_write handle files)
 written handle size files (Err refusal) = told (replies.Error (errno_of refusal)) files
 
--- the first write of a file that was opened to be emptied is by `>`, all others by `>>`
-abbrev pub write_text : SceneSeen → ℕ → Node → Bool → List ℕ → List (Option OpenSeen) → Step
-write_text scene handle node append bytes files =
-    Asks (write_of scene node append (without_newline bytes)) (written handle (length bytes) files)
+-- a write that was refused is noted, with what is wrong, unless memory was refused
+abbrev pub noted_refusal : ErrorSeen → List ℕ → List ℕ → Refusal → Noting
+noted_refusal begun path text Memory = Keeps
+noted_refusal begun path text refusal = Notes (refused begun (write_words path text refusal) (write_offset path text refusal))
+
+abbrev pub noted_write : ErrorSeen → List ℕ → List ℕ → Result Answer Refusal → Noting
+noted_write begun path text (Ok answer) = Keeps
+noted_write begun path text (Err refusal) = noted_refusal begun path text refusal
+
+-- The first write of a file that was opened to be emptied is by `>`, all others by `>>`. It is noted with the time and the file's path.
+abbrev pub write_text : SceneSeen → ℕ → ℕ → Owner → File → Bool → List ℕ → List (Option OpenSeen) → Step
+write_text scene now handle owner file append bytes files =
+    AsksNoting (write_of scene (nodes.File owner file) append (without_newline bytes)) (written handle (length bytes) files)
+    (noted_write (begun owner now (path_of scene (nodes.File owner file)) (without_newline bytes)) (path_of scene (nodes.File owner file)) (without_newline bytes))
 
 -- a write that changes nothing
 abbrev pub write_same : ℕ → ℕ → List (Option OpenSeen) → Step
@@ -266,12 +311,16 @@ write_tool scene handle owner size files Wrong = failed EINVAL files
 write_tool scene handle owner size files Same = write_same handle size files
 write_tool scene handle owner size files (Switch file on count) = write_switch scene handle (nodes.File owner file) on count files
 
+-- whatever is written to `error_log`, the errors of its instance are forgotten
+abbrev pub write_log : ℕ → Owner → ℕ → List (Option OpenSeen) → Step
+write_log handle owner size files = Clears owner false (told (replies.Written size) (with_write handle files))
+
 -- a write to a file other than `inject`, by the file's kind
-abbrev pub write_other : Config → SceneSeen → ℕ → Owner → File → Bool → List ℕ → List (Option OpenSeen) → FileKind → Step
-write_other g scene handle owner file append bytes files kinds.Tool =
+abbrev pub write_other : Config → SceneSeen → ℕ → ℕ → Owner → File → Bool → List ℕ → List (Option OpenSeen) → FileKind → Step
+write_other g scene now handle owner file append bytes files kinds.Tool =
     write_tool scene handle owner (length bytes) files (tool_write g scene owner file bytes)
-write_other g scene handle owner file append bytes files kinds.ErrorLog = write_same handle (length bytes) files
-write_other g scene handle owner file append bytes files _ = write_text scene handle (nodes.File owner file) append bytes files
+write_other g scene now handle owner file append bytes files kinds.ErrorLog = write_log handle owner (length bytes) files
+write_other g scene now handle owner file append bytes files _ = write_text scene now handle owner file append bytes files
 
 -- A write to `inject` is by the process that writes, on the CPU that is its number modulo the number of CPUs. It does the first line and says how many bytes that has, so the caller writes the others anew
 abbrev pub inject_asked : ℕ → ℕ → List (Option OpenSeen) → Option Request → Step
@@ -292,7 +341,7 @@ write_kind g s handle pid bytes file (files.Inject event) =
     then inject g.config.cpus handle pid bytes s.files (slice_get (declared_events s.past) event)
     else failed ENOENT s.files
 write_kind g s handle pid bytes file _ =
-    write_other g.config (scene_of g s) handle file.owner file.file (not file.starts_over) bytes s.files (kind_of_file file.file)
+    write_other g.config (scene_of g s) (now_of s.past) handle file.owner file.file (not file.starts_over) bytes s.files (kind_of_file file.file)
 
 abbrev pub write_file : Terms → Service → ℕ → ℕ → List ℕ → Option OpenSeen → Step
 write_file g s handle pid bytes None = failed EBADF s.files
@@ -347,13 +396,24 @@ abbrev pub removed_folder : List (Option OpenSeen) → Result Answer Refusal →
 removed_folder files (Ok answer) = told replies.Done files
 removed_folder files (Err refusal) = told (replies.Error (errno_of refusal)) files
 
-abbrev pub remove_instance : List ℕ → List (Option OpenSeen) → Step
-remove_instance name files = Asks (request_of (commands.Rmdir (instance_path name))) (removed_folder files)
+-- and the errors of the instance are forgotten
+abbrev pub forgotten : Option Node → Noting
+forgotten (Some (nodes.Folder owner folder)) = Forgets owner
+forgotten _ = Keeps
 
-abbrev pub remove_folder : List ℕ → List (Option OpenSeen) → Option Node → Step
-remove_folder name files None = failed ENOENT files
-remove_folder name files (Some (nodes.Folder Top folders.Instances)) = remove_instance name files
-remove_folder name files _ = failed EPERM files
+abbrev pub forgotten_if_done : Option Node → Result Answer Refusal → Noting
+forgotten_if_done target (Ok answer) = forgotten target
+forgotten_if_done target (Err refusal) = Keeps
+
+abbrev pub remove_instance : SceneSeen → List ℕ → List (Option OpenSeen) → Step
+remove_instance scene name files =
+    AsksNoting (request_of (commands.Rmdir (instance_path name))) (removed_folder files)
+    (forgotten_if_done (found_in scene name (Some (nodes.Folder Top folders.Instances))))
+
+abbrev pub remove_folder : SceneSeen → List ℕ → List (Option OpenSeen) → Option Node → Step
+remove_folder scene name files None = failed ENOENT files
+remove_folder scene name files (Some (nodes.Folder Top folders.Instances)) = remove_instance scene name files
+remove_folder scene name files _ = failed EPERM files
 
 -- ---- all requests
 
@@ -363,7 +423,7 @@ step_of g s unique pid target (operations.Lookup name) = plain (look_up g (scene
 step_of g s unique pid target operations.GetAttr = plain (get_attributes g (scene_of g s) target) s.files
 step_of g s unique pid target (operations.SetAttr valid size) = plain (set_attributes g (scene_of g s) target valid size) s.files
 step_of g s unique pid target (operations.MkDir name) = make_folder g (scene_of g s) name s.files (known (scene_of g s) target)
-step_of g s unique pid target (operations.RmDir name) = remove_folder name s.files (known (scene_of g s) target)
+step_of g s unique pid target (operations.RmDir name) = remove_folder (scene_of g s) name s.files (known (scene_of g s) target)
 step_of g s unique pid target (operations.Open flags) = opened (scene_of g s) flags (known (scene_of g s) target) s.files
 step_of g s unique pid target (operations.Read handle offset size flags) =
     read_file g s (read_of_pipe unique handle size) offset flags (file_at handle s.files)

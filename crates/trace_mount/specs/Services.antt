@@ -4,6 +4,7 @@ use Rattle.std.specs.List.{slice_get}
 use Rattle.std.specs.Option.{option_and_then, option_map}
 use Rattle.trace_command.specs.Requests.{Request}
 use Rattle.trace_command.specs.declared.command.Config.{Config}
+use Rattle.error_log.specs.Errors.{ErrorSeen}
 use Rattle.mount_tree.specs.Scenes.{SceneSeen}
 use Rattle.mount_tree.specs.ScenesAfter.{scene_after}
 use Rattle.mount_tree.specs.declared.file.File.{File}
@@ -38,11 +39,13 @@ just_opened owner file starts_over =
 abbrev pub read_of_pipe : ℕ → ℕ → ℕ → Parked
 read_of_pipe unique handle size = record { unique = unique; handle = handle; size = size; interrupted = false }
 
--- the requests that the tracer did, newest first; for each handle its open file, if it has one; and the reads that wait, oldest first
+-- the requests that the tracer did, newest first; for each handle its open file, if it has one; the reads that wait, oldest first; and the writes that
+-- were refused, as the logs of the instances have them
 pub record Service : Type 0 where
   pub past : List Request
   pub files : List (Option OpenSeen)
   pub parked : List Parked
+  pub errors : List ErrorSeen
 
 abbrev pub node_of : OpenSeen → Node
 node_of file = nodes.File file.owner file.file

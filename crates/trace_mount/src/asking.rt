@@ -43,8 +43,8 @@ fn instance_path(alloc: Global, name: &[u8]) -> Result<Text, AllocError>
 }
 
 impl Mount {
-    // The path of a file.
-    fn path_of(&self, owner: Owner, file: File) -> Result<Text, AllocError>
+    /// The path of a file.
+    pub(crate) fn path_of(&self, owner: Owner, file: File) -> Result<Text, AllocError>
         ensures { IfOk result (λ path. path ≡ path_of self.now.scene (nodes.File owner file)) }
     {
         let mut path = Vec::new(self.alloc);

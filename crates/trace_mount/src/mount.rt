@@ -14,6 +14,7 @@ use crate::files::OpenFiles;
 use crate::parked::{Parked, interrupt, read_of_pipe};
 use crate::telling::{tell_short, tell_wrong};
 use crate::told::agree;
+use error_log::ErrorLog;
 use fuse_wire::{DecodeError, Errno, Operation, Reply, Request, decode};
 use mount_tree::{Node, Scene};
 use std::alloc::Global;
@@ -21,14 +22,15 @@ use std::marker::Model;
 use trace_command::{Config, Refusal};
 use trace_live::Live;
 
-/// A mounted tracer: the tracer, which folders and files it has, the open files, the reads that wait, whether something has to be told before the next
-/// request is answered, and whose the files are.
+/// A mounted tracer: the tracer, which folders and files it has, the open files, the reads that wait, the writes that were refused, whether something has
+/// to be told before the next request is answered, and whose the files are.
 pub struct Mount {
     pub(crate) alloc: Global,
     pub(crate) live: Live,
     pub(crate) scene: Scene,
     pub(crate) files: OpenFiles,
     pub(crate) parked: Vec<Parked>,
+    pub(crate) errors: ErrorLog,
     pub(crate) owes: bool,
     pub(crate) uid: u32,
     pub(crate) gid: u32,
@@ -43,6 +45,7 @@ impl Drop for Mount {
             scene: _,
             files: _,
             parked: _,
+            errors: _,
             owes: _,
             uid: _,
             gid: _,
@@ -55,7 +58,7 @@ impl Model for Mount {
 
     ghost Value = { MountSeen };
 
-    ghost view = { λ m. record { live = m.live; scene = m.scene; files = m.files; parked = m.parked.items; owes = m.owes; uid = m.uid; gid = m.gid } };
+    ghost view = { λ m. record { live = m.live; scene = m.scene; files = m.files; parked = m.parked.items; errors = m.errors; owes = m.owes; uid = m.uid; gid = m.gid } };
 }
 
 // Whether an operation may change something.
@@ -81,7 +84,7 @@ impl Mount {
     pub fn new(alloc: Global, config: Config, uid: u32, gid: u32) -> Result<Mount, Refusal>
         ensures made { IfOk result (λ mount. IsMounted [] mount) }
         ensures terms { IfOk result (λ mount. terms_of mount ≡ record { config = config; uid = uid; gid = gid }) }
-        ensures closed { IfOk result (λ mount. (mount.files ≡ []) × (mount.parked ≡ [])) }
+        ensures closed { IfOk result (λ mount. (mount.files ≡ []) × (mount.parked ≡ []) × (mount.errors ≡ [])) }
         ensures nothing_owed { IfOk result (λ mount. mount.owes ≡ false) }
         ensures in_range { OnOk result (IsInRange config) }
         ensures out_of_range { ¬ IsInRange config → IfErr result (λ r. r ≡ refusals.BadValue) }
@@ -94,6 +97,7 @@ impl Mount {
             scene: Scene::new(alloc, config.cpus),
             files: OpenFiles::new(alloc),
             parked: Vec::new(alloc),
+            errors: ErrorLog::new(alloc),
             owes: false,
             uid,
             gid,

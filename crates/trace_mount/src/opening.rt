@@ -4,9 +4,9 @@ ghost use Rattle.std.specs.Prelude.{◌≡◌, true, List, Some};
 ghost use Rattle.trace_command.specs.Requests.{Request};
 ghost use Rattle.mount_tree.specs.declared.node.Node.TheVariants as nodes;
 ghost use Rattle.trace_mount.specs.Mounted.{HasLedTo, IsStep, StepsBy, service_of, terms_of};
-ghost use Rattle.trace_mount.specs.Served.{disables as disabled_by, disabling, emptied, open_flags as flags_of, opened, poll_file, poll_pipe as polled, release as released};
+ghost use Rattle.trace_mount.specs.Served.{Clears, clears as cleared_by, handed_out, disables as disabled_by, disabling, emptied, open_flags as flags_of, opened, poll_file, poll_pipe as polled, release as released};
 ghost use Rattle.trace_mount.specs.Services.{OpenSeen, file_at, just_opened};
-ghost use Rattle.trace_mount.specs.Told.{known};
+ghost use Rattle.trace_mount.specs.Told.{empties, known};
 ghost use Rattle.trace_mount.specs.private.ShortReplies.{IsShort};
 
 use crate::errno::errno_of;
@@ -38,6 +38,16 @@ fn disables(file: File, flags: u32) -> bool
     }
 }
 
+/// Whether opening a file so forgets the errors of its instance: `error_log`, to be emptied.
+fn clears(file: File, flags: u32) -> bool
+    ensures { result ≡ cleared_by file flags }
+{
+    match file {
+        File::ErrorLog => empties(flags),
+        _ => false,
+    }
+}
+
 impl Mount {
     /// OPEN.
     pub(crate) fn open(&mut self, node: Option<Node>, flags: u32) -> Reply<'static>
@@ -62,12 +72,34 @@ impl Mount {
         if disables(file, flags) {
             return self.open_disabling(owner, file);
         }
+        if clears(file, flags) {
+            return self.open_clearing(owner, file, flags);
+        }
         let open_file = OpenFile::new(owner, file, empties(flags));
         match self.files.open(open_file) {
             Ok(handle) => Reply::Opened {
                 handle,
                 flags: open_flags(file.kind()),
             },
+            Err(_) => Reply::Error(Errno::ENOMEM),
+        }
+    }
+
+    // OPEN of `error_log` to be emptied.
+    fn open_clearing(&mut self, owner: Owner, file: File, flags: u32) -> Reply<'static>
+        ensures step { StepsBy self.old self.new
+            (Clears owner true (handed_out (just_opened owner file (empties flags)) self.old.files)) result }
+        ensures short { IsShort result }
+    {
+        let open_file = OpenFile::new(owner, file, empties(flags));
+        match self.files.open(open_file) {
+            Ok(handle) => {
+                self.errors.clear(owner);
+                Reply::Opened {
+                    handle,
+                    flags: open_flags(file.kind()),
+                }
+            }
             Err(_) => Reply::Error(Errno::ENOMEM),
         }
     }

@@ -7,9 +7,10 @@ ghost use Rattle.trace_command.specs.Requests.{Request};
 ghost use Rattle.mount_tree.specs.declared.node.Node.TheVariants as nodes;
 ghost use Rattle.mount_tree.specs.NodePaths.{owner_name};
 ghost use Rattle.trace_history.specs.Settings.{is_tracing};
+ghost use Rattle.error_log.specs.Logs.{log_text};
 ghost use Rattle.tool_files.specs.ToolTexts.{tool_text};
 ghost use Rattle.trace_mount.specs.Mounted.{HasLedTo, IsTold, TellsBy, most_reply, service_of, terms_of};
-ghost use Rattle.trace_mount.specs.Served.{Parks, Plain, given_records, given_tool, is_nonblocking as nonblocking, part_of, read_anew as anew, read_dry as dry_step, read_file, read_pipe as pipe_step, read_records as taking, read_text as text_step, read_tool as tool_step, records_for as records, text_in as text_of};
+ghost use Rattle.trace_mount.specs.Served.{Parks, Plain, given_records, given_tool, is_nonblocking as nonblocking, part_of, read_anew as anew, read_dry as dry_step, read_file, read_log as log_step, read_pipe as pipe_step, read_records as taking, read_text as text_step, read_tool as tool_step, records_for as records, text_in as text_of};
 ghost use Rattle.trace_mount.specs.Services.{OpenSeen, file_at, text_at};
 
 use crate::errno::errno_of;
@@ -71,7 +72,7 @@ impl Mount {
             }
             FileKind::Inject => tell_error(unique, Errno::EACCES, out),
             FileKind::Tool => self.read_tool(unique, handle, owner, file, offset, size, out),
-            FileKind::ErrorLog => tell_part(unique, &[], 0, 0, out),
+            FileKind::ErrorLog => self.read_log(unique, handle, owner, offset, size, out),
             FileKind::Text => self.read_text(unique, handle, owner, file, offset, size, out),
             FileKind::Trace => self.read_text(unique, handle, owner, file, offset, size, out),
         }
@@ -151,6 +152,55 @@ impl Mount {
                 self.files.keep_text(handle, text);
             }
             Ok(None) => tell_error(unique, Errno::ENOENT, out),
+            Err(_) => tell_error(unique, Errno::ENOMEM, out),
+        }
+    }
+
+    // READ of `error_log`.
+    fn read_log(
+        &mut self,
+        unique: u64,
+        handle: u64,
+        owner: Owner,
+        offset: u64,
+        size: u32,
+        out: &mut Vec<u8>,
+    )
+        requires room { most_reply ≤ vec_capacity out.old }
+        ensures told { (past : List Request) (own : OpenSeen) → HasLedTo past self.old → file_at handle self.old.files ≡ Some own
+            → own.owner ≡ owner
+            → IsTold past self.old self.new (log_step (service_of past self.old) handle offset size own) unique out.new.items }
+        ensures capacity { vec_capacity out.old ≤ vec_capacity out.new }
+    {
+        if offset == 0 {
+            return self.read_log_anew(unique, handle, owner, offset, size, out);
+        }
+        match self.files.text(handle) {
+            Some(text) => tell_part(unique, text, offset, size, out),
+            None => self.read_log_anew(unique, handle, owner, offset, size, out),
+        }
+    }
+
+    // Makes the text of `error_log`.
+    fn read_log_anew(
+        &mut self,
+        unique: u64,
+        handle: u64,
+        owner: Owner,
+        offset: u64,
+        size: u32,
+        out: &mut Vec<u8>,
+    )
+        requires room { most_reply ≤ vec_capacity out.old }
+        ensures told { TellsBy self.old self.new
+            (given_tool handle offset size self.old.files (Some (log_text owner self.old.errors))) unique out.new.items }
+        ensures capacity { vec_capacity out.old ≤ vec_capacity out.new }
+    {
+        match self.errors.text(self.alloc, owner) {
+            Ok(text) => {
+                tell_part(unique, text.as_bytes(), offset, size, out);
+                self.files.keep_text(handle, text);
+            }
             Err(_) => tell_error(unique, Errno::ENOMEM, out),
         }
     }

@@ -1,21 +1,27 @@
 //! Writes to open files, and folders that are made and removed.
 
-ghost use Rattle.std.specs.Prelude.{◌≡◌, ◌<◌, ◌^◌, List, Some, length};
+ghost use Rattle.std.specs.Prelude.{◌≡◌, ◌<◌, ◌^◌, ◌++◌, ◌∷◌, [], List, Some, length};
 ghost use Rattle.trace_command.specs.Requests.{Request};
+ghost use Rattle.trace_history.specs.Settings.{now_of};
+ghost use Rattle.error_log.specs.Errors.{ErrorSeen};
 ghost use Rattle.mount_tree.specs.FileKinds.{kind_of_file};
 ghost use Rattle.mount_tree.specs.declared.node.Node.TheVariants as nodes;
 ghost use Rattle.tool_files.specs.ToolWrites.{tool_write};
+ghost use Rattle.trace_mount.specs.Errnos.{errno_of as errno_is};
 ghost use Rattle.trace_mount.specs.Mounted.{HasLedTo, IsStep, StepsBy, service_of, terms_of};
-ghost use Rattle.trace_mount.specs.Served.{make_folder as making, make_instance as making_instance, remove_folder as removing, remove_instance, switch_text as text_of_switch, without_newline, write_file, write_other as other_step, write_same, write_switch as switch_step, write_text as text_step, write_tool as tool_step};
+ghost use Rattle.trace_mount.specs.Served.{errors_after, forgotten, make_folder as making, make_instance as making_instance, noted_refusal, remove_folder as removing, remove_instance, switch_text as text_of_switch, without_newline, write_file, write_log as log_step, write_other as other_step, write_same, write_switch as switch_step, write_text as text_step, write_tool as tool_step};
 ghost use Rattle.trace_mount.specs.Services.{file_at};
 ghost use Rattle.trace_mount.specs.Told.{known};
 ghost use Rattle.trace_mount.specs.private.ShortReplies.{IsShort};
 
 use crate::errno::errno_of;
 use crate::mount::Mount;
+use error_log::ErrorLog;
 use fuse_wire::{Errno, Reply};
 use mount_tree::{File, FileKind, Folder, Node, Owner};
 use tool_files::{ToolWrite, write_of};
+use trace_command::Refusal;
+use trace_explain::{write_offset, write_words};
 
 /// What is written, without a last newline.
 fn without_newline(bytes: &[u8]) -> &[u8]
@@ -36,6 +42,39 @@ fn switch_text(on: bool) -> &'static [u8]
     ensures { result.now ≡ text_of_switch on }
 {
     if on { b"1" } else { b"0" }
+}
+
+/// What was noted last was refused so.
+fn note_refusal(errors: &mut ErrorLog, path: &[u8], text: &[u8], refusal: &Refusal)
+    ensures { (before : List ErrorSeen) (error : ErrorSeen) → errors.old ≡ before ++ error ∷ []
+        → errors.new ≡ errors_after (noted_refusal error path.now text.now refusal.now) before }
+{
+    match refusal {
+        Refusal::Memory => errors.take_back(),
+        refusal => {
+            let words = write_words(path, text, refusal);
+            errors.finish(words, write_offset(path, text, refusal));
+        }
+    }
+}
+
+/// The error that is replied.
+fn refuse(errors: &mut ErrorLog, path: &[u8], text: &[u8], refusal: Refusal) -> Errno
+    ensures noted { (before : List ErrorSeen) (error : ErrorSeen) → errors.old ≡ before ++ error ∷ []
+        → errors.new ≡ errors_after (noted_refusal error path.now text.now refusal) before }
+    ensures errno { result ≡ errno_is refusal }
+{
+    note_refusal(errors, path, text, &refusal);
+    errno_of(&refusal)
+}
+
+/// Forgets the errors of an instance, by its folder.
+fn forget(errors: &mut ErrorLog, folder: Option<Node>)
+    ensures { errors.new ≡ errors_after (forgotten folder) errors.old }
+{
+    if let Some(Node::Folder(owner, _)) = folder {
+        errors.clear(owner);
+    }
 }
 
 impl Mount {
@@ -73,13 +112,13 @@ impl Mount {
         bytes: &[u8],
     ) -> Reply<'static>
         requires { length bytes.now < 2 ^ 32 }
-        ensures step { StepsBy self.old self.new (other_step self.old.live.config self.old.scene handle owner file append bytes.now
-            self.old.files (kind_of_file file)) result }
+        ensures step { (past : List Request) → HasLedTo past self.old → IsStep past self.old self.new (other_step self.old.live.config self.old.scene
+            (now_of past) handle owner file append bytes.now self.old.files (kind_of_file file)) (Some result) }
         ensures short { IsShort result }
     {
         match file.kind() {
             FileKind::Tool => self.write_tool(handle, owner, file, bytes),
-            FileKind::ErrorLog => self.write_nothing(handle, bytes),
+            FileKind::ErrorLog => self.write_log(handle, owner, bytes),
             FileKind::Text | FileKind::Trace | FileKind::Pipe | FileKind::Inject => {
                 self.write_text(handle, owner, file, append, bytes)
             }
@@ -92,6 +131,19 @@ impl Mount {
         ensures step { StepsBy self.old self.new (write_same handle (length bytes.now) self.old.files) result }
         ensures short { IsShort result }
     {
+        self.files.note_write(handle);
+        Reply::Written {
+            size: bytes.len() as u32,
+        }
+    }
+
+    // A write to `error_log`: the errors of its instance are forgotten.
+    fn write_log(&mut self, handle: u64, owner: Owner, bytes: &[u8]) -> Reply<'static>
+        requires { length bytes.now < 2 ^ 32 }
+        ensures step { StepsBy self.old self.new (log_step handle owner (length bytes.now) self.old.files) result }
+        ensures short { IsShort result }
+    {
+        self.errors.clear(owner);
         self.files.note_write(handle);
         Reply::Written {
             size: bytes.len() as u32,
@@ -146,18 +198,29 @@ impl Mount {
         bytes: &[u8],
     ) -> Reply<'static>
         requires { length bytes.now < 2 ^ 32 }
-        ensures step { StepsBy self.old self.new
-            (text_step self.old.scene handle (nodes.File owner file) append bytes.now self.old.files) result }
+        ensures step { (past : List Request) → HasLedTo past self.old → IsStep past self.old self.new
+            (text_step self.old.scene (now_of past) handle owner file append bytes.now self.old.files) (Some result) }
         ensures short { IsShort result }
     {
-        match self.ask_write(owner, file, append, without_newline(bytes)) {
+        let text = without_newline(bytes);
+        let Ok(path) = self.path_of(owner, file) else {
+            return Reply::Error(Errno::ENOMEM);
+        };
+        let time = self.live.now();
+        let Ok(()) = self.errors.begin(owner, time, path.as_bytes(), text) else {
+            return Reply::Error(Errno::ENOMEM);
+        };
+        match self.ask_write(owner, file, append, text) {
             Ok(_) => {
+                self.errors.take_back();
                 self.files.note_write(handle);
                 Reply::Written {
                     size: bytes.len() as u32,
                 }
             }
-            Err(refusal) => Reply::Error(errno_of(&refusal)),
+            Err(refusal) => {
+                Reply::Error(refuse(&mut self.errors, path.as_bytes(), text, refusal))
+            }
         }
     }
 
@@ -194,7 +257,7 @@ impl Mount {
     /// RMDIR: in `instances` alone.
     pub(crate) fn remove_folder(&mut self, folder: Option<Node>, name: &[u8]) -> Reply<'static>
         ensures step { StepsBy self.old self.new
-            (removing name.now self.old.files (known self.old.scene folder)) result }
+            (removing self.old.scene name.now self.old.files (known self.old.scene folder)) result }
         ensures short { IsShort result }
     {
         match self.known(folder) {
@@ -205,11 +268,16 @@ impl Mount {
     }
 
     fn remove_instance(&mut self, name: &[u8]) -> Reply<'static>
-        ensures step { StepsBy self.old self.new (remove_instance name.now self.old.files) result }
+        ensures step { StepsBy self.old self.new (remove_instance self.old.scene name.now self.old.files) result }
         ensures short { IsShort result }
     {
+        let instances = Node::Folder(Owner::Top, Folder::Instances);
+        let folder = self.scene.lookup(instances, name);
         match self.ask_rmdir(name) {
-            Ok(_) => Reply::Done,
+            Ok(_) => {
+                forget(&mut self.errors, folder);
+                Reply::Done
+            }
             Err(refusal) => Reply::Error(errno_of(&refusal)),
         }
     }

@@ -21,7 +21,8 @@ returns-in-Ok-serve-clause-service g c =
     (devices (reader.remaining c.args.reader.now) (reader.log c.args.reader.now) (writer.contents c.args.writer.now) (writer.offers c.args.writer.now) (writer.log c.args.writer.now))
     (devices (reader.remaining c.serve.new.reader) (reader.log c.serve.new.reader) (writer.contents c.serve.new.writer) (writer.offers c.serve.new.writer) (writer.log c.serve.new.writer))
     all.0 all.1 (subst (IsMounted []) (sym same) c.in-Ok.ensures.made) (ap terms_of same ∙ c.in-Ok.ensures.terms)
-    (ap (λ (m : MountSeen). m.files) same ∙ c.in-Ok.ensures.closed.0) (ap (λ (m : MountSeen). m.parked) same ∙ c.in-Ok.ensures.closed.1) c.new-server.ensures.lives all.2 all.3
+    (ap (λ (m : MountSeen). m.files) same ∙ c.in-Ok.ensures.closed.0) (ap (λ (m : MountSeen). m.parked) same ∙ c.in-Ok.ensures.closed.1)
+    (ap (λ (m : MountSeen). m.errors) same ∙ c.in-Ok.ensures.closed.2) c.new-server.ensures.lives all.2 all.3
 
 pub returns-clause-service : goal.returns-clause-service
 returns-clause-service g c =
@@ -33,4 +34,5 @@ returns-clause-service g c =
     (devices (reader.remaining c.args.reader.now) (reader.log c.args.reader.now) (writer.contents c.args.writer.now) (writer.offers c.args.writer.now) (writer.log c.args.writer.now))
     (devices (reader.remaining c.serve.new.reader) (reader.log c.serve.new.reader) (writer.contents c.serve.new.writer) (writer.offers c.serve.new.writer) (writer.log c.serve.new.writer))
     all.0 all.1 (subst (IsMounted []) (sym same) c.in-Ok.ensures.made) (ap terms_of same ∙ c.in-Ok.ensures.terms)
-    (ap (λ (m : MountSeen). m.files) same ∙ c.in-Ok.ensures.closed.0) (ap (λ (m : MountSeen). m.parked) same ∙ c.in-Ok.ensures.closed.1) c.new-server.ensures.lives all.2 all.3
+    (ap (λ (m : MountSeen). m.files) same ∙ c.in-Ok.ensures.closed.0) (ap (λ (m : MountSeen). m.parked) same ∙ c.in-Ok.ensures.closed.1)
+    (ap (λ (m : MountSeen). m.errors) same ∙ c.in-Ok.ensures.closed.2) c.new-server.ensures.lives all.2 all.3

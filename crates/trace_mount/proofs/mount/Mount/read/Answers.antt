@@ -1,4 +1,4 @@
-use Rattle.std.proofs.Common.{[], sym}
+use Rattle.std.proofs.Common.{sym}
 use Rattle.fuse_wire.specs.declared.errno.Errno.TheVariants.{EACCES}
 use Rattle.fuse_wire.specs.declared.reply.Reply.TheVariants as replies
 use Rattle.mount_tree.specs.declared.file.FileKind.TheVariants as kinds
@@ -43,11 +43,11 @@ returns-in-Tool-clause-told c =
 pub returns-in-ErrorLog-clause-told : goal.returns-in-ErrorLog-clause-told
 returns-in-ErrorLog-clause-told c =
     let is = rw c.file-file.ensures at c.in-ErrorLog.ensures in
+    let told = rw (← c.self.view_is) at c.read_log.ensures.told in
     rw (← c.self.view_is) (λ past mounted.
-    kind-told past (the_view c.self.inside) (the_view c.self.inside) c.args.read c.args.offset c.args.flags c.in-Some.open_file.now
-    kinds.ErrorLog c.tell_part.new.out.items c.in-Some.ensures is
-    (plain-told past (the_view c.self.inside) (replies.Data []) c.args.read.unique c.tell_part.new.out.items mounted
-    c.tell_part.ensures.bytes))
+    kind-told past (the_view c.self.inside) c.read_log.new.self c.args.read c.args.offset c.args.flags c.in-Some.open_file.now
+    kinds.ErrorLog c.read_log.new.out.items c.in-Some.ensures is
+    (told past c.in-Some.open_file.now mounted (sym c.in-Some.ensures) (sym c.owner-owner.ensures)))
 
 pub returns-in-Text-clause-told : goal.returns-in-Text-clause-told
 returns-in-Text-clause-told c =
