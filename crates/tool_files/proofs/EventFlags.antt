@@ -3,6 +3,7 @@ use Rattle.std.proofs.Common.{◌≡◌, ℕ, Bool, true, false, cond, List, [],
 use Rattle.std.specs.List.{AllByRecursion, flat_map}
 use Rattle.std.specs.Option.{option_to_list}
 use Rattle.std.proofs.lemmas.List.{length-map, map-append}
+use Rattle.std.proofs.lemmas.Option.{get_or_from_slice_get}
 use Rattle.trace_command.specs.Requests.{Request}
 use Rattle.trace_command.specs.declared.command.Config.{Config}
 use Rattle.trace_format.specs.Definitions.{Definition}
@@ -62,7 +63,7 @@ events_at says (request ∷ past) = by (declares request) (events_at says past)
 
 same_line : (flags : List Bool) (instance : Option (List ℕ)) (past : List Request) (e : Event)
     → slice_get flags e.index ≡ Some (is_enabled instance e.name past) → flagged_line flags e ≡ enabled_line instance past e
-same_line flags instance past e at = rw at refl
+same_line flags instance past e at = rw (get_or_from_slice_get flags e.index (is_enabled instance e.name past) false at) refl
 
 same_lines : (flags : List Bool) (instance : Option (List ℕ)) (past : List Request) (events : List Event)
     → AllByRecursion (IsAt flags (λ name. is_enabled instance name past)) events

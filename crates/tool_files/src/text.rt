@@ -1,8 +1,7 @@
 //! What is read.
 
-ghost use Rattle.std.specs.Prelude.{◌≡◌, ◌++◌, List, ℕ, true, false, unwrap_or, IfOk, OnOk};
+ghost use Rattle.std.specs.Prelude.{◌≡◌, ◌++◌, List, ℕ, true, false, IfOk, OnOk};
 ghost use Rattle.std.specs.Fmt.{decimal};
-ghost use Rattle.std.specs.List.{slice_get};
 ghost use Rattle.std.specs.Option.{option_map};
 ghost use Rattle.trace_command.specs.Requests.{Request};
 ghost use Rattle.trace_live.specs.Lives.{IsLive};
@@ -67,21 +66,11 @@ fn push_event(out: &mut Vec<u8>, name: &[u8]) -> Result<(), AllocError>
     Ok(())
 }
 
-/// Whether the event at this index is enabled.
-fn is_enabled(instance: &Instance, index: u8) -> bool
-    ensures { result ≡ unwrap_or (slice_get instance.now.enabled index) false }
-{
-    match instance.enabled().get(usize::from(index)) {
-        Some(enabled) => *enabled,
-        None => false,
-    }
-}
-
 /// Appends the line of an event, if it is enabled.
 fn push_enabled(out: &mut Vec<u8>, instance: &Instance, event: &Event) -> Result<(), AllocError>
     ensures { OnOk result (out.new.items ≡ out.old.items ++ flagged_line instance.now.enabled event.now) }
 {
-    if is_enabled(instance, event.index) {
+    if instance.is_enabled(usize::from(event.index)) {
         push_event(out, event.name.as_bytes())
     } else {
         Ok(())

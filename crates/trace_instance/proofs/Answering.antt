@@ -36,43 +36,39 @@ use Rattle.trace_instance.specs.declared.write.WrittenText.{WrittenText}
 use Rattle.trace_instance.proofs.Attached.{IsNamed, all-are, all_left, hists-stay, own_left, snapshot-attached, snapshot-removed, snapshot-stays, tables-stay, text_request}
 use Rattle.trace_history.proofs.NamedTables.{fit-fewer}
 use Rattle.trace_instance.proofs.FittingTables.{fit-tables, left-fit}
-use Rattle.trace_instance.proofs.NamedIn.{copied-some}
+use Rattle.trace_instance.proofs.EachEvent.{any-map}
 use Rattle.trace_instance.proofs.OneSays.{IsOnlyOne, found-only, some-position}
 use Rattle.trace_instance.proofs.Snapshotting.{none-is, some-mapped, there-is}
 
 -- ---- what the requests say of what is kept
 
 has-snapshot : (name : Option (List ℕ)) (past : List Request) (event : Definition) (kept : EventTriggers) → AreKept name past event kept
-    → is_some (trigger_of name event past) ≡ is_some kept.snapshot
+    → is_some (trigger_of name event past) ≡ is_some kept.own.now.trigger
 has-snapshot name past event kept are =
-    sym (some-mapped (instances.kept_as past event) (trigger_of name event past)) ∙ ap is_some (sym are.snapshot) ∙ copied-some kept.snapshot
-
-any-map : {A B : Type 0} (test : B → Bool) (f : A → B) (xs : List A) → list_any test (map f xs) ≡ list_any (λ (x : A). test (f x)) xs
-any-map test f [] = refl
-any-map test f (x ∷ xs) = ap (λ (b : Bool). test (f x) || b) (any-map test f xs)
+    sym (some-mapped (instances.kept_as past event) (trigger_of name event past)) ∙ ap is_some (sym are.snapshot)
 
 pub has-same : (name : Option (List ℕ)) (past : List Request) (event : Definition) (kept : EventTriggers) (spec : SpecSeen) → AreKept name past event kept
-    → has_same spec (hists_of name event past) ≡ list_any (says_same spec) kept.hists.now
+    → has_same spec (hists_of name event past) ≡ list_any (says_same spec) kept.own.now.hists
 has-same name past event kept spec are =
     sym (any-map (says_same spec) attached_as (hists_of name event past)) ∙ ap (list_any (says_same spec)) (sym are.hists)
 
 -- the index of the one that says the same, of those that `>` or `>>` leaves
 abbrev pub same_left : SpecSeen → EventTriggers → Bool → Option ℕ
-same_left spec kept append = if append then position (says_same spec) kept.hists.now else None
+same_left spec kept append = if append then position (says_same spec) kept.own.now.hists else None
 
 pub has-same_left : (name : Option (List ℕ)) (past : List Request) (event : Definition) (kept : EventTriggers) (spec : SpecSeen) (append : Bool)
     → AreKept name past event kept → has_same spec (own_left name past event append) ≡ is_some (same_left spec kept append)
-has-same_left name past event kept spec true are = has-same name past event kept spec are ∙ sym (some-position (says_same spec) kept.hists.now)
+has-same_left name past event kept spec true are = has-same name past event kept spec are ∙ sym (some-position (says_same spec) kept.own.now.hists)
 has-same_left name past event kept spec false are = refl
 
 -- and it is the only one
 pub only-left : (name : Option (List ℕ)) (past : List Request) (event : Definition) (kept : EventTriggers) (spec : SpecSeen) (index : ℕ) (append : Bool)
     → AreKept name past event kept → same_left spec kept append ≡ Some index → IsOnlyOne spec (if append then kept_hists name past event else []) index
-only-left name past event kept spec index true are found = found-only name past event spec kept.hists.now index are.hists found
+only-left name past event kept spec index true are found = found-only name past event spec kept.own.now.hists index are.hists found
 only-left name past event kept spec index false are found = absurd (none-some index found)
 
 many-left : (name : Option (List ℕ)) (past : List Request) (event : Definition) (kept : EventTriggers) (append : Bool) → AreKept name past event kept
-    → length (own_left name past event append) ≡ (if append then length kept.hists.now else 0)
+    → length (own_left name past event append) ≡ (if append then length kept.own.now.hists else 0)
 many-left name past event kept true are =
     sym (length-map (hists_of name event past) attached_as) ∙ ap length (sym are.hists)
 many-left name past event kept false are = refl
@@ -227,14 +223,14 @@ text-nothing event kept written is = λ name past number are. (
 -- ---- triggers for snapshots
 
 some-snapshot : (name : Option (List ℕ)) (past : List Request) (event : Definition) (kept : EventTriggers) → AreKept name past event kept
-    → is_some kept.snapshot ≡ true → (t : triggers.Trigger) × (trigger_of name event past ≡ Some t)
+    → is_some kept.own.now.trigger ≡ true → (t : triggers.Trigger) × (trigger_of name event past ≡ Some t)
 some-snapshot name past event kept are some = there-is (trigger_of name event past) (has-snapshot name past event kept are ∙ some)
 
 no-snapshot : (name : Option (List ℕ)) (past : List Request) (event : Definition) (kept : EventTriggers) → AreKept name past event kept
-    → is_some kept.snapshot ≡ false → trigger_of name event past ≡ None
+    → is_some kept.own.now.trigger ≡ false → trigger_of name event past ≡ None
 no-snapshot name past event kept are none = none-is (trigger_of name event past) (has-snapshot name past event kept are ∙ none)
 
-pub attach-exists : (trigger : SnapshotTrigger) (kept : EventTriggers) (written : WrittenText) → is_some kept.snapshot ≡ true
+pub attach-exists : (trigger : SnapshotTrigger) (kept : EventTriggers) (written : WrittenText) → is_some kept.own.now.trigger ≡ true
     → IsAttached trigger kept written (Err refusal.TriggerExists)
 attach-exists trigger kept written some = λ event name past number are is.
     let there = some-snapshot name past event kept are some in
@@ -243,7 +239,7 @@ attach-exists trigger kept written some = λ event name past number are is.
     ∙ ap (λ (o : Option triggers.Trigger). said_answer written.append o (own_left name past event written.append) (all_left name past event written.append) (Ok (said.Attach trigger))) there.1)
 
 attach-answer : (trigger : SnapshotTrigger) (kept : EventTriggers) (written : WrittenText) (event : Definition) (name : Option (List ℕ)) (past : List Request)
-    → AreKept name past event kept → is_some kept.snapshot ≡ false → said_of event written.text.now ≡ Ok (said.Attach trigger)
+    → AreKept name past event kept → is_some kept.own.now.trigger ≡ false → said_of event written.text.now ≡ Ok (said.Attach trigger)
     → trigger_answer name past written.append written.text.now event ≡ room_answer (trigger_of name event past) (own_left name past event written.append)
 attach-answer trigger kept written event name past are none is =
     let gone = no-snapshot name past event kept are none in
@@ -251,7 +247,7 @@ attach-answer trigger kept written event name past are none is =
     ∙ ap (λ (o : Option triggers.Trigger). said_answer written.append o (own_left name past event written.append) (all_left name past event written.append) (Ok (said.Attach trigger))) gone
     ∙ ap (λ (o : Option triggers.Trigger). room_answer o (own_left name past event written.append)) (sym gone)
 
-pub attach-full : (trigger : SnapshotTrigger) (kept : EventTriggers) (written : WrittenText) → is_some kept.snapshot ≡ false
+pub attach-full : (trigger : SnapshotTrigger) (kept : EventTriggers) (written : WrittenText) → is_some kept.own.now.trigger ≡ false
     → 4 ≤ kept_count kept written.append → IsAttached trigger kept written (Err refusal.TooMany)
 attach-full trigger kept written none many = λ event name past number are is.
     let full : 4 ≤ trigger_count (trigger_of name event past) (own_left name past event written.append) =
@@ -260,7 +256,7 @@ attach-full trigger kept written none many = λ event name past number are is.
     (attach-answer trigger kept written event name past are none is
     ∙ room-full (trigger_of name event past) (own_left name past event written.append) full)
 
-pub attach-done : (trigger : SnapshotTrigger) (kept : EventTriggers) (written : WrittenText) → is_some kept.snapshot ≡ false
+pub attach-done : (trigger : SnapshotTrigger) (kept : EventTriggers) (written : WrittenText) → is_some kept.own.now.trigger ≡ false
     → kept_count kept written.append < 4
     → IsAttached trigger kept written (Ok (Attach (record { number = written.number; left = trigger.count; filter = trigger.filter })))
 attach-done trigger kept written none few = λ event name past number are is.
@@ -281,7 +277,7 @@ attach-done trigger kept written none few = λ event name past number are is.
     )
 
 pub text-detaches : (event : Definition) (kept : EventTriggers) (written : WrittenText) → said_of event written.text.now ≡ Ok said.Remove
-    → is_some kept.snapshot ≡ true → IsChangeOf event kept written (Ok Detach)
+    → is_some kept.own.now.trigger ≡ true → IsChangeOf event kept written (Ok Detach)
 text-detaches event kept written is some = λ name past number are.
     let there = some-snapshot name past event kept are some in (
       answered name past event written.append written.text.now (Ok said.Remove) is
@@ -298,7 +294,7 @@ text-detaches event kept written is some = λ name past number are.
     )
 
 pub text-lacks : (event : Definition) (kept : EventTriggers) (written : WrittenText) → said_of event written.text.now ≡ Ok said.Remove
-    → is_some kept.snapshot ≡ false → IsChangeOf event kept written (Err refusal.NoSuchTrigger)
+    → is_some kept.own.now.trigger ≡ false → IsChangeOf event kept written (Err refusal.NoSuchTrigger)
 text-lacks event kept written is none = λ name past number are.
     refused refusal.NoSuchTrigger (trigger_answer name past written.append written.text.now event)
     (answered name past event written.append written.text.now (Ok said.Remove) is

@@ -75,13 +75,13 @@ said-same name past event append spec same =
 
 -- the book has the event's hist triggers that are left
 left-now : (name : Option (List ℕ)) (past : List Request) (event : Definition) (kept : EventTriggers) (spec : SpecSeen) (append : Bool) (index : ℕ)
-    → AreKept name past event kept → same_left spec kept append ≡ Some index → (if append then kept_hists name past event else []) ≡ kept.hists.now
+    → AreKept name past event kept → same_left spec kept append ≡ Some index → (if append then kept_hists name past event else []) ≡ kept.own.now.hists
 left-now name past event kept spec true index are found = sym are.hists
 left-now name past event kept spec false index are found = absurd (cc)
 
 ask-done : (spec : SpecSeen) (event : Definition) (kept : EventTriggers) (written : WrittenText) (index : ℕ) (d : AttachedHist)
     → same_left spec kept written.append ≡ Some index
-    → (spec.action ≡ action.Attach → ⊥) → IsAsked spec event kept written (Ok (AskTable (get_or kept.hists.now index d).table spec.action))
+    → (spec.action ≡ action.Attach → ⊥) → IsAsked spec event kept written (Ok (AskTable (get_or kept.own.now.hists index d).table spec.action))
 ask-done spec event kept written index d found other = λ name past number are is.
     let same : is_some (same_left spec kept written.append) ≡ true = ap is_some found in
     let there : has_same spec (own_left name past event written.append) ≡ true = has-same_left name past event kept spec written.append are ∙ same in
@@ -105,11 +105,11 @@ ask-done spec event kept written index d found other = λ name past number are i
 
 pub ask-again : (spec : SpecSeen) (event : Definition) (kept : EventTriggers) (written : WrittenText) (index : ℕ) (d : AttachedHist)
     → same_left spec kept written.append ≡ Some index
-    → IsAsked spec event kept written (asked_change (get_or kept.hists.now index d).table spec.action)
+    → IsAsked spec event kept written (asked_change (get_or kept.own.now.hists index d).table spec.action)
 ask-again spec event kept written index d found = by spec.action refl
   where
     table : ℕ
-    table = (get_or kept.hists.now index d).table
+    table = (get_or kept.own.now.hists index d).table
 
     done : (a : Action) → spec.action ≡ a → (a ≡ action.Attach → ⊥) → IsAsked spec event kept written (Ok (AskTable table a))
     done a is other =
@@ -178,14 +178,14 @@ fit-answer spec kept written event name past none attaching few are is =
 pub few-left : (name : Option (List ℕ)) (past : List Request) (event : Definition) (kept : EventTriggers) (append : Bool) → AreKept name past event kept
     → kept_count kept append < 4 → length (if append then kept_hists name past event else []) < 4
 few-left name past event kept true are few =
-    let many : length kept.hists.now ≡ length (kept_hists name past event) = ap length are.hists in
+    let many : length kept.own.now.hists ≡ length (kept_hists name past event) = ap length are.hists in
     omega (arith, few, many)
 few-left name past event kept false are few = omega arith
 
 -- ---- removals
 
 removed-answer : (append same : Bool) (event : Definition) (kept : EventTriggers) (written : WrittenText) (spec : SpecSeen) (name : Option (List ℕ)) (past : List Request)
-    → written.append ≡ append → list_any (says_same spec) kept.hists.now ≡ same → AreKept name past event kept
+    → written.append ≡ append → list_any (says_same spec) kept.own.now.hists ≡ same → AreKept name past event kept
     → said_of event written.text.now ≡ Ok (said.RemoveHist spec)
     → trigger_answer name past written.append written.text.now event ≡ (if not append || same then Ok Done else Err refusal.NoSuchTrigger)
 removed-answer true same event kept written spec name past appends is are says =
@@ -210,9 +210,9 @@ fit-removed name past event id append text spec named is fit =
 
 -- the same one
 pub remove-done : (spec : SpecSeen) (kept : EventTriggers) (written : WrittenText) (index : ℕ) → written.append ≡ true
-    → position (says_same spec) kept.hists.now ≡ Some index → IsRemovedHist spec kept written (Ok (DetachHist index))
+    → position (says_same spec) kept.own.now.hists ≡ Some index → IsRemovedHist spec kept written (Ok (DetachHist index))
 remove-done spec kept written index appends found = λ event name past number are is.
-    let same : list_any (says_same spec) kept.hists.now ≡ true = sym (some-position (says_same spec) kept.hists.now) ∙ ap is_some found in
+    let same : list_any (says_same spec) kept.own.now.hists ≡ true = sym (some-position (says_same spec) kept.own.now.hists) ∙ ap is_some found in
     let left : same_left spec kept written.append ≡ Some index = rw appends found in
     let only = only-left name past event kept spec index written.append are left in (
       removed-answer true true event kept written spec name past appends same are is,
@@ -230,9 +230,9 @@ remove-done spec kept written index appends found = λ event name past number ar
 
 -- none says the same
 pub remove-lacks : (spec : SpecSeen) (kept : EventTriggers) (written : WrittenText) → written.append ≡ true
-    → position (says_same spec) kept.hists.now ≡ None → IsRemovedHist spec kept written (Err refusal.NoSuchTrigger)
+    → position (says_same spec) kept.own.now.hists ≡ None → IsRemovedHist spec kept written (Err refusal.NoSuchTrigger)
 remove-lacks spec kept written appends none = λ event name past number are is.
-    let lacking : list_any (says_same spec) kept.hists.now ≡ false = sym (some-position (says_same spec) kept.hists.now) ∙ ap is_some none in
+    let lacking : list_any (says_same spec) kept.own.now.hists ≡ false = sym (some-position (says_same spec) kept.own.now.hists) ∙ ap is_some none in
     refused refusal.NoSuchTrigger (trigger_answer name past written.append written.text.now event)
     (removed-answer true false event kept written spec name past appends lacking are is)
 
@@ -244,7 +244,7 @@ none-left spec false hists is = refl
 
 pub remove-keeps : (spec : SpecSeen) (kept : EventTriggers) (written : WrittenText) → written.append ≡ false → IsRemovedHist spec kept written (Ok Keep)
 remove-keeps spec kept written anew = λ event name past number are is. (
-  removed-answer false (list_any (says_same spec) kept.hists.now) event kept written spec name past anew refl are is,
+  removed-answer false (list_any (says_same spec) kept.own.now.hists) event kept written spec name past anew refl are is,
   record {
     snapshot = snapshot-stays name past event written.append written.text.now (Ok (said.RemoveHist spec)) is refl;
     hists = hists-removed name past event are.id written.append written.text.now spec are.named is ∙ none-left spec written.append (kept_hists name past event) anew;

@@ -1,5 +1,6 @@
 pub mod HistSteps
 pub mod KeptLists
+pub mod EachEvent
 pub mod TableStands
 pub mod Attached
 pub mod OneSays

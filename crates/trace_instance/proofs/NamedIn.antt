@@ -3,13 +3,15 @@ use Rattle.std.proofs.Common.{◌≡◌, ◌⊎◌, inl, inr, ℕ, suc, ◌+◌,
 use Rattle.std.specs.List.{find, flat_map}
 use Rattle.std.specs.Option.{option_copied, option_or}
 use Rattle.std.proofs.Math.Seq.{drop-cons, drop-length}
-use Rattle.std.proofs.lemmas.List.{get_or-set_other, get_or-set_same, length-set}
+use Rattle.std.proofs.lemmas.List.{get_or-set_other, get_or-set_same, length-map, length-set}
 use Rattle.std.proofs.lemmas.List.Folds.{find-append}
 use Rattle.trace_trigger.specs.HistSpecs.{SpecSeen}
 use Rattle.trace_instance.specs.private.SharedTables.{left_of, named_in, names_table_of}
+use Rattle.trace_instance.specs.private.EventLists.{all_hists}
 use Rattle.trace_instance.specs.declared.attach.EventTriggers.{EventTriggers}
+use Rattle.trace_instance.specs.declared.event.InstanceEvent.{InstanceEvent}
 use Rattle.trace_instance.specs.declared.hists.AttachedHist.{AttachedHist}
-use Rattle.trace_instance.proofs.Snapshotting.{same-at}
+use Rattle.trace_instance.proofs.EachEvent.{read}
 
 -- what is found from a list on is found in that one, or else from the next one on
 named-next : (spec : SpecSeen) (lists : List (List AttachedHist)) (i : ℕ) → i < length lists
@@ -22,15 +24,16 @@ named-next spec lists i inside =
 
 -- the lists of which one is to be left out
 many-left : (triggers : EventTriggers) (append : Bool) → length (left_of triggers append) ≡ length triggers.all.now
-many-left triggers true = refl
-many-left triggers false = length-set triggers.all.now triggers.event []
+many-left triggers true = length-map triggers.all.now (λ (e : InstanceEvent). e.hists)
+many-left triggers false =
+    length-set (all_hists triggers.all.now) triggers.event [] ∙ length-map triggers.all.now (λ (e : InstanceEvent). e.hists)
 
 -- one that is left
 left-at : (triggers : EventTriggers) (append : Bool) (i : ℕ) → (append ≡ true) ⊎ (i ≡ triggers.event → ⊥)
-    → get_or (left_of triggers append) i [] ≡ get_or triggers.all.now i []
+    → get_or (left_of triggers append) i [] ≡ get_or (all_hists triggers.all.now) i []
 left-at triggers true i which = refl
 left-at triggers false i (inl is) = absurd (cc)
-left-at triggers false i (inr other) = get_or-set_other triggers.all.now triggers.event i [] [] other
+left-at triggers false i (inr other) = get_or-set_other (all_hists triggers.all.now) triggers.event i [] [] other
 
 -- nothing is found from the end on
 pub named-end : (spec : SpecSeen) (triggers : EventTriggers) (append : Bool) (i : ℕ) → i ≡ length triggers.all.now
@@ -39,13 +42,14 @@ named-end spec triggers append i is =
     ap (λ (k : ℕ). named_in spec (drop k (left_of triggers append))) (is ∙ sym (many-left triggers append))
     ∙ ap (named_in spec) (drop-length (left_of triggers append))
 
-list-next : (spec : SpecSeen) (triggers : EventTriggers) (append : Bool) (i : ℕ) (hists : List AttachedHist)
-    → i < length triggers.all.now → hists ≡ get_or triggers.all.now i hists → (append ≡ true) ⊎ (i ≡ triggers.event → ⊥)
+list-next : (spec : SpecSeen) (triggers : EventTriggers) (append : Bool) (i : ℕ) (one : InstanceEvent)
+    → i < length triggers.all.now → one ≡ get_or triggers.all.now i one → (append ≡ true) ⊎ (i ≡ triggers.event → ⊥)
     → named_in spec (drop i (left_of triggers append))
-    ≡ option_or (find (names_table_of spec) hists) (named_in spec (drop (i + 1) (left_of triggers append)))
-list-next spec triggers append i hists inside at which =
+    ≡ option_or (find (names_table_of spec) one.hists) (named_in spec (drop (i + 1) (left_of triggers append)))
+list-next spec triggers append i one inside at which =
     let within : i < length (left_of triggers append) = omega (arith, inside, many-left triggers append) in
-    let here : get_or (left_of triggers append) i [] ≡ hists = left-at triggers append i which ∙ same-at triggers.all.now i [] hists inside ∙ sym at in
+    let here : get_or (left_of triggers append) i [] ≡ one.hists =
+    left-at triggers append i which ∙ sym (read (λ (e : InstanceEvent). e.hists) triggers.all.now i one [] at inside) in
     named-next spec (left_of triggers append) i within
     ∙ ap (λ (l : List AttachedHist). option_or (find (names_table_of spec) l) (named_in spec (drop (i + 1) (left_of triggers append)))) here
 
@@ -59,31 +63,32 @@ none-first None other is = refl
 none-first (Some x) other is = absurd (cc)
 
 -- one that is found there is the first
-pub named-here : (spec : SpecSeen) (triggers : EventTriggers) (append : Bool) (i : ℕ) (hists : List AttachedHist)
-    → i < length triggers.all.now → hists ≡ get_or triggers.all.now i hists → (append ≡ true) ⊎ (i ≡ triggers.event → ⊥)
-    → is_some (find (names_table_of spec) hists) ≡ true → named_in spec (drop i (left_of triggers append)) ≡ find (names_table_of spec) hists
-named-here spec triggers append i hists inside at which found =
-    list-next spec triggers append i hists inside at which
-    ∙ some-first (find (names_table_of spec) hists) (named_in spec (drop (i + 1) (left_of triggers append))) found
+pub named-here : (spec : SpecSeen) (triggers : EventTriggers) (append : Bool) (i : ℕ) (one : InstanceEvent)
+    → i < length triggers.all.now → one ≡ get_or triggers.all.now i one → (append ≡ true) ⊎ (i ≡ triggers.event → ⊥)
+    → is_some (find (names_table_of spec) one.hists) ≡ true → named_in spec (drop i (left_of triggers append)) ≡ find (names_table_of spec) one.hists
+named-here spec triggers append i one inside at which found =
+    list-next spec triggers append i one inside at which
+    ∙ some-first (find (names_table_of spec) one.hists) (named_in spec (drop (i + 1) (left_of triggers append))) found
 
 -- where none of it is named, the next ones are looked through
-pub named-further : (spec : SpecSeen) (triggers : EventTriggers) (append : Bool) (i : ℕ) (hists : List AttachedHist)
-    → i < length triggers.all.now → hists ≡ get_or triggers.all.now i hists → (append ≡ true) ⊎ (i ≡ triggers.event → ⊥)
-    → is_some (find (names_table_of spec) hists) ≡ false
+pub named-further : (spec : SpecSeen) (triggers : EventTriggers) (append : Bool) (i : ℕ) (one : InstanceEvent)
+    → i < length triggers.all.now → one ≡ get_or triggers.all.now i one → (append ≡ true) ⊎ (i ≡ triggers.event → ⊥)
+    → is_some (find (names_table_of spec) one.hists) ≡ false
     → named_in spec (drop i (left_of triggers append)) ≡ named_in spec (drop (i + 1) (left_of triggers append))
-named-further spec triggers append i hists inside at which none =
-    list-next spec triggers append i hists inside at which
-    ∙ none-first (find (names_table_of spec) hists) (named_in spec (drop (i + 1) (left_of triggers append))) none
+named-further spec triggers append i one inside at which none =
+    list-next spec triggers append i one inside at which
+    ∙ none-first (find (names_table_of spec) one.hists) (named_in spec (drop (i + 1) (left_of triggers append))) none
 
 -- and so it is with a list that is left out
 pub named-past : (spec : SpecSeen) (triggers : EventTriggers) (append : Bool) (i : ℕ) → i < length triggers.all.now → append ≡ false → i ≡ triggers.event
     → named_in spec (drop i (left_of triggers append)) ≡ named_in spec (drop (i + 1) (left_of triggers append))
 named-past spec triggers true i inside anew is = absurd (cc)
 named-past spec triggers false i inside anew is =
-    let lists : List (List AttachedHist) = set triggers.all.now triggers.event [] in
-    let within : i < length lists = omega (arith, inside, length-set triggers.all.now triggers.event []) in
+    let lists : List (List AttachedHist) = set (all_hists triggers.all.now) triggers.event [] in
+    let within : i < length lists = omega (arith, inside, many-left triggers false) in
+    let many = length-map triggers.all.now (λ (e : InstanceEvent). e.hists) in
     let gone : get_or lists i [] ≡ [] =
-    ap (λ (k : ℕ). get_or lists k []) is ∙ get_or-set_same triggers.all.now triggers.event [] [] (omega (arith, inside, is)) in
+    ap (λ (k : ℕ). get_or lists k []) is ∙ get_or-set_same (all_hists triggers.all.now) triggers.event [] [] (omega (arith, inside, is, many)) in
     named-next spec lists i within ∙ ap (λ (l : List AttachedHist). option_or (find (names_table_of spec) l) (named_in spec (drop (i + 1) lists))) gone
 
 pub copied-some : {A : Type 0} (o : Option (Bor A)) → is_some (option_copied o) ≡ is_some o

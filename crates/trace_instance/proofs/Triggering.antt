@@ -1,6 +1,5 @@
 -- What writes to an event's trigger file answer and change of an instance.
 use Rattle.std.proofs.Common.{◌≡◌, ℕ, suc, ◌<◌, ◌==◌, Bool, true, false, if◌then◌else◌, unwrap_or, List, [], ◌∷◌, length, map, get_or, set, is_some, Option, Some, None, Result, Ok, Err, refl, sym, ap, ◌∙◌, subst, eq-eqb, eqb-true}
-use Rattle.std.specs.Option.{option_copied}
 use Rattle.std.proofs.lemmas.Bool.{false≢true}
 use Rattle.std.proofs.lemmas.List.{get_or-map, set-get_or}
 use Rattle.std.proofs.lemmas.Slice.Eq.{bytes_eq-Decides}
@@ -33,6 +32,7 @@ use Rattle.trace_instance.specs.FileAnswers.{IsWriteChange}
 use Rattle.trace_instance.specs.Files.{name_at}
 use Rattle.trace_instance.specs.Instances.{InstanceSeen, InstanceStandsFor, IsSpared, TablesFit, kept_as, kept_trigger, side_families}
 use Rattle.trace_instance.specs.KeptHists.{attached_as, kept_hists}
+use Rattle.trace_instance.specs.private.EventLists.{all_hists}
 use Rattle.trace_instance.specs.declared.attach.EventTriggers.{EventTriggers}
 use Rattle.trace_instance.specs.declared.change.InstanceChange.TheVariants.{Triggers}
 use Rattle.trace_instance.specs.declared.change.TriggerChange.{TriggerChange}
@@ -312,8 +312,8 @@ trigger-refused g name past index event written refused distinct inside at is =
 pub kept-at : (g : Config) (name : Option (List ℕ)) (past : List Request) (i : InstanceSeen) (index : ℕ) (event : Definition) (triggers : EventTriggers)
     → InstanceStandsFor g name past i → AreEvents [] (declared_events past) → index < length (declared_events past)
     → event ≡ get_or (declared_events past) index event
-    → option_copied triggers.snapshot ≡ get_or i.triggers index None → triggers.hists.now ≡ get_or i.hists index []
-    → triggers.all.now ≡ i.hists → triggers.event ≡ index → AreKept name past event triggers
+    → triggers.own.now.trigger ≡ get_or i.triggers index None → triggers.own.now.hists ≡ get_or i.hists index []
+    → all_hists triggers.all.now ≡ i.hists → triggers.event ≡ index → AreKept name past event triggers
 kept-at g name past i index event triggers stands distinct inside at snapshot hists all place = record {
   id = suc index;
   named =

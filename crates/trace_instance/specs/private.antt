@@ -3,3 +3,4 @@ pub mod Attaching
 pub mod Commands
 pub mod Tables
 pub mod SharedTables
+pub mod EventLists

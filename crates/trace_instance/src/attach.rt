@@ -4,12 +4,14 @@
 ghost use Rattle.std.specs.Prelude.{◌≡◌, ◌≢◌, ◌<◌, ◌≤◌, false, if◌then◌else◌, [], length, position, slice_index_or, None, Ok, option_copied, OnOk, IfErr};
 ghost use Rattle.trace_trigger.specs.TriggerTexts.{HasFilter, is_hist_text, said_of};
 ghost use Rattle.trace_instance.specs.private.Attaching as attaching;
+ghost use Rattle.trace_instance.specs.private.EventLists.{all_hists};
 ghost use Rattle.trace_instance.specs.private.SharedTables as sharing;
 ghost use Rattle.trace_instance.specs.KeptHists.{says_same};
 ghost use Rattle.trace_trigger.specs.declared.trigger.TriggerText.TheVariants as said;
 
 use crate::change::{NewHist, TriggerChange};
-use crate::hists::{AttachedHist, EventHists, MOST_TRIGGERS};
+use crate::event::InstanceEvent;
+use crate::hists::{AttachedHist, MOST_TRIGGERS};
 use crate::instance::Instance;
 use crate::trigger::Trigger;
 use crate::write::WrittenText;
@@ -19,12 +21,11 @@ use trace_format::EventDef;
 use trace_hist::{Action, Hist, HistSpec};
 use trace_trigger::{SnapshotTrigger, TriggerText};
 
-/// The triggers that an event has in an instance, and the hist triggers of all events there, whose tables a string may name.
+/// An event of an instance, whose triggers a string changes, and all events there, whose hist triggers' tables it may name.
 #[derive(Clone, Copy)]
 pub(crate) struct EventTriggers<'a> {
-    snapshot: Option<&'a Trigger>,
-    hists: &'a EventHists,
-    all: &'a [EventHists],
+    own: &'a InstanceEvent,
+    all: &'a [InstanceEvent],
     // The index of the event.
     event: usize,
 }
@@ -32,17 +33,15 @@ pub(crate) struct EventTriggers<'a> {
 impl<'a> EventTriggers<'a> {
     /// The triggers of the event at this index.
     pub(crate) fn of(instance: &'a Instance, event: usize) -> EventTriggers<'a>
-        requires triggers { event < length instance.now.triggers }
-        requires hists { event < length instance.now.hists }
-        ensures snapshot { option_copied result.snapshot ≡ slice_index_or instance.now.triggers event None }
-        ensures hists { result.hists.now ≡ slice_index_or instance.now.hists event [] }
-        ensures all { result.all.now ≡ instance.now.hists }
+        requires { event < length instance.now.hists }
+        ensures snapshot { result.own.now.trigger ≡ slice_index_or instance.now.triggers event None }
+        ensures hists { result.own.now.hists ≡ slice_index_or instance.now.hists event [] }
+        ensures all { all_hists result.all.now ≡ instance.now.hists }
         ensures event { result.event ≡ event }
     {
         EventTriggers {
-            snapshot: instance.trigger(event),
-            hists: instance.hists(event),
-            all: instance.all_hists(),
+            own: instance.event(event),
+            all: instance.events(),
             event,
         }
     }
@@ -61,7 +60,7 @@ impl<'a> EventTriggers<'a> {
         match TriggerText::parse(alloc, written.text, event)? {
             TriggerText::Nothing => Ok(TriggerChange::Keep),
             TriggerText::Attach(trigger) => self.attached(written, trigger),
-            TriggerText::Remove if self.snapshot.is_some() => Ok(TriggerChange::Detach),
+            TriggerText::Remove if self.own.trigger.is_some() => Ok(TriggerChange::Detach),
             TriggerText::Remove => Err(Refusal::NoSuchTrigger),
             TriggerText::Hist(spec) => self.asked(alloc, event, written, spec),
             TriggerText::RemoveHist(spec) => {
@@ -82,7 +81,7 @@ impl<'a> EventTriggers<'a> {
         ensures memory { IfErr result (λ r. r ≢ Refusal.Memory) }
     {
         let attached = Trigger::new(written.number, trigger);
-        if self.snapshot.is_some() {
+        if self.own.trigger.is_some() {
             drop(attached);
             return Err(Refusal::TriggerExists);
         }
@@ -107,7 +106,7 @@ impl<'a> EventTriggers<'a> {
         let action = spec.action();
         if let Some(index) = self.position(written.append, &spec) {
             drop(spec);
-            return asked_again(self.hists.as_slice()[index].table, action);
+            return asked_again(self.own.hists.as_slice()[index].table, action);
         }
         if !attaches(action) {
             drop(spec);
@@ -129,7 +128,7 @@ impl<'a> EventTriggers<'a> {
     {
         for i in 0..self.all.len() {
             if append || i != self.event {
-                let named = self.all[i].named_by(spec);
+                let named = self.all[i].hists.named_by(spec);
                 if named.is_some() {
                     return named;
                 }
@@ -146,7 +145,7 @@ impl<'a> EventTriggers<'a> {
         if !written.append {
             return Ok(TriggerChange::Keep);
         }
-        match self.hists.position(spec) {
+        match self.own.hists.position(spec) {
             Some(index) => Ok(TriggerChange::DetachHist(index)),
             None => Err(Refusal::NoSuchTrigger),
         }
@@ -154,10 +153,10 @@ impl<'a> EventTriggers<'a> {
 
     // The index of the matching hist trigger, among those that remain.
     fn position(self, append: bool, spec: &HistSpec) -> Option<usize>
-        ensures { result ≡ (if append then position (says_same spec.now) self.entry.hists.now else None) }
+        ensures { result ≡ (if append then position (says_same spec.now) self.entry.own.now.hists else None) }
     {
         if append {
-            self.hists.position(spec)
+            self.own.hists.position(spec)
         } else {
             None
         }
@@ -169,11 +168,11 @@ impl<'a> EventTriggers<'a> {
         ensures full { IfErr result (λ refusal. (refusal ≡ Refusal.TooMany) × (4 ≤ attaching.kept_count self.entry append)) }
     {
         let hists = if append {
-            self.hists.as_slice().len()
+            self.own.hists.as_slice().len()
         } else {
             0
         };
-        let snapshots = if self.snapshot.is_some() { 1 } else { 0 };
+        let snapshots = if self.own.trigger.is_some() { 1 } else { 0 };
         if hists + snapshots < MOST_TRIGGERS {
             Ok(())
         } else {

@@ -2,23 +2,24 @@
 
 mod delivery;
 
-ghost use Rattle.std.specs.Prelude.{◌≡◌, ◌%◌, ◌≤◌, ◌<◌, true, false, not, is_some, None, if◌then◌else◌, List, [], length, slice_index_or, slice_set, option_copied, replicate, IfOk, OnOk, OnErr};
+ghost use Rattle.std.specs.Prelude.{◌≡◌, ◌%◌, ◌≤◌, ◌<◌, true, false, not, is_some, None, if◌then◌else◌, List, [], length, slice_index_or, slice_set, replicate, IfOk, OnOk, OnErr};
 ghost use Rattle.std.specs.List.{list_all, list_any};
 ghost use Rattle.page_ring.specs.Events as event;
 ghost use Rattle.trace_buffer.specs.Buffers as buffers;
 ghost use Rattle.trace_buffer.specs.Families.{cpu_stats};
 ghost use Rattle.trace_snapshot.specs.Sides.{IsNewSide};
 ghost use Rattle.trace_instance.specs.Changes as changes;
-ghost use Rattle.trace_instance.specs.Changes.{changed_filters, with_event};
+ghost use Rattle.trace_instance.specs.Changes.{with_event};
 ghost use Rattle.trace_instance.specs.declared.change.InstanceChange.TheVariants as changed;
+ghost use Rattle.trace_instance.specs.private.EventLists as lists;
 ghost use Rattle.trace_instance.specs.private.Tables.{AreSet};
 ghost use Rattle.trace_instance.specs.declared.change.TriggerChange.TheVariants as attaching;
 
-use crate::change::{FilterChange, InstanceChange, NewHist, TriggerChange};
-use crate::hists::{AttachedHist, EventHists};
-use crate::tables;
+use crate::change::{InstanceChange, NewHist, TriggerChange};
+use crate::event::InstanceEvent;
+use crate::hists::AttachedHist;
 use crate::tables::Table;
-use crate::trigger::Trigger;
+use crate::{event, tables};
 use page_ring::RingStats;
 use std::alloc::{AllocError, Global};
 use std::marker::Model;
@@ -32,10 +33,8 @@ pub(crate) const EVENTS: usize = 64;
 /// A trace instance, as in ftrace.rst, "Instances": each has switches, filters, triggers, options and rings of its own.
 pub struct Instance {
     alloc: Global,
-    enabled: Vec<bool>,
-    filters: Vec<Option<Filter>>,
-    triggers: Vec<Option<Trigger>>,
-    hists: Vec<EventHists>,
+    // The declared events, in their order.
+    events: Vec<InstanceEvent>,
     // The tables of hist triggers, newest first. Each is used by some trigger.
     tables: Vec<Table>,
     overwrite: bool,
@@ -48,10 +47,7 @@ impl Drop for Instance {
     fn drop(self) {
         let Instance {
             alloc: _,
-            enabled: _,
-            filters: _,
-            triggers: _,
-            hists: _,
+            events: _,
             tables: _,
             overwrite: _,
             tracing: _,
@@ -63,15 +59,13 @@ impl Drop for Instance {
 impl Model for Instance {
     ghost use Rattle.std.specs.Prelude.{◌≤◌, vec_len, vec_capacity};
     ghost use Rattle.trace_instance.specs.Instances.{InstanceSeen};
+    ghost use Rattle.trace_instance.specs.private.EventLists.{all_enabled, all_filters, all_hists, all_triggers};
 
     ghost Value = { InstanceSeen };
 
-    ghost view = { λ i. record { enabled = i.enabled.items; filters = i.filters.items; triggers = i.triggers.items; hists = i.hists.items; tables = i.tables.items; overwrite = i.overwrite; tracing = i.tracing; sides = i.sides } };
+    ghost view = { λ i. record { enabled = all_enabled i.events.items; filters = all_filters i.events.items; triggers = all_triggers i.events.items; hists = all_hists i.events.items; tables = i.tables.items; overwrite = i.overwrite; tracing = i.tracing; sides = i.sides } };
 
-    ghost invariant = { λ i. (vec_len i.enabled ≤ 64) × (64 ≤ vec_capacity i.enabled)
-        × (vec_len i.filters ≤ 64) × (64 ≤ vec_capacity i.filters)
-        × (vec_len i.triggers ≤ 64) × (64 ≤ vec_capacity i.triggers)
-        × (vec_len i.hists ≤ 64) × (64 ≤ vec_capacity i.hists) };
+    ghost invariant = { λ i. (vec_len i.events ≤ 64) × (64 ≤ vec_capacity i.events) };
 }
 
 impl Instance {
@@ -102,10 +96,7 @@ impl Instance {
     {
         let mut instance = Instance {
             alloc,
-            enabled: Vec::with_capacity(alloc, EVENTS)?,
-            filters: Vec::with_capacity(alloc, EVENTS)?,
-            triggers: Vec::with_capacity(alloc, EVENTS)?,
-            hists: Vec::with_capacity(alloc, EVENTS)?,
+            events: Vec::with_capacity(alloc, EVENTS)?,
             tables: Vec::new(alloc),
             overwrite: true,
             tracing: true,
@@ -117,56 +108,45 @@ impl Instance {
         Ok(instance)
     }
 
-    /// Whether the event at this index is enabled.
-    pub(crate) fn is_enabled(&self, event: usize) -> bool
-        requires { event < length self.now.enabled }
-        ensures { result ≡ slice_index_or self.now.enabled event false }
+    /// The event at this index.
+    pub(crate) fn event(&self, event: usize) -> &InstanceEvent
+        requires { event < length self.now.hists }
+        ensures enabled { result.now.enabled ≡ slice_index_or self.now.enabled event false }
+        ensures filter { result.now.filter ≡ slice_index_or self.now.filters event None }
+        ensures trigger { result.now.trigger ≡ slice_index_or self.now.triggers event None }
+        ensures hists { result.now.hists ≡ slice_index_or self.now.hists event [] }
     {
-        self.enabled[event]
+        &self.events[event]
     }
 
-    /// Which events are enabled, in order of declaration.
-    pub fn enabled(&self) -> &[bool]
-        ensures { result.now ≡ self.now.enabled }
+    /// All events.
+    pub(crate) fn events(&self) -> &[InstanceEvent]
+        ensures { lists.all_hists result.now ≡ self.now.hists }
     {
-        &self.enabled
+        &self.events
+    }
+
+    /// Whether there is an event at this index and it is enabled.
+    pub fn is_enabled(&self, event: usize) -> bool
+        ensures { result ≡ slice_index_or self.now.enabled event false }
+    {
+        event < self.events.len() && self.events[event].enabled
     }
 
     /// Whether no event is enabled.
+    #[tactic(auto, using(crate::proofs::EachEvent::each_event))]
     pub(crate) fn none_on(&self) -> bool
         ensures { result ≡ list_all not self.now.enabled }
     {
-        self.enabled.iter().all(|flag| !*flag)
+        event::none_on(&self.events)
     }
 
     /// Whether any event is disabled.
+    #[tactic(auto, using(crate::proofs::EachEvent::each_event))]
     pub(crate) fn some_off(&self) -> bool
         ensures { result ≡ list_any not self.now.enabled }
     {
-        self.enabled.iter().any(|flag| !*flag)
-    }
-
-    /// The filter of the event at this index.
-    pub(crate) fn filter(&self, event: usize) -> Option<&Filter>
-        requires { event < length self.now.filters }
-        ensures { option_copied result ≡ slice_index_or self.now.filters event None }
-    {
-        self.filters[event].as_ref()
-    }
-
-    /// The snapshot trigger of the event at this index.
-    pub(crate) fn trigger(&self, event: usize) -> Option<&Trigger>
-        requires { event < length self.now.triggers }
-        ensures { option_copied result ≡ slice_index_or self.now.triggers event None }
-    {
-        self.triggers[event].as_ref()
-    }
-
-    /// The hist triggers of each event.
-    pub(crate) fn all_hists(&self) -> &[EventHists]
-        ensures { result.now ≡ self.now.hists }
-    {
-        &self.hists
+        event::some_off(&self.events)
     }
 
     /// The tables of hist triggers.
@@ -176,19 +156,12 @@ impl Instance {
         &self.tables
     }
 
-    /// The hist triggers of the event at this index.
-    pub(crate) fn hists(&self, event: usize) -> &EventHists
-        requires { event < length self.now.hists }
-        ensures { result.now ≡ slice_index_or self.now.hists event [] }
-    {
-        &self.hists[event]
-    }
-
     /// Whether any event has a snapshot trigger.
+    #[tactic(auto, using(crate::proofs::EachEvent::each_event))]
     pub(crate) fn has_trigger(&self) -> bool
         ensures { result ≡ list_any is_some self.now.triggers }
     {
-        self.triggers.iter().any(|trigger| trigger.is_some())
+        event::has_trigger(&self.events)
     }
 
     /// Whether records may overwrite older ones.
@@ -236,10 +209,7 @@ impl Instance {
         requires hists { length self.old.hists < 64 }
         ensures { self.new ≡ with_event self.old }
     {
-        self.enabled.push_reserved(false);
-        self.filters.push_reserved(None);
-        self.triggers.push_reserved(None);
-        self.hists.push_reserved(EventHists::new(self.alloc));
+        self.events.push_reserved(InstanceEvent::new(self.alloc));
     }
 
     /// Applies a change. Fails only if memory for a spare side or a hist trigger is refused, and then changes nothing.
@@ -250,11 +220,13 @@ impl Instance {
     {
         match change {
             InstanceChange::Keep => {}
-            InstanceChange::Switch(event, flag) => self.enabled[event] = flag,
-            InstanceChange::SwitchAll(flag) => self.enabled.fill(flag),
-            InstanceChange::SetFilter(event, filter) => self.filters[event] = filter,
-            InstanceChange::SetFilters(changes) => change_all(&mut self.filters, changes),
-            InstanceChange::ClearFilters => clear_all(&mut self.filters),
+            InstanceChange::Switch(event, flag) => self.switch(event, flag),
+            InstanceChange::SwitchAll(flag) => self.switch_all(flag),
+            InstanceChange::SetFilter(event, filter) => self.set_filter(event, filter),
+            InstanceChange::SetFilters(changes) => {
+                event::change_filters(&mut self.events, changes);
+            }
+            InstanceChange::ClearFilters => self.clear_filters(),
             InstanceChange::Triggers(event, append, change) => {
                 self.change_triggers(event, append, change)?;
             }
@@ -273,6 +245,42 @@ impl Instance {
         Ok(())
     }
 
+    // Enables or disables the event at this index.
+    #[tactic(auto, using(crate::proofs::EachEvent::each_event))]
+    fn switch(&mut self, event: usize, flag: bool)
+        requires { event < length self.old.enabled }
+        ensures { self.new ≡ record self.old { enabled = slice_set self.old.enabled event flag } }
+    {
+        self.events[event].enabled = flag;
+    }
+
+    // Enables or disables all events.
+    fn switch_all(&mut self, flag: bool)
+        ensures { self.new ≡ record self.old { enabled = replicate (length self.old.enabled) flag } }
+    {
+        for event in 0..self.events.len() {
+            self.switch(event, flag);
+        }
+    }
+
+    // Sets or clears the filter of the event at this index.
+    #[tactic(auto, using(crate::proofs::EachEvent::each_event))]
+    fn set_filter(&mut self, event: usize, filter: Option<Filter>)
+        requires { event < length self.old.filters }
+        ensures { self.new ≡ record self.old { filters = slice_set self.old.filters event filter } }
+    {
+        self.events[event].filter = filter;
+    }
+
+    // Clears all filters.
+    fn clear_filters(&mut self)
+        ensures { self.new ≡ record self.old { filters = replicate (length self.old.filters) None } }
+    {
+        for event in 0..self.events.len() {
+            self.set_filter(event, None);
+        }
+    }
+
     // Changes the triggers of the event at this index, first removing its hist triggers unless the string is appended. Drops the tables that no
     // trigger uses any more.
     fn change_triggers(
@@ -288,7 +296,7 @@ impl Instance {
         ensures refused { OnErr result (self.new ≡ self.old) }
     {
         self.set_triggers(event, append, change)?;
-        tables::keep_used(&mut self.tables, &self.hists);
+        tables::keep_used(&mut self.tables, &self.events);
         Ok(())
     }
 
@@ -306,24 +314,20 @@ impl Instance {
         ensures refused { OnErr result (self.new ≡ self.old) }
     {
         match change {
-            TriggerChange::Keep => self.hists[event].keep(append),
+            TriggerChange::Keep => self.events[event].hists.keep(append),
             TriggerChange::Attach(trigger) => {
                 if let Err(refused) = self.sides.arm() {
                     drop(trigger);
                     return Err(refused);
                 }
-                self.hists[event].keep(append);
-                put(&mut self.triggers, event, Some(trigger));
+                self.events[event].set_trigger(append, Some(trigger));
             }
-            TriggerChange::Detach => {
-                self.hists[event].keep(append);
-                put(&mut self.triggers, event, None);
-            }
+            TriggerChange::Detach => self.events[event].set_trigger(append, None),
             TriggerChange::AttachHist(attached) => self.join(event, append, attached)?,
             TriggerChange::MakeHist(made) => self.make(event, append, made)?,
-            TriggerChange::DetachHist(index) => self.hists[event].remove(index),
+            TriggerChange::DetachHist(index) => self.events[event].hists.remove(index),
             TriggerChange::AskTable(table, action) => {
-                self.hists[event].keep(append);
+                self.events[event].hists.keep(append);
                 tables::ask(&mut self.tables, table, action);
             }
         }
@@ -344,7 +348,9 @@ impl Instance {
     {
         let table = attached.table;
         let action = attached.spec.action();
-        self.hists[event].attach(append, Box::into_inner(attached))?;
+        self.events[event]
+            .hists
+            .attach(append, Box::into_inner(attached))?;
         tables::ask(&mut self.tables, table, action);
         Ok(())
     }
@@ -359,37 +365,8 @@ impl Instance {
         self.tables.reserve(1)?;
         let NewHist { attached, hist } = Box::into_inner(made);
         let number = attached.table;
-        self.hists[event].attach(append, attached)?;
+        self.events[event].hists.attach(append, attached)?;
         self.tables.insert(0, Table { number, hist }).unwrap();
         Ok(())
-    }
-}
-
-// Puts a snapshot trigger, or none, in the place of an event's.
-fn put(triggers: &mut [Option<Trigger>], event: usize, trigger: Option<Trigger>)
-    requires { event < length triggers.old }
-    ensures { triggers.new ≡ slice_set triggers.old event trigger }
-{
-    triggers[event] = trigger;
-}
-
-// Changes each event's filter.
-fn change_all(filters: &mut [Option<Filter>], changes: Vec<FilterChange>)
-    requires { length changes.items ≡ length filters.old }
-    ensures { filters.new ≡ changed_filters changes.items filters.old }
-{
-    let mut i = 0;
-    for change in changes {
-        change.apply(&mut filters[i]);
-        i += 1;
-    }
-}
-
-// Clears each event's filter.
-fn clear_all(filters: &mut [Option<Filter>])
-    ensures { filters.new ≡ replicate (length filters.old) None }
-{
-    for i in 0..filters.len() {
-        filters[i] = None;
     }
 }

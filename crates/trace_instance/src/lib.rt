@@ -3,6 +3,7 @@
 
 mod attach;
 mod change;
+mod event;
 mod file;
 mod hists;
 mod instance;

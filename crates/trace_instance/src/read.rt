@@ -137,7 +137,7 @@ fn text_of_event(
     let instance = source.instance;
     match file {
         EventFile::Enable => flag_text(alloc, instance.is_enabled(event)),
-        EventFile::Filter => filter_text(alloc, instance.filter(event)),
+        EventFile::Filter => filter_text(alloc, instance.event(event).filter.as_ref()),
         EventFile::Trigger => triggers(alloc, instance, event),
         EventFile::Hist => histograms(alloc, instance, event),
         EventFile::Format => format(alloc, source.catalog, event),
@@ -216,11 +216,12 @@ fn triggers(alloc: Global, instance: &Instance, event: usize) -> Result<Text, Al
     ensures { IfOk result (λ text. text ≡ trigger_text_of (kept_in_order instance.now.tables
         (slice_index_or instance.now.triggers event None) (slice_index_or instance.now.hists event []))) }
 {
+    let kept = instance.event(event);
     let shown = shown_in_order(
         alloc,
-        instance.trigger(event),
+        kept.trigger.as_ref(),
         instance.tables(),
-        instance.hists(event).as_slice(),
+        kept.hists.as_slice(),
     )?;
     let mut out = Vec::new(alloc);
     let written = trigger_text(alloc, &shown, &mut out);
@@ -234,7 +235,11 @@ fn histograms(alloc: Global, instance: &Instance, event: usize) -> Result<Text, 
     ensures { IfOk result (λ text. text
         ≡ hist_text_of (map (shown_attached instance.now.tables) (slice_index_or instance.now.hists event []))) }
 {
-    let shown = shown_hists(alloc, instance.tables(), instance.hists(event).as_slice())?;
+    let shown = shown_hists(
+        alloc,
+        instance.tables(),
+        instance.event(event).hists.as_slice(),
+    )?;
     let mut out = Vec::new(alloc);
     let written = hist_text(alloc, &shown, &mut out);
     built(written, out)

@@ -5,10 +5,12 @@ ghost use Rattle.std.specs.List.{filter};
 ghost use Rattle.trace_hist.specs.Hists.{HasRoom, IsReservedAs};
 ghost use Rattle.trace_instance.specs.KeptHists as kept;
 ghost use Rattle.trace_instance.specs.KeptHists.{table_numbered, kept_at};
+ghost use Rattle.trace_instance.specs.private.EventLists.{all_hists};
 ghost use Rattle.trace_instance.specs.private.Tables as steps;
 ghost use Rattle.trace_instance.specs.declared.tables.Table.{Table as TableSeen};
 
-use crate::hists::EventHists;
+use crate::event;
+use crate::event::InstanceEvent;
 use std::alloc::AllocError;
 use trace_format::Row;
 use trace_hist::{Action, Hist, HistSpec};
@@ -97,20 +99,9 @@ pub(crate) fn hit(tables: &mut [Table], number: u64, by: &HistSpec, row: &Row, c
 }
 
 /// Drops the tables that no trigger uses any more.
-pub(crate) fn keep_used(tables: &mut Vec<Table>, hists: &[EventHists])
-    ensures { tables.new.items ≡ filter (λ (t : TableSeen). kept.is_used t.number hists.now) tables.old.items }
+#[tactic(auto, using(crate::proofs::EachEvent::each_event))]
+pub(crate) fn keep_used(tables: &mut Vec<Table>, events: &[InstanceEvent])
+    ensures { tables.new.items ≡ filter (λ (t : TableSeen). kept.is_used t.number (all_hists events.now)) tables.old.items }
 {
-    tables.retain(|table| is_used(hists, table.number));
-}
-
-// Whether any trigger counts in the table with this number.
-fn is_used(hists: &[EventHists], number: u64) -> bool
-    ensures { result ≡ kept.is_used number hists.now }
-{
-    for i in 0..hists.len() {
-        if hists[i].uses(number) {
-            return true;
-        }
-    }
-    false
+    tables.retain(|table| event::is_used(events, table.number));
 }

@@ -1,5 +1,5 @@
 -- What a trigger text changes of an event's triggers, by what an instance keeps of them.
-use Rattle.std.specs.Prelude.{◌≡◌, ℕ, ◌+◌, Bool, true, false, is_some, if◌then◌else◌, List, [], ◌∷◌, length, map, Option, Some, None, Result, Ok, Err, option_copied}
+use Rattle.std.specs.Prelude.{◌≡◌, ℕ, ◌+◌, Bool, true, false, is_some, if◌then◌else◌, List, [], ◌∷◌, length, map, Option, Some, None, Result, Ok, Err}
 use Rattle.trace_format.specs.Catalogs.{AreEvents}
 use Rattle.trace_format.specs.Definitions.{Definition}
 use Rattle.trace_trigger.specs.HistSpecs.{SpecSeen}
@@ -26,6 +26,7 @@ use Rattle.trace_instance.specs.KeptHists.{kept_hists}
 use Rattle.trace_trigger.specs.FittingSpecs.{is_fitting}
 use Rattle.trace_hist.specs.Hists.{StandsFor}
 use Rattle.trace_history.specs.HistTriggers.{is_pause}
+use Rattle.trace_instance.specs.private.EventLists.{all_hists}
 use Rattle.trace_instance.specs.declared.hists.AttachedHist.{AttachedHist}
 use Rattle.trace_instance.specs.declared.attach.EventTriggers.{EventTriggers}
 use Rattle.trace_instance.specs.declared.change.TriggerChange.{TriggerChange}
@@ -36,9 +37,9 @@ use Rattle.trace_instance.specs.declared.write.WrittenText.{WrittenText}
 pub record AreKept (name : Option (List ℕ)) (past : List Request) (event : Definition) (triggers : EventTriggers) : Type 0 where
   pub id : ℕ
   pub named : event_named event.name past ≡ Some (record { id = id; event = event })
-  pub snapshot : option_copied triggers.snapshot ≡ kept_trigger name past event
-  pub hists : triggers.hists.now ≡ kept_hists name past event
-  pub all : triggers.all.now ≡ map (kept_hists name past) (declared_events past)
+  pub snapshot : triggers.own.now.trigger ≡ kept_trigger name past event
+  pub hists : triggers.own.now.hists ≡ kept_hists name past event
+  pub all : all_hists triggers.all.now ≡ map (kept_hists name past) (declared_events past)
   pub index : IsIndexOf (declared_events past) event.name triggers.event event
   pub distinct : AreEvents [] (declared_events past)
   pub fitting : TablesFit name past
@@ -78,7 +79,7 @@ IsChangeOf event triggers written result =
 
 -- how many triggers there are, of those that `>` or `>>` leaves
 abbrev pub kept_count : EventTriggers → Bool → ℕ
-kept_count triggers append = (if append then length triggers.hists.now else 0) + (if is_some triggers.snapshot then 1 else 0)
+kept_count triggers append = (if append then length triggers.own.now.hists else 0) + (if is_some triggers.own.now.trigger then 1 else 0)
 
 -- what is changed by a text that says this
 abbrev pub IsSaidChange : TriggerText → EventTriggers → WrittenText → Result TriggerChange Refusal → Type 0

@@ -3,6 +3,7 @@ use Rattle.std.specs.Prelude.{Bool, if◌then◌else◌, List, [], slice_set, Op
 use Rattle.std.specs.List.{find, flat_map}
 use Rattle.trace_trigger.specs.HistSpecs.{SpecSeen}
 use Rattle.trace_history.specs.HistTriggers.{is_name_of}
+use Rattle.trace_instance.specs.private.EventLists.{all_hists}
 use Rattle.trace_instance.specs.declared.attach.EventTriggers.{EventTriggers}
 use Rattle.trace_instance.specs.declared.hists.AttachedHist.{AttachedHist}
 
@@ -12,7 +13,7 @@ names_table_of spec attached = is_name_of spec.name attached.spec.name
 
 -- the triggers that `>` or `>>` leaves, of all events
 abbrev pub left_of : EventTriggers → Bool → List (List AttachedHist)
-left_of triggers append = if append then triggers.all.now else slice_set triggers.all.now triggers.event []
+left_of triggers append = if append then all_hists triggers.all.now else slice_set (all_hists triggers.all.now) triggers.event []
 
 -- the first trigger whose table a text names, of those of all events
 abbrev pub named_in : SpecSeen → List (List AttachedHist) → Option AttachedHist

@@ -6,13 +6,11 @@ ghost use Rattle.trace_buffer.specs.Buffers as buffers;
 ghost use Rattle.trace_instance.specs.Instances.{IsAlike, passed_in};
 ghost use Rattle.trace_instance.specs.KeptHists.{KeysAgree};
 ghost use Rattle.trace_instance.specs.Rows as rows;
-ghost use Rattle.trace_instance.specs.Rows.{kept_holds};
 ghost use Rattle.trace_instance.specs.Deliveries.{CanCountRow, NeedsRowMemory, CanFire, HasFewRows, row_of, IsDelivered, IsOffered, IsExchanged, IsWritable, IsWritten, HasFew};
 
 use super::Instance;
 use crate::change::{Delivery, Pending, Reach};
 use crate::hists::Passed;
-use crate::trigger::passes;
 use std::alloc::AllocError;
 use trace_format::Row;
 
@@ -27,13 +25,14 @@ impl Instance {
         requires hists { event < length self.now.hists }
         ensures { result ≡ rows.is_plain self.now event }
     {
-        if !self.tracing || !self.enabled[event] {
+        let own = &self.events[event];
+        if !self.tracing || !own.enabled {
             return false;
         }
-        if self.filters[event].is_some() || self.triggers[event].is_some() {
+        if own.filter.is_some() || own.trigger.is_some() {
             return false;
         }
-        self.hists[event].as_slice().is_empty()
+        own.hists.as_slice().is_empty()
     }
 
     /// Whether the event at this index has hist triggers.
@@ -41,7 +40,7 @@ impl Instance {
         requires { event < length self.now.hists }
         ensures { result ≡ not (length (slice_index_or self.now.hists event []) == 0) }
     {
-        !self.hists[event].as_slice().is_empty()
+        !self.events[event].hists.as_slice().is_empty()
     }
 
     /// Evaluates the filters of the hist triggers of the event at this index for a row, and reserves memory to count it for those that it passes.
@@ -60,7 +59,9 @@ impl Instance {
         // Memory is taken, and may be refused, only for a row that needs a new entry in some table.
         ensures memory { OnErr result (NeedsRowMemory (record { values = row.now.values; cpu = cpu; pid = pid }) event self.old) }
     {
-        self.hists[event].reserve(&mut self.tables, row, cpu, pid)
+        self.events[event]
+            .hists
+            .reserve(&mut self.tables, row, cpu, pid)
     }
 
     /// What an emission of the event at this index does here, apart from hist triggers: whether it is recorded (recording is on, the event is
@@ -78,25 +79,22 @@ impl Instance {
     }
 
     // Whether an emission of the event at this index is recorded here.
-    #[tactic(auto, unfolding(crate::specs::Rows::kept_holds))]
+    #[inline(always)]
     fn records(&self, event: usize, row: &Row, cpu: u32, pid: i32) -> bool
         requires enabled { event < length self.now.enabled }
         requires filters { event < length self.now.filters }
         ensures { result ≡ rows.records self.now event row.now cpu pid }
     {
-        self.tracing && self.enabled[event] && passes(self.filter(event), row, cpu, pid)
+        self.tracing && self.events[event].records(row, cpu, pid)
     }
 
     // Whether it makes the event's snapshot trigger act.
-    #[tactic(auto, unfolding(crate::specs::Rows::kept_holds))]
+    #[inline(always)]
     fn fires(&self, event: usize, row: &Row, cpu: u32, pid: i32) -> bool
         requires { event < length self.now.triggers }
         ensures { result ≡ rows.fires self.now event row.now cpu pid }
     {
-        match &self.triggers[event] {
-            Some(trigger) => trigger.acts(row, cpu, pid),
-            None => false,
-        }
+        self.events[event].fires(row, cpu, pid)
     }
 
     /// Applies a prepared emission: writes its record, if any, over older ones if the ring is full and overwriting is on; counts its row in the hist
@@ -148,7 +146,7 @@ impl Instance {
         requires few_rows { HasFewRows self.old }
         ensures { IsOffered delivery.now self.old self.new }
     {
-        self.hists[delivery.event].hit(
+        self.events[delivery.event].hists.hit(
             &mut self.tables,
             passed,
             &delivery.row,
@@ -163,9 +161,7 @@ impl Instance {
         requires spare { is_some self.old.sides.spare ≡ true }
         ensures { IsExchanged event self.old self.new }
     {
-        if let Some(trigger) = &mut self.triggers[event] {
-            trigger.count_down();
-        }
+        self.events[event].count_down();
         self.sides.swap_armed();
     }
 }

@@ -1,4 +1,4 @@
-use Rattle.std.proofs.Common.{◌≡◌, List, [], ℕ, IfOk, ap, ◌∙◌, subst}
+use Rattle.std.proofs.Common.{◌≡◌, List, [], ℕ, IfOk, None, get_or, option_copied, ap, ◌∙◌, subst, rules}
 use Rattle.trace_format.specs.Definitions.{Definition}
 use Rattle.trace_history.specs.FileTexts.{flag_text}
 use Rattle.trace_instance.specs.private.Commands.{shown_filter}
@@ -15,9 +15,10 @@ returns-in-Enable c = λ g name past is.
 pub returns-in-Filter : goal.returns-in-Filter
 returns-in-Filter c = λ g name past is.
     let inside = c.requires.event.declared in
+    let kept : option_copied c.as_ref.result ≡ get_or c.args.source.instance.now.filters c.args.event None = search rules in
     rw c.in-Filter.is
     (subst (λ (t : List ℕ). IfOk c.filter_text.result (λ text. text ≡ t))
-    (ap shown_filter c.filter.ensures ∙ filter-at_place g name past c.args.source c.args.event is inside) c.filter_text.ensures)
+    (ap shown_filter kept ∙ filter-at_place g name past c.args.source c.args.event is inside) c.filter_text.ensures)
 
 pub returns-in-Trigger : goal.returns-in-Trigger
 returns-in-Trigger c = λ g name past is.

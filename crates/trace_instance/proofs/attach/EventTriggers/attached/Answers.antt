@@ -4,15 +4,15 @@ use Rattle.trace_instance.proofs.attach.EventTriggers.attached.Goals as goal
 
 pub returns-then-is_some-clause-change : goal.returns-then-is_some-clause-change
 returns-then-is_some-clause-change c =
-    let some : is_some c.args.self.snapshot ≡ true = search rules in
+    let some : is_some c.args.self.own.now.trigger ≡ true = search rules in
     attach-exists c.args.trigger c.args.self c.args.written some
 
 pub returns-in-Err-clause-change : goal.returns-in-Err-clause-change
 returns-in-Err-clause-change c =
-    let none : is_some c.args.self.snapshot ≡ false = search rules in
+    let none : is_some c.args.self.own.now.trigger ≡ false = search rules in
     rw c.in-Err.ensures.full.0 (attach-full c.args.trigger c.args.self c.args.written none c.in-Err.ensures.full.1)
 
 pub returns-clause-change : goal.returns-clause-change
 returns-clause-change c =
-    let none : is_some c.args.self.snapshot ≡ false = search rules in
+    let none : is_some c.args.self.own.now.trigger ≡ false = search rules in
     rw c.new-attached.ensures (attach-done c.args.trigger c.args.self c.args.written none c.in_default.ensures.room)

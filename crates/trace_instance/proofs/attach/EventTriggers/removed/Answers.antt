@@ -12,11 +12,11 @@ returns-then-not-written-clause-change c =
 pub returns-in-Some-clause-change : goal.returns-in-Some-clause-change
 returns-in-Some-clause-change c =
     let appends : c.args.written.append ≡ true = search rules in
-    let found : position (says_same c.args.spec.now) c.args.self.hists.now ≡ Some c.in-Some.index = search rules in
+    let found : position (says_same c.args.spec.now) c.args.self.own.now.hists ≡ Some c.in-Some.index = search rules in
     remove-done c.args.spec.now c.args.self c.args.written c.in-Some.index appends found
 
 pub returns-in-None-clause-change : goal.returns-in-None-clause-change
 returns-in-None-clause-change c =
     let appends : c.args.written.append ≡ true = search rules in
-    let none : position (says_same c.args.spec.now) c.args.self.hists.now ≡ None = search rules in
+    let none : position (says_same c.args.spec.now) c.args.self.own.now.hists ≡ None = search rules in
     remove-lacks c.args.spec.now c.args.self c.args.written appends none

@@ -1,5 +1,27 @@
+use Rattle.std.proofs.Common.{◌≡◌, ◌∙◌, ap, refl, rules}
+use Rattle.trace_instance.specs.private.EventLists.{with_filters}
+use Rattle.trace_instance.specs.declared.event.InstanceEvent.{InstanceEvent}
+use Rattle.trace_instance.proofs.EachEvent.{filtered, filtered-still}
+use Rattle.trace_instance.proofs.HistChanges.{in_place}
 use Rattle.trace_instance.proofs.LiveSide.{cleared, emptied, taken}
 use Rattle.trace_instance.proofs.instance.Instance.apply.Goals as goal
+
+pub returns-in-SetFilters-clause-applied : goal.returns-in-SetFilters-clause-applied
+returns-in-SetFilters-clause-applied c =
+    let inside = c.self.inside in
+    let events = inside.events.items in
+    let changes = c.in-SetFilters.changes.items in
+    let new : c.change_filters.new.events ≡ with_filters changes events =
+    c.change_filters.ensures ∙ ap (with_filters changes) c.deref_mut.ensures.value in
+    rw (
+      c.in-SetFilters.is,
+      in_place inside.events c.change_filters.new.events (search rules),
+      new,
+      filtered changes events,
+      filtered-still (λ (e : InstanceEvent). e.enabled) changes events (λ e new. refl),
+      filtered-still (λ (e : InstanceEvent). e.trigger) changes events (λ e new. refl),
+      filtered-still (λ (e : InstanceEvent). e.hists) changes events (λ e new. refl),
+    ) (search rules)
 
 pub returns-in-Clear-clause-applied : goal.returns-in-Clear-clause-applied
 returns-in-Clear-clause-applied c =

@@ -1,0 +1,116 @@
+//! What an instance keeps of an event: a kernel's `struct trace_event_file`.
+
+ghost use Rattle.std.specs.Prelude.{◌≡◌, ◌&&◌, if◌then◌else◌, false, not, None, is_some, [], length};
+ghost use Rattle.std.specs.List.{list_all, list_any};
+ghost use Rattle.trace_instance.specs.Deliveries.{counted_down};
+ghost use Rattle.trace_instance.specs.KeptHists.{uses_table};
+ghost use Rattle.trace_instance.specs.Rows.{kept_acts, kept_holds};
+ghost use Rattle.trace_instance.specs.private.EventLists.{with_filters};
+ghost use Rattle.trace_instance.specs.declared.event.InstanceEvent.{InstanceEvent as Kept};
+
+use crate::change::FilterChange;
+use crate::hists::EventHists;
+use crate::trigger::{Trigger, passes};
+use std::alloc::Global;
+use trace_filter::Filter;
+use trace_format::Row;
+
+/// An event in an instance: whether it is enabled, its filter, its snapshot trigger and its hist triggers. An emission reads one of these in each
+/// instance.
+#[derive(Drop)]
+pub(crate) struct InstanceEvent {
+    pub(crate) enabled: bool,
+    pub(crate) filter: Option<Filter>,
+    pub(crate) trigger: Option<Trigger>,
+    pub(crate) hists: EventHists,
+}
+
+impl InstanceEvent {
+    /// An event as it is declared: disabled, without filter or triggers.
+    pub(crate) fn new(alloc: Global) -> InstanceEvent
+        ensures { result ≡ record { enabled = false; filter = None; trigger = None; hists = [] } }
+    {
+        InstanceEvent {
+            enabled: false,
+            filter: None,
+            trigger: None,
+            hists: EventHists::new(alloc),
+        }
+    }
+
+    /// Whether an emission is recorded, if the instance records: the event is enabled and its filter passes.
+    #[inline(always)]
+    pub(crate) fn records(&self, row: &Row, cpu: u32, pid: i32) -> bool
+        ensures { result ≡ (self.now.enabled && kept_holds self.now.filter row.now cpu pid) }
+    {
+        self.enabled && passes(self.filter.as_ref(), row, cpu, pid)
+    }
+
+    /// Whether an emission makes the snapshot trigger act.
+    #[inline(always)]
+    pub(crate) fn fires(&self, row: &Row, cpu: u32, pid: i32) -> bool
+        ensures { result ≡ kept_acts self.now.trigger row.now cpu pid }
+    {
+        match &self.trigger {
+            Some(trigger) => trigger.acts(row, cpu, pid),
+            None => false,
+        }
+    }
+
+    /// Counts the snapshot trigger down after it acted.
+    pub(crate) fn count_down(&mut self)
+        ensures { self.new ≡ record self.old { trigger = counted_down self.old.trigger } }
+    {
+        if let Some(trigger) = &mut self.trigger {
+            trigger.count_down();
+        }
+    }
+
+    /// Sets or removes the snapshot trigger, and removes the hist triggers unless the string is appended.
+    pub(crate) fn set_trigger(&mut self, append: bool, trigger: Option<Trigger>)
+        ensures { self.new ≡ record self.old { trigger = trigger; hists = (if append then self.old.hists else []) } }
+    {
+        self.hists.keep(append);
+        self.trigger = trigger;
+    }
+}
+
+/// Whether no event is enabled.
+pub(crate) fn none_on(events: &[InstanceEvent]) -> bool
+    ensures { result ≡ list_all (λ (e : Kept). not e.enabled) events.now }
+{
+    events.iter().all(|event| !event.enabled)
+}
+
+/// Whether any event is disabled.
+pub(crate) fn some_off(events: &[InstanceEvent]) -> bool
+    ensures { result ≡ list_any (λ (e : Kept). not e.enabled) events.now }
+{
+    events.iter().any(|event| !event.enabled)
+}
+
+/// Whether any event has a snapshot trigger.
+pub(crate) fn has_trigger(events: &[InstanceEvent]) -> bool
+    ensures { result ≡ list_any (λ (e : Kept). is_some e.trigger) events.now }
+{
+    events.iter().any(|event| event.trigger.is_some())
+}
+
+/// Whether any hist trigger counts in the table with this number.
+pub(crate) fn is_used(events: &[InstanceEvent], table: u64) -> bool
+    ensures { result ≡ list_any (λ (e : Kept). uses_table table e.hists) events.now }
+{
+    events.iter().any(|event| event.hists.uses(table))
+}
+
+/// Changes each event's filter.
+pub(crate) fn change_filters(events: &mut [InstanceEvent], changes: Vec<FilterChange>)
+    requires { length changes.items ≡ length events.old }
+    ensures { events.new ≡ with_filters changes.items events.old }
+{
+    let mut i = 0;
+    for change in changes {
+        change.apply(&mut events[i].filter);
+        i += 1;
+    }
+}
