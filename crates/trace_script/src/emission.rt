@@ -64,6 +64,7 @@ fn name_len(text: &[u8]) -> usize
 }
 
 /// The word that a line begins with, and what follows the blank after it; nothing, if it begins with a blank or no blank follows.
+#[inline(always)]
 fn cut_word(line: &[u8]) -> Option<(&[u8], &[u8])>
     requires { highest_rank line.now ≡ 0 }
     ensures word { IfSome result (λ cut. tokens_of line.now ≡ behind (IsWord cut.0.now ∷ []) (tokens_of cut.1.now)) }
@@ -151,6 +152,7 @@ fn after_emit(line: &[u8]) -> Option<&[u8]>
 }
 
 /// The words of an emission, of which this follows `emit`, if one blank stands between each two before its pairs.
+#[inline(always)]
 #[tactic(auto, using(crate::proofs::BareEmissions::three_words, crate::proofs::BareEmissions::one_word, crate::proofs::BareEmissions::two_words, crate::proofs::BareEmissions::only_three_words))]
 fn words_after(rest: &[u8]) -> Option<EmissionWords<'_>>
     requires { highest_rank rest.now ≡ 0 }

@@ -1,0 +1,14 @@
+use Rattle.std.proofs.Common.{arith}
+use Rattle.std.proofs.lemmas.Int.{ints}
+use Rattle.trace_lex.specs.Decimals.{decimal_number}
+use Rattle.trace_script.proofs.NumberLemmas.{found_le}
+use Rattle.trace_script.proofs.number.negative_id.Goals as goal
+
+pub overflow_cast-result : goal.overflow_cast-result
+overflow_cast-result c = let few = found_le 2147483648 (decimal_number c.args.digits.now) c.in_ok-number.number c.in_ok-number.ensures in omega (arith, ints)
+
+pub overflow_sub-result : goal.overflow_sub-result
+overflow_sub-result c = let few = found_le 2147483648 (decimal_number c.args.digits.now) c.in_ok-number.number c.in_ok-number.ensures in omega (arith, ints)
+
+pub overflow_cast-result-2 : goal.overflow_cast-result-2
+overflow_cast-result-2 c = let few = found_le 2147483648 (decimal_number c.args.digits.now) c.in_ok-number.number c.in_ok-number.ensures in omega (arith, ints)
