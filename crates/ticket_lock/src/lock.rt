@@ -181,6 +181,7 @@ impl<T: Logged> TicketLock<T> {
 
     /// Waits until nobody is in line, draws a ticket, and takes the value once that ticket is served. The pass comes back
     /// where all tickets are drawn.
+    #[inline(always)]
     pub fn acquire<R: Wait>(&self, rt: &R, pass: Pass<T>) -> Result<Held<T>, Worn<T>>
         requires { IsOf self.now pass }
         ensures of { MatchResult result (λ h. IsTurnOf self.now h) (λ w. IsOf self.now w.pass) }
@@ -206,11 +207,39 @@ impl<T: Logged> TicketLock<T> {
         Ok(Held { turn, value })
     }
 
-    // Draws the next ticket, where one is left.
+    // Draws the next ticket, where one is left. Most often nobody is in line, so it is tried once before anything that waits.
+    fn draw<R: Wait>(&self, rt: &R, seat: &mut Seat<Option<Box<T>>, View<T::Entry>>) -> Option<u64>
+        requires of { seat.old.table_id ≡ self.now.table.shared.table_id }
+        requires idle { seat.old.me.0.stage ≡ Idle }
+        ensures of { seat.new.table_id ≡ seat.old.table_id }
+        ensures slots { seat.new.me.1 ≡ seat.old.me.1 }
+        ensures some { IfSome result (λ n. (seat.new.me.0 ≡ after_draw seat.old.me.0 n) × LearnsNext T.ticket T.by seat.old.me.0 n × (n < 2 ^ 63)) }
+        ensures none { IfNone result (IsWorn seat.old.me.0 seat.new.me.0) }
+    {
+        let next = self.table.shared.load::<Looks<T>>(seat, NEXT);
+        if next < LAST && self.table.shared.peek(SERVING) >= next {
+            let found = self
+                .table
+                .shared
+                .compare_exchange::<Draws<T>>(seat, NEXT, next, next + 1);
+            if found == next {
+                return Some(next);
+            }
+        }
+        self.draw_later(rt, seat)
+    }
+
+    // As `draw`, however long it takes.
     //
     // It waits before it draws, until nobody is in line. A drawn ticket fixes who goes next, so a thread that waits with a
     // ticket and isn't running stops all others. One that waits without a ticket stops nobody.
-    fn draw<R: Wait>(&self, rt: &R, seat: &mut Seat<Option<Box<T>>, View<T::Entry>>) -> Option<u64>
+    #[cold]
+    #[inline(never)]
+    fn draw_later<R: Wait>(
+        &self,
+        rt: &R,
+        seat: &mut Seat<Option<Box<T>>, View<T::Entry>>,
+    ) -> Option<u64>
         requires of { seat.old.table_id ≡ self.now.table.shared.table_id }
         requires idle { seat.old.me.0.stage ≡ Idle }
         ensures of { seat.new.table_id ≡ seat.old.table_id }
@@ -240,8 +269,34 @@ impl<T: Logged> TicketLock<T> {
         unreachable!()
     }
 
-    // Waits until the ticket is served, and takes the value out of its slot.
+    // Waits until the ticket is served, and takes the value out of its slot. Most often it is served at once.
     fn enter<R: Wait>(
+        &self,
+        rt: &R,
+        seat: &mut Seat<Option<Box<T>>, View<T::Entry>>,
+        ticket: u64,
+    ) -> Box<T>
+        requires of { seat.old.table_id ≡ self.now.table.shared.table_id }
+        requires waiting { seat.old.me.0.stage ≡ Waiting ticket }
+        requires slots { seat.old.me.1 ≡ [] }
+        ensures of { seat.new.table_id ≡ seat.old.table_id }
+        ensures view { seat.new.me ≡ (after_entry seat.old.me.0 (T.entries result.value), (0, None) ∷ []) }
+        ensures base { T.base result.value ≡ seat.old.me.0.base }
+        ensures finds { FindsHistory T.ticket T.by seat.old.me.0 (T.entries result.value) }
+    {
+        let serving = self.table.shared.load::<Enters<T>>(seat, SERVING);
+        if serving != ticket {
+            return self.enter_later(rt, seat, ticket);
+        }
+        let slot = self.table.shared.exchange(seat, SLOT, None);
+        let Some(value) = slot else { unreachable!() };
+        value
+    }
+
+    // As `enter`, however long it takes.
+    #[cold]
+    #[inline(never)]
+    fn enter_later<R: Wait>(
         &self,
         rt: &R,
         seat: &mut Seat<Option<Box<T>>, View<T::Entry>>,

@@ -1,6 +1,6 @@
 use Rattle.std.proofs.Common.{◌≡◌}
 use Rattle.ticket_lock.proofs.Looked.{HasLooked}
-use Rattle.ticket_lock.proofs.lock.TicketLock.draw.Given as goal
+use Rattle.ticket_lock.proofs.lock.TicketLock.draw_later.Given as goal
 
 -- the seat is as it was, but for its front, which is NEXT as it was last found
 abbrev pub invariant-loop : goal.invariant-loop

@@ -1,5 +1,5 @@
 use Rattle.std.proofs.Common.{◌≡◌}
-use Rattle.ticket_lock.proofs.lock.TicketLock.enter.Given as goal
+use Rattle.ticket_lock.proofs.lock.TicketLock.enter_later.Given as goal
 
 -- the seat is as it was
 abbrev pub invariant-loop : goal.invariant-loop
