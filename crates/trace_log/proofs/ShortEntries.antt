@@ -1,6 +1,8 @@
--- Bytes that are written from both of their ends.
+-- Bytes that are written from both of their ends, and bytes that are written into a part of others.
 use Rattle.std.proofs.Common.{◌≡◌, ℕ, ◌+◌, ◌≤◌, List, ◌++◌, length, take, drop, refl, sym, ap, ◌∙◌, arith, append_assoc, length-append, length-take}
-use Rattle.std.proofs.lemmas.List.{take-append-drop, take-take, take_at}
+use Rattle.std.proofs.lemmas.List.{take-append-drop, take-take, take_at, drop-drop, length-take-le}
+use Rattle.std.proofs.lemmas.Simd.{put_chunk_is}
+use lib.Lanes.{put_chunk}
 
 regrouped : (p a b r : List ℕ) → p ++ (a ++ b) ++ r ≡ (p ++ a) ++ (b ++ r)
 regrouped p a b r = simp append_assoc
@@ -25,3 +27,22 @@ ends_put out a b text last tail rest at size k e l r ea eb el =
     let before : take (at + k) a ≡ take at out ++ take k text = rw ea (first_move out text tail at size k l (omega (arith, e)) r) in
     let whole : b ≡ (take at out ++ text) ++ rest = eb ∙ rw (el, before, all) refl in
     rw whole (take_at (take at out ++ text) rest (at + length text) (grind (arith, length-append, length-take, r)))
+
+-- one move
+pub first_put : (out first : List ℕ) (at n : ℕ) → length first ≡ n → at + n ≤ length out → put_chunk at out first ≡ take at out ++ first ++ drop (at + n) out
+first_put out first at n long room =
+    put_chunk_is at out first (omega (arith, long))
+    ∙ sym (append_assoc (take at out) first (drop (length first) (drop at out)))
+    ∙ ap (λ (xs : List ℕ). (take at out ++ first) ++ xs) (ap (λ (k : ℕ). drop k (drop at out)) long ∙ drop-drop n at out)
+
+-- a part of the bytes, of which the first ones are written
+pub part_put : (out all part text : List ℕ) (at n size : ℕ) → take (at + size) all ≡ take at out ++ part → at ≤ length out → length part ≡ size → n ≤ size → take n part ≡ text
+    → take (at + n) all ≡ take at out ++ text
+part_put out all part text at n size put room long few e =
+    let p = take at out in
+    let split : part ≡ text ++ drop n part = sym (take-append-drop n part) ∙ ap (λ (xs : List ℕ). xs ++ drop n part) e in
+    let whole : p ++ part ≡ (p ++ text) ++ drop n part = ap (λ (xs : List ℕ). p ++ xs) split ∙ sym (append_assoc p text (drop n part)) in
+    let written : length text ≡ n = ap length (sym e) ∙ length-take-le n part (omega (arith, long, few)) in
+    let before : length p ≡ at = length-take-le at out room in
+    sym (take-take (at + n) (at + size) all (omega (arith, few))) ∙ ap (take (at + n)) (put ∙ whole)
+    ∙ take_at (p ++ text) (drop n part) (at + n) (omega (arith, length-append p text, written, before))

@@ -7,7 +7,6 @@ ghost use Rattle.trace_log.specs.PackedEntries.{IsOneEntry};
 ghost use Rattle.trace_log.specs.EntryEncoding.{length_bytes, text_bytes, pairs_bytes, other_bytes, ArePairsShort};
 
 use crate::chunk::Chunk;
-use crate::short::{SHORT_BYTES, put_emission};
 use std::alloc::{AllocError, Global};
 use trace_command::{BorrowedEmission, Command};
 use trace_format::{BorrowedPair, borrowed};
@@ -131,12 +130,12 @@ impl Chunk {
         ensures entry { OnOk result (IsOneEntry self.new.ahead (record { ticket = ticket; by = by; command = emission.now })) }
     {
         let (event, cpu, pid, pairs) = emission.parts();
-        let mut bytes = [0; SHORT_BYTES];
         let head = emission_head(ticket, by, cpu, pid);
-        match put_emission(&mut bytes, &head, event, pairs) {
-            Some(end) => self.write(&bytes[..end]),
-            None => self.write_pieces(&head, event, pairs),
+        let is_short = self.write_short(&head, event, pairs)?;
+        if is_short {
+            return Ok(());
         }
+        self.write_pieces(&head, event, pairs)
     }
 
     // Writes the entry of any other command ahead: kind, limit, path and text. Where memory is refused, a part may be written all the same.

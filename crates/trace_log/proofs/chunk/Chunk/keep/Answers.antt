@@ -15,14 +15,12 @@ overflow_add-self c =
 
 pub invariant_of-self : goal.invariant_of-self
 invariant_of-self c =
-    let a = c.self.inside in
     let Packed : ChunkSeen → Type 0 = λ b. ArePacked c.args.count b.ahead in
-    kept_chunk a c.len-self-inside.result c.args.count c.self.invariant (omega (arith, c.len-self-inside.ensures, a.bytes.ok.0)) (subst Packed (sym c.self.view_is) c.requires.packed)
+    kept_chunk c.self.inside c.args.count c.self.invariant (subst Packed (sym c.self.view_is) c.requires.packed)
 
 pub returns : goal.returns
 returns c =
     let a = c.self.inside in
-    let kept = kept_seen a c.len-self-inside.result c.args.count c.self.invariant (omega (arith, c.len-self-inside.ensures, a.bytes.ok.0)) in
-    let Kept : ChunkSeen → Type 0 = λ b. seen_chunk (record a { filled = c.len-self-inside.result; count = a.count + c.args.count })
+    let Kept : ChunkSeen → Type 0 = λ b. seen_chunk (record a { filled = a.end; count = a.count + c.args.count })
     ≡ record { entries = b.entries ++ entries_in c.args.count b.ahead; ahead = [] } in
-    subst Kept c.self.view_is kept
+    subst Kept c.self.view_is (kept_seen a c.args.count c.self.invariant)

@@ -1,18 +1,24 @@
-use Rattle.std.proofs.Common.{◌++◌, ap, ◌∙◌}
+use Rattle.std.proofs.Common.{refl, ap, ◌∙◌, arith}
+use Rattle.std.specs.Vec.{with_items}
 use Rattle.trace_log.specs.ChunkSeen.{ChunkSeen}
 use Rattle.trace_log.specs.PackedEntries.{entries_in}
-use Rattle.trace_log.proofs.ChunkFacts.{front_stays, more_ahead, longer_chunk}
+use Rattle.trace_log.proofs.ChunkFacts.{front_stays, longer_chunk, put_more, put_fits}
 use Rattle.trace_log.proofs.chunk.Chunk.write.Goals as goal
 
-pub invariant_of-self-2 : goal.invariant_of-self-2
-invariant_of-self-2 c = longer_chunk c.self.inside c.extend_from_slice.new.self c.args.bytes.now c.self.invariant c.in_ok-extend_from_slice.ensures.items
+pub invariant_of-self : goal.invariant_of-self
+invariant_of-self c =
+    let a = c.self.inside in
+    let put = c.put_at-self-inside in
+    longer_chunk a (with_items a.bytes put.new.out) put.result c.args.bytes.now c.self.invariant
+    (put_more a a.bytes _ put.new.out c.self.invariant refl c.deref_mut.ensures.value put.ensures.length put.result c.args.bytes.now put.ensures.bytes)
+    (put_fits a a.bytes _ put.new.out c.self.invariant refl c.deref_mut.ensures.value put.ensures.length put.result (omega arith))
 
-pub returns-clause-entries : goal.returns-clause-entries
-returns-clause-entries c =
-    ap (entries_in c.self.inside.count) (front_stays c.self.inside c.extend_from_slice.new.self c.args.bytes.now c.self.invariant c.in_ok-extend_from_slice.ensures.items)
+pub returns-then-len-self-clause-entries : goal.returns-then-len-self-clause-entries
+returns-then-len-self-clause-entries c =
+    let a = c.self.inside in
+    let put = c.put_at-self-inside in
+    ap (entries_in a.count)
+    (front_stays a (with_items a.bytes put.new.out) put.result c.args.bytes.now c.self.invariant
+    (put_more a a.bytes _ put.new.out c.self.invariant refl c.deref_mut.ensures.value put.ensures.length put.result c.args.bytes.now put.ensures.bytes)
+    (put_fits a a.bytes _ put.new.out c.self.invariant refl c.deref_mut.ensures.value put.ensures.length put.result (omega arith)))
     ∙ ap (λ (seen : ChunkSeen). seen.entries) c.self.view_is
-
-pub returns-clause-ahead : goal.returns-clause-ahead
-returns-clause-ahead c =
-    more_ahead c.self.inside c.extend_from_slice.new.self c.args.bytes.now c.self.invariant c.in_ok-extend_from_slice.ensures.items
-    ∙ ap (λ (seen : ChunkSeen). seen.ahead ++ c.args.bytes.now) c.self.view_is
