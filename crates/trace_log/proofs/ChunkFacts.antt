@@ -64,6 +64,11 @@ module _ (a : Inside) (bytes : Vec ℕ Global) (is : IsChunk a) (same : take a.e
   pub room_front : take a.filled bytes.items ≡ take a.filled a.bytes.items
   room_front = sym (take-take a.filled a.end bytes.items is.mark) ∙ ap (take a.filled) same ∙ counted a is
 
+  pub room_seen : seen_chunk (record a { bytes = bytes }) ≡ seen_chunk a
+  room_seen =
+      let front = room_front in
+      (λ i. record { entries = entries_in a.count (front i); ahead = drop a.filled (same i) })
+
   pub room_chunk : IsChunk (record a { bytes = bytes })
   room_chunk = record {
     mark = is.mark;

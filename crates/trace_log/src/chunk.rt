@@ -97,6 +97,13 @@ impl Chunk {
         self.bytes.capacity() - self.end < SPARE_BYTES
     }
 
+    /// Sees to it that there is room for several pieces.
+    pub(crate) fn make_room(&mut self) -> Result<(), AllocError>
+        ensures { self.new ≡ self.old }
+    {
+        make_room(&mut self.bytes, self.end)
+    }
+
     /// Writes bytes ahead.
     pub(crate) fn write(&mut self, bytes: &[u8]) -> Result<(), AllocError>
         ensures entries { self.new.entries ≡ self.old.entries }

@@ -155,6 +155,7 @@ impl Chunk {
     {
         let _path_length = path.len();
         let _text_length = text.len();
+        self.make_room()?;
         self.write_number_of_eight(ticket)?;
         self.write_number_of_four(by)?;
         self.write_byte(kind)?;

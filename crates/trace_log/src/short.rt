@@ -156,7 +156,7 @@ pub(crate) fn put_at(out: &mut [u8], at: usize, bytes: &[u8]) -> usize
     ensures bytes { take result out.new ≡ take at out.old ++ bytes.now }
     ensures end { result ≡ at + length bytes.now }
 {
-    put_piece(out, at, bytes);
+    put_bytes(out, at, bytes);
     at + bytes.len()
 }
 
