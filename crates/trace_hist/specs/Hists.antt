@@ -1,5 +1,5 @@
 -- What a caller sees of a histogram, and when that agrees with a list of rows.
-use Rattle.std.specs.Prelude.{◌≡◌, ◌≢◌, ℕ, ◌+◌, ◌<◌, Bool, false, List, length}
+use Rattle.std.specs.Prelude.{◌≡◌, ◌≢◌, ℕ, ◌+◌, ◌<◌, Bool, true, false, List, [], ◌∷◌, ◌++◌, length}
 use Rattle.trace_format.specs.Cells.{Datum}
 use Rattle.trace_format.specs.Operands.{Emission}
 use Rattle.trace_trigger.specs.HistSpecs.{SpecSeen}
@@ -49,3 +49,19 @@ counted hist = hist.table.hits + hist.table.dropped
 -- one row more may be counted
 abbrev pub HasRoom : Seen → Type 0
 HasRoom hist = counted hist < most_rows
+
+-- ---- what calls do
+
+-- what a row needs was reserved, as a trigger reads it, and nothing else changed
+pub record IsReservedFor (by : SpecSeen) (emission : Emission) (old new : Seen) : Type 0 where
+  pub kept : new ≡ record old { next = new.next }
+  pub ready : IsReservedAs new by emission
+
+-- a row was counted, as a trigger reads it, unless the histogram is paused, and any row of the same key may be counted next
+pub record IsCountedFor (by : SpecSeen) (emission : Emission) (old new : Seen) : Type 0 where
+  pub spec : new.spec ≡ old.spec
+  pub state : new.paused ≡ old.paused
+  pub stands : (rows : List Hit) → StandsFor old rows → old.paused ≡ false → StandsFor new (rows ++ hit_of by emission ∷ [])
+  pub more : old.paused ≡ false → counted new ≡ counted old + 1
+  pub idle : old.paused ≡ true → new ≡ old
+  pub still : IsReservedForKey new (hit_of by emission).key

@@ -1,4 +1,5 @@
 pub mod Groups
 pub mod Hists
+pub mod Laws
 pub mod Stored
 pub mod private

@@ -32,13 +32,10 @@
 //!
 //! Sums have 128 bits. A row's number is from -2^63 to 2^64 - 1, and a histogram counts so few rows (`HasRoom`) that no sum overflows.
 
-ghost use Rattle.std.specs.Prelude.{◌≡◌, ◌+◌, ◌++◌, List, [], ◌∷◌, IsOk, IfOk, OnOk, OnErr, length, map};
-ghost use Rattle.std.specs.Prelude.{IsTrue, ◌↔◌, false, true};
+ghost use Rattle.std.specs.Prelude.{◌≡◌, [], IsOk, IfOk, OnOk, OnErr, length, map, IsTrue, ◌↔◌, false, true};
 ghost use Rattle.trace_trigger.specs.declared.spec.Action.TheVariants as actions;
-ghost use Rattle.trace_hist.specs.Groups.{grouped};
-ghost use Rattle.trace_entries.specs.Hits.{Hit, hit_of};
 ghost use Rattle.trace_entries.specs.PrintOrder.{row_in, printed};
-ghost use Rattle.trace_hist.specs.Hists.{StandsFor, IsReserved, IsReservedAs, IsReservedForKey, NeedsEntry, NeedsEntryAs, counted, HasRoom};
+ghost use Rattle.trace_hist.specs.Hists.{StandsFor, IsReserved, IsReservedAs, NeedsEntry, NeedsEntryAs, HasRoom, IsReservedFor, IsCountedFor};
 
 use crate::counts::Counts;
 use crate::totals::Totals;
@@ -88,7 +85,6 @@ impl Hist {
         ensures stands { IfOk result (λ hist. StandsFor hist []) }
         ensures spec { IfOk result (λ hist. hist.spec ≡ spec) }
         ensures paused { IfOk result (λ hist. IsTrue hist.paused ↔ (spec.action ≡ actions.Pause)) }
-        ensures counted { IfOk result (λ hist. counted hist ≡ 0) }
     {
         let paused = matches!(spec.action(), Action::Pause);
         let counts = Counts::new(alloc, spec.size() as usize, spec.value_sources().len());
@@ -103,13 +99,8 @@ impl Hist {
     /// Makes room for a row, so that `hit` can count it: an entry for its key, if it has none, the table isn't full and the histogram isn't
     /// paused. In all other cases it takes no memory and succeeds. All that can be seen stays as it was, also where memory is refused.
     pub fn reserve_hit(&mut self, row: &Row, cpu: u32, pid: i32) -> Result<(), AllocError>
-        ensures stands { (rows : List Hit) → StandsFor self.old rows → StandsFor self.new rows }
-        ensures spec { self.new.spec ≡ self.old.spec }
-        ensures paused { self.new.paused ≡ self.old.paused }
-        ensures table { self.new.table ≡ self.old.table }
-        ensures counted { counted self.new ≡ counted self.old }
-        ensures reserved { OnOk result (IsReserved self.new
-            (record { values = row.now.values; cpu = cpu; pid = pid })) }
+        ensures reserved { OnOk result (IsReservedFor self.old.spec
+            (record { values = row.now.values; cpu = cpu; pid = pid }) self.old self.new) }
         ensures err { OnErr result (self.new ≡ self.old) }
         // Memory is taken, and may be refused, only for a new entry.
         ensures memory { OnErr result (NeedsEntry self.old
@@ -130,13 +121,8 @@ impl Hist {
         cpu: u32,
         pid: i32,
     ) -> Result<(), AllocError>
-        ensures stands { (rows : List Hit) → StandsFor self.old rows → StandsFor self.new rows }
-        ensures spec { self.new.spec ≡ self.old.spec }
-        ensures paused { self.new.paused ≡ self.old.paused }
-        ensures table { self.new.table ≡ self.old.table }
-        ensures counted { counted self.new ≡ counted self.old }
-        ensures reserved { OnOk result (IsReservedAs self.new by.now
-            (record { values = row.now.values; cpu = cpu; pid = pid })) }
+        ensures reserved { OnOk result (IsReservedFor by.now
+            (record { values = row.now.values; cpu = cpu; pid = pid }) self.old self.new) }
         ensures err { OnErr result (self.new ≡ self.old) }
         // Memory is taken, and may be refused, only for a new entry.
         ensures memory { OnErr result (NeedsEntryAs self.old by.now
@@ -156,14 +142,8 @@ impl Hist {
         requires reserved { IsReserved self.old
             (record { values = row.now.values; cpu = cpu; pid = pid }) }
         requires few { HasRoom self.old }
-        ensures stands { (rows : List Hit) → StandsFor self.old rows → self.old.paused ≡ false
-            → StandsFor self.new (rows ++ hit_of self.old.spec (record { values = row.now.values; cpu = cpu; pid = pid }) ∷ []) }
-        ensures paused { self.old.paused ≡ true → self.new ≡ self.old }
-        ensures state { self.new.paused ≡ self.old.paused }
-        ensures spec { self.new.spec ≡ self.old.spec }
-        ensures counted { self.old.paused ≡ false → counted self.new ≡ counted self.old + 1 }
-        // What was reserved for the row's key stays reserved.
-        ensures still { IsReservedForKey self.new (hit_of self.old.spec (record { values = row.now.values; cpu = cpu; pid = pid })).key }
+        ensures { IsCountedFor self.old.spec
+            (record { values = row.now.values; cpu = cpu; pid = pid }) self.old self.new }
     {
         if !self.paused {
             self.counts.count(&self.spec, &Emission { row, cpu, pid });
@@ -175,14 +155,8 @@ impl Hist {
         requires reserved { IsReservedAs self.old by.now
             (record { values = row.now.values; cpu = cpu; pid = pid }) }
         requires few { HasRoom self.old }
-        ensures stands { (rows : List Hit) → StandsFor self.old rows → self.old.paused ≡ false
-            → StandsFor self.new (rows ++ hit_of by.now (record { values = row.now.values; cpu = cpu; pid = pid }) ∷ []) }
-        ensures paused { self.old.paused ≡ true → self.new ≡ self.old }
-        ensures state { self.new.paused ≡ self.old.paused }
-        ensures spec { self.new.spec ≡ self.old.spec }
-        ensures counted { self.old.paused ≡ false → counted self.new ≡ counted self.old + 1 }
-        // What was reserved for the row's key stays reserved.
-        ensures still { IsReservedForKey self.new (hit_of by.now (record { values = row.now.values; cpu = cpu; pid = pid })).key }
+        ensures { IsCountedFor by.now
+            (record { values = row.now.values; cpu = cpu; pid = pid }) self.old self.new }
     {
         if self.paused {
             return;
@@ -191,23 +165,15 @@ impl Hist {
     }
 
     /// Stops counting: rows that come are passed over.
-    #[tactic(auto, unfolding(crate::specs::Hists::StandsFor))]
     pub fn pause(&mut self)
-        ensures stands { (rows : List Hit) → StandsFor self.old rows → StandsFor self.new rows }
-        ensures spec { self.new.spec ≡ self.old.spec }
-        ensures paused { self.new.paused ≡ true }
-        ensures table { self.new.table ≡ self.old.table }
+        ensures { self.new ≡ record self.old { paused = true } }
     {
         self.paused = true;
     }
 
     /// Goes on counting.
-    #[tactic(auto, unfolding(crate::specs::Hists::StandsFor))]
     pub fn resume(&mut self)
-        ensures stands { (rows : List Hit) → StandsFor self.old rows → StandsFor self.new rows }
-        ensures spec { self.new.spec ≡ self.old.spec }
-        ensures paused { self.new.paused ≡ false }
-        ensures table { self.new.table ≡ self.old.table }
+        ensures { self.new ≡ record self.old { paused = false } }
     {
         self.paused = false;
     }
@@ -217,7 +183,6 @@ impl Hist {
         ensures stands { StandsFor self.new [] }
         ensures spec { self.new.spec ≡ self.old.spec }
         ensures paused { self.new.paused ≡ self.old.paused }
-        ensures counted { counted self.new ≡ 0 }
     {
         self.counts.clear();
     }
@@ -238,23 +203,18 @@ impl Hist {
 
     /// How many rows were counted, into how many entries, and how many had no room. It takes no memory.
     pub fn totals(&self) -> Totals
-        ensures hits { (rows : List Hit) → StandsFor self.now rows → result.hits ≡ (grouped self.now.spec rows).hits }
-        ensures entries { (rows : List Hit) → StandsFor self.now rows
-            → result.entries ≡ length (grouped self.now.spec rows).entries }
-        ensures dropped { (rows : List Hit) → StandsFor self.now rows
-            → result.dropped ≡ (grouped self.now.spec rows).dropped }
-        ensures counted { result.hits + result.dropped ≡ counted self.now }
-        ensures table { (result.hits ≡ self.now.table.hits) × (result.entries ≡ length self.now.table.entries)
-            × (result.dropped ≡ self.now.table.dropped) }
+        ensures { result ≡ record {
+          hits = self.now.table.hits;
+          entries = length self.now.table.entries;
+          dropped = self.now.table.dropped;
+        } }
     {
         self.counts.totals()
     }
 
     /// The entries in print order: by the sort keys in turn, those that tie in order of first occurrence.
     pub fn rows(&self) -> Result<Vec<HistRow>, AllocError>
-        ensures rows { (rows : List Hit) → StandsFor self.now rows → IfOk result (λ shown. map row_in shown.items
-            ≡ printed self.now.spec.sort_sources (grouped self.now.spec rows).entries) }
-        ensures table { IfOk result (λ shown. map row_in shown.items ≡ printed self.now.spec.sort_sources self.now.table.entries) }
+        ensures { IfOk result (λ shown. map row_in shown.items ≡ printed self.now.spec.sort_sources self.now.table.entries) }
     {
         self.counts.rows(self.alloc, self.spec.sort_sources())
     }

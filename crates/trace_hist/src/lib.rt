@@ -6,11 +6,12 @@
 
 mod counts;
 mod hist;
+pub mod laws;
 mod sort;
 mod totals;
 
 pub use hist::Hist;
 pub use totals::Totals;
-pub use trace_entries::{HistRow, laws};
+pub use trace_entries::HistRow;
 pub use trace_format::Text;
 pub use trace_trigger::{Action, HistSpec, Key, Modifier, SortKey, TriggerFault};

@@ -11,10 +11,10 @@ use Rattle.trace_trigger.specs.declared.key.Key.{Key}
 use Rattle.trace_entries.specs.Hits.{Hit, hit_of, key_cell}
 use Rattle.trace_entries.specs.HistEntries.{Entry}
 use Rattle.trace_entries.specs.RowPlaces.{Place, Unknown, In, Nowhere, IsPlaceOf, most_rows}
-use Rattle.trace_hist.specs.Hists.{IsReservedAs, IsReservedForKey, Seen, StandsFor, counted}
+use Rattle.trace_hist.specs.Hists.{IsCountedFor, IsReservedAs, Seen, StandsFor, counted}
 use Rattle.trace_trigger.specs.SameSpecs.{is_passed}
 use Rattle.trace_instance.specs.KeptHists.{AreHit, CanCount, HasRoomToCount, IsHit, IsHitIf, KeptTable, KeysAgree, NeedsMemory, NeedsMemoryIn, is_passed_at, kept_at, kept_table, passed, row_counted, rows_counted, table_numbered}
-use Rattle.trace_instance.specs.private.Tables.{IsCounted, IsCountedIn}
+use Rattle.trace_instance.specs.private.Tables.{IsCounted}
 use Rattle.trace_instance.specs.declared.hists.AttachedHist.{AttachedHist}
 use Rattle.trace_instance.specs.declared.tables.Table.{Table}
 use Rattle.trace_instance.proofs.Lookups.{differ, itself}
@@ -149,23 +149,13 @@ memory-needed emission hists i a old now agree inside is on ready was needs =
 
 -- ---- rows that are counted
 
--- a hit counted a row, in the words of its clauses
-pub counted-in : (by : SpecSeen) (emission : Emission) (old new : Seen) → new.spec ≡ old.spec → new.paused ≡ old.paused
-    → ((rows : List Hit) → StandsFor old rows → old.paused ≡ false → StandsFor new (rows ++ hit_of by emission ∷ []))
-    → (old.paused ≡ true → new ≡ old) → (old.paused ≡ false → counted new ≡ counted old + 1)
-    → IsReservedForKey new (hit_of by emission).key → IsCountedIn by emission old new
-counted-in by emission old new spec state stands idle more still = record {
-  spec = spec;
-  state = state;
-  stands = stands;
-  idle = idle;
-  few = by_pause old.paused refl;
-  still = still;
-}
+-- one row at most
+counted-few : (by : SpecSeen) (emission : Emission) (old new : Seen) → IsCountedFor by emission old new → counted new ≤ counted old + 1
+counted-few by emission old new came = by_pause old.paused refl
   where
     by_pause : (paused : Bool) → old.paused ≡ paused → counted new ≤ counted old + 1
-    by_pause true is = let same = ap counted (idle is) in omega (arith, same)
-    by_pause false is = omega (arith, more is)
+    by_pause true is = let same = ap counted (came.idle is) in omega (arith, same)
+    by_pause false is = omega (arith, came.more is)
 
 -- no rows were counted
 none-hit : (paused : Bool) (rows : List Hit) (k : KeptTable) → rows ≡ [] → IsHit rows k k
@@ -319,7 +309,7 @@ room-more : (by : SpecSeen) (emission : Emission) (i : ℕ) (now new : Option Se
 room-more by emission i None None came few = tt
 room-more by emission i None (Some new) came few = absurd came
 room-more by emission i (Some now) None came few = absurd came
-room-more by emission i (Some now) (Some new) came few = omega (arith, few, came.few)
+room-more by emission i (Some now) (Some new) came few = omega (arith, few, counted-few by emission now new came)
 
 -- one that was reached has counted its row
 pub reached-more : (emission : Emission) (hists : List AttachedHist) (i : ℕ) (a : AttachedHist) (old now new : List Table) → KeysAgree hists

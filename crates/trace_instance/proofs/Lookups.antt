@@ -1,10 +1,13 @@
 -- Tables that are looked up by their numbers: the first of a number counts, and one that is changed in place, put in front or let go leaves the others.
 use Rattle.std.proofs.Common.{◌≡◌, ℕ, zero, suc, ◌<◌, ◌==◌, Bool, true, false, ◌||◌, if◌then◌else◌, List, [], ◌∷◌, length, filter, get_or, set, Option, None, Some, option_map, is_some, refl, sym, ap, ◌∙◌, arith, eq-eqb, eqb-true}
+use Rattle.std.specs.Prelude.{Result, Ok, Err, OnOk, OnErr}
 use Rattle.std.specs.List.{list_any, position}
+use Rattle.std.specs.declared.alloc.AllocError.{AllocError}
 use Rattle.std.proofs.lemmas.Bool.{false≢true}
 use Rattle.std.proofs.lemmas.List.Quantifiers.{position-Some}
+use Rattle.trace_format.specs.Operands.{Emission}
 use Rattle.trace_hist.specs.Groups.{grouped}
-use Rattle.trace_hist.specs.Hists.{Seen, StandsFor}
+use Rattle.trace_hist.specs.Hists.{IsReservedAs, IsReservedFor, Seen, StandsFor}
 use Rattle.trace_trigger.specs.HistSpecs.{SpecSeen}
 use Rattle.trace_trigger.specs.declared.spec.Action.{Action}
 use Rattle.trace_trigger.specs.declared.spec.Action.TheVariants.{Clear}
@@ -136,16 +139,24 @@ asked-at number tables i d read new action found here called done other =
         ∙ ap (λ (o : Option Seen). option_map (asked action) (option_map kept_table o)) (sym was)
     by false at = refl
 
+-- what a row needs was reserved, or refused
+module _ (by : SpecSeen) (emission : Emission) (old new : Seen) where
+  pub kept-reserved : (result : Result (Unit {0}) AllocError) → OnOk result (IsReservedFor by emission old new) → OnErr result (new ≡ old)
+      → kept_table new ≡ kept_table old
+  kept-reserved (Ok value) came err = ap kept_table came.kept
+  kept-reserved (Err error) came err = ap kept_table err
+
+  pub ready-reserved : (result : Result (Unit {0}) AllocError) → OnOk result (IsReservedFor by emission old new) → OnOk result (IsReservedAs new by emission)
+  ready-reserved (Ok value) came = came.ready
+  ready-reserved (Err error) came = tt
+
 -- nothing that is kept was changed
 pub alike-at : (number : ℕ) (tables : List Table) (i : ℕ) (d read : Table) (hist : Seen) → position (is_numbered number) tables ≡ Some i
-    → read ≡ get_or tables i d → hist.spec ≡ read.hist.spec → hist.paused ≡ read.hist.paused → hist.table ≡ read.hist.table → (other : ℕ)
+    → read ≡ get_or tables i d → kept_table hist ≡ kept_table read.hist → (other : ℕ)
     → kept_at other (set tables i (record read { hist = hist })) ≡ kept_at other tables
-alike-at number tables i d read hist found here spec paused table other =
+alike-at number tables i d read hist found here same other =
     ap (option_map kept_table) (set-at number tables i d read (record read { hist = hist }) found here refl other) ∙ by (number == other) refl
   where
-    same : kept_table hist ≡ kept_table read.hist
-    same = λ k. record { spec = spec k; paused = paused k; table = table k }
-
     by : (b : Bool) → (number == other) ≡ b
         → option_map kept_table (if b then Some hist else table_numbered other tables) ≡ kept_at other tables
     by true at =

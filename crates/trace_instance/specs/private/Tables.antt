@@ -1,9 +1,8 @@
 -- What a hit does to a table, and a change of triggers to all of them.
-use Rattle.std.specs.Prelude.{◌≡◌, ℕ, ◌+◌, ◌≤◌, Bool, true, false, List, [], ◌∷◌, ◌++◌, Option, Some, None, ⊤}
+use Rattle.std.specs.Prelude.{◌≡◌, ℕ, Bool, Option, Some, None, ⊤}
 use Rattle.trace_format.specs.Operands.{Emission}
 use Rattle.trace_trigger.specs.HistSpecs.{SpecSeen}
-use Rattle.trace_hist.specs.Hists.{IsReservedForKey, Seen, StandsFor, counted}
-use Rattle.trace_entries.specs.Hits.{Hit, hit_of}
+use Rattle.trace_hist.specs.Hists.{IsCountedFor, Seen}
 use Rattle.trace_command.specs.declared.command.Config.{Config}
 use Rattle.trace_snapshot.specs.Sides as snapshot
 use Rattle.trace_snapshot.specs.Sides.{SideFamilies}
@@ -13,21 +12,12 @@ use Rattle.trace_instance.specs.KeptHists.{kept_at}
 use Rattle.trace_instance.specs.declared.change.InstanceChange.TheVariants.{Triggers}
 use Rattle.trace_instance.specs.declared.change.TriggerChange.{TriggerChange}
 
--- a row was counted in a table, as a trigger reads it, unless that is paused; and the same key can be counted once more
-pub record IsCountedIn (by : SpecSeen) (emission : Emission) (old new : Seen) : Type 0 where
-  pub spec : new.spec ≡ old.spec
-  pub state : new.paused ≡ old.paused
-  pub stands : (rows : List Hit) → StandsFor old rows → old.paused ≡ false → StandsFor new (rows ++ hit_of by emission ∷ [])
-  pub idle : old.paused ≡ true → new ≡ old
-  pub few : counted new ≤ counted old + 1
-  pub still : IsReservedForKey new (hit_of by emission).key
-
--- the same where there may be none
+-- a row was counted in a table, as a trigger reads it, if there is one
 abbrev pub IsCounted : SpecSeen → Emission → Option Seen → Option Seen → Type 0
 IsCounted by emission None None = ⊤
 IsCounted by emission None (Some new) = ⊥
 IsCounted by emission (Some old) None = ⊥
-IsCounted by emission (Some old) (Some new) = IsCountedIn by emission old new
+IsCounted by emission (Some old) (Some new) = IsCountedFor by emission old new
 
 -- ---- a change of an event's triggers
 

@@ -1,7 +1,7 @@
 use Rattle.std.proofs.Common.{◌≡◌, None, Some, get_or, refl, to_z, of_z, w32, rules}
 use Rattle.std.proofs.lemmas.Int.{to_z-of_z}
 use Rattle.std.specs.List.{position}
-use Rattle.trace_instance.proofs.Lookups.{alike-at, here-at, is_numbered, none-found, others-at, read-at}
+use Rattle.trace_instance.proofs.Lookups.{alike-at, here-at, is_numbered, kept-reserved, none-found, others-at, read-at, ready-reserved}
 use Rattle.trace_instance.proofs.tables.reserve.Goals as goal
 
 pub returns-in_default-clause-ready : goal.returns-in_default-clause-ready
@@ -14,8 +14,9 @@ returns-clause-alike c = λ other.
     let found : position (is_numbered c.args.number) c.args.tables.now ≡ Some c.in-Some.index = search rules in
     let reserved = c.reserve_hit_as.ensures in
     alike-at c.args.number c.args.tables.now c.in-Some.index c.index-tables-index.result
-    (get_or c.args.tables.now c.in-Some.index c.index-tables-index.result) c.reserve_hit_as.new.self found refl reserved.spec
-    reserved.paused reserved.table other
+    (get_or c.args.tables.now c.in-Some.index c.index-tables-index.result) c.reserve_hit_as.new.self found refl
+    (kept-reserved c.args.by.now (record { values = c.args.row.now.values; cpu = c.args.cpu; pid = to_z w32 (of_z w32 c.args.pid) })
+    (get_or c.args.tables.now c.in-Some.index c.index-tables-index.result).hist c.reserve_hit_as.new.self c.reserve_hit_as.result reserved.reserved reserved.err) other
 
 pub returns-clause-others : goal.returns-clause-others
 returns-clause-others c = λ other apart.
@@ -29,7 +30,8 @@ returns-clause-ready c =
     let pid : to_z w32 (of_z w32 c.args.pid) ≡ c.args.pid = to_z-of_z w32 c.args.pid (search rules) in
     rw (here-at c.args.number c.args.tables.now c.in-Some.index c.index-tables-index.result
     (get_or c.args.tables.now c.in-Some.index c.index-tables-index.result) (record (get_or c.args.tables.now c.in-Some.index c.index-tables-index.result) { hist = c.reserve_hit_as.new.self }) found refl refl)
-    (rw pid at c.reserve_hit_as.ensures.reserved)
+    (rw pid at (ready-reserved c.args.by.now (record { values = c.args.row.now.values; cpu = c.args.cpu; pid = to_z w32 (of_z w32 c.args.pid) })
+    (get_or c.args.tables.now c.in-Some.index c.index-tables-index.result).hist c.reserve_hit_as.new.self c.reserve_hit_as.result c.reserve_hit_as.ensures.reserved))
 
 pub returns-clause-memory : goal.returns-clause-memory
 returns-clause-memory c =

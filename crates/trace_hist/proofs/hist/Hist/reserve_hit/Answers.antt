@@ -3,19 +3,14 @@ use Rattle.std.specs.Int.{w32}
 use Rattle.trace_format.specs.Operands.{Emission}
 use Rattle.trace_entries.specs.HistEntries.{is_among}
 use Rattle.trace_entries.specs.RowPlaces.{In, IsPlaceOf, entry_keys}
-use Rattle.trace_hist.specs.Groups.{grouped}
 use Rattle.trace_entries.specs.Hits.{hit_of}
-use Rattle.trace_hist.specs.Hists.{Seen, StandsFor, NeedsEntryAs}
-use Rattle.trace_hist.proofs.Histograms.{paused-reserved, told-reserved, told-unchanged, told-needed}
+use Rattle.trace_hist.specs.Hists.{Seen, IsReservedFor, NeedsEntryAs}
+use Rattle.trace_hist.specs.Stored.{seen_of}
+use Rattle.trace_hist.proofs.Histograms.{idle-reserved, told-reserved, told-unchanged, told-needed}
 use Rattle.trace_hist.proofs.hist.Hist.reserve_hit.Goals as goal
 
 pub returns-then-self-clause-reserved : goal.returns-then-self-clause-reserved
-returns-then-self-clause-reserved c = paused-reserved c.args.self.now c.args.self.now.spec _ (sym (ap (λ (s : Seen). s.paused) c.self.view_is) ∙ c.if-self.true)
-
-pub returns-clause-stands : goal.returns-clause-stands
-unfolding StandsFor
-returns-clause-stands c = λ rows h.
-    c.reserve.ensures.table ∙ ap (λ (s : Seen). s.table) c.self.view_is ∙ h ∙ ap (λ (s : Seen). grouped s.spec rows) (sym c.self.view_is)
+returns-then-self-clause-reserved c = idle-reserved c.args.self.now c.args.self.now.spec _ (sym (ap (λ (s : Seen). s.paused) c.self.view_is) ∙ c.if-self.true)
 
 pub returns-clause-reserved : goal.returns-clause-reserved
 returns-clause-reserved c =
@@ -25,7 +20,8 @@ returns-clause-reserved c =
     let place : OnOk c.reserve.result (IsPlaceOf c.reserve.new.self.next h.counts.size h.counts.table.entries (hit_of h.spec emission).key) =
     subst (λ (n : ℤ). OnOk c.reserve.result (IsPlaceOf c.reserve.new.self.next h.counts.size h.counts.table.entries (hit_of h.spec (record { values = c.args.row.now.values; cpu = c.args.cpu; pid = n })).key)) pid
     c.reserve.ensures.place in
-    told-reserved h.spec h.paused h.counts c.self.invariant c.args.self.now c.self.view_is c.reserve.new.self h.spec emission c.reserve.result c.reserve.ensures.table place
+    subst (λ (s : Seen). OnOk c.reserve.result (IsReservedFor s.spec emission c.args.self.now (seen_of h.spec h.paused c.reserve.new.self))) c.self.view_is
+    (told-reserved h.spec h.paused h.counts c.self.invariant c.args.self.now c.self.view_is c.reserve.new.self h.spec emission c.reserve.result c.reserve.ensures.table place)
 
 pub returns-clause-err : goal.returns-clause-err
 returns-clause-err c =

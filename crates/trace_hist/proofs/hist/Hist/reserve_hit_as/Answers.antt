@@ -3,19 +3,13 @@ use Rattle.std.specs.Int.{w32}
 use Rattle.trace_format.specs.Operands.{Emission}
 use Rattle.trace_entries.specs.HistEntries.{is_among}
 use Rattle.trace_entries.specs.RowPlaces.{In, IsPlaceOf, entry_keys}
-use Rattle.trace_hist.specs.Groups.{grouped}
 use Rattle.trace_entries.specs.Hits.{hit_of}
-use Rattle.trace_hist.specs.Hists.{Seen, StandsFor}
-use Rattle.trace_hist.proofs.Histograms.{paused-reserved, told-reserved, told-unchanged, told-needed}
+use Rattle.trace_hist.specs.Hists.{Seen}
+use Rattle.trace_hist.proofs.Histograms.{idle-reserved, told-reserved, told-unchanged, told-needed}
 use Rattle.trace_hist.proofs.hist.Hist.reserve_hit_as.Goals as goal
 
 pub returns-then-self-clause-reserved : goal.returns-then-self-clause-reserved
-returns-then-self-clause-reserved c = paused-reserved c.args.self.now c.args.by.now _ (sym (ap (λ (s : Seen). s.paused) c.self.view_is) ∙ c.if-self.true)
-
-pub returns-clause-stands : goal.returns-clause-stands
-unfolding StandsFor
-returns-clause-stands c = λ rows h.
-    c.reserve.ensures.table ∙ ap (λ (s : Seen). s.table) c.self.view_is ∙ h ∙ ap (λ (s : Seen). grouped s.spec rows) (sym c.self.view_is)
+returns-then-self-clause-reserved c = idle-reserved c.args.self.now c.args.by.now _ (sym (ap (λ (s : Seen). s.paused) c.self.view_is) ∙ c.if-self.true)
 
 pub returns-clause-reserved : goal.returns-clause-reserved
 returns-clause-reserved c =
