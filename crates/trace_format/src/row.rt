@@ -175,7 +175,7 @@ impl Row {
     }
 
     /// The row that `decode` finds, in the memory of an earlier one. The row takes the memory's room with it; without a row the memory keeps what
-    /// room it has. It means nothing, so contracts see no change of it.
+    /// room it has. What the memory holds afterwards is not said.
     pub fn decode_in(
         alloc: Global,
         memory: &mut RowMemory,
@@ -185,7 +185,6 @@ impl Row {
         ensures row { IfOk result (λ found. (row : Cells) → (found ≡ Some row) ↔ (IsRowOf def.now row × (bytes.now ≡ payload_of row))) }
         ensures names { IfOk result (λ found. IfSome found (λ row. StandByName def.now.fields row.values)) }
         ensures exact { IfOk result (λ found. found ≡ row_from def.now bytes.now) }
-        ensures memory { memory.new ≡ memory.old }
     {
         let fields = def.fields();
         if !decode_values(alloc, fields, bytes, &mut memory.values)? {
