@@ -6,6 +6,8 @@ use Rattle.trace_format.specs.declared.kind.Kind.TheVariants.{Number, Char}
 use Rattle.trace_format.specs.declared.event.Field.{Field}
 use Rattle.trace_format.specs.declared.value.Value.{Value}
 use Rattle.trace_format.specs.declared.value.Value.TheVariants.{Num, Text}
+use Rattle.trace_format.specs.declared.borrowed_value.BorrowedValue.{BorrowedValue}
+use Rattle.trace_format.specs.declared.borrowed_value.BorrowedValue.TheVariants as borrowed
 use Rattle.trace_format.specs.Kinds.{number_size, least, greatest, size_of}
 use Rattle.trace_format.specs.Definitions.{Definition}
 use Rattle.trace_record.specs.Record.{record_size}
@@ -21,6 +23,11 @@ pub data Datum : Type 0 where
 abbrev pub datum_of : Value → Datum
 datum_of (Num n) = Whole n
 datum_of (Text bytes) = Bytes bytes.items
+
+-- and one whose text lies elsewhere
+abbrev pub datum_in : BorrowedValue → Datum
+datum_in (borrowed.Num n) = Whole n
+datum_in (borrowed.Text bytes) = Bytes bytes.now
 
 -- from 0x20 to 0x7e
 abbrev pub is_printable : ℕ → Bool

@@ -5,6 +5,7 @@
 #![tactic(auto)]
 
 mod borrowed_pair;
+mod borrowed_value;
 mod catalog;
 mod emission;
 mod event;
@@ -24,6 +25,7 @@ mod value;
 mod words;
 
 pub use borrowed_pair::{BorrowedPair, borrowed};
+pub use borrowed_value::BorrowedValue;
 pub use catalog::Catalog;
 pub use emission::Emission;
 pub use event::{EventDef, Field};

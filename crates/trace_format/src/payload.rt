@@ -7,6 +7,7 @@ ghost use Rattle.trace_format.specs.Kinds.{size_of, number_size};
 ghost use Rattle.trace_format.specs.Cells.{Datum, Whole, Bytes, datum_of, Holds, size_of_all, bytes_of, field_bytes, little_endian, two's_complement};
 ghost use Rattle.trace_format.specs.Decoding.{field_from, values_from, number_from, unsigned_from, text_from, is_zero};
 
+use crate::borrowed_value::BorrowedValue;
 use crate::event::Field;
 use crate::kind::{Kind, NumberType};
 use crate::value::{Value, are_printable};
@@ -131,17 +132,15 @@ fn decode_field(alloc: Global, kind: Kind, bytes: &[u8]) -> Result<Option<Value>
     requires { length bytes.now ≡ size_of kind }
     ensures { IfOk result (λ found. option_map datum_of found ≡ field_from kind bytes.now) }
 {
-    match kind {
-        Kind::Number(number_type) => Ok(Some(Value::Num(decode_number(number_type, bytes)))),
-        Kind::Char(_) => match decode_text(bytes) {
-            Some(text) => Ok(Some(Value::Text(Vec::from_slice(alloc, text)?))),
-            None => Ok(None),
-        },
+    match kind.value_in(bytes) {
+        Some(BorrowedValue::Num(number)) => Ok(Some(Value::Num(number))),
+        Some(BorrowedValue::Text(text)) => Ok(Some(Value::Text(Vec::from_slice(alloc, text)?))),
+        None => Ok(None),
     }
 }
 
 /// The number of a type that its bytes write.
-fn decode_number(number_type: NumberType, bytes: &[u8]) -> i128
+pub(crate) fn decode_number(number_type: NumberType, bytes: &[u8]) -> i128
     requires { length bytes.now ≡ number_size number_type }
     ensures { result ≡ number_from number_type bytes.now }
 {
@@ -154,15 +153,27 @@ fn decode_number(number_type: NumberType, bytes: &[u8]) -> i128
     }
 }
 
-/// The number that at most 8 bytes write, the lowest first.
+/// The number that at most 8 bytes write, the lowest first. Eight bytes are read at once.
 fn decode_unsigned(bytes: &[u8]) -> u64
     requires { length bytes.now ≤ 8 }
     ensures value { result ≡ unsigned_from bytes.now }
     ensures bound { result < 256 ^ length bytes.now }
 {
     match bytes {
+        [a, b, c, d, e, f, g, h] => u64::from_le_bytes([*a, *b, *c, *d, *e, *f, *g, *h]),
+        _ => decode_low_bytes(bytes),
+    }
+}
+
+/// The number that at most 8 bytes write, byte by byte.
+fn decode_low_bytes(bytes: &[u8]) -> u64
+    requires { length bytes.now ≤ 8 }
+    ensures value { result ≡ unsigned_from bytes.now }
+    ensures bound { result < 256 ^ length bytes.now }
+{
+    match bytes {
         [] => 0,
-        [low, high @ ..] => u64::from(*low) + 256 * decode_unsigned(high),
+        [low, high @ ..] => u64::from(*low) + 256 * decode_low_bytes(high),
     }
 }
 
@@ -173,7 +184,7 @@ fn are_zeros(bytes: &[u8]) -> bool
 }
 
 /// The text before the zeros that fill a field.
-fn decode_text(bytes: &[u8]) -> Option<&[u8]>
+pub(crate) fn decode_text(bytes: &[u8]) -> Option<&[u8]>
     ensures { option_map (λ text. Bytes text.now) result ≡ text_from bytes.now }
 {
     let (text, zeros) = bytes.split_at(len_before(0, bytes));
