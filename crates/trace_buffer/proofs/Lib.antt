@@ -7,5 +7,6 @@ pub mod Lists
 pub mod MergeLaws
 pub mod PipeLaws
 pub mod EachCpu
+pub mod OneCpu
 pub mod Bounds
 mod Waiting

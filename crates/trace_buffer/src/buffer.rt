@@ -208,6 +208,9 @@ impl Buffer {
     {
         // A theorem: a consuming read leaves the rest of what is listed.
         page_ring::laws::least_is_read();
+        if self.cpus() == 1 {
+            return self.preview_cpu(0, limit);
+        }
         let cursors = self.cursors()?;
         let count = limit.min(self.entries()) as usize;
         read_in_order(self.alloc, cursors, limit, count)
