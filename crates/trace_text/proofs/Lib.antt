@@ -5,4 +5,7 @@ pub mod BufferLemmas
 pub mod SnapshotLemmas
 pub mod ZipLemmas
 pub mod LoopLemmas
+pub mod CellLemmas
+pub mod EventLemmas
+pub mod StatsLemmas
 pub mod HistTextExamples

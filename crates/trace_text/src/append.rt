@@ -1,8 +1,9 @@
 //! Numbers as texts of bytes.
 
-ghost use Rattle.std.specs.Prelude.{◌≡◌, ◌++◌, OnOk, OnErr};
+ghost use Rattle.std.specs.Prelude.{◌≡◌, ◌+◌, ◌≤◌, ◌++◌, length, drop, OnOk, OnErr};
+ghost use Rattle.std.specs.Fmt.{decimal};
 
-use itoa::{Buffer, Integer};
+use itoa::{Buffer, Integer, write_digits};
 use std::alloc::AllocError;
 
 /// Appends bytes.
@@ -57,4 +58,29 @@ pub(crate) fn append_text(out: &mut Vec<u8>, text: Vec<u8>) -> Result<(), AllocE
         return Ok(());
     }
     out.extend_from_slice(&text)
+}
+
+/// Writes bytes so that they end at `end`, and returns where they begin.
+#[inline(always)]
+pub(crate) fn put_before(bytes: &mut [u8], end: usize, text: &[u8]) -> usize
+    requires room { length text.now ≤ end }
+    requires inside { end ≤ length bytes.old }
+    ensures start { result + length text.now ≡ end }
+    ensures text { drop result bytes.new ≡ text.now ++ drop end bytes.old }
+{
+    let start = end - text.len();
+    bytes[start..end].copy_from_slice(text);
+    start
+}
+
+/// Writes a number in decimal so that it ends at `end`, and returns where it begins.
+#[inline(always)]
+pub(crate) fn put_number_before(bytes: &mut [u8], end: usize, n: u64) -> usize
+    requires room { 20 ≤ end }
+    requires inside { end ≤ length bytes.old }
+    ensures start { result + length (decimal n) ≡ end }
+    ensures short { end ≤ result + 20 }
+    ensures text { drop result bytes.new ≡ decimal n ++ drop end bytes.old }
+{
+    write_digits(n, bytes, end)
 }

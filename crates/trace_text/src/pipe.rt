@@ -12,7 +12,10 @@ use crate::append::{append_text, push, push_with_number};
 use crate::record::push_record_line;
 use std::alloc::{AllocError, Global};
 use trace_buffer::Taken;
-use trace_format::{Catalog, RowMemory};
+use trace_format::Catalog;
+
+/// Room for a usual line, so that the text of one record seldom grows.
+const USUAL_LINE: usize = 96;
 
 /// Appends the line that says how many records of a CPU were lost; nothing if none was.
 #[tactic(auto, unfolding(crate::specs::TraceText::lost_line))]
@@ -30,8 +33,6 @@ pub(crate) fn push_lost_line(out: &mut Vec<u8>, cpu: u32, lost: u64) -> Result<(
 /// Appends the lines of a record.
 #[tactic(auto, unfolding(crate::specs::BufferText::taken_lines))]
 fn push_taken_lines(
-    alloc: Global,
-    memory: &mut RowMemory,
     out: &mut Vec<u8>,
     catalog: &Catalog,
     taken: &Taken<'_>,
@@ -40,22 +41,16 @@ fn push_taken_lines(
         ≡ out.old.items ++ files.taken_lines catalog.now (taken_reading taken.now)) }
 {
     push_lost_line(out, taken.cpu, taken.lost)?;
-    push_record_line(alloc, memory, out, catalog, taken.cpu, taken.rec)
+    push_record_line(out, catalog, taken.cpu, taken.rec)
 }
 
 /// Appends the lines of all records.
-fn push_taken(
-    alloc: Global,
-    memory: &mut RowMemory,
-    out: &mut Vec<u8>,
-    catalog: &Catalog,
-    taken: &[Taken<'_>],
-) -> Result<(), AllocError>
+fn push_taken(out: &mut Vec<u8>, catalog: &Catalog, taken: &[Taken<'_>]) -> Result<(), AllocError>
     ensures { OnOk result (out.new.items
         ≡ out.old.items ++ flat_map (files.taken_lines catalog.now) (map taken_reading taken.now)) }
 {
     for record in taken {
-        push_taken_lines(alloc, memory, out, catalog, record)?;
+        push_taken_lines(out, catalog, record)?;
     }
     Ok(())
 }
@@ -75,8 +70,8 @@ pub fn pipe_text(
         ≡ out.old.items ++ files.pipe_text catalog.now (map taken_reading taken.now)) }
     ensures refused { OnErr result (out.new.items ≡ out.old.items) }
 {
-    let mut memory = RowMemory::new(alloc);
-    let mut text = Vec::new(alloc);
-    push_taken(alloc, &mut memory, &mut text, catalog, taken)?;
+    let room = if taken.is_empty() { 0 } else { USUAL_LINE };
+    let mut text = Vec::with_capacity(alloc, room)?;
+    push_taken(&mut text, catalog, taken)?;
     append_text(out, text)
 }

@@ -1,50 +1,58 @@
 //! The text of a `stats` file.
+//!
+//! It is short, so it is written from its last line to its first into an array: the digits of a number come out last first, and so each lands where it
+//! belongs. The vector takes the text once.
 
-ghost use Rattle.std.specs.Prelude.{◌≡◌, ◌++◌, OnOk, OnErr, string_bytes};
+ghost use Rattle.std.specs.Prelude.{◌≡◌, ℕ, ◌+◌, ◌≤◌, ◌++◌, length, drop, OnOk, OnErr};
 ghost use Rattle.trace_text.specs.StatsText as texts;
 
-use crate::append::append_text;
+use crate::append::{put_before, put_number_before};
 use page_ring::RingStats;
-use std::alloc::{AllocError, Global};
-use std::fmt::Write;
+use std::alloc::AllocError;
 
-/// Appends a label, a number and the end of the line.
+/// The most bytes that the text has: 95 of labels, and in each of the eight lines at most 20 digits and a newline.
+const MOST_BYTES: usize = 263;
+
+/// Writes a label, a number and the end of the line so that they end at `end`, and returns where they begin.
+#[inline(always)]
 #[tactic(auto, unfolding(crate::specs::StatsText::stats_line))]
-fn push_line(out: &mut String, label: &str, n: u64) -> Result<(), AllocError>
-    ensures { OnOk result (string_bytes out.new ≡ string_bytes out.old ++ texts.stats_line label.now n) }
+fn put_line_before(bytes: &mut [u8], end: usize, label: &[u8], n: u64) -> usize
+    requires room { length label.now + 21 ≤ end }
+    requires inside { end ≤ length bytes.old }
+    ensures room { end ≤ result + length label.now + 21 }
+    ensures inside { result ≤ length bytes.new }
+    ensures line { drop result bytes.new ≡ texts.stats_line label.now n ++ drop end bytes.old }
 {
-    writeln!(out, "{label}{n}")
+    let at = put_before(bytes, end, b"\n");
+    let at = put_number_before(bytes, at, n);
+    put_before(bytes, at, label)
 }
 
-/// Appends all lines.
-#[tactic(auto, unfolding(crate::specs::StatsText::stats_text))]
-fn push_lines(out: &mut String, stats: RingStats, now: u64) -> Result<(), AllocError>
-    ensures { OnOk result (string_bytes out.new ≡ string_bytes out.old ++ texts.stats_text stats now) }
+/// Writes all lines so that they end where the bytes do, and returns where they begin.
+fn put_lines(bytes: &mut [u8], stats: RingStats, now: u64) -> usize
+    requires { length bytes.old ≡ MOST_BYTES }
+    ensures inside { result ≤ length bytes.new }
+    ensures text { drop result bytes.new ≡ texts.stats_text stats now }
 {
-    push_line(out, "entries: ", stats.entries)?;
-    push_line(out, "overrun: ", stats.overrun)?;
-    push_line(out, "commit overrun: ", 0)?;
-    push_line(out, "bytes: ", stats.bytes)?;
-    push_line(out, "oldest event ts: ", stats.oldest)?;
-    push_line(out, "now ts: ", now)?;
-    push_line(out, "dropped events: ", stats.dropped)?;
-    push_line(out, "read events: ", stats.read)
+    let at = put_line_before(bytes, MOST_BYTES, b"read events: ", stats.read);
+    let at = put_line_before(bytes, at, b"dropped events: ", stats.dropped);
+    let at = put_line_before(bytes, at, b"now ts: ", now);
+    let at = put_line_before(bytes, at, b"oldest event ts: ", stats.oldest);
+    let at = put_line_before(bytes, at, b"bytes: ", stats.bytes);
+    let at = put_line_before(bytes, at, b"commit overrun: ", 0);
+    let at = put_line_before(bytes, at, b"overrun: ", stats.overrun);
+    put_line_before(bytes, at, b"entries: ", stats.entries)
 }
 
 /// Appends the text of `per_cpu/cpuN/stats` ("The File System" of ftrace.rst): the statistics of a CPU's ring and the clock, a line each.
 /// `bytes` adds up the sizes of the kept records; `oldest` and `now` are ticks of the clock, which counts emissions.
 ///
 /// It is refused only if it runs out of memory, and `out` is then as it was.
-pub fn stats_text(
-    alloc: Global,
-    stats: RingStats,
-    now: u64,
-    out: &mut Vec<u8>,
-) -> Result<(), AllocError>
+pub fn stats_text(stats: RingStats, now: u64, out: &mut Vec<u8>) -> Result<(), AllocError>
     ensures text { OnOk result (out.new.items ≡ out.old.items ++ texts.stats_text stats now) }
     ensures refused { OnErr result (out.new.items ≡ out.old.items) }
 {
-    let mut text = String::new(alloc);
-    push_lines(&mut text, stats, now)?;
-    append_text(out, text.into_bytes())
+    let mut bytes = [0; MOST_BYTES];
+    let at = put_lines(&mut bytes, stats, now);
+    out.extend_from_slice(&bytes[at..])
 }

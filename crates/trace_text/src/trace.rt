@@ -18,7 +18,7 @@ use crate::record::push_record_line;
 use page_ring::{Kept, KeptRecords};
 use std::alloc::{AllocError, Global};
 use trace_buffer::Buffer;
-use trace_format::{Catalog, RowMemory};
+use trace_format::Catalog;
 
 /// Appends the lines before the counts.
 #[tactic(auto, unfolding(crate::specs::TraceText::trace_title))]
@@ -77,8 +77,6 @@ fn counts_of_all(buffer: &Buffer) -> Counts
 
 /// Appends the lines of records of several CPUs.
 fn push_merged(
-    alloc: Global,
-    memory: &mut RowMemory,
     out: &mut Vec<u8>,
     catalog: &Catalog,
     records: &[(u32, Kept<'_>)],
@@ -87,15 +85,13 @@ fn push_merged(
         ≡ out.old.items ++ flat_map (files.reading_line catalog.now) (map kept_reading records.now)) }
 {
     for (cpu, kept) in records {
-        push_record_line(alloc, memory, out, catalog, *cpu, kept.rec)?;
+        push_record_line(out, catalog, *cpu, kept.rec)?;
     }
     Ok(())
 }
 
 /// Appends the lines of records of one CPU.
 fn push_kept(
-    alloc: Global,
-    memory: &mut RowMemory,
     out: &mut Vec<u8>,
     catalog: &Catalog,
     cpu: u32,
@@ -105,14 +101,13 @@ fn push_kept(
         ≡ out.old.items ++ flat_map (λ (r : Reading). record_line catalog.now cpu r.rec) records.entry) }
 {
     for kept in records {
-        push_record_line(alloc, memory, out, catalog, cpu, kept.rec)?;
+        push_record_line(out, catalog, cpu, kept.rec)?;
     }
     Ok(())
 }
 
 /// Appends the trace of all CPUs.
 fn push_trace_of_all(
-    alloc: Global,
     out: &mut Vec<u8>,
     catalog: &Catalog,
     buffer: &Buffer,
@@ -125,13 +120,11 @@ fn push_trace_of_all(
     let written = counts.kept + counts.overrun;
     push_trace_head(out, counts.kept, written, buffer.cpus())?;
     let records = buffer.merged()?;
-    let mut memory = RowMemory::new(alloc);
-    push_merged(alloc, &mut memory, out, catalog, &records)
+    push_merged(out, catalog, &records)
 }
 
 /// Appends the trace of one CPU.
 fn push_trace_of_cpu(
-    alloc: Global,
     out: &mut Vec<u8>,
     catalog: &Catalog,
     buffer: &Buffer,
@@ -146,8 +139,7 @@ fn push_trace_of_cpu(
     let kept = u128::from(stats.entries);
     let written = kept + u128::from(stats.overrun);
     push_trace_head(out, kept, written, buffer.cpus())?;
-    let mut memory = RowMemory::new(alloc);
-    push_kept(alloc, &mut memory, out, catalog, cpu, buffer.cpu_kept(cpu))
+    push_kept(out, catalog, cpu, buffer.cpu_kept(cpu))
 }
 
 /// Appends what `trace` shows of all CPUs, or `per_cpu/cpuN/trace` of one ("The File System" and "Output format" of ftrace.rst): the head,
@@ -170,8 +162,8 @@ pub fn trace_text(
 {
     let mut text = Vec::new(alloc);
     match cpu {
-        Some(cpu) => push_trace_of_cpu(alloc, &mut text, catalog, buffer, cpu)?,
-        None => push_trace_of_all(alloc, &mut text, catalog, buffer)?,
+        Some(cpu) => push_trace_of_cpu(&mut text, catalog, buffer, cpu)?,
+        None => push_trace_of_all(&mut text, catalog, buffer)?,
     }
     append_text(out, text)
 }
